@@ -1,0 +1,4 @@
+pub mod Taking
+pub mod Numbers
+pub mod SignedNumbers
+pub mod Once

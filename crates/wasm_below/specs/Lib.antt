@@ -1,0 +1,4 @@
+pub mod Features
+pub mod Refusal
+pub mod Number
+pub mod Source

@@ -1,0 +1,102 @@
+-- What a reader has before it, and what a reading call does to it.
+use Rattle.std.specs.Prelude.{◌≡◌, ℕ, ◌+◌, ◌-◌, ◌/◌, ◌<◌, ◌≤◌, List, [], ◌∷◌, ◌++◌, length, drop, Result, Ok, Err}
+use Rattle.std.specs.Prelude.{slice_index}
+use Rattle.wasm_below.specs.declared.error.Error.{Error}
+use Rattle.wasm_below.specs.declared.message.Message.{Message}
+use Rattle.wasm_below.specs.declared.message.Message.TheVariants as message
+use Rattle.wasm_below.specs.declared.features.WasmFeatures.{WasmFeatures}
+use Rattle.wasm_below.specs.Refusal.{IsReadFault}
+
+-- Features, the offset of the bytes, and the bytes.
+pub record Source : Type 0 where
+  pub features : WasmFeatures
+  pub offset : ℕ
+  pub bytes : List ℕ
+
+-- What a reader stands on: its features, all its bytes, the offset of the first of them, and how many were read.
+pub record Reader : Type 0 where
+  pub features : WasmFeatures
+  pub start : ℕ
+  pub buffer : List ℕ
+  pub position : ℕ
+
+-- The bytes that are left.
+abbrev pub rest : Reader → List ℕ
+rest r = drop r.position r.buffer
+
+-- The offset of the next byte.
+abbrev pub offset_of : Reader → ℕ
+offset_of r = r.start + r.position
+
+-- The offset behind the data.
+abbrev pub end_of : Reader → ℕ
+end_of r = r.start + length r.buffer
+
+-- What is left, as a source.
+abbrev pub source_of : Reader → Source
+source_of r = record { features = r.features; offset = offset_of r; bytes = rest r }
+
+-- A reader of these bytes that has read none.
+abbrev pub reader_of : WasmFeatures → ℕ → List ℕ → Reader
+reader_of features offset bytes = record { features = features; start = offset; buffer = bytes; position = 0 }
+
+-- The same reader, where it has read this many bytes.
+abbrev pub at_position : Reader → ℕ → Reader
+at_position r position = record { features = r.features; start = r.start; buffer = r.buffer; position = position }
+
+-- The call took this text from the front.
+pub record Takes (old new : Reader) (text : List ℕ) : Type 0 where
+  pub moved : new ≡ at_position old (old.position + length text)
+  pub parts : rest old ≡ text ++ rest new
+
+-- No front of the bytes is a text of this kind.
+abbrev pub NoFront : {X : Type 0} → (List ℕ → X → Type 0) → List ℕ → Type 0
+NoFront {X} Spells bytes = (text more : List ℕ) (x : X) → Spells text x → bytes ≡ text ++ more → ⊥
+
+-- What may stand behind the bytes that a call had, where it answered this: anything; nothing where it asked for more; and of want of memory nothing is said.
+abbrev pub MayFollow : Message → List ℕ → Type 0
+MayFollow message.EndOfData more = more ≡ []
+MayFollow message.OutOfMemory more = ⊥
+MayFollow _ more = Unit {0}
+
+-- No front of the bytes is such a text, and unless the data ended none would be, however the bytes went on. So a proper front of such a text is refused by the end of the data alone.
+abbrev pub Refuses : {X : Type 0} → (List ℕ → X → Type 0) → List ℕ → Message → Type 0
+Refuses Spells bytes m = (more : List ℕ) → MayFollow m more → NoFront Spells (bytes ++ more)
+
+-- The offset lies where the reader has its rest, or just behind it.
+abbrev pub IsAhead : Reader → ℕ → Type 0
+IsAhead r offset = (offset_of r ≤ offset) × (offset ≤ end_of r)
+
+-- A refusal of a call that began at this reader.
+pub record IsRefusal {X : Type 0} (Spells : List ℕ → X → Type 0) (e : Error) (old : Reader) : Type 0 where
+  pub refuses : Refuses Spells (rest old) e.message
+  pub fault : IsReadFault e.message
+  pub ahead : IsAhead old e.offset
+
+-- The call answers Ok exactly where a front of the rest spells a value: it then takes that front and answers that value. Else nothing changes.
+abbrev pub Reads : {X : Type 0} → (List ℕ → X → Type 0) → Result X Error → Reader → Reader → Type 0
+Reads Spells (Ok x) old new = (text : List ℕ) × Spells text x × Takes old new text
+Reads Spells (Err e) old new = (new ≡ old) × IsRefusal Spells e old
+
+-- One byte.
+abbrev pub IsByte : List ℕ → ℕ → Type 0
+IsByte text byte = (text ≡ byte ∷ []) × (byte < 256)
+
+-- The data ends where the reader stands.
+abbrev pub IsEndHere : Error → Reader → Type 0
+IsEndHere e r = (e.message ≡ message.EndOfData) × (e.offset ≡ offset_of r) × (offset_of r ≡ end_of r)
+
+-- The byte at an offset.
+abbrev pub byte_at : Reader → ℕ → ℕ
+byte_at r offset = slice_index r.buffer (offset - r.start)
+
+-- The offset of the last byte that a number of this many bits has room for.
+abbrev pub last_offset : ℕ → Reader → ℕ
+last_offset width r = offset_of r + (width - 1) / 7
+
+-- Which refusal a number has: the data ends; or the last byte that the width has room for says that more follow, or has a bit past the width.
+abbrev pub NumberFault : Message → ℕ → Reader → ℕ → Type 0
+NumberFault message.EndOfData width r offset = offset ≡ end_of r
+NumberFault (message.IntegerTooLong _) width r offset = (offset ≡ last_offset width r) × (128 ≤ byte_at r offset)
+NumberFault (message.IntegerTooLarge _) width r offset = (offset ≡ last_offset width r) × (byte_at r offset < 128)
+NumberFault _ width r offset = ⊥

@@ -1,0 +1,174 @@
+ghost use Rattle.std.specs.Prelude.{◌≡◌};
+ghost use Rattle.wasm_below.specs.Refusal.{number_of};
+
+use std::fmt;
+
+/// The kind of frame that an operator wanted to stand in.
+#[derive(Clone, Copy, Debug, PartialEq, Eq)]
+pub enum FrameName {
+    /// The first body of an `if`.
+    If,
+    /// The body of a legacy `try`.
+    LegacyTry,
+}
+
+impl fmt::Display for FrameName {
+    fn fmt<W: fmt::Write>(&self, f: &mut fmt::Formatter<W>) -> fmt::Result {
+        match self {
+            FrameName::If => f.write_str("If"),
+            FrameName::LegacyTry => f.write_str("LegacyTry"),
+        }
+    }
+}
+
+/// What was refused. `docs/REFUSALS.md` has each with its number, its text and the offset at which
+/// it is answered.
+#[derive(Clone, Copy, Debug, PartialEq, Eq)]
+pub enum Message {
+    /// The data ends too early.
+    EndOfData,
+    /// The instruction named needs a feature that is off.
+    FeatureRequired(&'static str),
+    /// Memory was refused.
+    OutOfMemory,
+    /// A number of the kind named goes on past its greatest length.
+    IntegerTooLong(&'static str),
+    /// A number of the kind named has a bit past its width.
+    IntegerTooLarge(&'static str),
+    /// A count of the list named is above its limit.
+    SizeOutOfBounds(&'static str),
+    /// A block type's index is negative.
+    InvalidFunctionType,
+    /// The instruction named stands outside the frame that it needs.
+    WrongFrame(&'static str, FrameName),
+    /// No frame is open.
+    OperatorsRemaining,
+    /// Frames are open at the end of a body or an expression.
+    FramesRemain,
+    /// Frames are open behind the first `end` of a constant expression.
+    FramesRemainConst,
+    /// Data is left behind the last operator.
+    UnexpectedData,
+    /// No operator has this code byte.
+    IllegalOpcode(u8),
+    /// No operator has this code behind this prefix byte.
+    UnknownSubopcode(u8, u32),
+    /// A vector operator where none is read.
+    UnexpectedSimd,
+    /// A byte is not 0.
+    ZeroByteExpected,
+    /// The byte of `atomic.fence` is not 0.
+    NonzeroAfterFence,
+    /// A memory argument names a memory and an array.
+    MemoryAndArray,
+    /// A memory argument of an operator that is not atomic has an ordering.
+    OrderingOnPlain,
+    /// A byte is no ordering. `hex` tells how the byte is printed.
+    InvalidOrdering { byte: u8, hex: bool },
+    /// A memory argument has bits that mean nothing.
+    ReservedFlags,
+    /// The flags of a cast are above 3.
+    InvalidCastFlags(u8),
+    /// No form of what is named begins with this byte.
+    InvalidLeadingByte(u8, &'static str),
+    /// More than 4294967295 locals.
+    TooManyLocals,
+    /// No type of the kind named stands here.
+    InvalidType(&'static str),
+    /// Data is left behind the items of a section.
+    DataAfterSection,
+}
+
+impl Message {
+    /// The number of the refusal, from 1 to 25.
+    pub fn number(&self) -> u8
+        ensures { result ≡ number_of self.now }
+    {
+        match self {
+            Message::EndOfData => 1,
+            Message::FeatureRequired(_) => 2,
+            Message::OutOfMemory => 3,
+            Message::IntegerTooLong(_) | Message::IntegerTooLarge(_) => 4,
+            Message::SizeOutOfBounds(_) => 5,
+            Message::InvalidFunctionType => 6,
+            Message::WrongFrame(..) => 7,
+            Message::OperatorsRemaining => 8,
+            Message::FramesRemain => 9,
+            Message::FramesRemainConst => 10,
+            Message::UnexpectedData => 11,
+            Message::IllegalOpcode(_) => 12,
+            Message::UnknownSubopcode(..) => 13,
+            Message::UnexpectedSimd => 14,
+            Message::ZeroByteExpected => 15,
+            Message::NonzeroAfterFence => 16,
+            Message::MemoryAndArray => 17,
+            Message::OrderingOnPlain => 18,
+            Message::InvalidOrdering { .. } => 19,
+            Message::ReservedFlags => 20,
+            Message::InvalidCastFlags(_) => 21,
+            Message::InvalidLeadingByte(..) => 22,
+            Message::TooManyLocals => 23,
+            Message::InvalidType(_) => 24,
+            Message::DataAfterSection => 25,
+        }
+    }
+}
+
+impl fmt::Display for Message {
+    fn fmt<W: fmt::Write>(&self, f: &mut fmt::Formatter<W>) -> fmt::Result {
+        match *self {
+            Message::EndOfData => f.write_str("unexpected end-of-file"),
+            Message::FeatureRequired(instruction) => write!(
+                f,
+                "legacy_exceptions feature required for {instruction} instruction"
+            ),
+            Message::OutOfMemory => f.write_str("out of memory"),
+            Message::IntegerTooLong(kind) => {
+                write!(f, "invalid {kind}: integer representation too long")
+            }
+            Message::IntegerTooLarge(kind) => write!(f, "invalid {kind}: integer too large"),
+            Message::SizeOutOfBounds(list) => write!(f, "{list} size is out of bounds"),
+            Message::InvalidFunctionType => f.write_str("invalid function type"),
+            Message::WrongFrame(instruction, frame) => {
+                write!(f, "`{instruction}` found outside `{frame}` block")
+            }
+            Message::OperatorsRemaining => {
+                f.write_str("operators remaining after end of function body or expression")
+            }
+            Message::FramesRemain => {
+                f.write_str("control frames remain at end of function body or expression")
+            }
+            Message::FramesRemainConst => {
+                f.write_str("control frames remain at end of expression")
+            }
+            Message::UnexpectedData => f.write_str("unexpected data at the end of operators"),
+            Message::IllegalOpcode(code) => write!(f, "illegal opcode: 0x{code:x}"),
+            Message::UnknownSubopcode(prefix, code) => {
+                write!(f, "unknown 0x{prefix:x} subopcode: 0x{code:x}")
+            }
+            Message::UnexpectedSimd => f.write_str("unexpected SIMD opcode: 0xfd"),
+            Message::ZeroByteExpected => f.write_str("zero byte expected"),
+            Message::NonzeroAfterFence => f.write_str("nonzero byte after `atomic.fence`"),
+            Message::MemoryAndArray => f.write_str("cannot specify both memory and array index"),
+            Message::OrderingOnPlain => {
+                f.write_str("cannot specify atomic ordering on non-atomic instruction")
+            }
+            Message::InvalidOrdering { byte, hex: true } => {
+                write!(f, "invalid atomic consistency ordering 0x{byte:x}")
+            }
+            Message::InvalidOrdering { byte, hex: false } => {
+                write!(f, "invalid atomic consistency ordering {byte}")
+            }
+            Message::ReservedFlags => f.write_str("malformed memop: reserved flags bits set"),
+            Message::InvalidCastFlags(flags) => write!(f, "invalid cast flags: {flags:08b}"),
+            Message::InvalidLeadingByte(byte, what) => {
+                write!(f, "invalid leading byte (0x{byte:x}) for {what}")
+            }
+            Message::TooManyLocals => f.write_str("too many locals"),
+            Message::InvalidType(what) => write!(f, "invalid {what}"),
+            Message::DataAfterSection => {
+                f.write_str("unexpected data at the end of the section")
+            }
+        }
+    }
+}

@@ -1,0 +1,17 @@
+use Rattle.std.proofs.lemmas.Result.{err_from_is_err_and}
+use Rattle.wasm_dump.proofs.Faults.{dumps_fault, whole_fault, whole_refused}
+use Rattle.wasm_dump.proofs.dump.run.Goals as goal
+
+pub returns-in_err-input-clause-lines : goal.returns-in_err-input-clause-lines
+returns-in_err-input-clause-lines g c =
+    let p = err_from_is_err_and c.from_residual.result c.from_residual.ensures.1 in
+    rw (p.1, p.2) (dumps_fault (g.R.Read.remaining c.args.reader.now) c.args.features c.in_err-input.field-0.0 _ _ c.in_err-input.ensures.fault)
+
+pub returns-in_err-input-clause-whole : goal.returns-in_err-input-clause-whole
+returns-in_err-input-clause-whole g c =
+    let p = err_from_is_err_and c.from_residual.result c.from_residual.ensures.1 in
+    rw (p.1, p.2) (whole_fault (g.R.Read.remaining c.args.reader.now) c.args.features c.in_err-input.field-0.0 c.in_err-input.ensures.fault)
+
+pub returns-clause-whole : goal.returns-clause-whole
+returns-clause-whole g c =
+    whole_refused (g.R.Read.remaining c.args.reader.now) c.args.features c.in_ok-input.input.items c.as_slice.result.now c.in_ok-listing.listing.end c.in-Err.error c.in_ok-input.ensures.bytes c.as_slice.ensures.value c.in-Err.is c.in_ok-listing.ensures.whole

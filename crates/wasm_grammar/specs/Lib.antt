@@ -1,0 +1,5 @@
+pub mod Role
+pub mod Tree
+pub mod Frames
+pub mod Beginning
+pub mod OpenPath
