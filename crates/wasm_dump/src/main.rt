@@ -8,6 +8,8 @@ mod dump;
 mod fault;
 mod input;
 mod lines;
+#[cfg(test)]
+mod tests;
 
 use crate::dump::run;
 use bitflags::Flags;

@@ -16,3 +16,6 @@ pub use operator::{NumericOperator, Operator, OperatorInfo};
 pub use operators::OperatorsReader;
 pub use wasm_below::{BinaryReader, Error, ErrorKind, FrameName, Message, Result, WasmFeatures};
 pub use wasm_grammar::FrameKind;
+
+#[cfg(test)]
+mod tests;

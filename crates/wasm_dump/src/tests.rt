@@ -1,0 +1,264 @@
+use crate::dump::run;
+use crate::fault::DumpFault;
+use bitflags::Flags;
+use std::io;
+use std::io::{Read, Write};
+use std::process::Abort;
+use std::test::Fail;
+use wasm_operators::WasmFeatures;
+
+/// A reader that gives one byte a call, and fails at one call.
+#[derive(Drop)]
+struct OneByte<'a> {
+    bytes: &'a [u8],
+    calls: usize,
+    fails_at: usize,
+}
+
+impl<'a> Read for OneByte<'a> {
+    fn read(&mut self, buf: &mut [u8]) -> io::Result<usize> {
+        if self.calls == self.fails_at {
+            return Err(io::Error::from(io::ErrorKind::Interrupted));
+        }
+        self.calls = self.calls.wrapping_add(1);
+        let Some((first, others)) = self.bytes.split_first() else {
+            return Ok(0);
+        };
+        if buf.is_empty() {
+            return Ok(0);
+        }
+        buf[0] = *first;
+        self.bytes = others;
+        Ok(1)
+    }
+}
+
+/// A writer that takes one byte a call, and fails at one call of `write` or `flush`.
+#[derive(Drop)]
+struct OneTaken {
+    taken: Vec<u8>,
+    calls: usize,
+    fails_at: usize,
+}
+
+impl Write for OneTaken {
+    fn write(&mut self, buf: &[u8]) -> io::Result<usize> {
+        if self.calls == self.fails_at {
+            return Err(io::Error::from(io::ErrorKind::Other));
+        }
+        self.calls = self.calls.wrapping_add(1);
+        let Some(first) = buf.first() else {
+            return Ok(0);
+        };
+        if self.taken.push(*first).is_err() {
+            return Err(io::Error::from(io::ErrorKind::OutOfMemory));
+        }
+        Ok(1)
+    }
+
+    fn flush(&mut self) -> io::Result<()> {
+        if self.calls == self.fails_at {
+            return Err(io::Error::from(io::ErrorKind::Other));
+        }
+        self.calls = self.calls.wrapping_add(1);
+        Ok(())
+    }
+}
+
+/// A writer that counts, and takes no memory.
+#[derive(Drop)]
+struct Counted {
+    count: usize,
+}
+
+impl Write for Counted {
+    fn write(&mut self, buf: &[u8]) -> io::Result<usize> {
+        self.count = self.count.wrapping_add(buf.len());
+        Ok(buf.len())
+    }
+
+    fn flush(&mut self) -> io::Result<()> {
+        Ok(())
+    }
+}
+
+/// Runs the program's function over these bytes, and compares what it writes, the status and what
+/// the fault prints.
+fn row<R: AllocGlobal + Abort>(
+    rt: &R,
+    bytes: &[u8],
+    written: &str,
+    status: u8,
+    printed: &str,
+) -> Result<(), Fail> {
+    let mut reader = bytes;
+    let mut writer = Vec::new(rt.alloc());
+    match run(rt.alloc(), WasmFeatures::all(), &mut reader, &mut writer) {
+        Ok(()) => {
+            assert!(rt; status == 0);
+        }
+        Err(fault) => {
+            assert_eq!(rt; fault.status(), status);
+            let text = format!(in rt.alloc(); "{fault}")?;
+            assert_eq!(rt; text.as_str(), printed);
+        }
+    }
+    assert_eq!(rt; writer.as_slice(), written.as_bytes());
+    Ok(())
+}
+
+#[test]
+fn bodies(rt: HostRuntime) -> Result<(), Fail> {
+    row(&rt, &[0x00, 0x01, 0x0b], "1 Nop\n2 End\n", 0, "")?;
+    row(
+        &rt,
+        &[0x00, 0x20, 0x00, 0x41, 0x2a, 0x6a, 0x45, 0x0b],
+        "1 LocalGet\n3 I32Const\n5 I32Add\n6 I32Eqz\n7 End\n",
+        0,
+        "",
+    )?;
+    row(
+        &rt,
+        &[0x00, 0x41, 0xff, 0xff, 0xff, 0xff, 0x7f, 0x0b],
+        "1 I32Const\n7 End\n",
+        0,
+        "",
+    )?;
+    row(
+        &rt,
+        &[0x00, 0x00, 0x0f, 0x1a, 0x1b, 0x0b],
+        "1 Unreachable\n2 Return\n3 Drop\n4 Select\n5 End\n",
+        0,
+        "",
+    )
+}
+
+#[test]
+fn refusals(rt: HostRuntime) -> Result<(), Fail> {
+    row(&rt, &[], "", 1, "error at 0: unexpected end-of-file")?;
+    row(
+        &rt,
+        &[0x00, 0x01],
+        "1 Nop\n",
+        1,
+        "error at 2: control frames remain at end of function body or expression",
+    )?;
+    row(
+        &rt,
+        &[0x00, 0x0b, 0x0b],
+        "1 End\n",
+        1,
+        "error at 2: operators remaining after end of function body or expression",
+    )?;
+    row(
+        &rt,
+        &[0x00, 0x41, 0xff, 0xff, 0xff, 0xff, 0x0f],
+        "",
+        1,
+        "error at 6: invalid var_i32: integer too large",
+    )?;
+    row(
+        &rt,
+        &[0x00, 0xff],
+        "",
+        1,
+        "error at 1: illegal opcode: 0xff",
+    )?;
+    row(&rt, &[0x01, 0x0b], "", 1, "error at 1: too many locals")?;
+    row(
+        &rt,
+        &[0x00, 0x01, 0x20, 0x80],
+        "1 Nop\n",
+        1,
+        "error at 4: unexpected end-of-file",
+    )
+}
+
+#[test]
+fn reads_that_fail(rt: HostRuntime) -> Result<(), Fail> {
+    for fails_at in 0..5 {
+        let mut reader = OneByte {
+            bytes: &[0x00, 0x01, 0x0b],
+            calls: 0,
+            fails_at,
+        };
+        let mut writer = Vec::new(rt.alloc());
+        let answer = run(rt.alloc(), WasmFeatures::all(), &mut reader, &mut writer);
+        if fails_at < 4 {
+            assert!(&rt; matches!(answer, Err(DumpFault::Reading)), "at {fails_at}");
+            assert!(&rt; writer.is_empty(), "at {fails_at}");
+        } else {
+            assert!(&rt; answer.is_ok(), "at {fails_at}");
+            assert_eq!(&rt; writer.as_slice(), b"1 Nop\n2 End\n".as_slice());
+        }
+    }
+    Ok(())
+}
+
+#[test]
+fn writes_that_fail(rt: HostRuntime) -> Result<(), Fail> {
+    for fails_at in 0..14 {
+        let mut reader: &[u8] = &[0x00, 0x01, 0x0b];
+        let mut writer = OneTaken {
+            taken: Vec::new(rt.alloc()),
+            calls: 0,
+            fails_at,
+        };
+        let answer = run(rt.alloc(), WasmFeatures::all(), &mut reader, &mut writer);
+        if fails_at < 13 {
+            assert!(&rt; matches!(answer, Err(DumpFault::Writing)), "at {fails_at}");
+        } else {
+            assert!(&rt; answer.is_ok(), "at {fails_at}");
+        }
+        let written = fails_at.min(12);
+        assert_eq!(&rt; writer.taken.len(), written);
+    }
+    Ok(())
+}
+
+#[test]
+fn faults(rt: HostRuntime) -> Result<(), Fail> {
+    let alloc = rt.alloc();
+    let reading = format!(in alloc; "{}", DumpFault::Reading)?;
+    assert_eq!(&rt; reading.as_str(), "cannot read input");
+    let writing = format!(in alloc; "{}", DumpFault::Writing)?;
+    assert_eq!(&rt; writing.as_str(), "cannot write output");
+    let memory = format!(in alloc; "{}", DumpFault::Memory)?;
+    assert_eq!(&rt; memory.as_str(), "out of memory");
+    for fault in [DumpFault::Reading, DumpFault::Writing, DumpFault::Memory] {
+        assert_eq!(&rt; fault.status(), 3);
+    }
+    Ok(())
+}
+
+/// Where memory is refused nothing is written.
+#[test]
+fn memory(rt: HostRuntime) -> Result<(), Fail> {
+    let mut reader: &[u8] = &[0x00, 0x01, 0x01, 0x01, 0x01, 0x01, 0x0b];
+    let mut writer = Counted { count: 0 };
+    match run(rt.alloc(), WasmFeatures::all(), &mut reader, &mut writer) {
+        Ok(()) => {
+            assert_eq!(&rt; writer.count, 36);
+        }
+        Err(fault) => {
+            assert!(&rt; matches!(fault, DumpFault::Memory));
+            assert_eq!(&rt; writer.count, 0);
+        }
+    }
+    Ok(())
+}
+
+/// A long body takes time in its length.
+#[test]
+fn a_megabyte(rt: HostRuntime) -> Result<(), Fail> {
+    let bytes = vec![in rt.alloc(); 0x01; 1_000_000]?;
+    let mut body = Vec::new(rt.alloc());
+    body.push(0x00)?;
+    body.extend_from_slice(bytes.as_slice())?;
+    let mut reader = body.as_slice();
+    let mut writer = Vec::new(rt.alloc());
+    let answer = run(rt.alloc(), WasmFeatures::all(), &mut reader, &mut writer);
+    assert!(&rt; matches!(answer, Err(DumpFault::Refused(_))));
+    assert_eq!(&rt; writer.len(), 10_888_896);
+    Ok(())
+}
