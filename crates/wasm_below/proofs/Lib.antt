@@ -2,3 +2,9 @@ pub mod Taking
 pub mod Numbers
 pub mod SignedNumbers
 pub mod Once
+pub mod Sequences
+pub mod Blocks
+pub mod Fronts
+pub mod TypeSpellings
+pub mod TypesOnce
+pub mod Parts

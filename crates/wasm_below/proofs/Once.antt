@@ -1,5 +1,5 @@
 -- No spelling of a number begins another, and a spelling is that of one number.
-use Rattle.std.proofs.Common.{◌≡◌, ℕ, ◌-◌, List, [], ◌∷◌, ◌++◌, ℤ, pos, ◌*ℤ◌, ◌+ℤ◌, sym, ap, ◌∙◌, arith}
+use Rattle.std.proofs.Common.{◌≡◌, ℕ, ◌-◌, ◌<◌, List, [], ◌∷◌, ◌++◌, length, ℤ, pos, ◌*ℤ◌, ◌+ℤ◌, sym, ap, ◌∙◌, arith}
 use Rattle.wasm_below.specs.Number.{SpellsUnsigned, SpellsSigned}
 
 pub unsigned_once : (a b : List ℕ) (width : ℕ) (x y : List ℕ) (m n : ℕ) → SpellsUnsigned width a m → SpellsUnsigned width b n → a ++ x ≡ b ++ y → (a ≡ b) × (m ≡ n)
@@ -24,3 +24,8 @@ signed_once (c ∷ c2 ∷ a) (d ∷ d2 ∷ b) width x y m n (_, _, _, high, p, p
     let h : c ≡ d = cc e in
     let r = signed_once (c2 ∷ a) (d2 ∷ b) (width - 7) x y high high2 pr qr (cc e) in
     (cc (h, r.0), p ∙ ap (λ z. (pos 128 *ℤ z) +ℤ pos (c - 128)) r.1 ∙ ap (λ z. (pos 128 *ℤ high2) +ℤ pos (z - 128)) h ∙ sym q)
+
+-- a spelling has a byte
+pub signed_some : (text : List ℕ) (width : ℕ) (n : ℤ) → SpellsSigned width text n → 0 < length text
+signed_some [] width n p = absurd p
+signed_some (c ∷ text) width n p = omega arith

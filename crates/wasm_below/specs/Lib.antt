@@ -2,3 +2,8 @@ pub mod Features
 pub mod Refusal
 pub mod Number
 pub mod Source
+pub mod Sequence
+pub mod Reference
+pub mod TypeSpelling
+pub mod FromReader
+pub mod Items

@@ -1,5 +1,7 @@
 -- The refusals by number, and the kinds that callers tell apart. docs/REFUSALS.md has the table.
-use Rattle.std.specs.Prelude.{ℕ}
+use Rattle.std.specs.Prelude.{ℕ, List, codes, ◌≡◌}
+use Rattle.wasm_below.specs.declared.message.Word.{Word}
+use Rattle.wasm_below.specs.declared.message.Word.TheVariants as word
 use Rattle.wasm_below.specs.declared.message.Message.{Message}
 use Rattle.wasm_below.specs.declared.message.Message.TheVariants as message
 use Rattle.wasm_below.specs.declared.error.ErrorKind.{ErrorKind}
@@ -49,3 +51,30 @@ IsReadFault message.UnexpectedData = ⊥
 IsReadFault message.TooManyLocals = ⊥
 IsReadFault message.DataAfterSection = ⊥
 IsReadFault _ = Unit {0}
+
+-- The text of a word.
+abbrev pub word_text : Word → List ℕ
+word_text word.VarU32 = codes "var_u32"
+word_text word.VarU64 = codes "var_u64"
+word_text word.VarI32 = codes "var_i32"
+word_text word.VarS33 = codes "var_s33"
+word_text word.VarI64 = codes "var_i64"
+word_text word.BrTable = codes "br_table"
+word_text word.SelectTypes = codes "select types"
+word_text word.Catches = codes "catches"
+word_text word.ResumeTable = codes "resume table"
+word_text word.Else = codes "else"
+word_text word.Try = codes "try"
+word_text word.Catch = codes "catch"
+word_text word.CatchAll = codes "catch_all"
+word_text word.Delegate = codes "delegate"
+word_text word.OnClause = codes "on clause"
+word_text word.ValueType = codes "value type"
+word_text word.ReferenceType = codes "reference type"
+word_text word.HeapType = codes "heap type"
+
+-- A refused number is named so.
+abbrev pub NamesNumber : Word → Message → Type 0
+NamesNumber name (message.IntegerTooLong w) = w ≡ name
+NamesNumber name (message.IntegerTooLarge w) = w ≡ name
+NamesNumber name _ = Unit {0}

@@ -1,6 +1,8 @@
 -- What a reader has before it, and what a reading call does to it.
 use Rattle.std.specs.Prelude.{◌≡◌, ℕ, ◌+◌, ◌-◌, ◌/◌, ◌<◌, ◌≤◌, List, [], ◌∷◌, ◌++◌, length, drop, Result, Ok, Err}
 use Rattle.std.specs.Prelude.{slice_index}
+use Rattle.std.specs.Borrow.{Bor}
+use Rattle.wasm_below.specs.Number.{SpellsUnsigned}
 use Rattle.wasm_below.specs.declared.error.Error.{Error}
 use Rattle.wasm_below.specs.declared.message.Message.{Message}
 use Rattle.wasm_below.specs.declared.message.Message.TheVariants as message
@@ -49,6 +51,14 @@ pub record Takes (old new : Reader) (text : List ℕ) : Type 0 where
   pub moved : new ≡ at_position old (old.position + length text)
   pub parts : rest old ≡ text ++ rest new
 
+-- The same reader with other features.
+abbrev pub with_features : Reader → WasmFeatures → Reader
+with_features r features = record { features = features; start = r.start; buffer = r.buffer; position = r.position }
+
+-- This byte stands in front.
+abbrev pub BeginsWith : ℕ → List ℕ → Type 0
+BeginsWith byte bytes = (more : List ℕ) × (bytes ≡ byte ∷ more)
+
 -- No front of the bytes is a text of this kind.
 abbrev pub NoFront : {X : Type 0} → (List ℕ → X → Type 0) → List ℕ → Type 0
 NoFront {X} Spells bytes = (text more : List ℕ) (x : X) → Spells text x → bytes ≡ text ++ more → ⊥
@@ -82,9 +92,17 @@ Reads Spells (Err e) old new = (new ≡ old) × IsRefusal Spells e old
 abbrev pub IsByte : List ℕ → ℕ → Type 0
 IsByte text byte = (text ≡ byte ∷ []) × (byte < 256)
 
+-- A block of this many bytes.
+abbrev pub IsBlock : ℕ → List ℕ → Bor (List ℕ) → Type 0
+IsBlock n text block = (block.now ≡ text) × (length text ≡ n)
+
 -- The data ends where the reader stands.
 abbrev pub IsEndHere : Error → Reader → Type 0
 IsEndHere e r = (e.message ≡ message.EndOfData) × (e.offset ≡ offset_of r) × (offset_of r ≡ end_of r)
+
+-- Fewer than this many bytes are left.
+abbrev pub IsShort : ℕ → Error → Reader → Type 0
+IsShort n e r = (e.message ≡ message.EndOfData) × (e.offset ≡ offset_of r) × (end_of r < offset_of r + n)
 
 -- The byte at an offset.
 abbrev pub byte_at : Reader → ℕ → ℕ
@@ -100,3 +118,23 @@ NumberFault message.EndOfData width r offset = offset ≡ end_of r
 NumberFault (message.IntegerTooLong _) width r offset = (offset ≡ last_offset width r) × (128 ≤ byte_at r offset)
 NumberFault (message.IntegerTooLarge _) width r offset = (offset ≡ last_offset width r) × (byte_at r offset < 128)
 NumberFault _ width r offset = ⊥
+
+-- The same for a number whose two faults have one text.
+abbrev pub TooLongFault : Message → ℕ → Reader → ℕ → Type 0
+TooLongFault message.EndOfData width r offset = offset ≡ end_of r
+TooLongFault (message.IntegerTooLong _) width r offset = offset ≡ last_offset width r
+TooLongFault _ width r offset = ⊥
+
+-- The message with that text.
+abbrev pub as_too_long : Message → Message
+as_too_long (message.IntegerTooLarge kind) = message.IntegerTooLong kind
+as_too_long m = m
+
+-- A front of the bytes spells a number of 32 bits that is above the limit.
+abbrev pub BeginsAbove : ℕ → List ℕ → Type 0
+BeginsAbove limit bytes = (text more : List ℕ) × (n : ℕ) × SpellsUnsigned 32 text n × (limit < n) × (bytes ≡ text ++ more)
+
+-- Which refusal a count has: it is above the limit, or no number stands there.
+abbrev pub SizeFault : Message → ℕ → Reader → ℕ → Type 0
+SizeFault (message.SizeOutOfBounds _) limit r offset = (offset ≡ offset_of r) × BeginsAbove limit (rest r)
+SizeFault m limit r offset = NumberFault m 32 r offset × NoFront (SpellsUnsigned 32) (rest r)

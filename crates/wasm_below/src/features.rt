@@ -1,4 +1,5 @@
-ghost use Rattle.std.specs.Prelude.{⊤, [], ◌∷◌, codes};
+ghost use Rattle.std.specs.Prelude.{⊤, [], ◌∷◌, codes, IsTrue, ◌↔◌};
+ghost use Rattle.wasm_below.specs.Features.{HasFeature};
 
 use bitflags::{Flag, Flags, bitflag_items};
 
@@ -42,5 +43,15 @@ impl Flags for WasmFeatures {
 
     fn from_bits_retain(bits: u32) -> WasmFeatures {
         WasmFeatures(bits)
+    }
+}
+
+impl WasmFeatures {
+    /// Whether all these features are on.
+    #[inline(always)]
+    pub fn contains(&self, other: WasmFeatures) -> bool
+        ensures { IsTrue result ↔ HasFeature other self.now }
+    {
+        Flags::contains(self, other)
     }
 }

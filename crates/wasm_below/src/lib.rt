@@ -8,9 +8,17 @@
 mod binary_reader;
 mod error;
 mod features;
+mod from_reader;
+pub mod laws;
 mod message;
+mod types;
 
 pub use binary_reader::BinaryReader;
 pub use error::{BinaryReaderError, Error, ErrorKind, Result};
 pub use features::WasmFeatures;
-pub use message::{FrameName, Message};
+pub use from_reader::{BinaryReaderIter, FromReader};
+pub use message::{FrameName, Message, Word};
+pub use types::{AbstractHeapType, HeapType, RefType, ValType};
+
+#[cfg(test)]
+mod tests;

@@ -1,5 +1,5 @@
 ghost use Rattle.std.specs.Prelude.{◌≡◌};
-ghost use Rattle.wasm_below.specs.Refusal.{number_of};
+ghost use Rattle.wasm_below.specs.Refusal.{number_of, word_text};
 
 use std::fmt;
 
@@ -21,6 +21,81 @@ impl fmt::Display for FrameName {
     }
 }
 
+/// What a message names.
+#[derive(Clone, Copy, Debug, PartialEq, Eq)]
+pub enum Word {
+    /// An unsigned number of 32 bits.
+    VarU32,
+    /// An unsigned number of 64 bits.
+    VarU64,
+    /// A signed number of 32 bits.
+    VarI32,
+    /// A signed number of 33 bits.
+    VarS33,
+    /// A signed number of 64 bits.
+    VarI64,
+    /// The targets of a branch table.
+    BrTable,
+    /// The types of a `select`.
+    SelectTypes,
+    /// The catches of a try table.
+    Catches,
+    /// The clauses of a resume table.
+    ResumeTable,
+    /// The instruction `else`.
+    Else,
+    /// The instruction `try`.
+    Try,
+    /// The instruction `catch`, and a catch of a try table.
+    Catch,
+    /// The instruction `catch_all`.
+    CatchAll,
+    /// The instruction `delegate`.
+    Delegate,
+    /// A clause of a resume table.
+    OnClause,
+    /// A value type.
+    ValueType,
+    /// A reference type.
+    ReferenceType,
+    /// A heap type.
+    HeapType,
+}
+
+impl Word {
+    /// The text of the word.
+    pub fn text(self) -> &'static str
+        ensures { result.now ≡ word_text self }
+    {
+        match self {
+            Word::VarU32 => "var_u32",
+            Word::VarU64 => "var_u64",
+            Word::VarI32 => "var_i32",
+            Word::VarS33 => "var_s33",
+            Word::VarI64 => "var_i64",
+            Word::BrTable => "br_table",
+            Word::SelectTypes => "select types",
+            Word::Catches => "catches",
+            Word::ResumeTable => "resume table",
+            Word::Else => "else",
+            Word::Try => "try",
+            Word::Catch => "catch",
+            Word::CatchAll => "catch_all",
+            Word::Delegate => "delegate",
+            Word::OnClause => "on clause",
+            Word::ValueType => "value type",
+            Word::ReferenceType => "reference type",
+            Word::HeapType => "heap type",
+        }
+    }
+}
+
+impl fmt::Display for Word {
+    fn fmt<W: fmt::Write>(&self, f: &mut fmt::Formatter<W>) -> fmt::Result {
+        f.write_str(self.text())
+    }
+}
+
 /// What was refused. `docs/REFUSALS.md` has each with its number, its text and the offset at which
 /// it is answered.
 #[derive(Clone, Copy, Debug, PartialEq, Eq)]
@@ -28,19 +103,19 @@ pub enum Message {
     /// The data ends too early.
     EndOfData,
     /// The instruction named needs a feature that is off.
-    FeatureRequired(&'static str),
+    FeatureRequired(Word),
     /// Memory was refused.
     OutOfMemory,
     /// A number of the kind named goes on past its greatest length.
-    IntegerTooLong(&'static str),
+    IntegerTooLong(Word),
     /// A number of the kind named has a bit past its width.
-    IntegerTooLarge(&'static str),
+    IntegerTooLarge(Word),
     /// A count of the list named is above its limit.
-    SizeOutOfBounds(&'static str),
+    SizeOutOfBounds(Word),
     /// A block type's index is negative.
     InvalidFunctionType,
     /// The instruction named stands outside the frame that it needs.
-    WrongFrame(&'static str, FrameName),
+    WrongFrame(Word, FrameName),
     /// No frame is open.
     OperatorsRemaining,
     /// Frames are open at the end of a body or an expression.
@@ -70,11 +145,11 @@ pub enum Message {
     /// The flags of a cast are above 3.
     InvalidCastFlags(u8),
     /// No form of what is named begins with this byte.
-    InvalidLeadingByte(u8, &'static str),
+    InvalidLeadingByte(u8, Word),
     /// More than 4294967295 locals.
     TooManyLocals,
     /// No type of the kind named stands here.
-    InvalidType(&'static str),
+    InvalidType(Word),
     /// Data is left behind the items of a section.
     DataAfterSection,
 }

@@ -10,9 +10,10 @@ mod input;
 mod lines;
 #[cfg(test)]
 mod tests;
+mod words;
 
 use crate::dump::run;
-use bitflags::Flags;
+use crate::words::features_of;
 use std::env::Env;
 use std::process::ExitCode;
 use std::{env, io};
@@ -32,12 +33,16 @@ fn main(rt: HostRuntime) -> ExitCode {
     }
 }
 
-/// The features that the arguments ask for: all, where there is none. No word is read yet.
+/// The features that the arguments ask for: one word at most is read.
 fn read_features<R: Env + AllocGlobal>(rt: &R) -> Option<WasmFeatures> {
     let mut words = env::args(rt).ok()?;
     let _program = words.next();
-    match words.next() {
-        None => Some(WasmFeatures::all()),
-        Some(_) => None,
+    let word = words.next();
+    if words.next().is_some() {
+        return None;
+    }
+    match word {
+        None => features_of(None),
+        Some(text) => features_of(Some(text.as_str())),
     }
 }

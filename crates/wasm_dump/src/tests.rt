@@ -1,5 +1,6 @@
 use crate::dump::run;
 use crate::fault::DumpFault;
+use crate::words::features_of;
 use bitflags::Flags;
 use std::io;
 use std::io::{Read, Write};
@@ -227,6 +228,22 @@ fn faults(rt: HostRuntime) -> Result<(), Fail> {
     assert_eq!(&rt; memory.as_str(), "out of memory");
     for fault in [DumpFault::Reading, DumpFault::Writing, DumpFault::Memory] {
         assert_eq!(&rt; fault.status(), 3);
+    }
+    Ok(())
+}
+
+#[test]
+fn words(rt: HostRuntime) -> Result<(), Fail> {
+    let all = WasmFeatures::all();
+    assert_eq!(&rt; features_of(None), Some(all));
+    assert_eq!(&rt; features_of(Some("all")), Some(all));
+    assert_eq!(&rt; features_of(Some("none")), Some(WasmFeatures::empty()));
+    let two = features_of(Some("MEMORY64|MULTI_MEMORY"));
+    assert_eq!(&rt; two.map(|features| features.bits()), Some(3));
+    let last = features_of(Some("MULTIBYTE_ARRAY_ACCESS"));
+    assert_eq!(&rt; last.map(|features| features.bits()), Some(32));
+    for refused in ["SIMD", "memory64", "0x3", "MEMORY64|", "all|none"] {
+        assert_eq!(&rt; features_of(Some(refused)), None, "{refused}");
     }
     Ok(())
 }

@@ -39,7 +39,7 @@ returns-then-not-fits_width-clause-fault t c =
     let same = to_z-of_z w64 c.last_value-value.result fits in
     let few = narrow c.args.bits c.last_value-value.result c.last_value-value.ensures.small (λ w. both_ways _ c.if-not-fits_width.true (c.fits_width.ensures.1 (subst (FitsWidth c.args.bits) (sym same) w))) in
     subst (λ m. NumberFault m c.args.bits c.args.self.now c.refuse.result.offset) (sym h.message)
-    (large_here c.args.bits c.in_ok-byte.byte c.self.inside.position c.refuse.result.offset c.args.self.now c.read_u8.new.self c.in_ok-byte.ensures.reads (ap (λ (r : Reader). r.position) c.self.view_is) h.offset c.requires.1.1.0 few c.if-byte-lt128.true)
+    (large_here c.args.bits c.in_ok-byte.byte c.self.inside.position c.refuse.result.offset c.args.self.now c.read_u8.new.self c.in_ok-byte.ensures.reads (ap (λ (r : Reader). r.position) c.self.view_is) h.offset c.requires.low few c.if-byte-lt128.true)
 
 pub returns-then-bits-le7-clause-reads : goal.returns-then-bits-le7-clause-reads
 returns-then-bits-le7-clause-reads t c =
@@ -52,7 +52,7 @@ returns-then-bits-le7-clause-reads t c =
 pub join_signed-requires-clause-fits : goal.join_signed-requires-clause-fits
 join_signed-requires-clause-fits t c =
     let fits : SFits w64 c.in-Ok.high = search rules in
-    subst (FitsWidth 57) (sym (to_z-of_z w64 c.in-Ok.high fits)) (fits_more (c.args.bits - 7) 57 c.in-Ok.high (omega (arith, c.requires.1.1.1)) c.in-Ok.ensures.within)
+    subst (FitsWidth 57) (sym (to_z-of_z w64 c.in-Ok.high fits)) (fits_more (c.args.bits - 7) 57 c.in-Ok.high (omega (arith, c.requires.high)) c.in-Ok.ensures.within)
 
 pub returns-in-Ok-clause-reads : goal.returns-in-Ok-clause-reads
 returns-in-Ok-clause-reads t c =

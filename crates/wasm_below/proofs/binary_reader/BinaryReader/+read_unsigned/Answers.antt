@@ -49,18 +49,18 @@ returns-then-bits-le7-clause-reads t c =
 
 pub overflow_mul-result : goal.overflow_mul-result
 overflow_mul-result t c =
-    let r = width_room c.args.bits c.in-Ok.high 0 c.if-bits-le7.false c.in-Ok.ensures.below (omega arith) c.requires.1.1.1 in omega (arith, r)
+    let r = width_room c.args.bits c.in-Ok.high 0 c.if-bits-le7.false c.in-Ok.ensures.below (omega arith) c.requires.high in omega (arith, r)
 
 pub overflow_add-result : goal.overflow_add-result
 overflow_add-result t c =
     let f = in_front c.args.self.now c.read_u8.new.self c.in_ok-byte.byte c.in_ok-byte.ensures.reads in
-    let r = width_room c.args.bits c.in-Ok.high (c.in_ok-byte.byte - 128) c.if-bits-le7.false c.in-Ok.ensures.below (omega (arith, f.1)) c.requires.1.1.1 in
+    let r = width_room c.args.bits c.in-Ok.high (c.in_ok-byte.byte - 128) c.if-bits-le7.false c.in-Ok.ensures.below (omega (arith, f.1)) c.requires.high in
     omega (arith, r, c.from-in-Ok.ensures)
 
 pub returns-in-Ok-clause-below : goal.returns-in-Ok-clause-below
 returns-in-Ok-clause-below t c =
     let f = in_front c.args.self.now c.read_u8.new.self c.in_ok-byte.byte c.in_ok-byte.ensures.reads in
-    let r = width_room c.args.bits c.in-Ok.high (c.in_ok-byte.byte - 128) c.if-bits-le7.false c.in-Ok.ensures.below (omega (arith, f.1)) c.requires.1.1.1 in
+    let r = width_room c.args.bits c.in-Ok.high (c.in_ok-byte.byte - 128) c.if-bits-le7.false c.in-Ok.ensures.below (omega (arith, f.1)) c.requires.high in
     rw c.from-in-Ok.ensures r.0
 
 pub returns-in-Ok-clause-reads : goal.returns-in-Ok-clause-reads

@@ -1,0 +1,24 @@
+use Rattle.std.proofs.Common.{refl}
+use Rattle.std.proofs.lemmas.Bool.{both_ways}
+use Rattle.std.proofs.lemmas.Result.{err_from_is_err_and}
+use Rattle.wasm_below.specs.TypeSpelling.{SpellsShort, SpellsExact, SpellsConcrete, SpellsHeapType}
+use Rattle.wasm_below.proofs.Fronts.{end_refused, led_reads}
+use Rattle.wasm_below.proofs.TypeSpellings.{heap_empty, heap_short, heap_exact, heap_concrete, short_heap, exact_heap, concrete_heap}
+use Rattle.wasm_below.proofs.types.HeapType.read.Goals as goal
+
+pub returns-in_err-byte-clause-reads : goal.returns-in_err-byte-clause-reads
+returns-in_err-byte-clause-reads c =
+    let p = err_from_is_err_and c.from_residual.result c.from_residual.ensures.1 in
+    rw (p.1, p.2) (refl, end_refused SpellsHeapType c.in_err-byte.field-0.0 c.args.reader.now heap_empty c.in_err-byte.ensures.end)
+
+pub returns-then-leads_short-clause-reads : goal.returns-then-leads_short-clause-reads
+returns-then-leads_short-clause-reads c =
+    led_reads SpellsShort SpellsHeapType c.read_short.result c.args.reader.now c.read_short.new.reader c.in_ok-byte.byte c.in_ok-byte.ensures.front short_heap heap_empty (heap_short c.in_ok-byte.byte (c.leads_short.ensures.0 c.if-leads_short.true)) c.read_short.ensures.reads
+
+pub returns-then-byte-eq-EXACT-clause-reads : goal.returns-then-byte-eq-EXACT-clause-reads
+returns-then-byte-eq-EXACT-clause-reads c =
+    led_reads SpellsExact SpellsHeapType c.read_exact.result c.args.reader.now c.read_exact.new.reader c.in_ok-byte.byte c.in_ok-byte.ensures.front exact_heap heap_empty (heap_exact c.in_ok-byte.byte c.if-byte-eq-EXACT.true) c.read_exact.ensures.reads
+
+pub returns-clause-reads : goal.returns-clause-reads
+returns-clause-reads c =
+    led_reads SpellsConcrete SpellsHeapType c.read_concrete.result c.args.reader.now c.read_concrete.new.reader c.in_ok-byte.byte c.in_ok-byte.ensures.front concrete_heap heap_empty (heap_concrete c.in_ok-byte.byte (λ l. both_ways _ c.if-leads_short.false (c.leads_short.ensures.1 l)) c.if-byte-eq-EXACT.false) c.read_concrete.ensures.reads

@@ -1,0 +1,25 @@
+use Rattle.std.proofs.Common.{◌≡◌, ◌≤◌, ℕ, pos, sym, subst, arith, rules, w64}
+use Rattle.std.proofs.lemmas.Int.{ints, to_z-of_z}
+use mir.Val.{SFits}
+use Rattle.wasm_below.specs.Refusal.{IsReadFault}
+use Rattle.wasm_below.specs.Reference.{max_type_index}
+use Rattle.wasm_below.specs.TypeSpelling.{SpellsConcrete}
+use Rattle.wasm_below.proofs.Fronts.{refused_at}
+use Rattle.wasm_below.proofs.Once.{signed_some}
+use Rattle.wasm_below.proofs.TypeSpellings.{no_concrete}
+use Rattle.wasm_below.proofs.types.HeapType.read_concrete.Goals as goal
+use Rattle.wasm_below.proofs.types.HeapType.read_concrete.Goals.{then-index-lt0-via-then-index-lt0, then-index-lt0-via-else-index-lt0+then-index-from}
+
+pub returns-then-index-lt0-clause-reads : goal.returns-then-index-lt0-clause-reads
+returns-then-index-lt0-clause-reads c =
+    let r = c.in_ok-index.ensures.reads in
+    let h = c.refuse.ensures in
+    let fits : SFits w64 c.in_ok-index.index = search rules in
+    let same = to_z-of_z w64 c.in_ok-index.index fits in
+    let over : (i : ℕ) → c.in_ok-index.index ≡ pos i → i ≤ max_type_index → ⊥ = λ i e le.
+    elim c.then-index-lt0.branch [
+      | then-index-lt0-via-then-index-lt0 w ↦ omega (arith, ints, w.if-index-lt0.true, same, e, le)
+      | then-index-lt0-via-else-index-lt0+then-index-from w ↦ omega (arith, ints, w.if-index-from.true, w.from.ensures, same, e, le)
+    ] in
+    refused_at SpellsConcrete c.refuse.result c.args.reader.now c.read_var_s33.new.self c.refuse.new.self r.0 c.current_position-start.result r.2 (signed_some r.0 33 c.in_ok-index.index r.1) c.current_position-start.ensures h.rewound h.offset (subst IsReadFault (sym h.message) tt)
+    (λ more. no_concrete r.0 _ more c.in_ok-index.index r.1 over)

@@ -1,0 +1,32 @@
+use Rattle.std.proofs.Common.{◌∷◌, [], refl, sym, subst, ap, ◌∙◌, arith}
+use Rattle.wasm_below.specs.Refusal.{IsReadFault}
+use Rattle.wasm_below.specs.Source.{rest, at_position}
+use Rattle.wasm_below.specs.Number.{SpellsUnsigned}
+use Rattle.wasm_below.specs.TypeSpelling.{SpellsExact}
+use Rattle.wasm_below.proofs.Taking.{takes_then, back}
+use Rattle.wasm_below.proofs.Fronts.{advanced, refused_at, behind_refused}
+use Rattle.wasm_below.proofs.TypeSpellings.{no_exact, exact_behind, exact_empty}
+use Rattle.wasm_below.proofs.types.HeapType.read_exact.Goals as goal
+
+pub returns-then-index-gt-MAX_TYPE_INDEX-clause-reads : goal.returns-then-index-gt-MAX_TYPE_INDEX-clause-reads
+returns-then-index-gt-MAX_TYPE_INDEX-clause-reads c =
+    let r = c.in-Ok.ensures.reads in
+    let h = c.refuse.ensures in
+    let first = advanced c.args.reader.now c.advance.new.self 98 c.requires c.advance.ensures in
+    let whole = takes_then c.args.reader.now c.advance.new.self c.read_var_u32.new.self (98 ∷ []) r.0 first r.2 in
+    refused_at SpellsExact c.refuse.result c.args.reader.now c.read_var_u32.new.self c.refuse.new.self (98 ∷ r.0) c.current_position-start.result whole (omega arith) c.current_position-start.ensures h.rewound h.offset (subst IsReadFault (sym h.message) tt)
+    (λ more. no_exact r.0 (rest c.read_var_u32.new.self) more c.in-Ok.index r.1 c.if-index-gt-MAX_TYPE_INDEX.true)
+
+pub returns-else-index-gt-MAX_TYPE_INDEX-clause-reads : goal.returns-else-index-gt-MAX_TYPE_INDEX-clause-reads
+returns-else-index-gt-MAX_TYPE_INDEX-clause-reads c =
+    let r = c.in-Ok.ensures.reads in
+    let first = advanced c.args.reader.now c.advance.new.self 98 c.requires c.advance.ensures in
+    (98 ∷ r.0, (r.0, refl, r.1, c.if-index-gt-MAX_TYPE_INDEX.false), takes_then c.args.reader.now c.advance.new.self c.read_var_u32.new.self (98 ∷ []) r.0 first r.2)
+
+pub returns-in-Err-clause-reads : goal.returns-in-Err-clause-reads
+returns-in-Err-clause-reads c =
+    let h = c.in-Err.ensures.reads in
+    let first = advanced c.args.reader.now c.advance.new.self 98 c.requires c.advance.ensures in (
+      back c.args.reader.now c.advance.new.self c.rewind.new.self (98 ∷ []) c.current_position-start.result first c.current_position-start.ensures (c.rewind.ensures ∙ ap (λ r. at_position r c.current_position-start.result) h.0),
+      behind_refused (SpellsUnsigned 32) SpellsExact c.in-Err.e c.args.reader.now c.advance.new.self 98 first exact_empty exact_behind h.1,
+    )

@@ -1,0 +1,42 @@
+-- What a type's own reading answers.
+use Rattle.std.specs.Prelude.{◌≡◌, ℕ, ◌+◌, ◌<◌, ◌⊎◌, Bool, true, List, ◌++◌, length, Result, Ok, Err, Option, Some, None}
+use Rattle.wasm_below.specs.declared.error.Error.{Error}
+use Rattle.wasm_below.specs.declared.message.Message.{Message}
+use Rattle.wasm_below.specs.declared.message.Message.TheVariants as message
+use Rattle.wasm_below.specs.declared.features.WasmFeatures.{WasmFeatures}
+use Rattle.wasm_below.specs.Number.{SpellsUnsigned}
+use Rattle.wasm_below.specs.Sequence.{Then}
+use Rattle.wasm_below.specs.Source.{Reader, rest, offset_of, Takes, Refuses, IsAhead, NumberFault}
+
+-- A refusal of a call that began at this reader. Of want of memory, which a type that takes none never answers, it says no more than where the call began.
+pub record IsRefused {X : Type 0} (Spells : List ℕ → X → Type 0) (takes_memory : Bool) (e : Error) (old : Reader) : Type 0 where
+  pub refuses : Refuses Spells (rest old) e.message
+  pub ahead : IsAhead old e.offset
+  pub memory : e.message ≡ message.OutOfMemory → (takes_memory ≡ true) × (e.offset ≡ offset_of old)
+
+-- The call answers Ok exactly where a front of the rest spells a value, memory aside: it then takes that front and answers that value. Else nothing changes.
+abbrev pub ReadsValue : {X : Type 0} → (List ℕ → X → Type 0) → Bool → Result X Error → Reader → Reader → Type 0
+ReadsValue Spells takes_memory (Ok x) old new = (text : List ℕ) × Spells text x × Takes old new text
+ReadsValue Spells takes_memory (Err e) old new = (new ≡ old) × IsRefused Spells takes_memory e old
+
+-- A fresh reader of these bytes, of which there are n. Where they stood is not seen.
+abbrev pub IsReaderOf : WasmFeatures → ℕ → List ℕ → Reader → Type 0
+IsReaderOf features n text r = (r.features ≡ features) × (r.buffer ≡ text) × (r.position ≡ 0) × (length text ≡ n)
+
+-- A number of 32 bits, and that many bytes.
+abbrev pub SpellsReader : WasmFeatures → List ℕ → Reader → Type 0
+SpellsReader features = Then (SpellsUnsigned 32) (IsReaderOf features)
+
+-- The same reader, wherever its bytes stood.
+abbrev pub SameReader : Reader → Reader → Type 0
+SameReader r s = (r.features ≡ s.features) × (r.buffer ≡ s.buffer) × (r.position ≡ s.position)
+
+-- Which refusal such a reading has: that of the number, or the data ends within the bytes behind it.
+abbrev pub ReaderFault : Message → Reader → ℕ → Type 0
+ReaderFault m r offset = NumberFault m 32 r offset ⊎ ((text more : List ℕ) × (n : ℕ) × SpellsUnsigned 32 text n × (rest r ≡ text ++ more) × (length more < n) × (m ≡ message.EndOfData) × (offset ≡ offset_of r + length text))
+
+-- A step of an iterator that has this many items left before and after.
+abbrev pub StepsItems : {X : Type 0} → (List ℕ → X → Type 0) → Bool → ℕ → ℕ → Option (Result X Error) → Reader → Reader → Type 0
+StepsItems Spells takes_memory before after None old new = (before ≡ 0) × (after ≡ 0) × (new ≡ old)
+StepsItems Spells takes_memory before after (Some (Ok x)) old new = (before ≡ after + 1) × ReadsValue Spells takes_memory (Ok x) old new
+StepsItems Spells takes_memory before after (Some (Err e)) old new = (0 < before) × (after ≡ 0) × ReadsValue Spells takes_memory (Err e) old new

@@ -1,0 +1,229 @@
+ghost use Rattle.std.specs.Prelude.{◌≡◌, ℕ, Bool, true, false, List, ◌++◌, IfOk, IfErr, IfSome, []};
+ghost use Rattle.wasm_below.specs.declared.features.WasmFeatures.{WasmFeatures};
+ghost use Rattle.wasm_below.specs.Items.{items_left, items_reader, items_name};
+ghost use Rattle.wasm_below.specs.FromReader.{ReadsValue, SpellsReader, ReaderFault, StepsItems};
+ghost use Rattle.wasm_below.specs.Source.{IsRefusal, SizeFault, Reads, end_of, offset_of};
+ghost use Rattle.std.specs.Iterator.{at_most, UpTo};
+ghost use Rattle.std.specs.Iterator.SizeHint.{IsWithinCount};
+ghost use Rattle.wasm_below.specs.Number.{SpellsUnsigned, SpellsSize};
+ghost use Rattle.wasm_below.specs.Sequence.{OnceBut};
+ghost use Rattle.wasm_below.specs.TypeSpelling.{SpellsHeapType, SpellsRefType, SpellsValType};
+
+use crate::binary_reader::BinaryReader;
+use crate::error::Result;
+use crate::message::Word;
+use crate::types::{HeapType, RefType, ValType};
+use std::alloc::Global;
+use std::marker::PhantomData;
+
+/// A type that is read from the front of bytes.
+pub trait FromReader<'a>: Drop + Sized {
+    // Whether a reading may answer that memory was refused.
+    ghost TAKES_MEMORY: { Bool };
+
+    /// Whether a reading may answer that memory was refused.
+    const TAKES_MEMORY: bool;
+
+    // Under these features the bytes spell the value.
+    ghost spelled: { WasmFeatures → List ℕ → Self → Type 0 };
+
+    // The same value, but for the place that a reader inside it remembers.
+    ghost same: { Self → Self → Type 0 } = { λ a b. a ≡ b };
+
+    /// Reads the value that a front of the rest spells.
+    fn from_reader(alloc: Global, reader: &mut BinaryReader<'a>) -> Result<Self>
+        ensures { ReadsValue (spelled reader.old.features) TAKES_MEMORY result reader.old reader.new };
+
+    /// A law: no spelling is a proper front of another, and each is that of one value. It does
+    /// nothing; generic code calls it to use the law.
+    fn spelled_once()
+        ensures { (features : WasmFeatures) → OnceBut same (spelled features) };
+}
+
+impl<'a> FromReader<'a> for u32 {
+    ghost TAKES_MEMORY = { false };
+
+    const TAKES_MEMORY: bool = false;
+
+    ghost spelled = { λ features text n. SpellsUnsigned 32 text n };
+
+    fn from_reader(_alloc: Global, reader: &mut BinaryReader<'a>) -> Result<u32> {
+        reader.read_var_u32()
+    }
+
+    fn spelled_once() {}
+}
+
+impl<'a> FromReader<'a> for HeapType {
+    ghost TAKES_MEMORY = { false };
+
+    const TAKES_MEMORY: bool = false;
+
+    ghost spelled = { λ features text ty. SpellsHeapType text ty };
+
+    fn from_reader(_alloc: Global, reader: &mut BinaryReader<'a>) -> Result<HeapType> {
+        HeapType::read(reader)
+    }
+
+    fn spelled_once() {}
+}
+
+impl<'a> FromReader<'a> for RefType {
+    ghost TAKES_MEMORY = { false };
+
+    const TAKES_MEMORY: bool = false;
+
+    ghost spelled = { λ features text ty. SpellsRefType text ty };
+
+    fn from_reader(_alloc: Global, reader: &mut BinaryReader<'a>) -> Result<RefType> {
+        RefType::read(reader)
+    }
+
+    fn spelled_once() {}
+}
+
+impl<'a> FromReader<'a> for ValType {
+    ghost TAKES_MEMORY = { false };
+
+    const TAKES_MEMORY: bool = false;
+
+    ghost spelled = { λ features text ty. SpellsValType text ty };
+
+    fn from_reader(_alloc: Global, reader: &mut BinaryReader<'a>) -> Result<ValType> {
+        ValType::read(reader)
+    }
+
+    fn spelled_once() {}
+}
+
+impl<'a> BinaryReader<'a> {
+    /// Reads a value of a type. Refused as the type's own reading.
+    #[inline(always)]
+    pub fn read<T: FromReader<'a>>(&mut self, alloc: Global) -> Result<T>
+        ensures { ReadsValue (T.spelled self.old.features) T.TAKES_MEMORY result self.old self.new }
+    {
+        T::from_reader(alloc, self)
+    }
+
+    /// Reads a number of 32 bits and that many bytes, as a reader with the same features whose
+    /// offset is theirs.
+    ///
+    /// Refused as the number; `EndOfData` where the bytes begin.
+    pub fn read_reader(&mut self) -> Result<BinaryReader<'a>>
+        ensures reads { Reads (SpellsReader self.old.features) result self.old self.new }
+        ensures placed { IfOk result (λ r. end_of r ≡ offset_of self.new) }
+        ensures fault { IfErr result (λ e. ReaderFault e.message self.old e.offset) }
+    {
+        let start = self.current_position();
+        let size = self.read_var_u32()? as usize;
+        let offset = self.original_position();
+        match self.read_bytes(size) {
+            Ok(bytes) => Ok(self.part(bytes, offset)),
+            Err(e) => {
+                self.rewind(start);
+                Err(e)
+            }
+        }
+    }
+
+    /// Reads a count, at most this limit, of the list of this name, and then its items.
+    ///
+    /// Refused as `read_size`, which goes back to where the count begins.
+    pub fn read_iter<'r, T: FromReader<'a>>(
+        &'r mut self,
+        alloc: Global,
+        limit: usize,
+        desc: Word,
+    ) -> Result<BinaryReaderIter<'a, 'r, T>>
+        ensures same_reference { IfOk result (λ items. items_name items ≡ self.entry.ghost_name) }
+        ensures count { IfOk result (λ items. Reads (SpellsSize limit) (Ok (items_left items)) self.old (items_reader items)) }
+        ensures refused { IfErr result (λ e. IsRefusal (SpellsSize limit) e self.old) }
+        ensures fault { IfErr result (λ e. SizeFault e.message limit self.old e.offset) }
+    {
+        let remaining = self.read_size(limit, desc)?;
+        Ok(BinaryReaderIter::new(alloc, self, remaining))
+    }
+}
+
+/// The items of a list, read one after the other.
+///
+/// Dropping it reads the items that are left, up to a refusal.
+pub struct BinaryReaderIter<'a, 'r, T: FromReader<'a>> {
+    remaining: usize,
+    reader: &'r mut BinaryReader<'a>,
+    alloc: Global,
+    item: PhantomData<T>,
+}
+
+impl<'a, 'r, T: FromReader<'a>> BinaryReaderIter<'a, 'r, T> {
+    /// This many items, from where the reader stands.
+    pub fn new(
+        alloc: Global,
+        reader: &'r mut BinaryReader<'a>,
+        remaining: usize,
+    ) -> BinaryReaderIter<'a, 'r, T>
+        ensures same_reference { items_name result ≡ reader.entry.ghost_name }
+        ensures reader { items_reader result ≡ reader.old }
+        ensures left { items_left result ≡ remaining }
+    {
+        BinaryReaderIter {
+            remaining,
+            reader,
+            alloc,
+            item: PhantomData,
+        }
+    }
+}
+
+impl<'a, 'r, T: FromReader<'a>> Iterator for BinaryReaderIter<'a, 'r, T> {
+    type Item = Result<T>;
+
+    ghost next_gives = { λ s item t. StepsItems (T.spelled (items_reader s).features) T.TAKES_MEMORY (items_left s) (items_left t) item (items_reader s) (items_reader t) };
+
+    ghost remaining = { λ s. at_most (items_left s) };
+
+    fn next(&mut self) -> Option<Result<T>> {
+        if self.remaining == 0 {
+            return None;
+        }
+        match self.reader.read(self.alloc) {
+            Ok(item) => {
+                self.remaining -= 1;
+                Some(Ok(item))
+            }
+            Err(e) => {
+                self.remaining = 0;
+                Some(Err(e))
+            }
+        }
+    }
+
+    fn size_hint(&self) -> (usize, Option<usize>)
+        ensures exact { result ≡ ((items_left self.now), Some (items_left self.now)) }
+        ensures lower { IsWithinCount result.0 (at_most (items_left self.now)) }
+        ensures upper { IfSome result.1 (UpTo (at_most (items_left self.now))) }
+    {
+        (self.remaining, Some(self.remaining))
+    }
+}
+
+impl<'a, 'r, T: FromReader<'a>> Drop for BinaryReaderIter<'a, 'r, T> {
+    fn drop(self) {
+        let BinaryReaderIter {
+            remaining,
+            reader,
+            alloc,
+            item: _,
+        } = self;
+        read_on::<T>(alloc, reader, remaining);
+    }
+}
+
+/// Reads this many values, up to a refusal.
+fn read_on<'a, T: FromReader<'a>>(alloc: Global, reader: &mut BinaryReader<'a>, count: usize) {
+    for _ in 0..count {
+        if reader.read::<T>(alloc).is_err() {
+            return;
+        }
+    }
+}
