@@ -86,6 +86,10 @@ roles_of (op ∷ ops) = role_of op ∷ roles_of ops
 abbrev pub SpellsAllowed : WasmFeatures → FrameKind → List ℕ → Operator → Type 0
 SpellsAllowed f kind bytes op = SpellsOperator f op bytes × Allows kind (role_of op)
 
+-- No operator has this code byte.
+abbrev pub IsNoCode : ℕ → Type 0
+IsNoCode byte = (op : Operator) → code_of op ≡ byte → ⊥
+
 -- Behind this code byte the bytes spell the rest of the operator.
 pub record SpellsBehind (f : WasmFeatures) (code : ℕ) (bytes : List ℕ) (op : Operator) : Type 0 where
   pub code_is : code_of op ≡ code

@@ -1,7 +1,7 @@
-ghost use Rattle.std.specs.Prelude.{◌≡◌, ◌≤◌};
+ghost use Rattle.std.specs.Prelude.{◌≡◌, ◌≤◌, IsErrAnd};
 ghost use Rattle.wasm_below.specs.Source.{Reads, offset_of, end_of};
-ghost use Rattle.wasm_operators.specs.Row.{SpellsAllowed, SpellsBehind};
-ghost use Rattle.wasm_operators.specs.Decoding.{FindsFrom};
+ghost use Rattle.wasm_operators.specs.Row.{SpellsAllowed, SpellsBehind, IsNoCode};
+ghost use Rattle.wasm_operators.specs.Decoding.{FindsFrom, RefusesCode};
 
 use crate::operator::{NumericOperator, Operator};
 use wasm_below::{BinaryReader, Error, Message, Result};
@@ -10,7 +10,8 @@ use wasm_grammar::FrameKind;
 /// The operator at the front of the rest, in a frame of this kind.
 #[inline(always)]
 pub fn read_operator(reader: &mut BinaryReader, frame: FrameKind) -> Result<Operator>
-    ensures { Reads (SpellsAllowed reader.old.features frame) result reader.old reader.new }
+    ensures reads { Reads (SpellsAllowed reader.old.features frame) result reader.old reader.new }
+    ensures unknown { RefusesCode result reader.old }
 {
     let position = reader.current_position();
     let start = reader.original_position();
@@ -29,7 +30,8 @@ pub fn read_operator(reader: &mut BinaryReader, frame: FrameKind) -> Result<Oper
 fn read_behind(reader: &mut BinaryReader, start: u64, code: u8) -> Result<Operator>
     requires behind { start ≤ offset_of reader.old }
     requires within { start ≤ end_of reader.old }
-    ensures { FindsFrom start (SpellsBehind reader.old.features code) result reader.old reader.new }
+    ensures finds { FindsFrom start (SpellsBehind reader.old.features code) result reader.old reader.new }
+    ensures unknown { IsNoCode code → IsErrAnd result (λ e. (e.message ≡ Message.IllegalOpcode code) × (e.offset ≡ start)) }
 {
     match code {
         0x00 => Ok(Operator::Unreachable),

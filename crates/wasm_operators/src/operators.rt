@@ -2,6 +2,7 @@ ghost use Rattle.std.specs.Prelude.{◌≡◌, List, [], ◌∷◌, ◌++◌, Is
 ghost use Rattle.wasm_below.specs.Source.{rest, offset_of, source_of};
 ghost use Rattle.wasm_grammar.specs.OpenPath.{OpenPath};
 ghost use Rattle.wasm_operators.specs.Row.{role_of, roles_of};
+ghost use Rattle.wasm_operators.specs.Decoding.{RefusesCode};
 ghost use Rattle.wasm_operators.specs.Expression.{Placed, SpellsRest, SpellsExpression};
 ghost use Rattle.wasm_operators.specs.Reading.{ReadsOperator, RunsToEnd, Finishes, IsFresh};
 ghost use Rattle.wasm_operators.specs.Headline.{StoodBefore, ReadsTree, ReadsFront, Adds};
@@ -68,6 +69,8 @@ impl<'a> OperatorsReader<'a> {
         ensures reads { ReadsOperator result self.old self.new }
         // It is E8 exactly where no frame is open.
         ensures closed { IsErrAnd result (λ e. e.message ≡ Message.OperatorsRemaining) ↔ (self.old.frames ≡ []) }
+        // A byte that is no operator's code is refused by E12, where it stands.
+        ensures unknown { (self.old.frames ≡ [] → ⊥) → RefusesCode result self.old.reader }
         // The frames go on being those of the open path, whatever stood before.
         ensures path { IfOk result (λ op. (before : List Operator) → OpenPath (roles_of before) self.old.frames
             → OpenPath (roles_of (before ++ op ∷ [])) self.new.frames) }
