@@ -410,12 +410,8 @@ impl<'a> BinaryReader<'a> {
         requires { offset + length bytes.now ≤ end_of self.now }
         ensures { result ≡ reader_of self.now.features offset bytes.now }
     {
-        BinaryReader {
-            buffer: bytes,
-            position: 0,
-            original_offset: offset,
-            features: self.features,
-        }
+        let _ = &self.buffer;
+        BinaryReader::new_features(bytes, offset, self.features)
     }
 
     /// Four bytes, the lowest first.
