@@ -78,3 +78,8 @@ abbrev pub NamesNumber : Word → Message → Type 0
 NamesNumber name (message.IntegerTooLong w) = w ≡ name
 NamesNumber name (message.IntegerTooLarge w) = w ≡ name
 NamesNumber name _ = Unit {0}
+
+-- A refusal of a count names this list.
+abbrev pub NamesSize : Word → Message → Type 0
+NamesSize name (message.SizeOutOfBounds what) = what ≡ name
+NamesSize name m = Unit {0}

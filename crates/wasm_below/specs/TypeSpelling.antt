@@ -1,5 +1,5 @@
 -- Types as bytes.
--- WebAssembly Core Specification 3.0, Binary Format, Types: Heap Types, Reference Types, Value Types. Of proposals beyond it are the bytes 98 (exact), 101 (shared), 104 (cont) and 117 (nocont).
+-- WebAssembly Core Specification 3.0, Binary Format, Types: Heap Types, Reference Types, Value Types. Of proposals beyond it are the bytes 62 (exact), 65 (shared), 68 (cont) and 75 (nocont). Bytes in comments are hexadecimal.
 use Rattle.std.specs.Prelude.{◌≡◌, ◌≢◌, ℕ, ◌+◌, ◌≤◌, ◌⊎◌, Bool, true, false, List, [], ◌∷◌, pos}
 use Rattle.wasm_below.specs.declared.message.Message.{Message}
 use Rattle.wasm_below.specs.declared.message.Message.TheVariants as message
@@ -17,25 +17,25 @@ use Rattle.wasm_below.specs.Source.{Reader, rest, offset_of, end_of, at_position
 
 -- The byte of an abstract heap type.
 abbrev pub code_of : AbstractHeapType → ℕ
-code_of ty.NoCont = 117
-code_of ty.NoExn = 116
-code_of ty.NoFunc = 115
-code_of ty.NoExtern = 114
-code_of ty.None = 113
-code_of ty.Func = 112
-code_of ty.Extern = 111
-code_of ty.Any = 110
-code_of ty.Eq = 109
-code_of ty.I31 = 108
-code_of ty.Struct = 107
-code_of ty.Array = 106
-code_of ty.Exn = 105
-code_of ty.Cont = 104
+code_of ty.NoCont = 0x75
+code_of ty.NoExn = 0x74
+code_of ty.NoFunc = 0x73
+code_of ty.NoExtern = 0x72
+code_of ty.None = 0x71
+code_of ty.Func = 0x70
+code_of ty.Extern = 0x6f
+code_of ty.Any = 0x6e
+code_of ty.Eq = 0x6d
+code_of ty.I31 = 0x6c
+code_of ty.Struct = 0x6b
+code_of ty.Array = 0x6a
+code_of ty.Exn = 0x69
+code_of ty.Cont = 0x68
 
 -- A short form: the byte of an abstract heap type; where it is shared, behind the byte 101.
 abbrev pub SpellsShort : List ℕ → HeapType → Type 0
 SpellsShort text (heap.Abstract false ty) = text ≡ code_of ty ∷ []
-SpellsShort text (heap.Abstract true ty) = text ≡ 101 ∷ code_of ty ∷ []
+SpellsShort text (heap.Abstract true ty) = text ≡ 0x65 ∷ code_of ty ∷ []
 SpellsShort text _ = ⊥
 
 -- An index of a type, as a signed number that is not negative.
@@ -43,9 +43,9 @@ abbrev pub SpellsConcrete : List ℕ → HeapType → Type 0
 SpellsConcrete text (heap.Concrete index) = SpellsSigned 33 text (pos index) × (index ≤ max_type_index)
 SpellsConcrete text _ = ⊥
 
--- The byte 98 and an index of a type.
+-- The byte 62 and an index of a type.
 abbrev pub SpellsExact : List ℕ → HeapType → Type 0
-SpellsExact text (heap.Exact index) = (behind : List ℕ) × (text ≡ 98 ∷ behind) × SpellsUnsigned 32 behind index × (index ≤ max_type_index)
+SpellsExact text (heap.Exact index) = (behind : List ℕ) × (text ≡ 0x62 ∷ behind) × SpellsUnsigned 32 behind index × (index ≤ max_type_index)
 SpellsExact text _ = ⊥
 
 -- Heap Types.
@@ -54,10 +54,10 @@ SpellsHeapType text (heap.Abstract shared ty) = SpellsShort text (heap.Abstract 
 SpellsHeapType text (heap.Concrete index) = SpellsConcrete text (heap.Concrete index)
 SpellsHeapType text (heap.Exact index) = SpellsExact text (heap.Exact index)
 
--- The byte before a heap type: 99 where null is in the type, else 100.
+-- The byte before a heap type: 63 where null is in the type, else 64.
 abbrev pub ref_code : Bool → ℕ
-ref_code true = 99
-ref_code false = 100
+ref_code true = 0x63
+ref_code false = 0x64
 
 -- A short form, in which null is in the type.
 abbrev pub SpellsShortRef : List ℕ → Reference → Type 0
@@ -73,11 +73,11 @@ SpellsRefType text r = SpellsShortRef text r ⊎ SpellsLongRef text r
 
 -- Number Types and Vector Types.
 abbrev pub SpellsNumberType : List ℕ → ValType → Type 0
-SpellsNumberType text value.I32 = text ≡ 127 ∷ []
-SpellsNumberType text value.I64 = text ≡ 126 ∷ []
-SpellsNumberType text value.F32 = text ≡ 125 ∷ []
-SpellsNumberType text value.F64 = text ≡ 124 ∷ []
-SpellsNumberType text value.V128 = text ≡ 123 ∷ []
+SpellsNumberType text value.I32 = text ≡ 0x7f ∷ []
+SpellsNumberType text value.I64 = text ≡ 0x7e ∷ []
+SpellsNumberType text value.F32 = text ≡ 0x7d ∷ []
+SpellsNumberType text value.F64 = text ≡ 0x7c ∷ []
+SpellsNumberType text value.V128 = text ≡ 0x7b ∷ []
 SpellsNumberType text (value.Ref r) = ⊥
 
 -- Value Types.
@@ -91,11 +91,11 @@ behind_byte r = at_position r (r.position + 1)
 
 -- Bytes with which a short form begins.
 abbrev pub LeadsShort : ℕ → Type 0
-LeadsShort byte = (101 ≤ byte) × (byte ≤ 117) × (byte ≢ 102) × (byte ≢ 103)
+LeadsShort byte = (0x65 ≤ byte) × (byte ≤ 0x75) × (byte ≢ 0x66) × (byte ≢ 0x67)
 
 -- Bytes with which a reference type begins.
 abbrev pub LeadsRefType : ℕ → Type 0
-LeadsRefType byte = (99 ≤ byte) × (byte ≤ 117) × (byte ≢ 102) × (byte ≢ 103)
+LeadsRefType byte = (0x63 ≤ byte) × (byte ≤ 0x75) × (byte ≢ 0x66) × (byte ≢ 0x67)
 
 -- The data ends, or no type of this name stands where the reading began.
 abbrev pub ShortFault : Word → Message → Reader → ℕ → Type 0
@@ -105,9 +105,9 @@ ShortFault name _ r offset = ⊥
 
 -- Which refusal a heap type has: one of its own, or that of its number.
 abbrev pub HeapTypeFault : Message → Reader → ℕ → Type 0
-HeapTypeFault m r offset = ShortFault word.HeapType m r offset ⊎ (TooLongFault m 33 r offset ⊎ (BeginsWith 98 (rest r) × NumberFault m 32 (behind_byte r) offset))
+HeapTypeFault m r offset = ShortFault word.HeapType m r offset ⊎ (TooLongFault m 33 r offset ⊎ (BeginsWith 0x62 (rest r) × NumberFault m 32 (behind_byte r) offset))
 
--- Which refusal a reference type has: behind the byte 99 or 100 that of a heap type, else one of its own.
+-- Which refusal a reference type has: behind the byte 63 or 64 that of a heap type, else one of its own.
 abbrev pub RefTypeFault : Message → Reader → ℕ → Type 0
 RefTypeFault m r offset = ((nullable : Bool) × BeginsWith (ref_code nullable) (rest r) × HeapTypeFault m (behind_byte r) offset) ⊎ (((nullable : Bool) → BeginsWith (ref_code nullable) (rest r) → ⊥) × ShortFault word.ReferenceType m r offset)
 

@@ -2,7 +2,7 @@ ghost use Rattle.std.specs.Prelude.{◌≡◌, ◌≢◌, ℕ, ◌+◌, ◌-◌,
 ghost use Rattle.std.specs.Int.{w32, w64};
 ghost use Rattle.wasm_below.specs.Source.{Takes, Reads, IsByte, IsBlock, IsEndHere, IsShort, BeginsWith, NumberFault, TooLongFault, SizeFault, as_too_long, rest, offset_of, end_of, at_position, with_features, reader_of};
 ghost use Rattle.wasm_below.specs.Features.{all_features};
-ghost use Rattle.wasm_below.specs.Refusal.{NamesNumber};
+ghost use Rattle.wasm_below.specs.Refusal.{NamesNumber, NamesSize};
 ghost use Rattle.wasm_below.specs.Number.{SpellsUnsigned, SpellsSigned, SpellsFixed, SpellsSize, FitsWidth, last_value};
 
 use crate::error::{Error, Result};
@@ -446,6 +446,7 @@ impl<'a> BinaryReader<'a> {
     pub fn read_size(&mut self, limit: usize, desc: Word) -> Result<usize>
         ensures reads { Reads (SpellsSize limit) result self.old self.new }
         ensures fault { IfErr result (λ e. SizeFault e.message limit self.old e.offset) }
+        ensures named { IfErr result (λ e. NamesSize desc e.message) }
     {
         let start = self.position;
         let size = self.read_var_u32()? as usize;

@@ -2,6 +2,7 @@ ghost use Rattle.std.specs.Prelude.{◌≡◌, ℕ, Bool, true, false, List, ◌
 ghost use Rattle.wasm_below.specs.declared.features.WasmFeatures.{WasmFeatures};
 ghost use Rattle.wasm_below.specs.Items.{items_left, items_reader, items_name};
 ghost use Rattle.wasm_below.specs.FromReader.{ReadsValue, SpellsReader, ReaderFault, StepsItems};
+ghost use Rattle.wasm_below.specs.Refusal.{NamesSize};
 ghost use Rattle.wasm_below.specs.Source.{IsRefusal, SizeFault, Reads, end_of, offset_of};
 ghost use Rattle.std.specs.Iterator.{at_most, UpTo};
 ghost use Rattle.std.specs.Iterator.SizeHint.{IsWithinCount};
@@ -139,6 +140,7 @@ impl<'a> BinaryReader<'a> {
         ensures count { IfOk result (λ items. Reads (SpellsSize limit) (Ok (items_left items)) self.old (items_reader items)) }
         ensures refused { IfErr result (λ e. IsRefusal (SpellsSize limit) e self.old) }
         ensures fault { IfErr result (λ e. SizeFault e.message limit self.old e.offset) }
+        ensures named { IfErr result (λ e. NamesSize desc e.message) }
     {
         let remaining = self.read_size(limit, desc)?;
         Ok(BinaryReaderIter::new(alloc, self, remaining))
