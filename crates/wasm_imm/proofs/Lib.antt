@@ -1,0 +1,11 @@
+pub mod Sixteen
+pub mod Steps
+pub mod Flags
+pub mod Short
+pub mod Many
+pub mod Targets
+pub mod Blocks
+pub mod Casting
+pub mod Clauses
+pub mod Refused
+pub mod Handling

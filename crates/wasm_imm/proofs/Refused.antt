@@ -1,0 +1,66 @@
+-- Refusals of calls that may want memory.
+use Rattle.std.proofs.Common.{◌≡◌, ℕ, ◌+◌, ◌<◌, ◌≤◌, ◌⊎◌, inl, inr, Bool, true, false, List, ◌++◌, length, Ok, refl, sym, subst, ap, ◌∙◌, arith}
+use Rattle.wasm_below.specs.declared.error.Error.{Error}
+use Rattle.wasm_below.specs.declared.message.Message.TheVariants as message
+use Rattle.wasm_below.specs.FromReader.{IsRefused}
+use Rattle.wasm_below.specs.Refusal.{IsReadFault}
+use Rattle.wasm_below.specs.Sequence.{Then, Once}
+use Rattle.wasm_below.specs.Source.{Reader, rest, offset_of, end_of, at_position, Takes, NoFront, MayFollow, IsAhead, IsRefusal, Reads}
+use Rattle.wasm_below.proofs.Taking.{back, ahead_before}
+use Rattle.wasm_below.proofs.Sequences.{then_first}
+use Rattle.wasm_imm.specs.Lists.{SpellsMany}
+use Rattle.wasm_imm.specs.Memory.{IsBegunAt}
+use Rattle.wasm_imm.proofs.Steps.{began_within, no_second}
+use Rattle.wasm_imm.proofs.Many.{FrontOnce, many_none}
+
+-- a refusal that is not want of memory
+pub as_refused : {X : Type 0} (P : List ℕ → X → Type 0) (takes : Bool) (e : Error) (old : Reader) → IsRefusal P e old → IsRefused P takes e old
+as_refused P takes e old h = record { refuses = h.refuses; ahead = h.ahead; memory = λ m. absurd (subst IsReadFault m h.fault) }
+
+-- want of memory where the call began
+pub memory_refused : {X : Type 0} (P : List ℕ → X → Type 0) (e : Error) (old : Reader) → e.message ≡ message.OutOfMemory → e.offset ≡ offset_of old → offset_of old ≤ end_of old → IsRefused P true e old
+memory_refused P e old m at within =
+    record {
+      refuses = λ more follow. absurd (subst (λ z. MayFollow z more) m follow);
+      ahead = (omega (arith, at), omega (arith, at));
+      memory = λ m. (refl, at);
+    }
+
+-- where each text of one property is a text of another, what refuses the other refuses the one
+pub refused_by : {X Y : Type 0} (P : List ℕ → X → Type 0) (Q : List ℕ → Y → Type 0) (takes : Bool) (e : Error) (old : Reader) → ((text : List ℕ) (y : Y) → Q text y → (x : X) × P text x) → IsRefused P takes e old → IsRefused Q takes e old
+refused_by P Q takes e old f h =
+    record { refuses = λ more follow text rest y q eq. let p = f text y q in h.refuses more follow text rest p.0 p.1 eq; ahead = h.ahead; memory = h.memory }
+
+-- the first part is refused
+pub first_refused : {X Y : Type 0} (P : List ℕ → X → Type 0) (Q : X → List ℕ → Y → Type 0) (takes : Bool) (e : Error) (old : Reader) → IsRefusal P e old → IsRefused (Then P Q) takes e old
+first_refused P Q takes e old h = as_refused (Then P Q) takes e old (then_first P Q e old h)
+
+-- the second part is refused, the call went back, and want of memory is said where it began
+pub begun_refused : {X Y : Type 0} (P : List ℕ → X → Type 0) (Q : X → List ℕ → Y → Type 0) (e f : Error) (old mid mid2 new : Reader) (x : X) (position : ℕ) → Once P → ((text : List ℕ) → P text x → 0 < length text) → Reads P (Ok x) old mid → (mid2 ≡ mid) × IsRefused (Q x) true e mid → position ≡ old.position → new ≡ at_position mid2 position → IsBegunAt (mid2.start + position) e f → (new ≡ old) × IsRefused (Then P Q) true f old
+begun_refused P Q e f old mid mid2 new x position once some (text, p, t) (same, h) at went (kept, place, begun) =
+    let starts : mid2.start ≡ old.start = ap (λ (r : Reader). r.start) same ∙ ap (λ (r : Reader). r.start) t.moved in
+    let here : mid2.start + position ≡ offset_of old = omega arith in
+    let within : offset_of old ≤ end_of old = began_within old mid text t (some text p) in
+    let ahead = ahead_before old mid text e.offset t h.ahead in (
+      back old mid new text position t at (went ∙ ap (λ (r : Reader). at_position r position) same),
+      record {
+        refuses = λ more follow. subst (λ z. NoFront (Then P Q) (z ++ more)) (sym t.parts) (no_second P Q text (rest mid) more x once p (h.refuses more (subst (λ m. MayFollow m more) kept follow)));
+        ahead = placed place ahead here within;
+        memory = λ m. (refl, begun (sym kept ∙ m) ∙ here);
+      },
+    )
+  where
+    placed : (f.offset ≡ e.offset) ⊎ (f.offset ≡ mid2.start + position) → IsAhead old e.offset → mid2.start + position ≡ offset_of old → offset_of old ≤ end_of old → IsAhead old f.offset
+    placed (inl s) a here within = (omega (arith, s, a.0), omega (arith, s, a.1))
+    placed (inr s) a here within = (omega (arith, s, here), omega (arith, s, here, within))
+
+-- a member is refused, and the call went back
+pub member_refused : {X : Type 0} (P : List ℕ → X → Type 0) (takes : Bool) (e : Error) (old now now2 new : Reader) (text : List ℕ) (done : List X) (read count position : ℕ) → takes ≡ false → FrontOnce P → SpellsMany P read text done → read < count → Takes old now text → (now2 ≡ now) × IsRefused P takes e now → position ≡ old.position → new ≡ at_position now2 position → (new ≡ old) × IsRefused (SpellsMany P count) true e old
+member_refused P takes e old now now2 new text done read count position lean once d l t (same, h) at went = (
+  back old now new text position t at (went ∙ ap (λ (r : Reader). at_position r position) same),
+  record {
+    refuses = λ more follow. many_none P old now text done read count once d l t more (h.refuses more follow);
+    ahead = ahead_before old now text e.offset t h.ahead;
+    memory = λ m. absurd (let k : true ≡ false = sym (h.memory m).0 ∙ lean in cc k);
+  },
+)

@@ -1,0 +1,25 @@
+use Rattle.std.proofs.Common.{◌≡◌, ◌∙◌, ℕ, ℤ, pos, false, Fits, w32, sym, ap, subst, arith, rules, w64}
+use Rattle.std.proofs.Math.Dec.{T}
+use Rattle.std.proofs.lemmas.Int.{ints, to_z-of_z}
+use lib.IntN.{nat_abs}
+use lib.Signed.{non_neg, lt_z}
+use mir.Val.{SFits}
+use Rattle.wasm_below.specs.Refusal.{IsReadFault}
+use Rattle.wasm_imm.proofs.Blocks.{signed_fits, cast_fits, negative_refused}
+use Rattle.wasm_imm.proofs.block_type.read_function_type.Goals as goal
+
+pub overflow_cast-result : goal.overflow_cast-result
+overflow_cast-result c =
+    let n = c.in_ok-index.index in
+    let fits : SFits w64 n = search rules in
+    let same = to_z-of_z w64 n fits in
+    let r = c.in_ok-index.ensures.reads in
+    let some : lt_z n (pos 0) ≡ false = ap (λ (z : ℤ). lt_z z (pos 0)) (sym same) ∙ c.if-index-lt0.false in
+    subst (λ (z : ℤ). T (non_neg z) × Fits w32 (nat_abs z)) (sym same) (cast_fits n some (signed_fits r.0 33 n r.1))
+
+pub returns-then-index-lt0 : goal.returns-then-index-lt0
+returns-then-index-lt0 c =
+    let fits : SFits w64 c.in_ok-index.index = search rules in
+    let same = to_z-of_z w64 c.in_ok-index.index fits in
+    let over : (i : ℕ) → c.in_ok-index.index ≡ pos i → ⊥ = λ i e. absurd (omega (arith, ints, c.if-index-lt0.true, same, e)) in
+    negative_refused c.new.result c.args.reader.now c.read_var_s33.new.self c.rewind.new.self c.in_ok-index.index c.current_position-start.result c.in_ok-index.ensures.reads over c.current_position-start.ensures c.rewind.ensures (c.new.ensures.offset ∙ c.original_position-behind.ensures) (subst IsReadFault (sym c.new.ensures.message) tt)

@@ -1,0 +1,10 @@
+use Rattle.wasm_imm.proofs.Clauses.{pair_refused, pair_read}
+use Rattle.wasm_imm.proofs.handlers.read_pair.Goals as goal
+
+pub returns-in-Ok-read_var_u32 : goal.returns-in-Ok-read_var_u32
+returns-in-Ok-read_var_u32 c =
+    pair_read c.args.reader.now c.read_var_u32.new.self c.read_var_u32-2.new.self c.in-Ok.first c.in-Ok-read_var_u32.second c.in-Ok.ensures.reads c.in-Ok-read_var_u32.ensures.reads
+
+pub returns-in-Err-read_var_u32 : goal.returns-in-Err-read_var_u32
+returns-in-Err-read_var_u32 c =
+    pair_refused c.in-Err-read_var_u32.e c.args.reader.now c.read_var_u32.new.self c.read_var_u32-2.new.self c.rewind.new.self c.in-Ok.first c.current_position-start.result c.in-Ok.ensures.reads c.in-Err-read_var_u32.ensures.reads c.current_position-start.ensures c.rewind.ensures

@@ -1,0 +1,25 @@
+use Rattle.std.proofs.Common.{◌++◌, refl, sym, ◌∙◌}
+use Rattle.wasm_below.proofs.Taking.{takes_then}
+use Rattle.wasm_imm.proofs.Handling.{one_read, type_refused, types_refused, not_one}
+use Rattle.wasm_imm.proofs.select.Select.read.Goals as goal
+
+pub returns-in-Ok-read-clause-reads : goal.returns-in-Ok-read-clause-reads
+returns-in-Ok-read-clause-reads c =
+    one_read c.args.reader.now c.read_size.new.self c.read.new.reader c.in-Ok.count c.in-Ok-read.ty c.if-count-eq1.true c.in-Ok.ensures.reads c.in-Ok-read.ensures.reads
+
+pub returns-in-Err-read-clause-reads : goal.returns-in-Err-read-clause-reads
+returns-in-Err-read-clause-reads c =
+    type_refused c.in-Err-read.e c.args.reader.now c.read_size.new.self c.read.new.reader c.rewind.new.self c.in-Ok.count c.current_position-start.result c.if-count-eq1.true c.in-Ok.ensures.reads c.in-Err-read.ensures.reads c.current_position-start.ensures c.rewind.ensures
+
+pub returns-in-Ok-read_members-clause-reads : goal.returns-in-Ok-read_members-clause-reads
+returns-in-Ok-read_members-clause-reads c =
+    let s = c.in-Ok.ensures.reads in
+    let m = c.in-Ok-read_members.ensures in
+    (s.0 ++ m.0, ((s.0, m.0, c.in-Ok.count, refl, s.1, m.1), λ one. c.if-count-eq1.false (sym m.1.0 ∙ one)), takes_then c.args.reader.now c.read_size.new.self c.read_members.new.reader s.0 m.0 s.2 m.2)
+
+pub returns-in-Err-read_members-clause-reads : goal.returns-in-Err-read_members-clause-reads
+returns-in-Err-read_members-clause-reads c =
+    types_refused c.in-Err-read_members.e c.begun_at.result c.args.reader.now c.read_size.new.self c.read_members.new.reader c.begun_at.new.reader c.in-Ok.count c.current_position-start.result c.in-Ok.ensures.reads c.in-Err-read_members.ensures c.current_position-start.ensures c.begun_at.ensures.rewound c.begun_at.ensures.begun
+
+pub returns-in-Err-read_members-clause-lone : goal.returns-in-Err-read_members-clause-lone
+returns-in-Err-read_members-clause-lone c = λ m. not_one c.args.reader.now c.read_size.new.self c.in-Ok.count c.in-Ok.ensures.reads c.if-count-eq1.false

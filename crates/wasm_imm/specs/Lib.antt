@@ -1,0 +1,11 @@
+pub mod MemoryArgument
+pub mod FlagsNumber
+pub mod Immediates
+pub mod BlockTypes
+pub mod Lists
+pub mod BranchTables
+pub mod TableEquality
+pub mod Casts
+pub mod Handlers
+pub mod Memory
+pub mod HandlerTables

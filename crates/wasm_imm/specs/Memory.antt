@@ -1,0 +1,12 @@
+-- Want of memory.
+use Rattle.std.specs.Prelude.{◌≡◌, ℕ, ◌⊎◌}
+use Rattle.wasm_below.specs.declared.error.Error.{Error}
+use Rattle.wasm_below.specs.declared.message.Message.TheVariants as message
+
+-- Memory was refused to a call that began at this offset.
+abbrev pub IsOutOfMemoryAt : ℕ → Error → Type 0
+IsOutOfMemoryAt offset e = (e.message ≡ message.OutOfMemory) × (e.offset ≡ offset)
+
+-- The same refusal, of a call that began at this offset: there stands want of memory.
+abbrev pub IsBegunAt : ℕ → Error → Error → Type 0
+IsBegunAt offset e f = (f.message ≡ e.message) × ((f.offset ≡ e.offset) ⊎ (f.offset ≡ offset)) × (e.message ≡ message.OutOfMemory → f.offset ≡ offset)

@@ -1,0 +1,168 @@
+ghost use Rattle.std.specs.Prelude.{◌<◌, ◌≤◌, ◌≡◌, false};
+ghost use Rattle.wasm_below.specs.Source.{Reads};
+ghost use Rattle.wasm_imm.specs.Handlers.{SpellsPair, SpellsCatch, SpellsHandle, IsCatchBehind, IsHandleBehind};
+
+use std::alloc::Global;
+use wasm_below::{BinaryReader, FromReader, Message, Result, Word};
+
+/// One catch of a try table.
+#[derive(Clone, Copy, Debug, PartialEq, Eq)]
+pub enum Catch {
+    /// Exceptions of this tag go to this label, with what they carry.
+    One { tag: u32, label: u32 },
+    /// Exceptions of this tag go to this label, with what they carry and a reference to them.
+    OneRef { tag: u32, label: u32 },
+    /// All exceptions go to this label.
+    All { label: u32 },
+    /// All exceptions go to this label, with a reference to them.
+    AllRef { label: u32 },
+}
+
+impl Catch {
+    /// A catch. Control Instructions.
+    ///
+    /// `InvalidLeadingByte` of `catch` at a first byte above 3.
+    #[inline(never)]
+    pub fn read(reader: &mut BinaryReader<'_>) -> Result<Catch>
+        ensures { Reads SpellsCatch result reader.old reader.new }
+    {
+        let start = reader.current_position();
+        let byte = match reader.read_u8() {
+            Ok(byte) => byte,
+            Err(e) => return Err(e),
+        };
+        if byte > 3 {
+            return Err(reader.refuse(start, Message::InvalidLeadingByte(byte, Word::Catch)));
+        }
+        match Catch::read_behind(reader, byte) {
+            Ok(catch) => Ok(catch),
+            Err(e) => {
+                reader.rewind(start);
+                Err(e)
+            }
+        }
+    }
+
+    /// A catch whose first byte was read.
+    fn read_behind(reader: &mut BinaryReader<'_>, byte: u8) -> Result<Catch>
+        requires { byte ≤ 3 }
+        ensures { Reads (IsCatchBehind byte) result reader.old reader.new }
+    {
+        if byte <= 1 {
+            return match read_pair(reader) {
+                Ok((tag, label)) => Ok(if byte == 0 {
+                    Catch::One { tag, label }
+                } else {
+                    Catch::OneRef { tag, label }
+                }),
+                Err(e) => Err(e),
+            };
+        }
+        match reader.read_var_u32() {
+            Ok(label) => Ok(if byte == 2 {
+                Catch::All { label }
+            } else {
+                Catch::AllRef { label }
+            }),
+            Err(e) => Err(e),
+        }
+    }
+}
+
+impl<'a> FromReader<'a> for Catch {
+    ghost TAKES_MEMORY = { false };
+
+    const TAKES_MEMORY: bool = false;
+
+    ghost spelled = { λ features text c. SpellsCatch text c };
+
+    fn from_reader(_alloc: Global, reader: &mut BinaryReader<'a>) -> Result<Catch> {
+        Catch::read(reader)
+    }
+
+    fn spelled_once() {}
+}
+
+/// One clause of a resume table. Proposal stack switching.
+#[derive(Clone, Copy, Debug, PartialEq, Eq)]
+pub enum Handle {
+    /// Suspensions by this tag go to this label.
+    OnLabel { tag: u32, label: u32 },
+    /// Switches by this tag.
+    OnSwitch { tag: u32 },
+}
+
+impl Handle {
+    /// A clause. Proposal stack switching.
+    ///
+    /// `InvalidLeadingByte` of `on clause` at a first byte above 1.
+    #[inline(never)]
+    pub fn read(reader: &mut BinaryReader<'_>) -> Result<Handle>
+        ensures { Reads SpellsHandle result reader.old reader.new }
+    {
+        let start = reader.current_position();
+        let byte = match reader.read_u8() {
+            Ok(byte) => byte,
+            Err(e) => return Err(e),
+        };
+        if byte > 1 {
+            return Err(reader.refuse(start, Message::InvalidLeadingByte(byte, Word::OnClause)));
+        }
+        match Handle::read_behind(reader, byte) {
+            Ok(handle) => Ok(handle),
+            Err(e) => {
+                reader.rewind(start);
+                Err(e)
+            }
+        }
+    }
+
+    /// A clause whose first byte was read.
+    fn read_behind(reader: &mut BinaryReader<'_>, byte: u8) -> Result<Handle>
+        requires { byte ≤ 1 }
+        ensures { Reads (IsHandleBehind byte) result reader.old reader.new }
+    {
+        if byte == 0 {
+            return match read_pair(reader) {
+                Ok((tag, label)) => Ok(Handle::OnLabel { tag, label }),
+                Err(e) => Err(e),
+            };
+        }
+        match reader.read_var_u32() {
+            Ok(tag) => Ok(Handle::OnSwitch { tag }),
+            Err(e) => Err(e),
+        }
+    }
+}
+
+impl<'a> FromReader<'a> for Handle {
+    ghost TAKES_MEMORY = { false };
+
+    const TAKES_MEMORY: bool = false;
+
+    ghost spelled = { λ features text h. SpellsHandle text h };
+
+    fn from_reader(_alloc: Global, reader: &mut BinaryReader<'a>) -> Result<Handle> {
+        Handle::read(reader)
+    }
+
+    fn spelled_once() {}
+}
+
+/// Two indices.
+fn read_pair(reader: &mut BinaryReader<'_>) -> Result<(u32, u32)>
+    ensures { Reads SpellsPair result reader.old reader.new }
+{
+    let start = reader.current_position();
+    let first = match reader.read_var_u32() {
+        Ok(first) => first,
+        Err(e) => return Err(e),
+    };
+    match reader.read_var_u32() {
+        Ok(second) => Ok((first, second)),
+        Err(e) => {
+            reader.rewind(start);
+            Err(e)
+        }
+    }
+}

@@ -1,0 +1,48 @@
+ghost use Rattle.std.specs.Prelude.{◌≡◌, IfErr};
+ghost use Rattle.wasm_below.specs.Source.{Reads, IsByte, IsEndHere, IsShort, end_of};
+ghost use Rattle.wasm_imm.specs.Immediates.{SpellsSixteen};
+
+use wasm_below::{BinaryReader, Error, Message, Result};
+
+/// The number of a lane, of any value. Vector Instructions.
+///
+/// `EndOfData` at the end of the data.
+#[inline(always)]
+pub fn read_lane(reader: &mut BinaryReader<'_>) -> Result<u8>
+    ensures reads { Reads IsByte result reader.old reader.new }
+    ensures end { IfErr result (λ e. IsEndHere e reader.old) }
+{
+    reader.read_u8()
+}
+
+/// The sixteen lanes of a shuffle. Vector Instructions.
+///
+/// `EndOfData` at the end of the data.
+#[inline(never)]
+pub fn read_lanes(reader: &mut BinaryReader<'_>) -> Result<[u8; 16]>
+    ensures reads { Reads SpellsSixteen result reader.old reader.new }
+    ensures end { IfErr result (λ e. e.offset ≡ end_of reader.old) }
+{
+    match read_sixteen(reader) {
+        Ok(lanes) => Ok(lanes),
+        Err(_) => Err(Error::new(Message::EndOfData, reader.remaining_range().end)),
+    }
+}
+
+/// Sixteen bytes.
+///
+/// `EndOfData` where they begin.
+#[inline(always)]
+pub fn read_sixteen(reader: &mut BinaryReader<'_>) -> Result<[u8; 16]>
+    ensures reads { Reads SpellsSixteen result reader.old reader.new }
+    ensures end { IfErr result (λ e. IsShort 16 e reader.old) }
+{
+    match reader.read_bytes(16) {
+        Ok(block) => {
+            let mut bytes = [0; 16];
+            bytes.copy_from_slice(block);
+            Ok(bytes)
+        }
+        Err(e) => Err(e),
+    }
+}

@@ -1,0 +1,77 @@
+ghost use Rattle.std.specs.Prelude.{◌≡◌, ◌+◌, ◌≤◌, false, true};
+ghost use Rattle.wasm_below.specs.FromReader.{ReadsValue};
+ghost use Rattle.wasm_below.specs.Source.{at_position, offset_of, end_of};
+ghost use Rattle.wasm_imm.specs.Lists.{SpellsMany, SpellsList};
+ghost use Rattle.wasm_imm.specs.Memory.{IsBegunAt};
+
+use crate::members::Members;
+use std::alloc::Global;
+use wasm_below::{BinaryReader, Error, FromReader, Message, Result, Word};
+
+/// A count, at most `limit`, and that many members, in memory that is made once.
+///
+/// `SizeOutOfBounds` of `desc` at the count; `OutOfMemory` at the count.
+pub fn read_list<'a, T: FromReader<'a>>(
+    alloc: Global,
+    reader: &mut BinaryReader<'a>,
+    limit: usize,
+    desc: Word,
+) -> Result<Members<T>>
+    requires { T.TAKES_MEMORY ≡ false }
+    ensures { ReadsValue (SpellsList limit (T.spelled reader.old.features)) true
+        result reader.old reader.new }
+{
+    let start = reader.current_position();
+    let count = match reader.read_size(limit, desc) {
+        Ok(count) => count,
+        Err(e) => return Err(e),
+    };
+    match read_members::<T>(alloc, reader, count) {
+        Ok(members) => Ok(members),
+        Err(e) => Err(begun_at(reader, start, e)),
+    }
+}
+
+/// This many members.
+pub fn read_members<'a, T: FromReader<'a>>(
+    alloc: Global,
+    reader: &mut BinaryReader<'a>,
+    count: usize,
+) -> Result<Members<T>>
+    requires lean { T.TAKES_MEMORY ≡ false }
+    requires within { offset_of reader.old ≤ end_of reader.old }
+    ensures { ReadsValue (SpellsMany (T.spelled reader.old.features) count) true
+        result reader.old reader.new }
+{
+    T::spelled_once();
+    let start = reader.current_position();
+    let mut items = match Vec::with_capacity(alloc, count) {
+        Ok(items) => items,
+        Err(_) => return Err(Error::new(Message::OutOfMemory, reader.original_position())),
+    };
+    for _member in 0..count {
+        match T::from_reader(alloc, reader) {
+            Ok(item) => items.push(item).unwrap(),
+            Err(e) => {
+                reader.rewind(start);
+                return Err(e);
+            }
+        }
+    }
+    Ok(Members::from_vec(items))
+}
+
+/// Goes back to where this many bytes were read, and says there that memory was refused.
+#[cold]
+#[inline(never)]
+pub fn begun_at(reader: &mut BinaryReader<'_>, position: usize, e: Error) -> Error
+    requires { position ≤ reader.old.position }
+    ensures rewound { reader.new ≡ at_position reader.old position }
+    ensures begun { IsBegunAt (reader.old.start + position) e result }
+{
+    reader.rewind(position);
+    match e.message {
+        Message::OutOfMemory => Error::new(e.message, reader.original_position()),
+        _ => e,
+    }
+}

@@ -1,0 +1,52 @@
+ghost use Rattle.std.specs.Prelude.{◌≡◌, true, IfErr};
+ghost use Rattle.wasm_below.specs.FromReader.{ReadsValue};
+ghost use Rattle.wasm_below.specs.Source.{NoFront, rest};
+ghost use Rattle.wasm_imm.specs.HandlerTables.{SpellsSelect, SpellsOne};
+
+use crate::lists::{begun_at, read_members};
+use crate::members::SelectTypes;
+use std::alloc::Global;
+use wasm_below::{BinaryReader, Message, Result, ValType, Word};
+
+/// How many types a `select` may have.
+const MAX_SELECT_TYPES: usize = 10;
+
+/// The types of a `select`.
+#[derive(Debug, PartialEq, Eq, Drop)]
+pub enum Select {
+    /// One type, which takes no memory.
+    One { ty: ValType },
+    /// None or several.
+    Multi { tys: SelectTypes },
+}
+
+impl Select {
+    /// The types of a `select`. Parametric Instructions.
+    ///
+    /// `SizeOutOfBounds` of `select types` at a count above 10. One type takes no memory.
+    #[inline(never)]
+    pub fn read(alloc: Global, reader: &mut BinaryReader<'_>) -> Result<Select>
+        ensures reads { ReadsValue SpellsSelect true result reader.old reader.new }
+        ensures lone { IfErr result (λ e. e.message ≡ Message.OutOfMemory
+            → NoFront SpellsOne (rest reader.old)) }
+    {
+        let start = reader.current_position();
+        let count = match reader.read_size(MAX_SELECT_TYPES, Word::SelectTypes) {
+            Ok(count) => count,
+            Err(e) => return Err(e),
+        };
+        if count == 1 {
+            return match ValType::read(reader) {
+                Ok(ty) => Ok(Select::One { ty }),
+                Err(e) => {
+                    reader.rewind(start);
+                    Err(e)
+                }
+            };
+        }
+        match read_members::<ValType>(alloc, reader, count) {
+            Ok(tys) => Ok(Select::Multi { tys }),
+            Err(e) => Err(begun_at(reader, start, e)),
+        }
+    }
+}
