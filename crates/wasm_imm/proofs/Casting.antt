@@ -1,27 +1,18 @@
 -- Casts.
-use Rattle.std.proofs.Common.{◌≡◌, ℕ, zero, suc, ◌+◌, ◌<◌, ◌≤◌, Bool, true, false, List, [], ◌∷◌, ◌++◌, length, Ok, refl, sym, subst, ap, ◌∙◌, arith}
+use Rattle.std.proofs.Common.{◌≡◌, ℕ, zero, suc, ◌≤◌, Bool, true, false, List, [], ◌∷◌, ◌++◌, Ok, refl, sym, ap, ◌∙◌, arith}
 use Rattle.wasm_below.specs.declared.error.Error.{Error}
 use Rattle.wasm_below.specs.declared.types.HeapType.{HeapType}
-use Rattle.wasm_below.specs.declared.types.HeapType.TheVariants as heap
 use Rattle.wasm_below.specs.Number.{SpellsUnsigned}
-use Rattle.wasm_below.specs.Reference.{Reference, IsIndexed}
-use Rattle.wasm_below.specs.Refusal.{IsReadFault}
+use Rattle.wasm_below.specs.Reference.{Reference}
 use Rattle.wasm_below.specs.Sequence.{Then, Once}
 use Rattle.wasm_below.specs.Source.{Reader, at_position, Takes, IsRefusal, Reads, IsByte}
-use Rattle.wasm_below.specs.TypeSpelling.{SpellsHeapType}
 use Rattle.wasm_below.proofs.Sequences.{then_first, then_second, then_once, refuses_by}
 use Rattle.wasm_below.proofs.Taking.{back, takes_then}
 use Rattle.wasm_below.proofs.TypesOnce.{heap_once}
 use Rattle.wasm_imm.specs.declared.cast.Cast.{Cast}
 use Rattle.wasm_imm.specs.Casts.{cast_flags, SpellsCast, SpellsReference, first_null, second_null}
 use Rattle.wasm_imm.proofs.Short.{byte_once}
-use Rattle.wasm_imm.proofs.Steps.{number_once, first_rules_out}
-
--- an index that is spelled keeps to the limit
-pub heap_indexed : (text : List ℕ) (h : HeapType) → SpellsHeapType text h → IsIndexed h
-heap_indexed text (heap.Abstract shared ty) p = tt
-heap_indexed text (heap.Concrete index) p = p.1
-heap_indexed text (heap.Exact index) p = p.3
+use Rattle.wasm_imm.proofs.Steps.{number_once}
 
 reference_of : Bool → HeapType → Reference
 reference_of nullable h = record { nullable = nullable; heap_type = h }
@@ -108,10 +99,6 @@ module _ (old mid : Reader) (flags : ℕ) (flagged : Reads IsByte (Ok flags) old
     refuses_by Parts SpellsCast e old (λ text c s. (c, to_parts text c s)) (then_second IsByte First e old mid flags byte_once flagged (refuses_by (Then (SpellsUnsigned 32) (Second flags)) (First flags) e mid (λ text c s. (c, s.1)) h)),
   )
 
-  pub label_refused : (e : Error) (mid2 new : Reader) (position : ℕ) → (mid2 ≡ mid) × IsRefusal (SpellsUnsigned 32) e mid → position ≡ old.position → new ≡ at_position mid2 position → (new ≡ old) × IsRefusal SpellsCast e old
-  label_refused e mid2 new position h at went =
-      parts_refused e mid new flagged.0 position flagged.2 at (went ∙ ap (λ (r : Reader). at_position r position) h.0) (then_first (SpellsUnsigned 32) (Second flags) e mid h.1)
-
   pub first_refused : (e : Error) (now now2 new : Reader) (depth position : ℕ) → Reads (SpellsUnsigned 32) (Ok depth) mid now → (now2 ≡ now) × IsRefusal (SpellsReference (first_null flags)) e now → position ≡ old.position → new ≡ at_position now2 position → (new ≡ old) × IsRefusal SpellsCast e old
   first_refused e now now2 new depth position rd h at went =
       parts_refused e now new (flagged.0 ++ rd.0) position (takes_then old mid now flagged.0 rd.0 flagged.2 rd.2) at (went ∙ ap (λ (r : Reader). at_position r position) h.0) (then_second (SpellsUnsigned 32) (Second flags) e mid now depth (number_once 32) rd (then_first (SpellsReference (first_null flags)) (Third flags depth) e now h.1))
@@ -121,12 +108,6 @@ module _ (old mid : Reader) (flags : ℕ) (flagged : Reads IsByte (Ok flags) old
       let taken = takes_then old now last (flagged.0 ++ rd.0) rf.0 (takes_then old mid now flagged.0 rd.0 flagged.2 rd.2) rf.2 in
       let third = refuses_by (SpellsReference (second_null flags)) (Third flags depth from) e last (λ text c s. (c.to, s.0)) h.1 in
       parts_refused e last new ((flagged.0 ++ rd.0) ++ rf.0) position taken at (went ∙ ap (λ (r : Reader). at_position r position) h.0) (then_second (SpellsUnsigned 32) (Second flags) e mid now depth (number_once 32) rd (then_second (SpellsReference (first_null flags)) (Third flags depth) e now last from (reference_once (first_null flags)) rf third))
-
-  pub flags_refused : (e : Error) (now new : Reader) (text : List ℕ) (position : ℕ) → 3 < flags → Takes old now text → position ≡ old.position → new ≡ at_position now position → e.offset ≡ now.start + position → IsReadFault e.message → (new ≡ old) × IsRefusal SpellsCast e old
-  flags_refused e now new text position over t at went offset fault =
-      let start : now.start ≡ old.start = ap (λ (r : Reader). r.start) t.moved in
-      let h = first_rules_out IsByte First e old mid new flags byte_once (λ text p. subst (λ z. 0 < length z) (sym p.0) (omega arith)) flagged (λ text c p. absurd (omega (arith, p.0))) (back old now new text position t at went) (omega (arith, offset, start, at)) fault in
-      (h.0, refuses_by Parts SpellsCast e old (λ text c s. (c, to_parts text c s)) h.1)
 
   pub cast_read : (now last new : Reader) (depth : ℕ) (from to : Reference) → flags ≤ 3 → Reads (SpellsUnsigned 32) (Ok depth) mid now → Reads (SpellsReference (first_null flags)) (Ok from) now last → Reads (SpellsReference (second_null flags)) (Ok to) last new → Reads SpellsCast (Ok (cast_of depth from to)) old new
   cast_read now last new depth from to le rd rf rt =

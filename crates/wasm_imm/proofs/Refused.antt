@@ -1,7 +1,6 @@
 -- Refusals of calls that may want memory.
 use Rattle.std.proofs.Common.{◌≡◌, ℕ, ◌+◌, ◌<◌, ◌≤◌, ◌⊎◌, inl, inr, Bool, true, false, List, ◌++◌, length, Ok, refl, sym, subst, ap, ◌∙◌, arith}
 use Rattle.wasm_below.specs.declared.error.Error.{Error}
-use Rattle.wasm_below.specs.declared.message.Message.TheVariants as message
 use Rattle.wasm_below.specs.FromReader.{IsRefused}
 use Rattle.wasm_below.specs.Refusal.{IsReadFault}
 use Rattle.wasm_below.specs.Sequence.{Then, Once}
@@ -16,15 +15,6 @@ use Rattle.wasm_imm.proofs.Many.{FrontOnce, many_none}
 -- a refusal that is not want of memory
 pub as_refused : {X : Type 0} (P : List ℕ → X → Type 0) (takes : Bool) (e : Error) (old : Reader) → IsRefusal P e old → IsRefused P takes e old
 as_refused P takes e old h = record { refuses = h.refuses; ahead = h.ahead; memory = λ m. absurd (subst IsReadFault m h.fault) }
-
--- want of memory where the call began
-pub memory_refused : {X : Type 0} (P : List ℕ → X → Type 0) (e : Error) (old : Reader) → e.message ≡ message.OutOfMemory → e.offset ≡ offset_of old → offset_of old ≤ end_of old → IsRefused P true e old
-memory_refused P e old m at within =
-    record {
-      refuses = λ more follow. absurd (subst (λ z. MayFollow z more) m follow);
-      ahead = (omega (arith, at), omega (arith, at));
-      memory = λ m. (refl, at);
-    }
 
 -- where each text of one property is a text of another, what refuses the other refuses the one
 pub refused_by : {X Y : Type 0} (P : List ℕ → X → Type 0) (Q : List ℕ → Y → Type 0) (takes : Bool) (e : Error) (old : Reader) → ((text : List ℕ) (y : Y) → Q text y → (x : X) × P text x) → IsRefused P takes e old → IsRefused Q takes e old

@@ -108,9 +108,6 @@ module _ (old mid : Reader) (count : ℕ) (counted : Reads (SpellsSize max_targe
         takes_then old mid new counted.0 (rt.0 ++ rd.0) counted.2 (takes_then mid now new rt.0 rd.0 rt.2 rd.2),
       )
 
-  pub targets_fit : (now : Reader) (size : ℕ) (bytes : List ℕ) → bytes ≡ rest mid → Reads (SpellsTargets count) (Ok size) mid now → AreTargets count (take size bytes)
-  targets_fit now size bytes same rt = subst (AreTargets count) (sym (targets_taken now size bytes same rt)) rt.1.1
-
 table_of : ℕ → ℕ → List ℕ → BranchTable
 table_of count default targets = record { count = count; targets = targets; default = default }
 

@@ -33,3 +33,6 @@ pub use memory_argument::{MemArg, MemArgKind, MemArgOrdering, MemArgTarget};
 pub use ordering::Ordering;
 pub use read_immediates::ReadImmediates;
 pub use select::Select;
+
+#[cfg(test)]
+mod tests;
