@@ -5,6 +5,9 @@ pub mod Once
 pub mod Sequences
 pub mod Blocks
 pub mod Fronts
+pub mod Faults
 pub mod TypeSpellings
 pub mod TypesOnce
 pub mod Parts
+pub mod ReadOn
+pub mod Pins

@@ -1,11 +1,11 @@
 -- Reading a number byte by byte.
-use Rattle.std.proofs.Common.{◌≡◌, ℕ, ◌+◌, ◌-◌, ◌*◌, ◌/◌, ◌<◌, ◌≤◌, ◌^◌, List, [], ◌∷◌, ◌++◌, Ok, refl, sym, subst, ap, ◌∙◌, arith, inl, inr}
+use Rattle.std.proofs.Common.{◌≡◌, ℕ, ◌+◌, ◌-◌, ◌*◌, ◌/◌, ◌<◌, ◌≤◌, ◌^◌, List, [], ◌∷◌, ◌++◌, length, length-drop, Ok, refl, sym, subst, ap, ◌∙◌, arith, inl, inr}
 use Rattle.std.proofs.lemmas.Nat.{pow-add, pow_pos, le-div}
 use Rattle.std.proofs.Math.Nat.{div-eq_of_lt}
 use Rattle.std.proofs.lemmas.Bool.{cases_lt}
 use Rattle.wasm_below.specs.declared.message.Message.{Message}
 use Rattle.wasm_below.specs.declared.message.Message.TheVariants as message
-use Rattle.wasm_below.specs.Source.{Reader, rest, offset_of, at_position, byte_at, last_offset, Takes, NoFront, Reads, IsByte, NumberFault}
+use Rattle.wasm_below.specs.Source.{Reader, rest, offset_of, end_of, at_position, byte_at, last_offset, Takes, NoFront, Reads, IsByte, NumberFault}
 use Rattle.wasm_below.specs.Number.{SpellsUnsigned}
 use Rattle.wasm_below.proofs.Taking.{takes_then, in_front, byte-front}
 
@@ -96,17 +96,32 @@ fault_behind m width offset old mid b wide t h = go m (subst (λ r. NumberFault 
     same : offset ≡ last_offset (width - 7) (at_position old (old.position + 1)) → offset ≡ last_offset width old
     same e = omega arith
 
+    early : end_of old ≤ last_offset (width - 7) (at_position old (old.position + 1)) → end_of old ≤ last_offset width old
+    early e = omega arith
+
     go : (m : Message) → NumberFault m (width - 7) (at_position old (old.position + 1)) offset → NumberFault m width old offset
-    go message.EndOfData h = h
-    go (message.IntegerTooLong kind) h = (same h.0, h.1)
-    go (message.IntegerTooLarge kind) h = (same h.0, h.1)
+    go message.EndOfData h = (h.0, early h.1)
+    go (message.IntegerTooLong kind) h = (same h.0, h.1, h.2)
+    go (message.IntegerTooLarge kind) h = (same h.0, h.1, h.2)
     go _ h = absurd h
 
--- a byte with a bit past the width, where the width has room for one byte
-pub large_here : (width b position offset : ℕ) (old mid : Reader) → Reads IsByte (Ok b) old mid → position ≡ old.position → offset ≡ mid.start + position → 0 < width → width ≤ 7 → b < 128 → (offset ≡ last_offset width old) × (byte_at old offset < 128)
-large_here width b position offset old mid r same at low narrow lt =
+-- where a width with room for one byte is refused, at the byte that stands there
+last_here : (width b position offset : ℕ) (old mid : Reader) → Reads IsByte (Ok b) old mid → position ≡ old.position → offset ≡ mid.start + position → 0 < width → width ≤ 7 → (offset ≡ last_offset width old) × (byte_at old offset ≡ b) × (offset < end_of old)
+last_here width b position offset old mid r same at low narrow =
     let f = in_front old mid b r in
     let start : mid.start ≡ old.start = ap (λ (r : Reader). r.start) f.2.moved in
     let here : offset ≡ offset_of old = omega (arith, at, same, start) in
-    let byte : byte_at old offset ≡ b = ap (byte_at old) here ∙ byte-front old b (rest mid) f.0 in
-    (omega (arith, here), omega (arith, byte))
+    let left : length old.buffer - old.position ≡ length (rest mid) + 1 = sym (length-drop old.position old.buffer) ∙ ap length f.0 ∙ omega arith in
+    (omega (arith, here), ap (byte_at old) here ∙ byte-front old b (rest mid) f.0, omega (arith, here, left))
+
+-- a byte with a bit past the width
+pub large_here : (width b position offset : ℕ) (old mid : Reader) → Reads IsByte (Ok b) old mid → position ≡ old.position → offset ≡ mid.start + position → 0 < width → width ≤ 7 → b < 128 → (offset ≡ last_offset width old) × (byte_at old offset < 128) × (offset < end_of old)
+large_here width b position offset old mid r same at low narrow lt =
+    let h = last_here width b position offset old mid r same at low narrow in
+    (h.0, omega (arith, h.1), h.2)
+
+-- a byte that says that more follow
+pub long_here : (width b position offset : ℕ) (old mid : Reader) → Reads IsByte (Ok b) old mid → position ≡ old.position → offset ≡ mid.start + position → 0 < width → width ≤ 7 → 128 ≤ b → (offset ≡ last_offset width old) × (128 ≤ byte_at old offset) × (offset < end_of old)
+long_here width b position offset old mid r same at low narrow ge =
+    let h = last_here width b position offset old mid r same at low narrow in
+    (h.0, omega (arith, h.1), h.2)

@@ -44,6 +44,10 @@ signed_none bytes width none [] rest x p e = p
 signed_none bytes width none (c ∷ []) rest x p e = none (c ∷ []) rest c (refl, omega (arith, p.0)) e
 signed_none bytes width none (c ∷ d ∷ text) rest x p e = none (c ∷ []) (d ∷ text ++ rest) c (refl, p.2) e
 
+pub signed_empty : NoFront (SpellsSigned 33) []
+signed_empty [] rest x p e = p
+signed_empty (c ∷ text) rest x p e = cc e
+
 pub signed_large : (bytes after : List ℕ) (b width : ℕ) (v : ℤ) → bytes ≡ b ∷ after → b < 128 → v ≡ last_value b → (FitsWidth width v → ⊥) → NoFront (SpellsSigned width) bytes
 signed_large bytes after b width v eb lt ev over [] rest x p e = p
 signed_large bytes after b width v eb lt ev over (c ∷ []) rest x p e =

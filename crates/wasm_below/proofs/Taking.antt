@@ -5,7 +5,7 @@ use Rattle.std.proofs.lemmas.Bool.{le-leb, leb-true}
 use Rattle.std.proofs.lemmas.List.{drop_all, get_or-drop}
 use Rattle.wasm_below.specs.declared.error.Error.{Error}
 use Rattle.wasm_below.specs.Refusal.{IsReadFault}
-use Rattle.wasm_below.specs.Source.{Reader, rest, offset_of, at_position, byte_at, Takes, NoFront, IsAhead, IsRefusal, Reads, IsByte, IsEndHere, NumberFault}
+use Rattle.wasm_below.specs.Source.{Reader, rest, offset_of, at_position, byte_at, Takes, NoFront, IsAhead, IsRefusal, Reads, IsByte, IsEndHere, NumberFault, S33Fault}
 
 -- two readers of one buffer differ in their position alone
 pub rewound : (old new : Reader) (text : List ℕ) → Takes old new text → at_position new old.position ≡ old
@@ -61,7 +61,10 @@ rest_once (c ∷ a) (d ∷ b) x y h e = rest_once a b x y (cc h) (cc e)
 
 -- the data ends where a byte is wanted
 pub end_fault : (e : Error) (r : Reader) → IsEndHere e r → (width : ℕ) → NumberFault e.message width r e.offset
-end_fault e r h width = subst (λ m. NumberFault m width r e.offset) (sym h.0) (h.1 ∙ h.2)
+end_fault e r h width = subst (λ m. NumberFault m width r e.offset) (sym h.0) (h.1 ∙ h.2, omega (arith, h.2))
+
+pub end_too_long : (e : Error) (r : Reader) → IsEndHere e r → S33Fault e.message r e.offset
+end_too_long e r h = subst (λ m. S33Fault m r e.offset) (sym h.0) ((h.1 ∙ h.2, omega (arith, h.2)), tt)
 
 -- back where the call began
 pub back : (old mid new : Reader) (text : List ℕ) (position : ℕ) → Takes old mid text → position ≡ old.position → new ≡ at_position mid position → new ≡ old

@@ -1,12 +1,13 @@
 -- What a type's own reading answers.
-use Rattle.std.specs.Prelude.{◌≡◌, ℕ, ◌+◌, ◌<◌, ◌⊎◌, Bool, true, List, ◌++◌, length, Result, Ok, Err, Option, Some, None}
+use Rattle.std.specs.Prelude.{◌≡◌, ℕ, zero, suc, ◌+◌, ◌<◌, ◌⊎◌, Bool, true, List, length, Result, Ok, Err, Option, Some, None}
 use Rattle.wasm_below.specs.declared.error.Error.{Error}
 use Rattle.wasm_below.specs.declared.message.Message.{Message}
 use Rattle.wasm_below.specs.declared.message.Message.TheVariants as message
 use Rattle.wasm_below.specs.declared.features.WasmFeatures.{WasmFeatures}
 use Rattle.wasm_below.specs.Number.{SpellsUnsigned}
+use Rattle.wasm_below.specs.Fault.{HasFault, ThenFault}
 use Rattle.wasm_below.specs.Sequence.{Then}
-use Rattle.wasm_below.specs.Source.{Reader, rest, offset_of, Takes, Refuses, IsAhead, NumberFault}
+use Rattle.wasm_below.specs.Source.{Reader, rest, offset_of, end_of, Takes, Refuses, IsAhead, U32Fault}
 
 -- A refusal of a call that began at this reader. Of want of memory, which a type that takes none never answers, it says no more than where the call began.
 pub record IsRefused {X : Type 0} (Spells : List ℕ → X → Type 0) (takes_memory : Bool) (e : Error) (old : Reader) : Type 0 where
@@ -31,12 +32,21 @@ SpellsReader features = Then (SpellsUnsigned 32) (IsReaderOf features)
 abbrev pub SameReader : Reader → Reader → Type 0
 SameReader r s = (r.features ≡ s.features) × (r.buffer ≡ s.buffer) × (r.position ≡ s.position)
 
+-- Fewer than this many bytes stand there.
+abbrev pub EndsWithin : ℕ → Message → Reader → ℕ → Type 0
+EndsWithin n m r offset = (m ≡ message.EndOfData) × (offset ≡ offset_of r) × (end_of r < offset_of r + n)
+
 -- Which refusal such a reading has: that of the number, or the data ends within the bytes behind it.
 abbrev pub ReaderFault : Message → Reader → ℕ → Type 0
-ReaderFault m r offset = NumberFault m 32 r offset ⊎ ((text more : List ℕ) × (n : ℕ) × SpellsUnsigned 32 text n × (rest r ≡ text ++ more) × (length more < n) × (m ≡ message.EndOfData) × (offset ≡ offset_of r + length text))
+ReaderFault m r offset = ThenFault (SpellsUnsigned 32) U32Fault EndsWithin m r offset
 
 -- A step of an iterator that has this many items left before and after.
-abbrev pub StepsItems : {X : Type 0} → (List ℕ → X → Type 0) → Bool → ℕ → ℕ → Option (Result X Error) → Reader → Reader → Type 0
-StepsItems Spells takes_memory before after None old new = (before ≡ 0) × (after ≡ 0) × (new ≡ old)
-StepsItems Spells takes_memory before after (Some (Ok x)) old new = (before ≡ after + 1) × ReadsValue Spells takes_memory (Ok x) old new
-StepsItems Spells takes_memory before after (Some (Err e)) old new = (0 < before) × (after ≡ 0) × ReadsValue Spells takes_memory (Err e) old new
+abbrev pub StepsItems : {X : Type 0} → (List ℕ → X → Type 0) → (Message → Reader → ℕ → Type 0) → Bool → ℕ → ℕ → Option (Result X Error) → Reader → Reader → Type 0
+StepsItems Spells Fault takes_memory before after None old new = (before ≡ 0) × (after ≡ 0) × (new ≡ old)
+StepsItems Spells Fault takes_memory before after (Some (Ok x)) old new = (before ≡ after + 1) × ReadsValue Spells takes_memory (Ok x) old new
+StepsItems Spells Fault takes_memory before after (Some (Err e)) old new = (0 < before) × (after ≡ 0) × ReadsValue Spells takes_memory (Err e) old new × HasFault Fault e old
+
+-- What reading this many values leaves, one after another and up to a refusal: no value is left; or one is read, and the others behind it; or one is refused where the reader stands.
+abbrev pub ReadsOn : {X : Type 0} → (List ℕ → X → Type 0) → Bool → ℕ → Reader → Reader → Type 0
+ReadsOn Spells takes_memory zero old new = new ≡ old
+ReadsOn {X} Spells takes_memory (suc n) old new = ((x : X) × (mid : Reader) × ReadsValue Spells takes_memory (Ok x) old mid × ReadsOn Spells takes_memory n mid new) ⊎ ((e : Error) × (new ≡ old) × IsRefused Spells takes_memory e old)

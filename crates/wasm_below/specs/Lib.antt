@@ -2,6 +2,7 @@ pub mod Features
 pub mod Refusal
 pub mod Number
 pub mod Source
+pub mod Fault
 pub mod Sequence
 pub mod Reference
 pub mod TypeSpelling

@@ -7,7 +7,8 @@ use Rattle.wasm_below.specs.declared.error.Error.{Error}
 use Rattle.wasm_below.specs.declared.message.Message.{Message}
 use Rattle.wasm_below.specs.declared.message.Message.TheVariants as message
 use Rattle.wasm_below.specs.declared.features.WasmFeatures.{WasmFeatures}
-use Rattle.wasm_below.specs.Refusal.{IsReadFault}
+use Rattle.wasm_below.specs.declared.message.Word.TheVariants as word
+use Rattle.wasm_below.specs.Refusal.{IsReadFault, NamesNumber}
 
 -- Features, the offset of the bytes, and the bytes.
 pub record Source : Type 0 where
@@ -112,18 +113,25 @@ byte_at r offset = slice_index r.buffer (offset - r.start)
 abbrev pub last_offset : ℕ → Reader → ℕ
 last_offset width r = offset_of r + (width - 1) / 7
 
--- Which refusal a number has: the data ends; or the last byte that the width has room for says that more follow, or has a bit past the width.
+-- Which refusal a number has: the data ends before the last byte that the width has room for; or that byte says that more follow, or has a bit past the width.
 abbrev pub NumberFault : Message → ℕ → Reader → ℕ → Type 0
-NumberFault message.EndOfData width r offset = offset ≡ end_of r
-NumberFault (message.IntegerTooLong _) width r offset = (offset ≡ last_offset width r) × (128 ≤ byte_at r offset)
-NumberFault (message.IntegerTooLarge _) width r offset = (offset ≡ last_offset width r) × (byte_at r offset < 128)
+NumberFault message.EndOfData width r offset = (offset ≡ end_of r) × (end_of r ≤ last_offset width r)
+NumberFault (message.IntegerTooLong _) width r offset = (offset ≡ last_offset width r) × (128 ≤ byte_at r offset) × (offset < end_of r)
+NumberFault (message.IntegerTooLarge _) width r offset = (offset ≡ last_offset width r) × (byte_at r offset < 128) × (offset < end_of r)
 NumberFault _ width r offset = ⊥
 
 -- The same for a number whose two faults have one text.
 abbrev pub TooLongFault : Message → ℕ → Reader → ℕ → Type 0
-TooLongFault message.EndOfData width r offset = offset ≡ end_of r
-TooLongFault (message.IntegerTooLong _) width r offset = offset ≡ last_offset width r
+TooLongFault message.EndOfData width r offset = (offset ≡ end_of r) × (end_of r ≤ last_offset width r)
+TooLongFault (message.IntegerTooLong _) width r offset = (offset ≡ last_offset width r) × (offset < end_of r)
 TooLongFault _ width r offset = ⊥
+
+-- Of an unsigned number of 32 bits, and of a signed one of 33, with its name.
+abbrev pub U32Fault : Message → Reader → ℕ → Type 0
+U32Fault m r offset = NumberFault m 32 r offset × NamesNumber word.VarU32 m
+
+abbrev pub S33Fault : Message → Reader → ℕ → Type 0
+S33Fault m r offset = TooLongFault m 33 r offset × NamesNumber word.VarS33 m
 
 -- The message with that text.
 abbrev pub as_too_long : Message → Message

@@ -13,7 +13,8 @@ use Rattle.wasm_below.specs.declared.types.ValType.{ValType}
 use Rattle.wasm_below.specs.declared.types.ValType.TheVariants as value
 use Rattle.wasm_below.specs.Reference.{Reference, max_type_index}
 use Rattle.wasm_below.specs.Number.{SpellsUnsigned, SpellsSigned}
-use Rattle.wasm_below.specs.Source.{Reader, rest, offset_of, end_of, at_position, BeginsWith, NumberFault, TooLongFault}
+use Rattle.wasm_below.specs.Source.{Reader, rest, offset_of, end_of, at_position, BeginsWith, U32Fault, S33Fault}
+use Rattle.wasm_below.specs.Fault.{ThenFault}
 
 -- The byte of an abstract heap type.
 abbrev pub code_of : AbstractHeapType → ℕ
@@ -97,15 +98,40 @@ LeadsShort byte = (0x65 ≤ byte) × (byte ≤ 0x75) × (byte ≢ 0x66) × (byte
 abbrev pub LeadsRefType : ℕ → Type 0
 LeadsRefType byte = (0x63 ≤ byte) × (byte ≤ 0x75) × (byte ≢ 0x66) × (byte ≢ 0x67)
 
--- The data ends, or no type of this name stands where the reading began.
+-- Short forms whose bytes are missing: nothing, and the byte 65 alone.
+abbrev pub IsCutShort : List ℕ → Type 0
+IsCutShort bytes = (bytes ≡ []) ⊎ (bytes ≡ 0x65 ∷ [])
+
+-- Which refusal a short form has: the data ends where it begins or behind the byte 65, or no type of this name stands there.
 abbrev pub ShortFault : Word → Message → Reader → ℕ → Type 0
-ShortFault name message.EndOfData r offset = offset ≡ end_of r
-ShortFault name (message.InvalidType what) r offset = (what ≡ name) × (offset ≡ offset_of r)
+ShortFault name message.EndOfData r offset = (offset ≡ end_of r) × IsCutShort (rest r)
+ShortFault name (message.InvalidType what) r offset = (what ≡ name) × (offset ≡ offset_of r) × (¬ IsCutShort (rest r))
 ShortFault name _ r offset = ⊥
 
--- Which refusal a heap type has: one of its own, or that of its number.
+-- Which refusal a type of one byte has: the data ends, or the byte is none of this name.
+abbrev pub ByteFault : Word → Message → Reader → ℕ → Type 0
+ByteFault name message.EndOfData r offset = (offset ≡ end_of r) × (rest r ≡ [])
+ByteFault name (message.InvalidType what) r offset = (what ≡ name) × (offset ≡ offset_of r) × (rest r ≢ [])
+ByteFault name _ r offset = ⊥
+
+-- A number stands there that is no index of a heap type, which begins at this reader.
+abbrev pub NoIndex : Reader → Message → Reader → ℕ → Type 0
+NoIndex begin m r offset = (m ≡ message.InvalidType word.HeapType) × (offset ≡ offset_of begin)
+
+-- Which refusal an index behind the byte 62 has, and one by itself: that of its number, or the number is no index.
+abbrev pub ExactFault : Message → Reader → ℕ → Type 0
+ExactFault m r offset = ThenFault (SpellsUnsigned 32) U32Fault (λ n. NoIndex r) m (behind_byte r) offset
+
+abbrev pub ConcreteFault : Message → Reader → ℕ → Type 0
+ConcreteFault m r offset = ThenFault (SpellsSigned 33) S33Fault (λ n. NoIndex r) m r offset
+
+-- A byte of this kind stands in front.
+abbrev pub LedBy : (ℕ → Type 0) → List ℕ → Type 0
+LedBy Leads bytes = (byte : ℕ) × Leads byte × BeginsWith byte bytes
+
+-- Which refusal a heap type has: behind the byte 62 that of an index, where a short form begins that of one, else that of an index by itself.
 abbrev pub HeapTypeFault : Message → Reader → ℕ → Type 0
-HeapTypeFault m r offset = ShortFault word.HeapType m r offset ⊎ (TooLongFault m 33 r offset ⊎ (BeginsWith 0x62 (rest r) × NumberFault m 32 (behind_byte r) offset))
+HeapTypeFault m r offset = (BeginsWith 0x62 (rest r) × ExactFault m r offset) ⊎ ((LedBy LeadsShort (rest r) × ShortFault word.HeapType m r offset) ⊎ ((¬ BeginsWith 0x62 (rest r)) × (¬ LedBy LeadsShort (rest r)) × ConcreteFault m r offset))
 
 -- Which refusal a reference type has: behind the byte 63 or 64 that of a heap type, else one of its own.
 abbrev pub RefTypeFault : Message → Reader → ℕ → Type 0
@@ -113,4 +139,4 @@ RefTypeFault m r offset = ((nullable : Bool) × BeginsWith (ref_code nullable) (
 
 -- Which refusal a value type has: that of a reference type where one begins, else one of its own.
 abbrev pub ValTypeFault : Message → Reader → ℕ → Type 0
-ValTypeFault m r offset = ((byte : ℕ) × LeadsRefType byte × BeginsWith byte (rest r) × RefTypeFault m r offset) ⊎ (((byte : ℕ) → LeadsRefType byte → BeginsWith byte (rest r) → ⊥) × ShortFault word.ValueType m r offset)
+ValTypeFault m r offset = ((byte : ℕ) × LeadsRefType byte × BeginsWith byte (rest r) × RefTypeFault m r offset) ⊎ (((byte : ℕ) → LeadsRefType byte → BeginsWith byte (rest r) → ⊥) × ByteFault word.ValueType m r offset)

@@ -447,6 +447,7 @@ impl<'a> BinaryReader<'a> {
         ensures reads { Reads (SpellsSize limit) result self.old self.new }
         ensures fault { IfErr result (λ e. SizeFault e.message limit self.old e.offset) }
         ensures named { IfErr result (λ e. NamesSize desc e.message) }
+        ensures number { IfErr result (λ e. NamesNumber Word.VarU32 e.message) }
     {
         let start = self.position;
         let size = self.read_var_u32()? as usize;

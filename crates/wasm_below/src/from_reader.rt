@@ -1,14 +1,16 @@
 ghost use Rattle.std.specs.Prelude.{◌≡◌, ℕ, Bool, true, false, List, ◌++◌, IfOk, IfErr, IfSome, []};
 ghost use Rattle.wasm_below.specs.declared.features.WasmFeatures.{WasmFeatures};
+ghost use Rattle.wasm_below.specs.declared.message.Message.{Message};
+ghost use Rattle.wasm_below.specs.Fault.{HasFault};
 ghost use Rattle.wasm_below.specs.Items.{items_left, items_reader, items_name};
-ghost use Rattle.wasm_below.specs.FromReader.{ReadsValue, SpellsReader, ReaderFault, StepsItems};
-ghost use Rattle.wasm_below.specs.Refusal.{NamesSize};
-ghost use Rattle.wasm_below.specs.Source.{IsRefusal, SizeFault, Reads, end_of, offset_of};
+ghost use Rattle.wasm_below.specs.FromReader.{ReadsValue, SpellsReader, ReaderFault, StepsItems, ReadsOn};
+ghost use Rattle.wasm_below.specs.Refusal.{NamesNumber, NamesSize};
+ghost use Rattle.wasm_below.specs.Source.{Reader, IsRefusal, U32Fault, SizeFault, Reads, end_of, offset_of};
 ghost use Rattle.std.specs.Iterator.{at_most, UpTo};
 ghost use Rattle.std.specs.Iterator.SizeHint.{IsWithinCount};
 ghost use Rattle.wasm_below.specs.Number.{SpellsUnsigned, SpellsSize};
 ghost use Rattle.wasm_below.specs.Sequence.{OnceBut};
-ghost use Rattle.wasm_below.specs.TypeSpelling.{SpellsHeapType, SpellsRefType, SpellsValType};
+ghost use Rattle.wasm_below.specs.TypeSpelling.{SpellsHeapType, SpellsRefType, SpellsValType, HeapTypeFault, RefTypeFault, ValTypeFault};
 
 use crate::binary_reader::BinaryReader;
 use crate::error::Result;
@@ -28,12 +30,16 @@ pub trait FromReader<'a>: Drop + Sized {
     // Under these features the bytes spell the value.
     ghost spelled: { WasmFeatures → List ℕ → Self → Type 0 };
 
+    // Which refusal a reading has, want of memory aside.
+    ghost fault: { Message → Reader → ℕ → Type 0 };
+
     // The same value, but for the place that a reader inside it remembers.
     ghost same: { Self → Self → Type 0 } = { λ a b. a ≡ b };
 
     /// Reads the value that a front of the rest spells.
     fn from_reader(alloc: Global, reader: &mut BinaryReader<'a>) -> Result<Self>
-        ensures { ReadsValue (spelled reader.old.features) TAKES_MEMORY result reader.old reader.new };
+        ensures reads { ReadsValue (spelled reader.old.features) TAKES_MEMORY result reader.old reader.new }
+        ensures fault { IfErr result (λ e. HasFault fault e reader.old) };
 
     /// A law: no spelling is a proper front of another, and each is that of one value. It does
     /// nothing; generic code calls it to use the law.
@@ -47,6 +53,8 @@ impl<'a> FromReader<'a> for u32 {
     const TAKES_MEMORY: bool = false;
 
     ghost spelled = { λ features text n. SpellsUnsigned 32 text n };
+
+    ghost fault = { λ m r offset. U32Fault m r offset };
 
     fn from_reader(_alloc: Global, reader: &mut BinaryReader<'a>) -> Result<u32> {
         reader.read_var_u32()
@@ -62,6 +70,8 @@ impl<'a> FromReader<'a> for HeapType {
 
     ghost spelled = { λ features text ty. SpellsHeapType text ty };
 
+    ghost fault = { λ m r offset. HeapTypeFault m r offset };
+
     fn from_reader(_alloc: Global, reader: &mut BinaryReader<'a>) -> Result<HeapType> {
         HeapType::read(reader)
     }
@@ -75,6 +85,8 @@ impl<'a> FromReader<'a> for RefType {
     const TAKES_MEMORY: bool = false;
 
     ghost spelled = { λ features text ty. SpellsRefType text ty };
+
+    ghost fault = { λ m r offset. RefTypeFault m r offset };
 
     fn from_reader(_alloc: Global, reader: &mut BinaryReader<'a>) -> Result<RefType> {
         RefType::read(reader)
@@ -90,6 +102,8 @@ impl<'a> FromReader<'a> for ValType {
 
     ghost spelled = { λ features text ty. SpellsValType text ty };
 
+    ghost fault = { λ m r offset. ValTypeFault m r offset };
+
     fn from_reader(_alloc: Global, reader: &mut BinaryReader<'a>) -> Result<ValType> {
         ValType::read(reader)
     }
@@ -101,7 +115,8 @@ impl<'a> BinaryReader<'a> {
     /// Reads a value of a type. Refused as the type's own reading.
     #[inline(always)]
     pub fn read<T: FromReader<'a>>(&mut self, alloc: Global) -> Result<T>
-        ensures { ReadsValue (T.spelled self.old.features) T.TAKES_MEMORY result self.old self.new }
+        ensures reads { ReadsValue (T.spelled self.old.features) T.TAKES_MEMORY result self.old self.new }
+        ensures fault { IfErr result (λ e. HasFault T.fault e self.old) }
     {
         T::from_reader(alloc, self)
     }
@@ -141,6 +156,7 @@ impl<'a> BinaryReader<'a> {
         ensures refused { IfErr result (λ e. IsRefusal (SpellsSize limit) e self.old) }
         ensures fault { IfErr result (λ e. SizeFault e.message limit self.old e.offset) }
         ensures named { IfErr result (λ e. NamesSize desc e.message) }
+        ensures number { IfErr result (λ e. NamesNumber Word.VarU32 e.message) }
     {
         let remaining = self.read_size(limit, desc)?;
         Ok(BinaryReaderIter::new(alloc, self, remaining))
@@ -180,7 +196,7 @@ impl<'a, 'r, T: FromReader<'a>> BinaryReaderIter<'a, 'r, T> {
 impl<'a, 'r, T: FromReader<'a>> Iterator for BinaryReaderIter<'a, 'r, T> {
     type Item = Result<T>;
 
-    ghost next_gives = { λ s item t. StepsItems (T.spelled (items_reader s).features) T.TAKES_MEMORY (items_left s) (items_left t) item (items_reader s) (items_reader t) };
+    ghost next_gives = { λ s item t. (items_name t ≡ items_name s) × StepsItems (T.spelled (items_reader s).features) T.fault T.TAKES_MEMORY (items_left s) (items_left t) item (items_reader s) (items_reader t) };
 
     ghost remaining = { λ s. at_most (items_left s) };
 
@@ -210,7 +226,9 @@ impl<'a, 'r, T: FromReader<'a>> Iterator for BinaryReaderIter<'a, 'r, T> {
 }
 
 impl<'a, 'r, T: FromReader<'a>> Drop for BinaryReaderIter<'a, 'r, T> {
-    fn drop(self) {
+    fn drop(self)
+        ensures { ReadsOn (T.spelled (items_reader self.entry).features) T.TAKES_MEMORY (items_left self.entry) (items_reader self.entry) self.exit.1.0.now }
+    {
         let BinaryReaderIter {
             remaining,
             reader,
@@ -222,7 +240,9 @@ impl<'a, 'r, T: FromReader<'a>> Drop for BinaryReaderIter<'a, 'r, T> {
 }
 
 /// Reads this many values, up to a refusal.
-fn read_on<'a, T: FromReader<'a>>(alloc: Global, reader: &mut BinaryReader<'a>, count: usize) {
+fn read_on<'a, T: FromReader<'a>>(alloc: Global, reader: &mut BinaryReader<'a>, count: usize)
+    ensures { ReadsOn (T.spelled reader.old.features) T.TAKES_MEMORY count reader.old reader.new }
+{
     for _ in 0..count {
         if reader.read::<T>(alloc).is_err() {
             return;

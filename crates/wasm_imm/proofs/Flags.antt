@@ -287,16 +287,16 @@ none_announced : (f feature : WasmFeatures) (flags bit : ℕ) → flags / bit % 
 none_announced f feature flags bit zero h = absurd (omega (arith, h.1))
 
 module _ (f : WasmFeatures) (k : MemArgKind) (max flags : ℕ) (old mid : Reader) (flagged : Reads (SpellsUnsigned 32) (Ok flags) old mid) (small : flags < 16) where
-  memory_zero : Reads (IsTarget f flags) (Ok (target.Memory 0)) mid mid
+  pub memory_zero : Reads (IsTarget f flags) (Ok (target.Memory 0)) mid mid
   memory_zero = ([], inr (none_announced f multi_memory flags 64 (omega arith), none_announced f multibyte_array_access flags 32 (omega arith), refl, refl), takes_none mid)
 
-  no_ordering : Reads {X = Option MemArgOrdering} (IsOrdering f k flags) (Ok None) mid mid
+  pub no_ordering : Reads {X = Option MemArgOrdering} (IsOrdering f k flags) (Ok None) mid mid
   no_ordering = ([], (none_announced f acquire_release_atomics flags 16 (omega arith), refl), takes_none mid)
 
   pub short_refused : (e : Error) (mid2 new : Reader) (position : ℕ) → (mid2 ≡ mid) × IsRefusal (SpellsOffset f) e mid → position ≡ old.position → new ≡ at_position mid2 position → (new ≡ old) × IsRefusal (SpellsMemArg f k max) e old
   short_refused e mid2 new position h at went = offset_refused f k max flags old mid flagged e mid mid mid2 new (target.Memory 0) None position memory_zero no_ordering h at went
 
-  none_reserved : ¬ IsReserved f flags
+  pub none_reserved : ¬ IsReserved f flags
   none_reserved (inl r) = absurd (omega arith)
   none_reserved (inr (inl r)) = absurd (omega (arith, r.0))
   none_reserved (inr (inr (inl r))) = absurd (omega (arith, r.0))

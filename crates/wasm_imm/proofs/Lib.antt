@@ -9,3 +9,7 @@ pub mod Casting
 pub mod Clauses
 pub mod Refused
 pub mod Handling
+pub mod Faults
+pub mod MemArgFaults
+pub mod Pinned
+pub mod PinnedMemArg

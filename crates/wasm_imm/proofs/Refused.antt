@@ -1,6 +1,7 @@
 -- Refusals of calls that may want memory.
-use Rattle.std.proofs.Common.{◌≡◌, ℕ, ◌+◌, ◌<◌, ◌≤◌, ◌⊎◌, inl, inr, Bool, true, false, List, ◌++◌, length, Ok, refl, sym, subst, ap, ◌∙◌, arith}
+use Rattle.std.proofs.Common.{◌≡◌, ◌≢◌, ℕ, ◌+◌, ◌<◌, ◌≤◌, ◌⊎◌, inl, inr, Bool, true, false, List, ◌++◌, length, Ok, refl, sym, subst, ap, ◌∙◌, arith}
 use Rattle.wasm_below.specs.declared.error.Error.{Error}
+use Rattle.wasm_below.specs.declared.message.Message.TheVariants as message
 use Rattle.wasm_below.specs.FromReader.{IsRefused}
 use Rattle.wasm_below.specs.Refusal.{IsReadFault}
 use Rattle.wasm_below.specs.Sequence.{Then, Once}
@@ -8,7 +9,7 @@ use Rattle.wasm_below.specs.Source.{Reader, rest, offset_of, end_of, at_position
 use Rattle.wasm_below.proofs.Taking.{back, ahead_before}
 use Rattle.wasm_below.proofs.Sequences.{then_first}
 use Rattle.wasm_imm.specs.Lists.{SpellsMany}
-use Rattle.wasm_imm.specs.Memory.{IsBegunAt}
+use Rattle.wasm_imm.specs.Memory.{IsOutOfMemoryAt, IsBegunAt}
 use Rattle.wasm_imm.proofs.Steps.{began_within, no_second}
 use Rattle.wasm_imm.proofs.Many.{FrontOnce, many_none}
 
@@ -27,7 +28,7 @@ first_refused P Q takes e old h = as_refused (Then P Q) takes e old (then_first 
 
 -- the second part is refused, the call went back, and want of memory is said where it began
 pub begun_refused : {X Y : Type 0} (P : List ℕ → X → Type 0) (Q : X → List ℕ → Y → Type 0) (e f : Error) (old mid mid2 new : Reader) (x : X) (position : ℕ) → Once P → ((text : List ℕ) → P text x → 0 < length text) → Reads P (Ok x) old mid → (mid2 ≡ mid) × IsRefused (Q x) true e mid → position ≡ old.position → new ≡ at_position mid2 position → IsBegunAt (mid2.start + position) e f → (new ≡ old) × IsRefused (Then P Q) true f old
-begun_refused P Q e f old mid mid2 new x position once some (text, p, t) (same, h) at went (kept, place, begun) =
+begun_refused P Q e f old mid mid2 new x position once some (text, p, t) (same, h) at went (kept, place) =
     let starts : mid2.start ≡ old.start = ap (λ (r : Reader). r.start) same ∙ ap (λ (r : Reader). r.start) t.moved in
     let here : mid2.start + position ≡ offset_of old = omega arith in
     let within : offset_of old ≤ end_of old = began_within old mid text t (some text p) in
@@ -36,13 +37,17 @@ begun_refused P Q e f old mid mid2 new x position once some (text, p, t) (same, 
       record {
         refuses = λ more follow. subst (λ z. NoFront (Then P Q) (z ++ more)) (sym t.parts) (no_second P Q text (rest mid) more x once p (h.refuses more (subst (λ m. MayFollow m more) kept follow)));
         ahead = placed place ahead here within;
-        memory = λ m. (refl, begun (sym kept ∙ m) ∙ here);
+        memory = λ m. (refl, begun place m here);
       },
     )
   where
-    placed : (f.offset ≡ e.offset) ⊎ (f.offset ≡ mid2.start + position) → IsAhead old e.offset → mid2.start + position ≡ offset_of old → offset_of old ≤ end_of old → IsAhead old f.offset
-    placed (inl s) a here within = (omega (arith, s, a.0), omega (arith, s, a.1))
-    placed (inr s) a here within = (omega (arith, s, here), omega (arith, s, here, within))
+    placed : IsOutOfMemoryAt (mid2.start + position) f ⊎ ((e.message ≢ message.OutOfMemory) × (f.offset ≡ e.offset)) → IsAhead old e.offset → mid2.start + position ≡ offset_of old → offset_of old ≤ end_of old → IsAhead old f.offset
+    placed (inl s) a here within = (omega (arith, s.1, here), omega (arith, s.1, here, within))
+    placed (inr s) a here within = (omega (arith, s.1, a.0), omega (arith, s.1, a.1))
+
+    begun : IsOutOfMemoryAt (mid2.start + position) f ⊎ ((e.message ≢ message.OutOfMemory) × (f.offset ≡ e.offset)) → f.message ≡ message.OutOfMemory → mid2.start + position ≡ offset_of old → f.offset ≡ offset_of old
+    begun (inl s) m here = s.1 ∙ here
+    begun (inr s) m here = absurd (s.0 (sym kept ∙ m))
 
 -- a member is refused, and the call went back
 pub member_refused : {X : Type 0} (P : List ℕ → X → Type 0) (takes : Bool) (e : Error) (old now now2 new : Reader) (text : List ℕ) (done : List X) (read count position : ℕ) → takes ≡ false → FrontOnce P → SpellsMany P read text done → read < count → Takes old now text → (now2 ≡ now) × IsRefused P takes e now → position ≡ old.position → new ≡ at_position now2 position → (new ≡ old) × IsRefused (SpellsMany P count) true e old

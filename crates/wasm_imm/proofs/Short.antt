@@ -1,11 +1,12 @@
 -- No spelling of a short immediate begins another, and each is that of one value.
 use Rattle.std.proofs.Common.{◌≡◌, ℕ, inl, inr, List, [], ◌∷◌, ◌++◌, length, refl, sym, ap, ◌∙◌, arith}
 use Rattle.wasm_below.specs.declared.features.WasmFeatures.{WasmFeatures}
+use Rattle.wasm_imm.specs.declared.constants.V128.{V128}
 use Rattle.wasm_below.specs.Source.{IsByte}
 use Rattle.wasm_below.specs.Sequence.{Once}
 use Rattle.wasm_below.proofs.Once.{unsigned_once}
 use Rattle.wasm_imm.specs.MemoryArgument.{ordering_byte}
-use Rattle.wasm_imm.specs.Immediates.{SpellsIndex, SpellsOrderingByte, SpellsFence, SpellsSixteen}
+use Rattle.wasm_imm.specs.Immediates.{SpellsIndex, SpellsOrderingByte, SpellsFence, SpellsSixteen, SpellsVector}
 use Rattle.wasm_imm.proofs.Flags.{lone_byte_once}
 
 -- one byte each
@@ -46,3 +47,9 @@ pub sixteen_once : Once SpellsSixteen
 sixteen_once a b x y m n p q e =
     let same = same_length a b x y (ap length p.0 ∙ p.1 ∙ sym q.1 ∙ sym (ap length q.0)) e in
     (same, sym p.0 ∙ same ∙ q.0)
+
+pub vector_once : Once SpellsVector
+vector_once a b x y m n p q e =
+    let o = sixteen_once a b x y m.0 n.0 p q e in
+    let make : List ℕ → V128 = λ bytes. record { 0 = bytes } in
+    (o.0, ap make o.1)

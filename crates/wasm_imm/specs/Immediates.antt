@@ -7,6 +7,7 @@ use Rattle.wasm_below.specs.Features.{HasFeature, multi_memory, call_indirect_ov
 use Rattle.wasm_below.specs.Number.{SpellsUnsigned}
 use Rattle.wasm_below.specs.Refusal.{IsReadFault}
 use Rattle.wasm_below.specs.Source.{Reader, Reads, Refuses, rest, end_of}
+use Rattle.wasm_imm.specs.declared.constants.V128.{V128}
 use Rattle.wasm_imm.specs.declared.ordering.Ordering.{Ordering}
 use Rattle.wasm_imm.specs.declared.ordering.Ordering.TheVariants.{SeqCst}
 use Rattle.wasm_imm.specs.MemoryArgument.{ordering_byte}
@@ -31,9 +32,13 @@ SpellsOrderingByte text o = text ≡ ordering_byte o ∷ []
 abbrev pub SpellsFence : WasmFeatures → List ℕ → Ordering → Type 0
 SpellsFence f text o = (HasFeature acquire_release_atomics f × SpellsOrderingByte text o) ⊎ (¬ HasFeature acquire_release_atomics f × (text ≡ 0x00 ∷ []) × (o ≡ SeqCst))
 
--- Sixteen bytes, as they stand: a vector, the lowest byte first, or the lanes of a shuffle. Vector Instructions.
+-- Sixteen bytes, as they stand: the lanes of a shuffle. Vector Instructions.
 abbrev pub SpellsSixteen : List ℕ → List ℕ → Type 0
 SpellsSixteen text bytes = (text ≡ bytes) × (length bytes ≡ 16)
+
+-- A vector: its sixteen bytes, the lowest first. Vector Instructions.
+abbrev pub SpellsVector : List ℕ → V128 → Type 0
+SpellsVector text v = SpellsSixteen text v.0
 
 -- As `Reads`, of a call whose refusals may stand before the reader, from this offset on.
 abbrev pub ReadsFrom : {X : Type 0} → ℕ → (List ℕ → X → Type 0) → Result X Error → Reader → Reader → Type 0

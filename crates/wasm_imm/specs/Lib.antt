@@ -9,3 +9,11 @@ pub mod Casts
 pub mod Handlers
 pub mod Memory
 pub mod HandlerTables
+pub mod PartFaults
+pub mod BlockFaults
+pub mod BranchFaults
+pub mod CastFaults
+pub mod HandlerFaults
+pub mod ListFaults
+pub mod ShortFaults
+pub mod MemArgFaults

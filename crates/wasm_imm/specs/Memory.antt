@@ -1,5 +1,5 @@
 -- Want of memory.
-use Rattle.std.specs.Prelude.{◌≡◌, ℕ, ◌⊎◌}
+use Rattle.std.specs.Prelude.{◌≡◌, ◌≢◌, ℕ, ◌⊎◌}
 use Rattle.wasm_below.specs.declared.error.Error.{Error}
 use Rattle.wasm_below.specs.declared.message.Message.TheVariants as message
 
@@ -7,6 +7,6 @@ use Rattle.wasm_below.specs.declared.message.Message.TheVariants as message
 abbrev pub IsOutOfMemoryAt : ℕ → Error → Type 0
 IsOutOfMemoryAt offset e = (e.message ≡ message.OutOfMemory) × (e.offset ≡ offset)
 
--- The same refusal, of a call that began at this offset: there stands want of memory.
+-- The same refusal, of a call that began at this offset: want of memory is said there, and any other refusal where it was.
 abbrev pub IsBegunAt : ℕ → Error → Error → Type 0
-IsBegunAt offset e f = (f.message ≡ e.message) × ((f.offset ≡ e.offset) ⊎ (f.offset ≡ offset)) × (e.message ≡ message.OutOfMemory → f.offset ≡ offset)
+IsBegunAt offset e f = (f.message ≡ e.message) × ((IsOutOfMemoryAt offset f) ⊎ ((e.message ≢ message.OutOfMemory) × (f.offset ≡ e.offset)))

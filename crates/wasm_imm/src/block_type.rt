@@ -1,4 +1,6 @@
+ghost use Rattle.std.specs.Prelude.{IfErr};
 ghost use Rattle.wasm_below.specs.Source.{Reads};
+ghost use Rattle.wasm_imm.specs.BlockFaults.{BlockTypeFault, FunctionTypeFault};
 ghost use Rattle.wasm_imm.specs.BlockTypes.{SpellsBlockType, SpellsFunctionType};
 
 use wasm_below::{BinaryReader, Error, Message, Result, ValType};
@@ -17,10 +19,12 @@ pub enum BlockType {
 impl BlockType {
     /// A block type. Control Instructions.
     ///
-    /// `InvalidFunctionType` behind a negative number; else as the value type or the number.
+    /// Where a byte from 41 to 7f leads, refused as `ValType::read`. Else as `read_var_s33`, or by
+    /// `InvalidFunctionType` behind a negative number.
     #[inline(never)]
     pub fn read(reader: &mut BinaryReader<'_>) -> Result<BlockType>
-        ensures { Reads SpellsBlockType result reader.old reader.new }
+        ensures reads { Reads SpellsBlockType result reader.old reader.new }
+        ensures fault { IfErr result (λ e. BlockTypeFault e.message reader.old e.offset) }
     {
         let byte = match reader.peek() {
             Ok(byte) => byte,
@@ -42,7 +46,8 @@ impl BlockType {
 
 /// The index of a function type.
 fn read_function_type(reader: &mut BinaryReader<'_>) -> Result<BlockType>
-    ensures { Reads SpellsFunctionType result reader.old reader.new }
+    ensures reads { Reads SpellsFunctionType result reader.old reader.new }
+    ensures fault { IfErr result (λ e. FunctionTypeFault e.message reader.old e.offset) }
 {
     let start = reader.current_position();
     let index = reader.read_var_s33()?;

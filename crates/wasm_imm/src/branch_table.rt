@@ -1,10 +1,13 @@
-ghost use Rattle.std.specs.Prelude.{◌≡◌, ◌↔◌, ℕ, List, map, length, IsTrue, IfSome, Ok};
+ghost use Rattle.std.specs.Prelude.{◌≡◌, ◌↔◌, ℕ, List, map, length, IsTrue, IfErr, IfSome, Ok};
 ghost use Rattle.std.specs.Iterator.{YieldsFirst, at_most, UpTo};
 ghost use Rattle.std.specs.Iterator.SizeHint.{IsWithinCount};
+ghost use Rattle.wasm_below.specs.Fault.{ManyFault};
 ghost use Rattle.wasm_below.specs.Source.{Reads};
 ghost use Rattle.wasm_below.specs.Number.{SpellsUnsigned};
 ghost use Rattle.wasm_imm.specs.Lists.{SpellsMany};
+ghost use Rattle.wasm_imm.specs.BranchFaults.{BranchTableFault};
 ghost use Rattle.wasm_imm.specs.BranchTables.{SpellsBranchTable, SpellsTargets};
+ghost use Rattle.wasm_below.specs.Source.{U32Fault};
 
 use std::alloc::AllocError;
 use std::marker::Model;
@@ -37,10 +40,12 @@ impl<'a> Model for BrTable<'a> {
 impl<'a> BrTable<'a> {
     /// A branch table. Control Instructions.
     ///
-    /// `SizeOutOfBounds` of `br_table` at a count above 7654321.
+    /// `SizeOutOfBounds` of `br_table` where a count above 7654321 begins; else as `read_size`, or
+    /// as `read_var_u32` at the first target, or the default one, that is refused.
     #[inline(never)]
     pub fn read(reader: &mut BinaryReader<'a>) -> Result<BrTable<'a>>
-        ensures { Reads SpellsBranchTable result reader.old reader.new }
+        ensures reads { Reads SpellsBranchTable result reader.old reader.new }
+        ensures fault { IfErr result (λ e. BranchTableFault e.message reader.old e.offset) }
     {
         let start = reader.current_position();
         let count = reader.read_size(MAX_TARGETS, Word::BrTable)?;
@@ -99,7 +104,9 @@ impl<'a> BrTable<'a> {
 
 /// How many bytes this many targets take.
 fn read_targets(reader: &mut BinaryReader<'_>, count: usize) -> Result<usize>
-    ensures { Reads (SpellsTargets count) result reader.old reader.new }
+    ensures reads { Reads (SpellsTargets count) result reader.old reader.new }
+    ensures fault { IfErr result (λ e.
+        ManyFault (SpellsUnsigned 32) U32Fault count e.message reader.old e.offset) }
 {
     let start = reader.current_position();
     for _target in 0..count {

@@ -1,4 +1,7 @@
+ghost use Rattle.std.specs.Prelude.{IfErr};
 ghost use Rattle.wasm_below.specs.Source.{Reads};
+ghost use Rattle.wasm_below.specs.TypeSpelling.{HeapTypeFault};
+ghost use Rattle.wasm_imm.specs.CastFaults.{CastFault};
 ghost use Rattle.wasm_imm.specs.Casts.{SpellsCast, SpellsReference};
 
 use wasm_below::{BinaryReader, HeapType, Message, RefType, Result};
@@ -17,10 +20,12 @@ pub struct Cast {
 impl Cast {
     /// The flags, the label and the two heap types of a cast. Control Instructions.
     ///
-    /// `InvalidCastFlags` at flags above 3, once the label was read.
+    /// `EndOfData` where the flags are wanted; as `read_var_u32` at the label; `InvalidCastFlags` at
+    /// flags above 3, once the label was read; then as `HeapType::read` at either heap type.
     #[inline(never)]
     pub fn read(reader: &mut BinaryReader<'_>) -> Result<Cast>
-        ensures { Reads SpellsCast result reader.old reader.new }
+        ensures reads { Reads SpellsCast result reader.old reader.new }
+        ensures fault { IfErr result (λ e. CastFault e.message reader.old e.offset) }
     {
         let start = reader.current_position();
         let flags = match reader.read_u8() {
@@ -60,7 +65,8 @@ impl Cast {
 
 /// A heap type, as a reference type with null or without.
 fn read_reference(reader: &mut BinaryReader<'_>, nullable: bool) -> Result<RefType>
-    ensures { Reads (SpellsReference nullable) result reader.old reader.new }
+    ensures reads { Reads (SpellsReference nullable) result reader.old reader.new }
+    ensures fault { IfErr result (λ e. HeapTypeFault e.message reader.old e.offset) }
 {
     match HeapType::read(reader) {
         Ok(heap_type) => match RefType::new(nullable, heap_type) {

@@ -1,6 +1,6 @@
 ghost use Rattle.std.specs.Prelude.{◌≡◌, ℕ, List, IfErr};
 ghost use Rattle.wasm_below.specs.Source.{Reads, IsShort};
-ghost use Rattle.wasm_imm.specs.Immediates.{SpellsSixteen};
+ghost use Rattle.wasm_imm.specs.Immediates.{SpellsVector};
 ghost use Rattle.std.specs.Int.{w128, to_le_bytes, from_le_bytes, cast_signed, cast_unsigned};
 
 use crate::lanes::read_sixteen;
@@ -31,7 +31,8 @@ impl Ieee32 {
     pub fn bits(self) -> u32
         ensures { result ≡ self }
     {
-        self.0
+        let Ieee32(bits) = self;
+        bits
     }
 }
 
@@ -59,21 +60,14 @@ impl Ieee64 {
     pub fn bits(self) -> u64
         ensures { result ≡ self }
     {
-        self.0
+        let Ieee64(bits) = self;
+        bits
     }
 }
 
 /// A vector of 128 bits: sixteen bytes, the lowest first.
 #[derive(Clone, Copy, Debug, PartialEq, Eq, Hash)]
-pub struct V128([u8; 16]);
-
-impl Model for V128 {
-    ghost Value = { List ℕ };
-
-    ghost view = { λ v. v.0 };
-
-    ghost inverse = { λ bytes. record { 0 = bytes } };
-}
+pub struct V128(pub [u8; 16]);
 
 impl V128 {
     /// The constant of `v128.const`: sixteen bytes, the lowest first. Vector Instructions.
@@ -81,7 +75,7 @@ impl V128 {
     /// `EndOfData` where they begin.
     #[inline(always)]
     pub fn read(reader: &mut BinaryReader<'_>) -> Result<V128>
-        ensures reads { Reads SpellsSixteen result reader.old reader.new }
+        ensures reads { Reads SpellsVector result reader.old reader.new }
         ensures end { IfErr result (λ e. IsShort 16 e reader.old) }
     {
         match read_sixteen(reader) {
@@ -92,21 +86,21 @@ impl V128 {
 
     /// The bytes, the lowest first.
     pub fn bytes(&self) -> &[u8; 16]
-        ensures { result.now ≡ self.now }
+        ensures { result.now ≡ self.now.0 }
     {
         &self.0
     }
 
     /// The bytes as a number with a sign.
     pub fn i128(&self) -> i128
-        ensures { result ≡ cast_signed w128 (from_le_bytes w128 self.now) }
+        ensures { result ≡ cast_signed w128 (from_le_bytes w128 self.now.0) }
     {
         i128::from_le_bytes(self.0)
     }
 }
 
 impl From<V128> for i128 {
-    ghost from_gives = { λ v n. n ≡ cast_signed w128 (from_le_bytes w128 v) };
+    ghost from_gives = { λ v n. n ≡ cast_signed w128 (from_le_bytes w128 v.0) };
 
     fn from(vector: V128) -> i128 {
         vector.i128()
@@ -114,7 +108,7 @@ impl From<V128> for i128 {
 }
 
 impl From<V128> for u128 {
-    ghost from_gives = { λ v n. n ≡ from_le_bytes w128 v };
+    ghost from_gives = { λ v n. n ≡ from_le_bytes w128 v.0 };
 
     fn from(vector: V128) -> u128 {
         u128::from_le_bytes(vector.0)
@@ -122,7 +116,7 @@ impl From<V128> for u128 {
 }
 
 impl From<i128> for V128 {
-    ghost from_gives = { λ n v. v ≡ to_le_bytes w128 (cast_unsigned w128 n) };
+    ghost from_gives = { λ n v. v.0 ≡ to_le_bytes w128 (cast_unsigned w128 n) };
 
     fn from(value: i128) -> V128 {
         V128(value.to_le_bytes())
@@ -130,7 +124,7 @@ impl From<i128> for V128 {
 }
 
 impl From<u128> for V128 {
-    ghost from_gives = { λ n v. v ≡ to_le_bytes w128 n };
+    ghost from_gives = { λ n v. v.0 ≡ to_le_bytes w128 n };
 
     fn from(value: u128) -> V128 {
         V128(value.to_le_bytes())

@@ -1,5 +1,6 @@
 ghost use Rattle.std.specs.Prelude.{◌≡◌, length, true, IfOk, IfErr};
 ghost use Rattle.wasm_imm.specs.HandlerTables.{SpellsTryTable, SpellsResumeTable};
+ghost use Rattle.wasm_imm.specs.ListFaults.{TryTableFault, ResumeTableFault};
 ghost use Rattle.wasm_imm.specs.Memory.{IsOutOfMemoryAt};
 
 use crate::block_type::BlockType;
@@ -49,9 +50,13 @@ impl<'a> FromReader<'a> for TryTable {
 
     ghost spelled = { λ features text t. SpellsTryTable text t };
 
+    ghost fault = { λ m r offset. TryTableFault m r offset };
+
     /// A block type and catches. Control Instructions.
     ///
-    /// `SizeOutOfBounds` of `catches` at a count above 10000.
+    /// As `BlockType::read`; then `SizeOutOfBounds` of `catches` where a count above 10000 begins,
+    /// else as `read_size`; then as `Catch::read` at the first catch that is refused.
+    /// `OutOfMemory` where the block type begins.
     fn from_reader(alloc: Global, reader: &mut BinaryReader<'a>) -> Result<TryTable> {
         let start = reader.current_position();
         let ty = match BlockType::read(reader) {
@@ -103,9 +108,13 @@ impl<'a> FromReader<'a> for ResumeTable {
 
     ghost spelled = { λ features text t. SpellsResumeTable text t };
 
+    ghost fault = { λ m r offset. ResumeTableFault m r offset };
+
     /// Clauses. Proposal stack switching.
     ///
-    /// `SizeOutOfBounds` of `resume table` at a count above 10000.
+    /// `SizeOutOfBounds` of `resume table` where a count above 10000 begins, else as `read_size`;
+    /// then as `Handle::read` at the first clause that is refused. `OutOfMemory` where the count
+    /// begins.
     fn from_reader(alloc: Global, reader: &mut BinaryReader<'a>) -> Result<ResumeTable> {
         match read_list::<Handle>(alloc, reader, MAX_HANDLERS, Word::ResumeTable) {
             Ok(handlers) => Ok(ResumeTable { handlers }),

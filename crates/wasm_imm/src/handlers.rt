@@ -1,5 +1,6 @@
-ghost use Rattle.std.specs.Prelude.{◌<◌, ◌≤◌, ◌≡◌, false};
+ghost use Rattle.std.specs.Prelude.{◌<◌, ◌≤◌, ◌≡◌, false, IfErr};
 ghost use Rattle.wasm_below.specs.Source.{Reads};
+ghost use Rattle.wasm_imm.specs.HandlerFaults.{PairFault, IndicesFault, CatchFault, HandleFault};
 ghost use Rattle.wasm_imm.specs.Handlers.{SpellsPair, SpellsCatch, SpellsHandle, IsCatchBehind, IsHandleBehind};
 
 use std::alloc::Global;
@@ -21,10 +22,12 @@ pub enum Catch {
 impl Catch {
     /// A catch. Control Instructions.
     ///
-    /// `InvalidLeadingByte` of `catch` at a first byte above 3.
+    /// `EndOfData` where the first byte is wanted; `InvalidLeadingByte` of `catch` at one above 3;
+    /// else as `read_var_u32` at the tag or the label.
     #[inline(never)]
     pub fn read(reader: &mut BinaryReader<'_>) -> Result<Catch>
-        ensures { Reads SpellsCatch result reader.old reader.new }
+        ensures reads { Reads SpellsCatch result reader.old reader.new }
+        ensures fault { IfErr result (λ e. CatchFault e.message reader.old e.offset) }
     {
         let start = reader.current_position();
         let byte = match reader.read_u8() {
@@ -46,7 +49,8 @@ impl Catch {
     /// A catch whose first byte was read.
     fn read_behind(reader: &mut BinaryReader<'_>, byte: u8) -> Result<Catch>
         requires { byte ≤ 3 }
-        ensures { Reads (IsCatchBehind byte) result reader.old reader.new }
+        ensures reads { Reads (IsCatchBehind byte) result reader.old reader.new }
+        ensures fault { IfErr result (λ e. IndicesFault 1 byte e.message reader.old e.offset) }
     {
         if byte <= 1 {
             return match read_pair(reader) {
@@ -76,6 +80,8 @@ impl<'a> FromReader<'a> for Catch {
 
     ghost spelled = { λ features text c. SpellsCatch text c };
 
+    ghost fault = { λ m r offset. CatchFault m r offset };
+
     fn from_reader(_alloc: Global, reader: &mut BinaryReader<'a>) -> Result<Catch> {
         Catch::read(reader)
     }
@@ -95,10 +101,12 @@ pub enum Handle {
 impl Handle {
     /// A clause. Proposal stack switching.
     ///
-    /// `InvalidLeadingByte` of `on clause` at a first byte above 1.
+    /// `EndOfData` where the first byte is wanted; `InvalidLeadingByte` of `on clause` at one above
+    /// 1; else as `read_var_u32` at the tag or the label.
     #[inline(never)]
     pub fn read(reader: &mut BinaryReader<'_>) -> Result<Handle>
-        ensures { Reads SpellsHandle result reader.old reader.new }
+        ensures reads { Reads SpellsHandle result reader.old reader.new }
+        ensures fault { IfErr result (λ e. HandleFault e.message reader.old e.offset) }
     {
         let start = reader.current_position();
         let byte = match reader.read_u8() {
@@ -120,7 +128,8 @@ impl Handle {
     /// A clause whose first byte was read.
     fn read_behind(reader: &mut BinaryReader<'_>, byte: u8) -> Result<Handle>
         requires { byte ≤ 1 }
-        ensures { Reads (IsHandleBehind byte) result reader.old reader.new }
+        ensures reads { Reads (IsHandleBehind byte) result reader.old reader.new }
+        ensures fault { IfErr result (λ e. IndicesFault 0 byte e.message reader.old e.offset) }
     {
         if byte == 0 {
             return match read_pair(reader) {
@@ -142,6 +151,8 @@ impl<'a> FromReader<'a> for Handle {
 
     ghost spelled = { λ features text h. SpellsHandle text h };
 
+    ghost fault = { λ m r offset. HandleFault m r offset };
+
     fn from_reader(_alloc: Global, reader: &mut BinaryReader<'a>) -> Result<Handle> {
         Handle::read(reader)
     }
@@ -151,7 +162,8 @@ impl<'a> FromReader<'a> for Handle {
 
 /// Two indices.
 fn read_pair(reader: &mut BinaryReader<'_>) -> Result<(u32, u32)>
-    ensures { Reads SpellsPair result reader.old reader.new }
+    ensures reads { Reads SpellsPair result reader.old reader.new }
+    ensures fault { IfErr result (λ e. PairFault e.message reader.old e.offset) }
 {
     let start = reader.current_position();
     let first = match reader.read_var_u32() {

@@ -1,24 +1,32 @@
+ghost use Rattle.std.specs.Prelude.{IfErr};
 ghost use Rattle.wasm_below.specs.Source.{Reads};
 ghost use Rattle.wasm_imm.specs.Immediates.{SpellsIndex, SpellsMemoryIndex, SpellsTableIndex};
+ghost use Rattle.wasm_imm.specs.ShortFaults.{IndexFault, MemoryIndexFault, TableIndexFault};
 
 use wasm_below::{BinaryReader, Message, Result, WasmFeatures};
 
 /// The memory of `memory.size` or `memory.grow`. Memory Instructions.
 ///
-/// `ZeroByteExpected` at a byte that is not 0, without multi_memory.
+/// With multi_memory refused as `read_var_u32` is; without it, `EndOfData` at the end of the data,
+/// and `ZeroByteExpected` at a byte that is not 0.
 #[inline(never)]
 pub fn read_memory_index(reader: &mut BinaryReader<'_>) -> Result<u32>
-    ensures { Reads (SpellsMemoryIndex reader.old.features) result reader.old reader.new }
+    ensures reads { Reads (SpellsMemoryIndex reader.old.features) result reader.old reader.new }
+    ensures fault { IfErr result (λ e. MemoryIndexFault reader.old.features
+        e.message reader.old e.offset) }
 {
     read_index(reader, WasmFeatures::MULTI_MEMORY)
 }
 
 /// The table of `call_indirect`. Control Instructions.
 ///
-/// `ZeroByteExpected` at a byte that is not 0, without call_indirect_overlong.
+/// With call_indirect_overlong refused as `read_var_u32` is; without it, `EndOfData` at the end of
+/// the data, and `ZeroByteExpected` at a byte that is not 0.
 #[inline(never)]
 pub fn read_table_index(reader: &mut BinaryReader<'_>) -> Result<u32>
-    ensures { Reads (SpellsTableIndex reader.old.features) result reader.old reader.new }
+    ensures reads { Reads (SpellsTableIndex reader.old.features) result reader.old reader.new }
+    ensures fault { IfErr result (λ e. TableIndexFault reader.old.features
+        e.message reader.old e.offset) }
 {
     read_index(reader, WasmFeatures::CALL_INDIRECT_OVERLONG)
 }
@@ -26,7 +34,9 @@ pub fn read_table_index(reader: &mut BinaryReader<'_>) -> Result<u32>
 /// A number with this feature; without it, the byte 0.
 #[inline(always)]
 fn read_index(reader: &mut BinaryReader<'_>, feature: WasmFeatures) -> Result<u32>
-    ensures { Reads (SpellsIndex feature reader.old.features) result reader.old reader.new }
+    ensures reads { Reads (SpellsIndex feature reader.old.features) result reader.old reader.new }
+    ensures fault { IfErr result (λ e. IndexFault feature reader.old.features
+        e.message reader.old e.offset) }
 {
     if reader.features().contains(feature) {
         return reader.read_var_u32();

@@ -1,6 +1,7 @@
-ghost use Rattle.std.specs.Prelude.{◌≡◌, IfErr};
-ghost use Rattle.wasm_below.specs.Source.{Reads, IsByte, IsEndHere, IsShort, end_of};
+ghost use Rattle.std.specs.Prelude.{IfErr};
+ghost use Rattle.wasm_below.specs.Source.{Reads, IsByte, IsEndHere, IsShort};
 ghost use Rattle.wasm_imm.specs.Immediates.{SpellsSixteen};
+ghost use Rattle.wasm_imm.specs.ShortFaults.{LanesFault};
 
 use wasm_below::{BinaryReader, Error, Message, Result};
 
@@ -17,11 +18,11 @@ pub fn read_lane(reader: &mut BinaryReader<'_>) -> Result<u8>
 
 /// The sixteen lanes of a shuffle. Vector Instructions.
 ///
-/// `EndOfData` at the end of the data.
+/// `EndOfData` at the end of the data, where fewer bytes are left.
 #[inline(never)]
 pub fn read_lanes(reader: &mut BinaryReader<'_>) -> Result<[u8; 16]>
     ensures reads { Reads SpellsSixteen result reader.old reader.new }
-    ensures end { IfErr result (λ e. e.offset ≡ end_of reader.old) }
+    ensures fault { IfErr result (λ e. LanesFault e.message reader.old e.offset) }
 {
     match read_sixteen(reader) {
         Ok(lanes) => Ok(lanes),

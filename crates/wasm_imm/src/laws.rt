@@ -1,23 +1,34 @@
 //! Laws on immediates, each the contract of a function that does nothing.
 //!
-//! `Once` says that no spelling is a proper front of another, and that each is that of one value.
+//! `Once` says that no spelling is a proper front of another, and that each is that of one value;
+//! `Pins`, that what a fault says determines the refusal, its message and its offset.
 ghost use Rattle.std.specs.Prelude.{◌≡◌, ◌<◌, ℕ, List, length, All, true};
 ghost use Rattle.std.specs.Int.{w128, to_le_bytes, from_le_bytes, cast_signed, cast_unsigned};
+ghost use Rattle.wasm_below.specs.declared.features.WasmFeatures.{WasmFeatures};
+ghost use Rattle.wasm_below.specs.declared.message.Word.{Word};
+ghost use Rattle.wasm_below.specs.Fault.{Pins};
 ghost use Rattle.wasm_below.specs.Number.{SpellsUnsigned};
 ghost use Rattle.wasm_below.specs.Sequence.{Once};
 ghost use Rattle.wasm_below.specs.Source.{IsByte};
+ghost use Rattle.wasm_imm.specs.BlockFaults.{BlockTypeFault};
 ghost use Rattle.wasm_imm.specs.BlockTypes.{SpellsBlockType};
+ghost use Rattle.wasm_imm.specs.BranchFaults.{BranchTableFault};
 ghost use Rattle.wasm_imm.specs.BranchTables.{BranchTable, SpellsBranchTable};
+ghost use Rattle.wasm_imm.specs.CastFaults.{CastFault};
 ghost use Rattle.wasm_imm.specs.Casts.{SpellsCast};
+ghost use Rattle.wasm_imm.specs.HandlerFaults.{CatchFault, HandleFault};
 ghost use Rattle.wasm_imm.specs.Handlers.{SpellsCatch, SpellsHandle};
 ghost use Rattle.wasm_imm.specs.HandlerTables.{SpellsSelect, SpellsTryTable, SpellsResumeTable};
 ghost use Rattle.wasm_imm.specs.Immediates.{SpellsMemoryIndex, SpellsTableIndex, SpellsOrderingByte, SpellsFence, SpellsSixteen};
+ghost use Rattle.wasm_imm.specs.ListFaults.{ListFault, TryTableFault, ResumeTableFault, SelectFault};
 ghost use Rattle.wasm_imm.specs.Lists.{SpellsMany};
+ghost use Rattle.wasm_imm.specs.MemArgFaults.{MemArgFault};
 ghost use Rattle.wasm_imm.specs.MemoryArgument.{SpellsMemArg};
+ghost use Rattle.wasm_imm.specs.ShortFaults.{MemoryIndexFault, TableIndexFault, OrderingByteFault, FenceFault, LanesFault};
 ghost use Rattle.wasm_imm.specs.TableEquality.{same_table};
 
 use crate::memory_argument::MemArgKind;
-use wasm_below::WasmFeatures;
+use wasm_below::{FromReader, WasmFeatures};
 
 /// Block types.
 pub fn block_types()
@@ -72,6 +83,49 @@ pub fn handlers()
 pub fn handler_tables()
     ensures catches { Once SpellsTryTable }
     ensures clauses { Once SpellsResumeTable }
+{}
+
+/// What the fault of a short immediate says determines its refusal: of an index, of an ordering,
+/// of the byte of a fence that began anywhere, and of lanes.
+pub fn short_refusals(features: WasmFeatures)
+    ensures memory { Pins (MemoryIndexFault features) }
+    ensures table { Pins (TableIndexFault features) }
+    ensures ordering { Pins OrderingByteFault }
+    ensures fence { (start : ℕ) → Pins (FenceFault features start) }
+    ensures lanes { Pins LanesFault }
+{}
+
+/// What a list's fault says determines its refusal, of any name and limit, where no member's
+/// spelling is a proper front of another, each is that of one member, and a member's fault
+/// determines its refusal.
+pub fn list_refusals<'a, T: FromReader<'a>>()
+    ensures { (name : Word) (limit : ℕ) (features : WasmFeatures)
+        → Once (T.spelled features)
+        → Pins T.fault
+        → Pins (ListFault name limit (T.spelled features) T.fault) }
+{}
+
+/// What the fault of a block type says determines its refusal, and what that of a branch table, of
+/// a cast, and of the types of a select says.
+pub fn control_refusals()
+    ensures block { Pins BlockTypeFault }
+    ensures table { Pins BranchTableFault }
+    ensures cast { Pins CastFault }
+    ensures select { Pins SelectFault }
+{}
+
+/// What the fault of a catch says determines its refusal, and what that of a clause, of a try table
+/// and of a resume table says.
+pub fn handler_refusals()
+    ensures catches { Pins CatchFault }
+    ensures clauses { Pins HandleFault }
+    ensures try_table { Pins TryTableFault }
+    ensures resume_table { Pins ResumeTableFault }
+{}
+
+/// What the fault of a memory argument says determines its refusal, of any kind of operator.
+pub fn memory_argument_refusals(features: WasmFeatures, kind: MemArgKind)
+    ensures { Pins (MemArgFault features kind) }
 {}
 
 /// Equal branch tables have the same targets and the same default target.

@@ -1,6 +1,8 @@
-ghost use Rattle.std.specs.Prelude.{◌≡◌, ◌+◌, ◌≤◌, false, true};
+ghost use Rattle.std.specs.Prelude.{◌≡◌, ◌+◌, ◌≤◌, false, true, IfErr};
+ghost use Rattle.wasm_below.specs.Fault.{HasFault, ManyFault};
 ghost use Rattle.wasm_below.specs.FromReader.{ReadsValue};
 ghost use Rattle.wasm_below.specs.Source.{at_position, offset_of, end_of};
+ghost use Rattle.wasm_imm.specs.ListFaults.{ListFault};
 ghost use Rattle.wasm_imm.specs.Lists.{SpellsMany, SpellsList};
 ghost use Rattle.wasm_imm.specs.Memory.{IsBegunAt};
 
@@ -10,7 +12,8 @@ use wasm_below::{BinaryReader, Error, FromReader, Message, Result, Word};
 
 /// A count, at most `limit`, and that many members, in memory that is made once.
 ///
-/// `SizeOutOfBounds` of `desc` at the count; `OutOfMemory` at the count.
+/// `SizeOutOfBounds` of `desc` where a count above `limit` begins, else as `read_size`; as the
+/// member at the first member that is refused; `OutOfMemory` where the count begins.
 pub fn read_list<'a, T: FromReader<'a>>(
     alloc: Global,
     reader: &mut BinaryReader<'a>,
@@ -18,8 +21,10 @@ pub fn read_list<'a, T: FromReader<'a>>(
     desc: Word,
 ) -> Result<Members<T>>
     requires { T.TAKES_MEMORY ≡ false }
-    ensures { ReadsValue (SpellsList limit (T.spelled reader.old.features)) true
+    ensures reads { ReadsValue (SpellsList limit (T.spelled reader.old.features)) true
         result reader.old reader.new }
+    ensures fault { IfErr result (λ e.
+        HasFault (ListFault desc limit (T.spelled reader.old.features) T.fault) e reader.old) }
 {
     let start = reader.current_position();
     let count = match reader.read_size(limit, desc) {
@@ -33,6 +38,8 @@ pub fn read_list<'a, T: FromReader<'a>>(
 }
 
 /// This many members.
+///
+/// Refused as the member at the first member that is; `OutOfMemory` where the members begin.
 pub fn read_members<'a, T: FromReader<'a>>(
     alloc: Global,
     reader: &mut BinaryReader<'a>,
@@ -40,8 +47,10 @@ pub fn read_members<'a, T: FromReader<'a>>(
 ) -> Result<Members<T>>
     requires lean { T.TAKES_MEMORY ≡ false }
     requires within { offset_of reader.old ≤ end_of reader.old }
-    ensures { ReadsValue (SpellsMany (T.spelled reader.old.features) count) true
+    ensures reads { ReadsValue (SpellsMany (T.spelled reader.old.features) count) true
         result reader.old reader.new }
+    ensures fault { IfErr result (λ e.
+        HasFault (ManyFault (T.spelled reader.old.features) T.fault count) e reader.old) }
 {
     T::spelled_once();
     let start = reader.current_position();
@@ -61,7 +70,8 @@ pub fn read_members<'a, T: FromReader<'a>>(
     Ok(Members::from_vec(items))
 }
 
-/// Goes back to where this many bytes were read, and says there that memory was refused.
+/// Goes back to where this many bytes were read, and says there that memory was refused. Any other
+/// refusal stays as it was.
 #[cold]
 #[inline(never)]
 pub fn begun_at(reader: &mut BinaryReader<'_>, position: usize, e: Error) -> Error

@@ -1,8 +1,9 @@
-ghost use Rattle.std.specs.Prelude.{◌≡◌, ◌+◌, ◌/◌, ◌%◌, ◌<◌, ◌≤◌, ◌↔◌, IsTrue, IfSome, IfNone};
-ghost use Rattle.wasm_below.specs.Source.{Reads, at_position};
+ghost use Rattle.std.specs.Prelude.{◌≡◌, ◌+◌, ◌/◌, ◌%◌, ◌<◌, ◌≤◌, ◌↔◌, IsTrue, IfSome, IfNone, IfErr};
+ghost use Rattle.wasm_below.specs.Source.{Reads, at_position, offset_of};
 ghost use Rattle.wasm_below.specs.Number.{SpellsUnsigned};
 ghost use Rattle.wasm_imm.specs.MemoryArgument.{SpellsMemArg, SpellsOffset, IsOrderingByte};
 ghost use Rattle.wasm_imm.specs.FlagsNumber.{Announces, NamesBoth, OrdersPlain, IsReserved, IsTarget, IsOrdering};
+ghost use Rattle.wasm_imm.specs.MemArgFaults.{TargetFault, OrderingFault, OffsetFault, FlagsFault, MemArgFault};
 
 use crate::ordering::Ordering;
 use wasm_below::{BinaryReader, Error, Message, Result, WasmFeatures};
@@ -71,12 +72,17 @@ impl MemArg {
     /// A memory argument of an operator of this kind, whose own alignment is `max_align`. Binary
     /// Format, Memory Instructions.
     ///
-    /// `MemoryAndArray`, `OrderingOnPlain` and `ReservedFlags` at the flags number, `InvalidOrdering`
-    /// at the ordering's byte.
+    /// The first that applies of: what `read_var_u32` refuses in the flags number; `MemoryAndArray` at
+    /// the flags number; what `read_var_u32` refuses in the index that is announced; `OrderingOnPlain`
+    /// at the flags number; `EndOfData` or `InvalidOrdering` at the ordering's byte; `ReservedFlags` at
+    /// the flags number; and what the offset's number is refused for, by `read_var_u64` with memory64
+    /// and else by `read_var_u32`.
     #[inline(always)]
     pub fn read(reader: &mut BinaryReader<'_>, max_align: u8, kind: MemArgKind) -> Result<MemArg>
-        ensures { Reads (SpellsMemArg reader.old.features kind max_align)
+        ensures reads { Reads (SpellsMemArg reader.old.features kind max_align)
             result reader.old reader.new }
+        ensures fault { IfErr result (λ e. MemArgFault reader.old.features kind
+            e.message reader.old e.offset) }
     {
         let start = reader.current_position();
         let flags = match reader.read_var_u32() {
@@ -114,8 +120,10 @@ fn read_announced(
     requires begun { start ≤ reader.old.position }
     requires flagged { Reads (SpellsUnsigned 32) (Ok flags)
         (at_position reader.old start) reader.old }
-    ensures { Reads (SpellsMemArg reader.old.features kind max_align)
+    ensures reads { Reads (SpellsMemArg reader.old.features kind max_align)
         result (at_position reader.old start) reader.new }
+    ensures fault { IfErr result (λ e. FlagsFault reader.old.features kind flags
+        (offset_of (at_position reader.old start)) e.message reader.old e.offset) }
 {
     let features = reader.features();
     if names_both(features, flags) {
@@ -206,7 +214,9 @@ fn read_target(
     features: WasmFeatures,
     flags: u32,
 ) -> Result<MemArgTarget>
-    ensures { Reads (IsTarget features flags) result reader.old reader.new }
+    ensures reads { Reads (IsTarget features flags) result reader.old reader.new }
+    ensures fault { IfErr result (λ e. TargetFault features flags
+        e.message reader.old e.offset) }
 {
     if announces(features, WasmFeatures::MULTI_MEMORY, flags, MEMORY_INDEX) {
         return match reader.read_var_u32() {
@@ -230,7 +240,7 @@ fn read_target(
 
 /// The ordering, where the flags number announces one.
 ///
-/// `InvalidOrdering` at its byte.
+/// `EndOfData` or `InvalidOrdering` at its byte.
 fn read_ordering(
     reader: &mut BinaryReader<'_>,
     features: WasmFeatures,
@@ -238,7 +248,9 @@ fn read_ordering(
     kind: MemArgKind,
 ) -> Result<Option<MemArgOrdering>>
     requires { ¬ OrdersPlain features kind flags }
-    ensures { Reads (IsOrdering features kind flags) result reader.old reader.new }
+    ensures reads { Reads (IsOrdering features kind flags) result reader.old reader.new }
+    ensures fault { IfErr result (λ e. OrderingFault features kind flags
+        e.message reader.old e.offset) }
 {
     if !announces(
         features,
@@ -276,7 +288,9 @@ fn ordering_of(kind: MemArgKind, byte: u8) -> Option<MemArgOrdering>
 /// An offset: 64 bits with memory64, else 32.
 #[inline(always)]
 fn read_offset(reader: &mut BinaryReader<'_>) -> Result<u64>
-    ensures { Reads (SpellsOffset reader.old.features) result reader.old reader.new }
+    ensures reads { Reads (SpellsOffset reader.old.features) result reader.old reader.new }
+    ensures fault { IfErr result (λ e. OffsetFault reader.old.features
+        e.message reader.old e.offset) }
 {
     if reader.features().contains(WasmFeatures::MEMORY64) {
         return reader.read_var_u64();

@@ -1,6 +1,7 @@
-ghost use Rattle.std.specs.Prelude.{◌≡◌, ◌≤◌};
+ghost use Rattle.std.specs.Prelude.{◌≡◌, ◌≤◌, IfErr};
 ghost use Rattle.wasm_below.specs.Source.{Reads, offset_of};
 ghost use Rattle.wasm_imm.specs.Immediates.{SpellsOrderingByte, SpellsFence, ReadsFrom};
+ghost use Rattle.wasm_imm.specs.ShortFaults.{OrderingByteFault, FenceFault};
 
 use wasm_below::{BinaryReader, Error, Message, Result, WasmFeatures};
 
@@ -16,10 +17,11 @@ pub enum Ordering {
 impl Ordering {
     /// An ordering byte. Proposal shared-everything threads.
     ///
-    /// `InvalidOrdering` at the byte.
+    /// `EndOfData` at the end of the data, `InvalidOrdering` at the byte.
     #[inline(never)]
     pub fn read(reader: &mut BinaryReader<'_>) -> Result<Ordering>
-        ensures { Reads SpellsOrderingByte result reader.old reader.new }
+        ensures reads { Reads SpellsOrderingByte result reader.old reader.new }
+        ensures fault { IfErr result (λ e. OrderingByteFault e.message reader.old e.offset) }
     {
         let start = reader.current_position();
         match reader.read_u8() {
@@ -32,13 +34,15 @@ impl Ordering {
 
     /// The byte of an `atomic.fence` that began at the offset `start`. Proposal threads.
     ///
-    /// With acquire-release atomics an ordering byte; without them 0, and else `NonzeroAfterFence`
-    /// at `start`.
+    /// With acquire-release atomics an ordering byte, refused as in `read`; without them 0, and
+    /// else `NonzeroAfterFence` at `start`. `EndOfData` at the end of the data.
     #[inline(never)]
     pub fn read_fence(reader: &mut BinaryReader<'_>, start: u64) -> Result<Ordering>
         requires { start ≤ offset_of reader.old }
-        ensures { ReadsFrom start (SpellsFence reader.old.features)
+        ensures reads { ReadsFrom start (SpellsFence reader.old.features)
             result reader.old reader.new }
+        ensures fault { IfErr result (λ e. FenceFault reader.old.features start
+            e.message reader.old e.offset) }
     {
         if reader
             .features()

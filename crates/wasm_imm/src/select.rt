@@ -1,7 +1,9 @@
 ghost use Rattle.std.specs.Prelude.{◌≡◌, true, IfErr};
+ghost use Rattle.wasm_below.specs.Fault.{HasFault};
 ghost use Rattle.wasm_below.specs.FromReader.{ReadsValue};
 ghost use Rattle.wasm_below.specs.Source.{NoFront, rest};
 ghost use Rattle.wasm_imm.specs.HandlerTables.{SpellsSelect, SpellsOne};
+ghost use Rattle.wasm_imm.specs.ListFaults.{SelectFault};
 
 use crate::lists::{begun_at, read_members};
 use crate::members::SelectTypes;
@@ -23,12 +25,15 @@ pub enum Select {
 impl Select {
     /// The types of a `select`. Parametric Instructions.
     ///
-    /// `SizeOutOfBounds` of `select types` at a count above 10. One type takes no memory.
+    /// `SizeOutOfBounds` of `select types` where a count above 10 begins, else as `read_size`; then
+    /// as `ValType::read` at the first type that is refused. `OutOfMemory` where the count begins;
+    /// one type takes no memory.
     #[inline(never)]
     pub fn read(alloc: Global, reader: &mut BinaryReader<'_>) -> Result<Select>
         ensures reads { ReadsValue SpellsSelect true result reader.old reader.new }
         ensures lone { IfErr result (λ e. e.message ≡ Message.OutOfMemory
             → NoFront SpellsOne (rest reader.old)) }
+        ensures fault { IfErr result (λ e. HasFault SelectFault e reader.old) }
     {
         let start = reader.current_position();
         let count = match reader.read_size(MAX_SELECT_TYPES, Word::SelectTypes) {

@@ -1,7 +1,7 @@
 ghost use Rattle.std.specs.Prelude.{◌≡◌, ◌≢◌, ℕ, ◌+◌, ◌≤◌, ◌⊎◌, ◌∷◌, [], IsTrue, ◌↔◌, IfSome, IfNone, IfErr};
 ghost use Rattle.wasm_below.specs.declared.types.AbstractHeapType.{AbstractHeapType};
 ghost use Rattle.wasm_below.specs.Source.{Reads, BeginsWith, rest};
-ghost use Rattle.wasm_below.specs.TypeSpelling.{code_of, ref_code, behind_byte, LeadsShort, LeadsRefType, SpellsShort, SpellsConcrete, SpellsExact, SpellsHeapType, SpellsShortRef, SpellsLongRef, SpellsRefType, SpellsNumberType, SpellsValType, ShortFault, HeapTypeFault, RefTypeFault, ValTypeFault};
+ghost use Rattle.wasm_below.specs.TypeSpelling.{code_of, ref_code, behind_byte, LeadsShort, LeadsRefType, SpellsShort, SpellsConcrete, SpellsExact, SpellsHeapType, SpellsShortRef, SpellsLongRef, SpellsRefType, SpellsNumberType, SpellsValType, ShortFault, ByteFault, ExactFault, ConcreteFault, HeapTypeFault, RefTypeFault, ValTypeFault};
 
 use super::{AbstractHeapType, HeapType, MAX_TYPE_INDEX, RefType, ValType};
 use crate::binary_reader::BinaryReader;
@@ -94,7 +94,7 @@ impl HeapType {
     /// An index of a type.
     fn read_concrete(reader: &mut BinaryReader<'_>) -> Result<HeapType>
         ensures reads { Reads SpellsConcrete result reader.old reader.new }
-        ensures fault { IfErr result (λ e. HeapTypeFault e.message reader.old e.offset) }
+        ensures fault { IfErr result (λ e. ConcreteFault e.message reader.old e.offset) }
     {
         let start = reader.current_position();
         let index = reader.read_var_s33()?;
@@ -108,7 +108,7 @@ impl HeapType {
     fn read_exact(reader: &mut BinaryReader<'_>) -> Result<HeapType>
         requires { BeginsWith 98 (rest reader.old) }
         ensures reads { Reads SpellsExact result reader.old reader.new }
-        ensures fault { IfErr result (λ e. HeapTypeFault e.message reader.old e.offset) }
+        ensures fault { IfErr result (λ e. ExactFault e.message reader.old e.offset) }
     {
         let start = reader.current_position();
         reader.advance();
@@ -203,7 +203,7 @@ impl ValType {
     /// A value type that is no reference type.
     fn read_number(reader: &mut BinaryReader<'_>) -> Result<ValType>
         ensures reads { Reads SpellsNumberType result reader.old reader.new }
-        ensures fault { IfErr result (λ e. ShortFault Word.ValueType e.message reader.old e.offset) }
+        ensures fault { IfErr result (λ e. ByteFault Word.ValueType e.message reader.old e.offset) }
     {
         let start = reader.current_position();
         match reader.read_u8()? {

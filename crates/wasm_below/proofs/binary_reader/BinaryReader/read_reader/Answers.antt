@@ -1,9 +1,21 @@
-use Rattle.std.proofs.Common.{◌≤◌, Ok, length, sym, subst, ap, ◌∙◌, arith}
-use Rattle.wasm_below.specs.FromReader.{IsReaderOf, SpellsReader}
-use Rattle.wasm_below.specs.Source.{Reads, at_position}
+use Rattle.std.proofs.Common.{◌≤◌, inr, Ok, length, sym, subst, ap, ◌∙◌, arith}
+use Rattle.std.proofs.lemmas.Result.{err_from_is_err_and}
+use Rattle.wasm_below.specs.Number.{SpellsUnsigned}
+use Rattle.wasm_below.specs.FromReader.{IsReaderOf, SpellsReader, EndsWithin}
+use Rattle.wasm_below.specs.Source.{Reads, at_position, U32Fault}
+use Rattle.wasm_below.proofs.Faults.{first_fault}
 use Rattle.wasm_below.proofs.Blocks.{short_refused}
 use Rattle.wasm_below.proofs.Parts.{part_read, part_refused}
 use Rattle.wasm_below.proofs.binary_reader.BinaryReader.read_reader.Goals as goal
+
+pub returns-in_err-size-clause-fault : goal.returns-in_err-size-clause-fault
+returns-in_err-size-clause-fault c =
+    let p = err_from_is_err_and c.from_residual.result c.from_residual.ensures.1 in
+    let h = c.in_err-size.ensures in
+    rw (p.1, p.2) (first_fault (SpellsUnsigned 32) U32Fault EndsWithin c.in_err-size.field-0.0 c.args.self.now h.reads.1 (h.fault, h.named))
+
+pub returns-in-Err-clause-fault : goal.returns-in-Err-clause-fault
+returns-in-Err-clause-fault c = inr (c.in_ok-size.field-0, c.read_var_u32.new.self, c.in_ok-size.ensures.reads, c.in-Err.ensures.end)
 
 pub returns-in-Ok-clause-reads : goal.returns-in-Ok-clause-reads
 returns-in-Ok-clause-reads c =

@@ -1,9 +1,13 @@
-use Rattle.std.proofs.Common.{◌≡◌, ◌≤◌, ℕ, pos, sym, subst, arith, rules, w64}
+use Rattle.std.proofs.Common.{◌≡◌, ◌≤◌, ℕ, pos, inr, refl, sym, subst, arith, rules, w64}
 use Rattle.std.proofs.lemmas.Int.{ints, to_z-of_z}
 use mir.Val.{SFits}
 use Rattle.wasm_below.specs.Refusal.{IsReadFault}
 use Rattle.wasm_below.specs.Reference.{max_type_index}
-use Rattle.wasm_below.specs.TypeSpelling.{SpellsConcrete}
+use Rattle.std.proofs.lemmas.Result.{err_from_is_err_and}
+use Rattle.wasm_below.specs.Number.{SpellsSigned}
+use Rattle.wasm_below.specs.Source.{S33Fault}
+use Rattle.wasm_below.specs.TypeSpelling.{SpellsConcrete, NoIndex}
+use Rattle.wasm_below.proofs.Faults.{first_fault, no_index}
 use Rattle.wasm_below.proofs.Fronts.{refused_at}
 use Rattle.wasm_below.proofs.Once.{signed_some}
 use Rattle.wasm_below.proofs.TypeSpellings.{no_concrete}
@@ -23,3 +27,16 @@ returns-then-index-lt0-clause-reads c =
     ] in
     refused_at SpellsConcrete c.refuse.result c.args.reader.now c.read_var_s33.new.self c.refuse.new.self r.0 c.current_position-start.result r.2 (signed_some r.0 33 c.in_ok-index.index r.1) c.current_position-start.ensures h.rewound h.offset (subst IsReadFault (sym h.message) tt)
     (λ more. no_concrete r.0 _ more c.in_ok-index.index r.1 over)
+
+pub returns-in_err-index-clause-fault : goal.returns-in_err-index-clause-fault
+returns-in_err-index-clause-fault c =
+    let p = err_from_is_err_and c.from_residual.result c.from_residual.ensures.1 in
+    let h = c.in_err-index.ensures in
+    rw (p.1, p.2) (first_fault (SpellsSigned 33) S33Fault (λ n. NoIndex c.args.reader.now) c.in_err-index.field-0.0 c.args.reader.now h.reads.1 (h.fault, h.named))
+
+pub returns-then-index-lt0-clause-fault : goal.returns-then-index-lt0-clause-fault
+returns-then-index-lt0-clause-fault c =
+    let r = c.in_ok-index.ensures.reads in
+    let h = c.refuse.ensures in
+    let old = c.args.reader.now in
+    inr (c.in_ok-index.index, c.read_var_s33.new.self, r, no_index c.refuse.result.message c.refuse.result.offset c.current_position-start.result old old c.read_var_s33.new.self r.0 r.2 refl c.current_position-start.ensures h.message h.offset)

@@ -1,8 +1,10 @@
-use Rattle.std.proofs.Common.{◌∷◌, [], refl, sym, subst, ap, ◌∙◌, arith}
+use Rattle.std.proofs.Common.{ℕ, ◌∷◌, [], Ok, inr, refl, sym, subst, ap, ◌∙◌, arith}
 use Rattle.wasm_below.specs.Refusal.{IsReadFault}
-use Rattle.wasm_below.specs.Source.{rest, at_position}
+use Rattle.wasm_below.specs.Fault.{ThenFault}
+use Rattle.wasm_below.specs.Source.{Reader, rest, at_position, Reads, U32Fault}
 use Rattle.wasm_below.specs.Number.{SpellsUnsigned}
-use Rattle.wasm_below.specs.TypeSpelling.{SpellsExact}
+use Rattle.wasm_below.specs.TypeSpelling.{SpellsExact, NoIndex}
+use Rattle.wasm_below.proofs.Faults.{first_fault, no_index}
 use Rattle.wasm_below.proofs.Taking.{takes_then, back}
 use Rattle.wasm_below.proofs.Fronts.{advanced, refused_at, behind_refused}
 use Rattle.wasm_below.proofs.TypeSpellings.{no_exact, exact_behind, exact_empty}
@@ -30,3 +32,20 @@ returns-in-Err-clause-reads c =
       back c.args.reader.now c.advance.new.self c.rewind.new.self (98 ∷ []) c.current_position-start.result first c.current_position-start.ensures (c.rewind.ensures ∙ ap (λ r. at_position r c.current_position-start.result) h.0),
       behind_refused (SpellsUnsigned 32) SpellsExact c.in-Err.e c.args.reader.now c.advance.new.self 98 first exact_empty exact_behind h.1,
     )
+
+pub returns-in-Err-clause-fault : goal.returns-in-Err-clause-fault
+returns-in-Err-clause-fault c =
+    let e = c.in-Err.e in
+    let h = c.in-Err.ensures in
+    let Behind = λ (n : ℕ). NoIndex c.args.reader.now in
+    subst (λ r. ThenFault (SpellsUnsigned 32) U32Fault Behind e.message r e.offset) c.advance.ensures (first_fault (SpellsUnsigned 32) U32Fault Behind e c.advance.new.self h.reads.1 (h.fault, h.named))
+
+pub returns-then-index-gt-MAX_TYPE_INDEX-clause-fault : goal.returns-then-index-gt-MAX_TYPE_INDEX-clause-fault
+returns-then-index-gt-MAX_TYPE_INDEX-clause-fault c =
+    let r = c.in-Ok.ensures.reads in
+    let h = c.refuse.ensures in
+    let begin = c.args.reader.now in
+    let new = c.read_var_u32.new.self in
+    let start = ap (λ (r : Reader). r.start) c.advance.ensures in
+    let behind = subst (λ z. Reads (SpellsUnsigned 32) (Ok c.in-Ok.index) z new) c.advance.ensures r in
+    inr (c.in-Ok.index, new, behind, no_index c.refuse.result.message c.refuse.result.offset c.current_position-start.result begin c.advance.new.self new r.0 r.2 start c.current_position-start.ensures h.message h.offset)

@@ -1,6 +1,6 @@
-use Rattle.std.proofs.Common.{◌∷◌, [], refl, ap, ◌∙◌}
+use Rattle.std.proofs.Common.{◌∷◌, [], refl, subst, ap, ◌∙◌}
 use Rattle.wasm_below.specs.Source.{at_position}
-use Rattle.wasm_below.specs.TypeSpelling.{ref_code, SpellsHeapType, SpellsLongRef}
+use Rattle.wasm_below.specs.TypeSpelling.{ref_code, HeapTypeFault, SpellsHeapType, SpellsLongRef}
 use Rattle.wasm_below.proofs.Taking.{takes_then, back}
 use Rattle.wasm_below.proofs.Fronts.{advanced, behind_refused}
 use Rattle.wasm_below.proofs.TypeSpellings.{long_behind, long_empty}
@@ -21,3 +21,8 @@ returns-in-Err-clause-reads c =
       back c.args.reader.now c.advance.new.self c.rewind.new.self (code ∷ []) c.current_position-start.result first c.current_position-start.ensures (c.rewind.ensures ∙ ap (λ r. at_position r c.current_position-start.result) h.0),
       behind_refused SpellsHeapType SpellsLongRef c.in-Err.e c.args.reader.now c.advance.new.self code first long_empty (long_behind c.args.nullable) h.1,
     )
+
+pub returns-in-Err-clause-fault : goal.returns-in-Err-clause-fault
+returns-in-Err-clause-fault c =
+    let e = c.in-Err.e in
+    subst (λ r. HeapTypeFault e.message r e.offset) c.advance.ensures c.in-Err.ensures.fault
