@@ -1,0 +1,3 @@
+pub mod ByCode
+pub mod OperatorOnce
+pub mod SharedCodes

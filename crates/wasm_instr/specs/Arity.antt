@@ -1,0 +1,176 @@
+-- How many operands an operator takes and how many values it leaves.
+-- WebAssembly Core Specification 3.0: Validation, Instructions; Appendix, Validation Algorithm. Proposals legacy exception handling, stack switching and custom descriptors.
+-- An operator that opens a construct takes its parameters and leaves them to its body, an `end` takes the results and leaves them, and what does not go on leaves nothing.
+use Rattle.std.specs.Prelude.{ℕ, ◌+◌, ◌-◌, ◌*◌, ◌^◌, cond, ltb, eqb, Option, Some, None, length}
+use Rattle.std.specs.Option.{option_map, option_and_then}
+use Rattle.wasm_grammar.specs.declared.frame_kind.FrameKind.{FrameKind}
+use Rattle.wasm_grammar.specs.declared.frame_kind.FrameKind.TheVariants as frame
+use Rattle.wasm_imm.specs.declared.block_type.BlockType.{BlockType}
+use Rattle.wasm_imm.specs.declared.block_type.BlockType.TheVariants as block
+use Rattle.wasm_ops.specs.declared.gc.GcOperator.{GcOperator}
+use Rattle.wasm_ops.specs.declared.gc.GcOperator.TheVariants as gc
+use Rattle.wasm_instr.specs.declared.operator.Operator.{Operator}
+use Rattle.wasm_instr.specs.declared.operator.Operator.TheVariants as operator
+use Rattle.wasm_instr.specs.Answers.{Answers}
+use Rattle.wasm_instr.specs.FixedArity.{fixed_arity, gc_pair}
+
+-- What is taken and what is left.
+abbrev pub Arity : Type 0
+Arity = Option (ℕ × ℕ)
+
+-- The sum, where 32 bits hold it.
+abbrev pub sum_within : ℕ → ℕ → Option ℕ
+sum_within n by = cond (ltb (n + by) (2 ^ 32)) (Some (n + by)) None
+
+-- So many more are taken.
+abbrev pub taking_more : ℕ → ℕ × ℕ → Arity
+taking_more by a = option_map (λ takes. (takes, a.1)) (sum_within a.0 by)
+
+-- Parameters and results of a block type.
+abbrev pub arity_of_block : Answers → BlockType → Arity
+arity_of_block m block.Empty = Some (0, 0)
+arity_of_block m (block.Value _) = Some (0, 1)
+arity_of_block m (block.FuncType i) = m.func_type_arity i
+
+-- Of the block of the frame at a depth, the innermost being 0.
+abbrev pub arity_of_frame : Answers → ℕ → Arity
+arity_of_frame m depth = option_and_then (λ b. arity_of_block m b.0) (m.label_block depth)
+
+-- What a branch to a frame carries: the parameters of a loop, and the results of another construct.
+abbrev pub carried : FrameKind → ℕ × ℕ → ℕ
+carried frame.Loop a = a.0
+carried _ a = a.1
+
+abbrev pub arity_of_label : Answers → ℕ → Option ℕ
+arity_of_label m depth = option_and_then (λ b. option_map (carried b.1) (arity_of_block m b.0)) (m.label_block depth)
+
+-- Parameters and results of a function, and of the function type of a continuation.
+abbrev pub arity_of_function : Answers → ℕ → Arity
+arity_of_function m i = option_and_then m.func_type_arity (m.type_index_of_function i)
+
+abbrev pub arity_of_continuation : Answers → ℕ → Arity
+arity_of_continuation m i = option_and_then m.func_type_arity (m.cont_type_func i)
+
+-- Block, loop, try and try_table.
+abbrev pub arity_of_entry : Answers → BlockType → Arity
+arity_of_entry m ty = option_map (λ a. (a.0, a.0)) (arity_of_block m ty)
+
+abbrev pub arity_of_if : Answers → BlockType → Arity
+arity_of_if m ty = option_and_then (taking_more 1) (arity_of_entry m ty)
+
+abbrev pub arity_of_else : Answers → Arity
+arity_of_else m = option_map (λ a. (a.1, a.0)) (arity_of_frame m 0)
+
+abbrev pub arity_of_catch : Answers → ℕ → Arity
+arity_of_catch m tag = option_and_then (λ a. option_map (λ t. (a.1, t.0)) (m.tag_type_arity tag)) (arity_of_frame m 0)
+
+abbrev pub arity_of_catch_all : Answers → Arity
+arity_of_catch_all m = option_map (λ a. (a.1, 0)) (arity_of_frame m 0)
+
+-- End and delegate.
+abbrev pub arity_of_end : Answers → Arity
+arity_of_end m = option_map (λ a. (a.1, a.1)) (arity_of_frame m 0)
+
+-- The results of the outermost frame, where one is open.
+abbrev pub arity_of_return : Answers → Arity
+arity_of_return m = cond (eqb m.control_stack_height 0) None (option_map (λ a. (a.1, 0)) (arity_of_frame m (m.control_stack_height - 1)))
+
+-- What leaves the operator's own block, and takes what is given.
+abbrev pub leaving : Arity → Arity
+leaving a = option_map (λ p. (p.0, 0)) a
+
+-- A branch that is taken or not: what it carries stays.
+abbrev pub arity_of_branch : Answers → ℕ → Arity
+arity_of_branch m depth = option_map (λ n. (n, n)) (arity_of_label m depth)
+
+abbrev pub arity_of_branch_if : Answers → ℕ → Arity
+arity_of_branch_if m depth = option_and_then (taking_more 1) (arity_of_branch m depth)
+
+abbrev pub arity_of_branch_on_null : Answers → ℕ → Arity
+arity_of_branch_on_null m depth = option_and_then (λ n. option_map (λ one_more. (one_more, one_more)) (sum_within n 1)) (arity_of_label m depth)
+
+abbrev pub less_one : ℕ → Arity
+less_one n = cond (eqb n 0) None (Some (n, n - 1))
+
+abbrev pub arity_of_branch_on_non_null : Answers → ℕ → Arity
+arity_of_branch_on_non_null m depth = option_and_then less_one (arity_of_label m depth)
+
+-- A call through a table or a reference.
+abbrev pub arity_of_type_call : Answers → ℕ → Arity
+arity_of_type_call m i = option_and_then (taking_more 1) (m.func_type_arity i)
+
+-- Two of each of so many types, and the condition.
+abbrev pub arity_of_select : ℕ → Arity
+arity_of_select n = cond (ltb (2 * n + 1) (2 ^ 32)) (Some (2 * n + 1, n)) None
+
+-- The parameters that the first type of a continuation has before those of the second, and the continuation.
+abbrev pub bound_within : ℕ → ℕ → Arity
+bound_within p q = cond (ltb p q) None (option_map (λ takes. (takes, 1)) (sum_within (p - q) 1))
+
+abbrev pub arity_of_bind : Answers → ℕ → ℕ → Arity
+arity_of_bind m from to = option_and_then (λ a. option_and_then (λ b. bound_within a.0 b.0) (arity_of_continuation m to)) (arity_of_continuation m from)
+
+abbrev pub arity_of_resume : Answers → ℕ → Arity
+arity_of_resume m i = option_and_then (taking_more 1) (arity_of_continuation m i)
+
+abbrev pub arity_of_resume_throw : Answers → ℕ → ℕ → Arity
+arity_of_resume_throw m i tag = option_and_then (λ t. option_and_then (λ a. taking_more 1 (t.0, a.1)) (arity_of_continuation m i)) (m.tag_type_arity tag)
+
+abbrev pub arity_of_resume_throw_ref : Answers → ℕ → Arity
+arity_of_resume_throw_ref m i = option_map (λ a. (2, a.1)) (arity_of_continuation m i)
+
+-- The continuation to which a switch goes is that of the last parameter of its type.
+abbrev pub arity_of_switched : Answers → ℕ → Arity
+arity_of_switched m i = option_and_then (arity_of_continuation m) (option_and_then m.cont_type_of_last_param (m.cont_type_func i))
+
+abbrev pub arity_of_switch : Answers → ℕ → Arity
+arity_of_switch m i = option_and_then (λ a. option_map (λ b. (a.0, b.0)) (arity_of_switched m i)) (arity_of_continuation m i)
+
+abbrev pub arity_of_struct : Answers → ℕ → Arity
+arity_of_struct m i = option_map (λ n. (n, 1)) (m.struct_type_fields i)
+
+-- The operators behind the byte fb.
+abbrev pub gc_arity_of : Answers → GcOperator → Arity
+gc_arity_of m (gc.StructNew i) = arity_of_struct m i
+gc_arity_of m (gc.StructNewDesc i) = option_and_then (taking_more 1) (arity_of_struct m i)
+gc_arity_of m (gc.ArrayNewFixed _ n) = Some (n, 1)
+gc_arity_of m (gc.BrOnCast depth _ _) = arity_of_branch m depth
+gc_arity_of m (gc.BrOnCastFail depth _ _) = arity_of_branch m depth
+gc_arity_of m (gc.BrOnCastDescEq depth _ _) = arity_of_branch_if m depth
+gc_arity_of m (gc.BrOnCastDescEqFail depth _ _) = arity_of_branch_if m depth
+gc_arity_of m op = gc_pair op
+
+-- What an operator takes and leaves in a module; none where a call of the module that is needed answers none, or 32 bits do not hold a number.
+abbrev pub arity_of : Answers → Operator → Arity
+arity_of m (operator.Block ty) = arity_of_entry m ty
+arity_of m (operator.Loop ty) = arity_of_entry m ty
+arity_of m (operator.Try ty) = arity_of_entry m ty
+arity_of m (operator.TryTable t) = arity_of_entry m t.ty
+arity_of m (operator.If ty) = arity_of_if m ty
+arity_of m operator.Else = arity_of_else m
+arity_of m (operator.Catch tag) = arity_of_catch m tag
+arity_of m operator.CatchAll = arity_of_catch_all m
+arity_of m operator.End = arity_of_end m
+arity_of m (operator.Delegate _) = arity_of_end m
+arity_of m (operator.Throw tag) = leaving (m.tag_type_arity tag)
+arity_of m (operator.Br depth) = leaving (arity_of_branch m depth)
+arity_of m (operator.BrIf depth) = arity_of_branch_if m depth
+arity_of m (operator.BrTable t) = leaving (arity_of_branch_if m t.default)
+arity_of m operator.Return = arity_of_return m
+arity_of m (operator.Call i) = arity_of_function m i
+arity_of m (operator.ReturnCall i) = leaving (arity_of_function m i)
+arity_of m (operator.CallIndirect i _) = arity_of_type_call m i
+arity_of m (operator.CallRef i) = arity_of_type_call m i
+arity_of m (operator.ReturnCallIndirect i _) = leaving (arity_of_type_call m i)
+arity_of m (operator.ReturnCallRef i) = leaving (arity_of_type_call m i)
+arity_of m (operator.TypedSelectMulti tys) = arity_of_select (length tys)
+arity_of m (operator.BrOnNull depth) = arity_of_branch_on_null m depth
+arity_of m (operator.BrOnNonNull depth) = arity_of_branch_on_non_null m depth
+arity_of m (operator.ContBind from to) = arity_of_bind m from to
+arity_of m (operator.Suspend tag) = m.tag_type_arity tag
+arity_of m (operator.Resume i _) = arity_of_resume m i
+arity_of m (operator.ResumeThrow i tag _) = arity_of_resume_throw m i tag
+arity_of m (operator.ResumeThrowRef i _) = arity_of_resume_throw_ref m i
+arity_of m (operator.Switch i _) = arity_of_switch m i
+arity_of m (operator.Gc op) = gc_arity_of m op
+arity_of m op = fixed_arity op

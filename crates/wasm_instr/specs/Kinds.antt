@@ -1,0 +1,35 @@
+-- What sorts of operators there are, by their rows.
+use Rattle.std.specs.Prelude.{◌≡◌, ◌⊎◌, codes}
+use Rattle.wasm_instr.specs.declared.operator.Operator.{Operator}
+use Rattle.wasm_instr.specs.declared.operator.Operator.TheVariants as operator
+use Rattle.wasm_instr.specs.Row.{proposal_of}
+
+-- A vector operator, relaxed or not.
+abbrev pub IsSimd : Operator → Type 0
+IsSimd op = (proposal_of op ≡ codes "simd") ⊎ (proposal_of op ≡ codes "relaxed_simd")
+
+-- The same by its variant.
+abbrev pub IsVector : Operator → Type 0
+IsVector (operator.Simd _) = Unit {0}
+IsVector _ = ⊥
+
+-- Neither a vector operator nor a branch table.
+abbrev pub IsFixed : Operator → Type 0
+IsFixed (operator.Simd _) = ⊥
+IsFixed (operator.BrTable _) = ⊥
+IsFixed _ = Unit {0}
+
+-- One that owns a list.
+abbrev pub HoldsList : Operator → Type 0
+HoldsList (operator.TypedSelectMulti _) = Unit {0}
+HoldsList (operator.TryTable _) = Unit {0}
+HoldsList (operator.Resume _ _) = Unit {0}
+HoldsList (operator.ResumeThrow _ _ _) = Unit {0}
+HoldsList (operator.ResumeThrowRef _ _) = Unit {0}
+HoldsList _ = ⊥
+
+-- The two variants that share a code.
+abbrev pub IsTypedSelect : Operator → Type 0
+IsTypedSelect (operator.TypedSelect _) = Unit {0}
+IsTypedSelect (operator.TypedSelectMulti _) = Unit {0}
+IsTypedSelect _ = ⊥

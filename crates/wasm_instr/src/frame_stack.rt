@@ -1,0 +1,14 @@
+use wasm_grammar::FrameKind;
+
+/// What holds the frames that are open.
+pub trait FrameStack {
+    ghost use Rattle.std.specs.Prelude.{◌≡◌, Option};
+    ghost use Rattle.wasm_grammar.specs.declared.frame_kind.FrameKind.{FrameKind};
+
+    /// The kind of the innermost frame, if one is open.
+    ghost frame: { Self → Option FrameKind };
+
+    /// The kind of the innermost frame, if one is open.
+    fn current_frame(&self) -> Option<FrameKind>
+        ensures { result ≡ frame self.now };
+}

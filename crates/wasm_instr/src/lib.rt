@@ -1,0 +1,24 @@
+//! The operators of WebAssembly, each with its row in the one table of all operators.
+//!
+//! The rows, the spellings and the parts that operators play in the structure stand in `specs/`.
+#![tactic(auto)]
+
+mod arity;
+mod fixed_arity;
+mod frame_stack;
+pub mod laws;
+mod operator;
+
+pub use arity::ModuleArity;
+pub use frame_stack::FrameStack;
+pub use operator::Operator;
+pub use wasm_grammar::FrameKind;
+pub use wasm_imm::{
+    BlockType, BrTable, BrTableTargets, Cast, Catch, Catches, Handle, Handles, Ieee32, Ieee64,
+    MemArg, MemArgKind, MemArgOrdering, MemArgTarget, Members, Ordering, ReadImmediates,
+    ResumeTable, Select, SelectTypes, TryTable, V128, read_lane, read_lanes, read_memory_index,
+    read_table_index,
+};
+pub use wasm_ops::{AtomicOperator, GcOperator, MiscOperator, NumericOperator};
+pub use wasm_ops_simd::SimdOperator;
+pub use wasm_row::OperatorInfo;

@@ -1,0 +1,4 @@
+pub mod NumericAgain
+pub mod GcAgain
+pub mod MiscAgain
+pub mod AtomicAgain

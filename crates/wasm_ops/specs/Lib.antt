@@ -1,0 +1,4 @@
+pub mod Numeric
+pub mod Gc
+pub mod Misc
+pub mod Atomic

@@ -1,0 +1,2 @@
+pub mod ImmediatesOnce
+pub mod Values
