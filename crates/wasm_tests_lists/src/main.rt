@@ -1,0 +1,83 @@
+//! Prints each of the operators: its row, what it takes and leaves in one module, whether it is a
+//! vector operator, whether its clone equals it, whether a visit by the factory answers it, whether
+//! it is found to be an end, and itself.
+#![tactic(auto)]
+
+mod made;
+mod module;
+mod rows;
+mod uniform;
+mod values;
+
+use crate::made::made;
+use crate::module::Module;
+use crate::rows::print_rows;
+use crate::values::{
+    atomic, fifth_own, first_own, fourth_own, gc, misc, numeric, second_own, simd, sixth_own,
+    third_own,
+};
+use std::alloc::Global;
+use std::io::{self, Print};
+use wasm_instr::Operator;
+use wasm_visit::{IsEndOperatorVisitor, OperatorFactory, visit_operator_with_simd};
+
+fn main(rt: HostRuntime) -> io::Result<()> {
+    for op in &first_own() {
+        print(&rt, rt.alloc(), op)?;
+    }
+    for op in &second_own() {
+        print(&rt, rt.alloc(), op)?;
+    }
+    for op in &third_own() {
+        print(&rt, rt.alloc(), op)?;
+    }
+    for op in &fourth_own() {
+        print(&rt, rt.alloc(), op)?;
+    }
+    for op in &fifth_own() {
+        print(&rt, rt.alloc(), op)?;
+    }
+    for op in &sixth_own() {
+        print(&rt, rt.alloc(), op)?;
+    }
+    for op in &numeric() {
+        print(&rt, rt.alloc(), &Operator::from(*op))?;
+    }
+    for op in &gc() {
+        print(&rt, rt.alloc(), &Operator::from(*op))?;
+    }
+    for op in &misc() {
+        print(&rt, rt.alloc(), &Operator::from(*op))?;
+    }
+    for op in &simd() {
+        print(&rt, rt.alloc(), &Operator::from(*op))?;
+    }
+    for op in &atomic() {
+        print(&rt, rt.alloc(), &Operator::from(*op))?;
+    }
+    for number in 0..13 {
+        match made(rt.alloc(), number) {
+            Some(op) => print(&rt, rt.alloc(), &op)?,
+            None => println!(rt; "not made")?,
+        }
+    }
+    print_rows(&rt)
+}
+
+/// The line of an operator.
+fn print<R: Print>(rt: &R, alloc: Global, op: &Operator<'_>) -> io::Result<()> {
+    let info = op.info();
+    let arity = op.operator_arity(&Module);
+    let cloned = op.clone(alloc).is_ok_and(|copy| copy == *op);
+    let mut factory = OperatorFactory::new();
+    let returned = visit_operator_with_simd(alloc, &mut factory, op).is_ok_and(|back| back == *op);
+    let ends = visit_operator_with_simd(alloc, &mut IsEndOperatorVisitor, op) == Ok(true);
+    println!(rt;
+        "{} {} {:?} {} {arity:?} {} {cloned} {returned} {ends} {op:?}",
+        info.name,
+        info.proposal,
+        info.prefix,
+        info.code,
+        op.is_simd(),
+    )
+}

@@ -1,0 +1,23 @@
+ghost use Rattle.wasm_instr.specs.declared.operator.Operator.{Operator};
+
+use crate::visit_fixed::VisitFixed;
+use wasm_imm::BrTable;
+
+/// A visitor of the operators that are no vector operators.
+pub trait VisitOperator<'a>: VisitFixed {
+    /// Visits `BrTable`, the one operator that borrows.
+    fn visit_br_table(&mut self, targets: BrTable<'a>) -> Self::Output
+        ensures { Self.visits self.old (Operator.BrTable targets.entry) result self.new };
+}
+
+impl<'a, V: VisitOperator<'a>> VisitOperator<'a> for &mut V {
+    fn visit_br_table(&mut self, targets: BrTable<'a>) -> Self::Output {
+        (**self).visit_br_table(targets)
+    }
+}
+
+impl<'a, V: VisitOperator<'a>> VisitOperator<'a> for Box<V> {
+    fn visit_br_table(&mut self, targets: BrTable<'a>) -> Self::Output {
+        (**self).visit_br_table(targets)
+    }
+}
