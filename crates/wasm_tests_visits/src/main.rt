@@ -31,12 +31,12 @@ fn main(rt: HostRuntime) -> io::Result<()> {
     println!(rt; "in a box, by reference: {:?}", *boxed)?;
 
     let mut maker = OperatorMaker::<Large>::new();
-    let large = visit_owned(&mut maker, Operator::Nop);
+    let Large { bytes } = visit_owned(&mut maker, Operator::Nop);
     println!(rt;
         "large: {} bytes, {} and {}",
-        large.bytes.len(),
-        large.bytes[0],
-        large.bytes[4095]
+        bytes.len(),
+        bytes[0],
+        bytes[4095]
     )?;
 
     let (answer, counter) = visit_list(rt.alloc());

@@ -1,7 +1,6 @@
 ghost use Rattle.std.specs.Prelude.{◌≡◌};
 ghost use Rattle.wasm_instr.specs.declared.operator.Operator.{Operator};
 
-use std::marker::PhantomData;
 use wasm_instr::{BrTable, Operator};
 use wasm_visit_fixed::{VisitFixed, VisitOperator, Visitor};
 use wasm_visit_simd::VisitSimdOperator;
@@ -40,7 +39,8 @@ impl<'a> HoldTable<'a> for Operator<'a> {
 /// A visitor that answers what is made of the operator.
 #[derive(Drop)]
 pub struct OperatorMaker<T> {
-    makes: PhantomData<T>,
+    // None: it shows the lifetimes of what is made.
+    made: [T; 0],
 }
 
 /// A visitor that answers the operator itself.
@@ -49,7 +49,7 @@ pub type OperatorFactory<'a> = OperatorMaker<Operator<'a>>;
 impl<T> OperatorMaker<T> {
     /// One that has visited nothing; it remembers nothing either.
     pub fn new() -> OperatorMaker<T> {
-        OperatorMaker { makes: PhantomData }
+        OperatorMaker { made: [] }
     }
 }
 
