@@ -1,6 +1,5 @@
 //! Prints each of the operators: its row, what it takes and leaves in one module, whether it is a
-//! vector operator, whether its clone equals it, whether a visit by the factory answers it, whether
-//! it is found to be an end, and itself.
+//! vector operator, whether its clone equals it, whether a visit finds it to be an end, and itself.
 #![tactic(auto)]
 
 mod made;
@@ -19,7 +18,7 @@ use crate::values::{
 use std::alloc::Global;
 use std::io::{self, Print};
 use wasm_instr::Operator;
-use wasm_visit::{IsEndOperatorVisitor, OperatorFactory, visit_operator_with_simd};
+use wasm_visit::{IsEndOperatorVisitor, visit_operator_with_simd};
 
 fn main(rt: HostRuntime) -> io::Result<()> {
     for op in &first_own() {
@@ -69,15 +68,22 @@ fn print<R: Print>(rt: &R, alloc: Global, op: &Operator<'_>) -> io::Result<()> {
     let info = op.info();
     let arity = op.operator_arity(&Module);
     let cloned = op.clone(alloc).is_ok_and(|copy| copy == *op);
-    let mut factory = OperatorFactory::new();
-    let returned = visit_operator_with_simd(alloc, &mut factory, op).is_ok_and(|back| back == *op);
-    let ends = visit_operator_with_simd(alloc, &mut IsEndOperatorVisitor, op) == Ok(true);
+    let ends = ends(alloc, op);
     println!(rt;
-        "{} {} {:?} {} {arity:?} {} {cloned} {returned} {ends} {op:?}",
+        "{} {} {:?} {} {arity:?} {} {cloned} {ends} {op:?}",
         info.name,
         info.proposal,
         info.prefix,
         info.code,
         op.is_simd(),
     )
+}
+
+/// Whether a visit finds the operator to be an end.
+fn ends(alloc: Global, op: &Operator<'_>) -> bool {
+    let mut visitor = IsEndOperatorVisitor;
+    match visit_operator_with_simd(alloc, &mut visitor, op) {
+        Ok(is_end) => is_end,
+        Err(_) => false,
+    }
 }
