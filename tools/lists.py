@@ -17,7 +17,7 @@ from printed import values_printed, values_source
 from rows import enum_again, enum_rows, operator_again, operator_rows
 from source import enum_source, operator_source
 from table import ENUMS, TOP, table
-from visits import dispatch, fixed_passed, fixed_trait, simd_passed, simd_trait
+from visits import dispatch, fixed_trait, passed, simd_trait
 
 
 def files():
@@ -39,8 +39,8 @@ def files():
     out["crates/wasm_visit_fixed/src/visit_fixed.rt"] = fixed_trait(ops)
     out["crates/wasm_visit_simd/src/visit_simd.rt"] = simd_trait(ops)
     for module, what in (("by_reference", "&mut V"), ("by_box", "Box<V>")):
-        out[f"crates/wasm_visit_fixed/src/{module}.rt"] = fixed_passed(ops, what)
-        out[f"crates/wasm_visit_simd/src/{module}.rt"] = simd_passed(ops, what)
+        out[f"crates/wasm_visit_fixed/src/{module}.rt"] = passed(ops, "VisitFixed", what)
+        out[f"crates/wasm_visit_simd/src/{module}.rt"] = passed(ops, "VisitSimdOperator", what)
     out["crates/wasm_visit/src/dispatch.rt"] = dispatch(ops)
     out["crates/wasm_tests_lists/src/values.rt"] = values_source(ops)
     out["crates/wasm_tests_lists/stdout"] = values_printed(ops)

@@ -9,6 +9,10 @@ def is_fixed(op):
     return op.group != "Simd" and op.name != "BrTable"
 
 
+def is_vector(op):
+    return op.group == "Simd"
+
+
 def signature(op, indent="    "):
     """The head of a visit, broken as the layout wants it."""
     fields = [f"{name}: {ty}" for name, ty in op.fields]
@@ -93,6 +97,7 @@ def operator_uses(ops):
 
 
 def fixed_trait(ops):
+    """The trait of the visits of operators that are neither vector operators nor branch tables."""
     those = [op for op in ops if is_fixed(op)]
     out = [
         f"// {HEAD}",
@@ -118,33 +123,36 @@ def fixed_trait(ops):
     return "\n".join(out)
 
 
-def passed(ops, trait, call, what):
+# The traits that a reference and a box pass on: the module, the required call, and whose visits they are.
+PASSED = {
+    "VisitFixed": ("visit_fixed", "visit_any", is_fixed),
+    "VisitSimdOperator": ("visit_simd", "visit_simd_any", is_vector),
+}
+
+
+def passed(ops, trait, what):
     """The impl of a trait for a reference or a box."""
-    return [
+    module, call, has = PASSED[trait]
+    those = [op for op in ops if has(op)]
+    return "\n".join([
+        f"// {HEAD}",
+        f"use crate::{module}::{trait};",
+        *uses(those),
+        "use wasm_instr::Operator;",
+        "",
         f"impl<V: {trait}> {trait} for {what} {{",
         f"    fn {call}(&mut self, op: Operator<'static>) -> Self::Output {{",
         f"        (**self).{call}(op)",
         "    }",
-        *passed_on(ops),
+        *passed_on(those),
         "}",
         "",
-    ]
-
-
-def fixed_passed(ops, what):
-    those = [op for op in ops if is_fixed(op)]
-    return "\n".join([
-        f"// {HEAD}",
-        "use crate::visit_fixed::VisitFixed;",
-        *uses(those),
-        "use wasm_instr::Operator;",
-        "",
-        *passed(those, "VisitFixed", "visit_any", what),
     ])
 
 
 def simd_trait(ops):
-    those = [op for op in ops if op.group == "Simd"]
+    """The trait of the vector operators' visits."""
+    those = [op for op in ops if is_vector(op)]
     return "\n".join([
         f"// {HEAD}",
         *ghost_uses(those),
@@ -165,18 +173,6 @@ def simd_trait(ops):
         *visits(those, "visit_simd_any"),
         "}",
         "",
-    ])
-
-
-def simd_passed(ops, what):
-    those = [op for op in ops if op.group == "Simd"]
-    return "\n".join([
-        f"// {HEAD}",
-        "use crate::visit_simd::VisitSimdOperator;",
-        *uses(those),
-        "use wasm_instr::Operator;",
-        "",
-        *passed(those, "VisitSimdOperator", "visit_simd_any", what),
     ])
 
 
@@ -213,6 +209,7 @@ def group_dispatch(enum, ops):
 
 
 def dispatch(ops):
+    """The calls that find the visit of an operator."""
     own = [op for op in ops if op.group == "Own"]
     inner = [enum for enum in held() if enum.group != "Simd"]
     out = [
