@@ -41,7 +41,7 @@ def files():
     for module, what in (("by_reference", "&mut V"), ("by_box", "Box<V>")):
         out[f"crates/wasm_visit_fixed/src/{module}.rt"] = passed(ops, "VisitFixed", what)
         out[f"crates/wasm_visit_simd/src/{module}.rt"] = passed(ops, "VisitSimdOperator", what)
-    out["crates/wasm_visit/src/dispatch.rt"] = dispatch(ops)
+    out["crates/wasm_visit_dispatch/src/dispatch.rt"] = dispatch(ops)
     out["crates/wasm_tests_lists/src/values.rt"] = values_source(ops)
     out["crates/wasm_tests_lists/stdout"] = values_printed(ops)
     return out

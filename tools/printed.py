@@ -108,7 +108,7 @@ def printed(op):
         takes, leaves = op.takes.split()[0], op.leaves
     simd = "true" if op.proposal in ("simd", "relaxed_simd") else "false"
     ends = "true" if op.name == "End" else "false"
-    return f"{op.name} {op.proposal} {prefix} {op.code} Some(({takes}, {leaves})) {simd} true {ends} {shown}"
+    return f"{op.name} {op.proposal} {prefix} {op.code} Some(({takes}, {leaves})) {simd} true {ends} true {shown}"
 
 
 def value_lines(op, ty):

@@ -34,8 +34,12 @@ def uses(ops, more=()):
         names = sorted(found[crate])
         if len(names) == 1:
             lines.append(f"use {crate}::{names[0]};")
+            continue
+        line = f"use {crate}::{{{', '.join(names)}}};"
+        if len(line) <= WIDTH:
+            lines.append(line)
         else:
-            lines.append(f"use {crate}::{{{', '.join(names)}}};")
+            lines += [f"use {crate}::{{", f"    {', '.join(names)},", "};"]
     return lines
 
 

@@ -104,9 +104,9 @@ def fixed_trait(ops):
         *ghost_uses(those),
         "ghost use Rattle.wasm_instr.specs.Kinds.{IsFixed};",
         "",
-        "use crate::visitor::Visitor;",
         *uses(those),
         *operator_uses(those),
+        "use wasm_visitor::Visitor;",
         "",
         "/// A visitor of the operators that are neither vector operators nor branch tables.",
         "///",
@@ -130,14 +130,28 @@ PASSED = {
 }
 
 
+def table_passed(what):
+    """The impl for a reference or a box of the trait that visits branch tables."""
+    return [
+        "",
+        f"impl<'a, V: VisitOperator<'a>> VisitOperator<'a> for {what} {{",
+        "    fn visit_br_table(&mut self, targets: BrTable<'a>) -> Self::Output {",
+        "        (**self).visit_br_table(targets)",
+        "    }",
+        "}",
+    ]
+
+
 def passed(ops, trait, what):
     """The impl of a trait for a reference or a box."""
     module, call, has = PASSED[trait]
     those = [op for op in ops if has(op)]
+    lists = trait == "VisitFixed"
     return "\n".join([
         f"// {HEAD}",
         f"use crate::{module}::{trait};",
-        *uses(those),
+        *(["use crate::visit_operator::VisitOperator;"] if lists else []),
+        *uses(those, [("wasm_imm", "BrTable")] if lists else []),
         "use wasm_instr::Operator;",
         "",
         f"impl<V: {trait}> {trait} for {what} {{",
@@ -146,6 +160,7 @@ def passed(ops, trait, what):
         "    }",
         *passed_on(those),
         "}",
+        *(table_passed(what) if lists else []),
         "",
     ])
 
@@ -160,7 +175,7 @@ def simd_trait(ops):
         "",
         *uses(those),
         *operator_uses(those),
-        "use wasm_visit_fixed::Visitor;",
+        "use wasm_visitor::Visitor;",
         "",
         "/// A visitor of the vector operators. Vector Instructions.",
         "///",
@@ -195,9 +210,10 @@ def arm(op):
 def group_dispatch(enum, ops):
     """The visit of an operator of one enum."""
     trait = "VisitSimdOperator" if enum.group == "Simd" else "VisitFixed"
+    shown = "pub " if enum.group == "Simd" else ""
     return [
-        f"/// Visits one of {enum.title}.",
-        f"fn visit_{enum.module}<V: {trait}>(v: &mut V, op: {enum.type}) -> V::Output",
+        f"/// Visits one of {enum.title}. It takes no memory.",
+        f"{shown}fn visit_{enum.module}<V: {trait}>(v: &mut V, op: {enum.type}) -> V::Output",
         f"    ensures {{ V.visits v.old (Operator.{enum.group} op) result v.new }}",
         "{",
         "    match op {",
@@ -215,35 +231,23 @@ def dispatch(ops):
     out = [
         f"// {HEAD}",
         *ghost_uses(own),
-        "ghost use Rattle.wasm_instr.specs.Kinds.{IsVector};",
+        "ghost use Rattle.wasm_instr.specs.Kinds.{IsFixed};",
         "",
         "use wasm_instr::{",
         "    AtomicOperator, GcOperator, MiscOperator, NumericOperator, Operator, SimdOperator,",
         "};",
-        "use wasm_visit_fixed::{VisitFixed, VisitOperator};",
+        "use wasm_visit_fixed::VisitFixed;",
         "use wasm_visit_simd::VisitSimdOperator;",
         "",
-        "/// Visits an operator that is no vector operator. It takes no memory.",
-        "pub fn visit_owned<'a, V: VisitOperator<'a>>(v: &mut V, op: Operator<'a>) -> V::Output",
-        "    requires { ¬ IsVector op }",
+        "/// Visits an operator that is neither a vector operator nor a branch table. It takes no memory.",
+        "pub fn visit_fixed<V: VisitFixed>(v: &mut V, op: Operator<'_>) -> V::Output",
+        "    requires { IsFixed op }",
         "    ensures { V.visits v.old op.entry result v.new }",
         "{",
         "    match op {",
-        *[line for op in own for line in arm(op)],
+        *[line for op in own if is_fixed(op) for line in arm(op)],
         *[f"        Operator::{enum.group}(op) => visit_{enum.module}(v, op)," for enum in inner],
-        "        Operator::Simd(_) => unreachable!(),",
-        "    }",
-        "}",
-        "",
-        "/// Visits an operator, a vector operator too. It takes no memory.",
-        "pub fn visit_owned_simd<'a, V>(v: &mut V, op: Operator<'a>) -> V::Output",
-        "where",
-        "    V: VisitOperator<'a> + VisitSimdOperator,",
-        "    ensures { V.visits v.old op.entry result v.new }",
-        "{",
-        "    match op {",
-        "        Operator::Simd(op) => visit_simd(v, op),",
-        "        op => visit_owned(v, op),",
+        "        Operator::BrTable { targets: _ } | Operator::Simd(_) => unreachable!(),",
         "    }",
         "}",
         "",

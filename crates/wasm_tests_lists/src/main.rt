@@ -1,5 +1,6 @@
 //! Prints each of the operators: its row, what it takes and leaves in one module, whether it is a
-//! vector operator, whether its clone equals it, whether a visit finds it to be an end, and itself.
+//! vector operator, whether its clone equals it, whether a visit finds it to be an end, whether a
+//! visit by the factory gives it back, and itself.
 #![tactic(auto)]
 
 mod made;
@@ -18,7 +19,7 @@ use crate::values::{
 use std::alloc::Global;
 use std::io::{self, Print};
 use wasm_instr::Operator;
-use wasm_visit::{IsEndOperatorVisitor, visit_operator_with_simd};
+use wasm_visit::{IsEndOperatorVisitor, OperatorFactory, visit_by_maker, visit_operator_with_simd};
 
 fn main(rt: HostRuntime) -> io::Result<()> {
     for op in &first_own() {
@@ -69,8 +70,9 @@ fn print<R: Print>(rt: &R, alloc: Global, op: &Operator<'_>) -> io::Result<()> {
     let arity = op.operator_arity(&Module);
     let cloned = op.clone(alloc).is_ok_and(|copy| copy == *op);
     let ends = ends(alloc, op);
+    let returned = returned(alloc, op);
     println!(rt;
-        "{} {} {:?} {} {arity:?} {} {cloned} {ends} {op:?}",
+        "{} {} {:?} {} {arity:?} {} {cloned} {ends} {returned} {op:?}",
         info.name,
         info.proposal,
         info.prefix,
@@ -84,6 +86,15 @@ fn ends(alloc: Global, op: &Operator<'_>) -> bool {
     let mut visitor = IsEndOperatorVisitor;
     match visit_operator_with_simd(alloc, &mut visitor, op) {
         Ok(is_end) => is_end,
+        Err(_) => false,
+    }
+}
+
+/// Whether a visit of a copy by the factory gives the operator back.
+fn returned(alloc: Global, op: &Operator<'_>) -> bool {
+    let mut factory = OperatorFactory::new();
+    match op.clone(alloc) {
+        Ok(copy) => visit_by_maker(&mut factory, copy) == *op,
         Err(_) => false,
     }
 }

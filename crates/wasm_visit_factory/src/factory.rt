@@ -2,8 +2,9 @@ ghost use Rattle.std.specs.Prelude.{◌≡◌};
 ghost use Rattle.wasm_instr.specs.declared.operator.Operator.{Operator};
 
 use wasm_instr::{BrTable, Operator};
-use wasm_visit_fixed::{VisitFixed, VisitOperator, Visitor};
+use wasm_visit_fixed::{VisitFixed, VisitOperator};
 use wasm_visit_simd::VisitSimdOperator;
+use wasm_visitor::Visitor;
 
 /// What can be made of an operator that borrows nothing.
 pub trait HoldFixed {

@@ -1,7 +1,10 @@
 // Written by tools/lists.py from tools/operators.tsv.
 use crate::visit_fixed::VisitFixed;
+use crate::visit_operator::VisitOperator;
 use wasm_below::{HeapType, RefType, ValType};
-use wasm_imm::{BlockType, Ieee32, Ieee64, MemArg, Ordering, ResumeTable, SelectTypes, TryTable};
+use wasm_imm::{
+    BlockType, BrTable, Ieee32, Ieee64, MemArg, Ordering, ResumeTable, SelectTypes, TryTable,
+};
 use wasm_instr::Operator;
 
 impl<V: VisitFixed> VisitFixed for &mut V {
@@ -1675,5 +1678,11 @@ impl<V: VisitFixed> VisitFixed for &mut V {
 
     fn visit_pause(&mut self) -> Self::Output {
         (**self).visit_pause()
+    }
+}
+
+impl<'a, V: VisitOperator<'a>> VisitOperator<'a> for &mut V {
+    fn visit_br_table(&mut self, targets: BrTable<'a>) -> Self::Output {
+        (**self).visit_br_table(targets)
     }
 }

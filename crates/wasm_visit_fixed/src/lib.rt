@@ -5,8 +5,6 @@ mod by_box;
 mod by_reference;
 mod visit_fixed;
 mod visit_operator;
-mod visitor;
 
 pub use visit_fixed::VisitFixed;
 pub use visit_operator::VisitOperator;
-pub use visitor::Visitor;

@@ -6,10 +6,10 @@ ghost use Rattle.wasm_ops.specs.declared.misc.MiscOperator.{MiscOperator};
 ghost use Rattle.wasm_ops.specs.declared.atomic.AtomicOperator.{AtomicOperator};
 ghost use Rattle.wasm_instr.specs.Kinds.{IsFixed};
 
-use crate::visitor::Visitor;
 use wasm_below::{HeapType, RefType, ValType};
 use wasm_imm::{BlockType, Ieee32, Ieee64, MemArg, Ordering, ResumeTable, SelectTypes, TryTable};
 use wasm_instr::{AtomicOperator, GcOperator, MiscOperator, NumericOperator, Operator};
+use wasm_visitor::Visitor;
 
 /// A visitor of the operators that are neither vector operators nor branch tables.
 ///

@@ -9,15 +9,3 @@ pub trait VisitOperator<'a>: VisitFixed {
     fn visit_br_table(&mut self, targets: BrTable<'a>) -> Self::Output
         ensures { Self.visits self.old (Operator.BrTable targets.entry) result self.new };
 }
-
-impl<'a, V: VisitOperator<'a>> VisitOperator<'a> for &mut V {
-    fn visit_br_table(&mut self, targets: BrTable<'a>) -> Self::Output {
-        (**self).visit_br_table(targets)
-    }
-}
-
-impl<'a, V: VisitOperator<'a>> VisitOperator<'a> for Box<V> {
-    fn visit_br_table(&mut self, targets: BrTable<'a>) -> Self::Output {
-        (**self).visit_br_table(targets)
-    }
-}

@@ -5,7 +5,7 @@ ghost use Rattle.wasm_instr.specs.Kinds.{IsVector};
 
 use wasm_imm::{MemArg, V128};
 use wasm_instr::{Operator, SimdOperator};
-use wasm_visit_fixed::Visitor;
+use wasm_visitor::Visitor;
 
 /// A visitor of the vector operators. Vector Instructions.
 ///

@@ -1,16 +1,16 @@
 // Written by tools/lists.py from tools/operators.tsv.
 ghost use Rattle.wasm_instr.specs.declared.operator.Operator.{Operator};
-ghost use Rattle.wasm_instr.specs.Kinds.{IsVector};
+ghost use Rattle.wasm_instr.specs.Kinds.{IsFixed};
 
 use wasm_instr::{
     AtomicOperator, GcOperator, MiscOperator, NumericOperator, Operator, SimdOperator,
 };
-use wasm_visit_fixed::{VisitFixed, VisitOperator};
+use wasm_visit_fixed::VisitFixed;
 use wasm_visit_simd::VisitSimdOperator;
 
-/// Visits an operator that is no vector operator. It takes no memory.
-pub fn visit_owned<'a, V: VisitOperator<'a>>(v: &mut V, op: Operator<'a>) -> V::Output
-    requires { ¬ IsVector op }
+/// Visits an operator that is neither a vector operator nor a branch table. It takes no memory.
+pub fn visit_fixed<V: VisitFixed>(v: &mut V, op: Operator<'_>) -> V::Output
+    requires { IsFixed op }
     ensures { V.visits v.old op.entry result v.new }
 {
     match op {
@@ -23,7 +23,6 @@ pub fn visit_owned<'a, V: VisitOperator<'a>>(v: &mut V, op: Operator<'a>) -> V::
         Operator::End => v.visit_end(),
         Operator::Br { relative_depth } => v.visit_br(relative_depth),
         Operator::BrIf { relative_depth } => v.visit_br_if(relative_depth),
-        Operator::BrTable { targets } => v.visit_br_table(targets),
         Operator::Return => v.visit_return(),
         Operator::Call { function_index } => v.visit_call(function_index),
         Operator::CallIndirect {
@@ -119,23 +118,11 @@ pub fn visit_owned<'a, V: VisitOperator<'a>>(v: &mut V, op: Operator<'a>) -> V::
         Operator::Gc(op) => visit_gc(v, op),
         Operator::Misc(op) => visit_misc(v, op),
         Operator::Atomic(op) => visit_atomic(v, op),
-        Operator::Simd(_) => unreachable!(),
+        Operator::BrTable { targets: _ } | Operator::Simd(_) => unreachable!(),
     }
 }
 
-/// Visits an operator, a vector operator too. It takes no memory.
-pub fn visit_owned_simd<'a, V>(v: &mut V, op: Operator<'a>) -> V::Output
-where
-    V: VisitOperator<'a> + VisitSimdOperator,
-    ensures { V.visits v.old op.entry result v.new }
-{
-    match op {
-        Operator::Simd(op) => visit_simd(v, op),
-        op => visit_owned(v, op),
-    }
-}
-
-/// Visits one of the numeric operators of one byte.
+/// Visits one of the numeric operators of one byte. It takes no memory.
 fn visit_numeric<V: VisitFixed>(v: &mut V, op: NumericOperator) -> V::Output
     ensures { V.visits v.old (Operator.Numeric op) result v.new }
 {
@@ -271,7 +258,7 @@ fn visit_numeric<V: VisitFixed>(v: &mut V, op: NumericOperator) -> V::Output
     }
 }
 
-/// Visits one of the operators behind the byte fb.
+/// Visits one of the operators behind the byte fb. It takes no memory.
 fn visit_gc<V: VisitFixed>(v: &mut V, op: GcOperator) -> V::Output
     ensures { V.visits v.old (Operator.Gc op) result v.new }
 {
@@ -371,7 +358,7 @@ fn visit_gc<V: VisitFixed>(v: &mut V, op: GcOperator) -> V::Output
     }
 }
 
-/// Visits one of the operators behind the byte fc.
+/// Visits one of the operators behind the byte fc. It takes no memory.
 fn visit_misc<V: VisitFixed>(v: &mut V, op: MiscOperator) -> V::Output
     ensures { V.visits v.old (Operator.Misc op) result v.new }
 {
@@ -405,8 +392,8 @@ fn visit_misc<V: VisitFixed>(v: &mut V, op: MiscOperator) -> V::Output
     }
 }
 
-/// Visits one of the operators behind the byte fd.
-fn visit_simd<V: VisitSimdOperator>(v: &mut V, op: SimdOperator) -> V::Output
+/// Visits one of the operators behind the byte fd. It takes no memory.
+pub fn visit_simd<V: VisitSimdOperator>(v: &mut V, op: SimdOperator) -> V::Output
     ensures { V.visits v.old (Operator.Simd op) result v.new }
 {
     match op {
@@ -671,7 +658,7 @@ fn visit_simd<V: VisitSimdOperator>(v: &mut V, op: SimdOperator) -> V::Output
     }
 }
 
-/// Visits one of the operators behind the byte fe.
+/// Visits one of the operators behind the byte fe. It takes no memory.
 fn visit_atomic<V: VisitFixed>(v: &mut V, op: AtomicOperator) -> V::Output
     ensures { V.visits v.old (Operator.Atomic op) result v.new }
 {

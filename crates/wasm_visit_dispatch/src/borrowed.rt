@@ -2,7 +2,7 @@ ghost use Rattle.std.specs.Prelude.{◌≡◌, IsOk, IfOk, IfErr};
 ghost use Rattle.wasm_imm.specs.Memory.{IsOutOfMemoryAt};
 ghost use Rattle.wasm_instr.specs.Kinds.{IsVector, HoldsList};
 
-use crate::dispatch::{visit_owned, visit_owned_simd};
+use crate::owned::{visit_owned, visit_owned_simd};
 use std::alloc::Global;
 use wasm_below::Result;
 use wasm_instr::Operator;

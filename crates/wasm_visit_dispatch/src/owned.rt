@@ -1,0 +1,29 @@
+ghost use Rattle.wasm_instr.specs.Kinds.{IsVector};
+
+use crate::dispatch::{visit_fixed, visit_simd};
+use wasm_instr::Operator;
+use wasm_visit_fixed::VisitOperator;
+use wasm_visit_simd::VisitSimdOperator;
+
+/// Visits an operator that is no vector operator. It takes no memory.
+pub fn visit_owned<'a, V: VisitOperator<'a>>(v: &mut V, op: Operator<'a>) -> V::Output
+    requires { ¬ IsVector op }
+    ensures { V.visits v.old op.entry result v.new }
+{
+    match op {
+        Operator::BrTable { targets } => v.visit_br_table(targets),
+        op => visit_fixed(v, op),
+    }
+}
+
+/// Visits an operator, a vector operator too. It takes no memory.
+pub fn visit_owned_simd<'a, V>(v: &mut V, op: Operator<'a>) -> V::Output
+where
+    V: VisitOperator<'a> + VisitSimdOperator,
+    ensures { V.visits v.old op.entry result v.new }
+{
+    match op {
+        Operator::Simd(op) => visit_simd(v, op),
+        op => visit_owned(v, op),
+    }
+}

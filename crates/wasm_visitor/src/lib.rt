@@ -1,0 +1,6 @@
+//! What all visitors have: what their visits answer and promise.
+#![tactic(auto)]
+
+mod visitor;
+
+pub use visitor::Visitor;
