@@ -10,7 +10,7 @@ use wasm_visit_fixed::VisitOperator;
 ///
 /// This is `visit_owned_simd` for a maker: a maker is generic in what it makes, and at such a
 /// visitor a call that is bound by both traits of visits is beyond the prover's limit of steps.
-/// Here each call is bound by one.
+/// Here each call is bound for one of them.
 pub fn visit_by_maker<'a, T: HoldTable<'a>>(maker: &mut OperatorMaker<T>, op: Operator<'a>) -> T
     ensures { T.holds op.entry result }
 {

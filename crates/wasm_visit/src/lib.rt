@@ -5,8 +5,8 @@ mod by_maker;
 
 pub use by_maker::visit_by_maker;
 pub use wasm_visit_dispatch::{
-    visit_fixed, visit_operator, visit_operator_with_simd, visit_owned, visit_owned_simd,
-    visit_simd,
+    DispatchFixed, DispatchSimd, visit_fixed, visit_operator, visit_operator_with_simd,
+    visit_owned, visit_owned_simd, visit_simd,
 };
 pub use wasm_visit_factory::{
     HoldFixed, HoldTable, IsEndOperatorVisitor, OperatorFactory, OperatorMaker,

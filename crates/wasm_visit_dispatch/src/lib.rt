@@ -2,9 +2,10 @@
 #![tactic(auto)]
 
 mod borrowed;
+mod bounds;
 mod dispatch;
 mod owned;
 
 pub use borrowed::{visit_operator, visit_operator_with_simd};
-pub use dispatch::{visit_fixed, visit_simd};
-pub use owned::{visit_owned, visit_owned_simd};
+pub use bounds::{DispatchFixed, DispatchSimd};
+pub use owned::{visit_fixed, visit_owned, visit_owned_simd, visit_simd};
