@@ -5,7 +5,7 @@
     tools/lists.py --check    fails where a file is not what the table gives
 
 To add an operator, add its row to the table and run this. A row has the proposal, the name of the
-variant, the name of its visit, the prefix byte if there is one, the code, the fields with their
+variant, the name of its visit, the prefix byte if there is one, the opcode or subopcode, the fields with their
 types, the kinds of the immediates in order, and how many operands the operator takes and how many
 values it leaves ("by rule" where that depends on the module).
 """
@@ -14,7 +14,7 @@ import sys
 
 from arities import fixed_arity_source, fixed_arity_specs
 from printed import values_printed, values_source
-from rows import enum_again, enum_rows, operator_again, operator_rows
+from rows import enum_by_opcode, enum_rows, operators_by_opcode, operator_rows
 from source import enum_source, operator_source
 from table import ENUMS, TOP, table
 from visits import dispatch, fixed_trait, passed, simd_trait
@@ -29,13 +29,13 @@ def files():
         crate = f"crates/{enum.crate}"
         out[f"{crate}/src/{enum.module}.rt"] = enum_source(enum, those)
         out[f"{crate}/specs/{enum.group}.antt"] = enum_rows(enum, those)
-        out[f"{crate}/proofs/{enum.group}Again.antt"] = enum_again(enum, those)
+        out[f"{crate}/proofs/{enum.group}ByOpcode.antt"] = enum_by_opcode(enum, those)
     own = [op for op in ops if op.group == "Own"]
     out["crates/wasm_instr/src/operator.rt"] = operator_source(own)
     out["crates/wasm_instr/specs/Row.antt"] = operator_rows(own)
     out["crates/wasm_instr/specs/FixedArity.antt"] = fixed_arity_specs(ops)
     out["crates/wasm_instr/src/fixed_arity.rt"] = fixed_arity_source(ops)
-    out["crates/wasm_instr/proofs/ByCode.antt"] = operator_again(own)
+    out["crates/wasm_instr/proofs/ByOpcode.antt"] = operators_by_opcode(own)
     out["crates/wasm_visit_fixed/src/visit_fixed.rt"] = fixed_trait(ops)
     out["crates/wasm_visit_simd/src/visit_simd.rt"] = simd_trait(ops)
     for module, what in (("by_reference", "&mut V"), ("by_box", "Box<V>")):

@@ -17,7 +17,7 @@ from table import (
 
 # What the definitions over all operators name.
 OPERATOR_USES = [
-    "use Rattle.wasm_imm.specs.declared.select.Select.TheVariants as select",
+    "use Rattle.wasm_imm.specs.control.select.Select.TheVariants as select",
     "use Rattle.wasm_instr.specs.declared.operator.Operator.{Operator}",
     "use Rattle.wasm_instr.specs.declared.operator.Operator.TheVariants as operator",
 ]
@@ -34,9 +34,9 @@ def enum_rows(enum, ops):
             body += [f'{low}_proposal {pattern(op, low, False)} = codes "{proposal}"' for op in those]
     body += ["", f"abbrev pub {low}_name : {enum.type} → List ℕ"]
     body += [f'{low}_name {pattern(op, low, False)} = codes "{op.name}"' for op in ops]
-    body += ["", "-- The code byte." if not ops[0].prefix else "-- The number behind the prefix."]
-    body.append(f"abbrev pub {low}_code : {enum.type} → ℕ")
-    body += [f"{low}_code {pattern(op, low, False)} = {op.hex()}" for op in ops]
+    body += ["", "-- The opcode." if not ops[0].prefix else "-- The subopcode."]
+    body.append(f"abbrev pub {enum.opcode} : {enum.type} → ℕ")
+    body += [f"{enum.opcode} {pattern(op, low, False)} = {op.hex()}" for op in ops]
     body += ["", "-- The immediates in order, each with its value."]
     body.append(f"abbrev pub {low}_immediates : {enum.type} → List Immediate")
     body += [f"{low}_immediates {pattern(op, low)} = {immediates_of(op)}" for op in ops if op.fields]
@@ -52,13 +52,13 @@ def enum_rows(enum, ops):
         f"use Rattle.std.specs.Prelude.{{{', '.join(prelude)}}}",
     ]
     if "kind." in text:
-        head.append("use Rattle.wasm_imm.specs.declared.memory_argument.MemArgKind.TheVariants as kind")
+        head.append("use Rattle.wasm_imm.specs.memory.memory_argument.MemArgKind.TheVariants as kind")
     head += enum_uses(enum)
-    head.append(f"use Rattle.wasm_row.specs.Immediate.{{{', '.join(['Immediate'] + words)}}}")
+    head.append(f"use Rattle.wasm_instr_rows.specs.Immediate.{{{', '.join(['Immediate'] + words)}}}")
     return "\n".join(head + ["", text, ""])
 
 
-def enum_again(enum, ops):
+def enum_by_opcode(enum, ops):
     """An operator is that of its code and its immediates, and its code gives the kinds of these."""
     low = enum.module
     plain = not any(op.fields for op in ops)
@@ -85,17 +85,17 @@ def enum_again(enum, ops):
         place = f"(code - 0x{first:02x})" if first else "code"
         body += ["", f"abbrev pub {low}_at : ℕ → List Immediate → {enum.type}"]
         body.append(f"{low}_at code is = get_or makers {place} (λ is. {made_of(none, low)}) is")
-    body += ["", f"pub {low}_again : (op : {enum.type}) → {low}_at ({low}_code op) ({low}_immediates op) ≡ op"]
-    body += by_cases(f"{low}_again", none, low, "refl")
-    body += ["", f"pub {low}_kinds : (op : {enum.type}) → map kind_of ({low}_immediates op) ≡ map kind_of ({low}_immediates ({low}_at ({low}_code op) []))"]
+    body += ["", f"pub {low}_by_opcode : (op : {enum.type}) → {low}_at ({enum.opcode} op) ({low}_immediates op) ≡ op"]
+    body += by_cases(f"{low}_by_opcode", none, low, "refl")
+    body += ["", f"pub {low}_kinds : (op : {enum.type}) → map kind_of ({low}_immediates op) ≡ map kind_of ({low}_immediates ({low}_at ({enum.opcode} op) []))"]
     body += by_cases(f"{low}_kinds", none, low, "refl")
-    body += ["", f"pub {low}_named : (op : {enum.type}) → {low}_name op ≡ {low}_name ({low}_at ({low}_code op) [])"]
+    body += ["", f"pub {low}_named : (op : {enum.type}) → {low}_name op ≡ {low}_name ({low}_at ({enum.opcode} op) [])"]
     body += by_cases(f"{low}_named", none, low, "refl")
     if enum.group == "Numeric":
         body += ["", "-- The codes of the numeric operators.", "abbrev pub is_numeric : ℕ → Bool", "is_numeric code = ltb 0x44 code && ltb code 0xc5"]
-        body += ["", "pub numeric_range : (op : NumericOperator) → is_numeric (numeric_code op) ≡ true"]
+        body += ["", "pub numeric_range : (op : NumericOperator) → is_numeric (numeric_opcode op) ≡ true"]
         body += by_cases("numeric_range", none, low, "refl")
-        body += ["", "pub numeric_short : (op : NumericOperator) → ltb (numeric_code op) 0xfb ≡ true"]
+        body += ["", "pub numeric_short : (op : NumericOperator) → ltb (numeric_opcode op) 0xfb ≡ true"]
         body += by_cases("numeric_short", none, low, "refl")
     text = "\n".join(body)
     words = imported(text, VALUE_WORDS)
@@ -107,11 +107,11 @@ def enum_again(enum, ops):
         f"-- Of {enum.title}: each is that of its code and its immediates, and its code gives the kinds of these.",
         f"use Rattle.std.proofs.Common.{{{', '.join(prelude)}}}",
         *enum_uses(enum),
-        f"use Rattle.{enum.crate}.specs.{enum.group}.{{{low}_name, {low}_code, {low}_immediates}}",
-        "use Rattle.wasm_row.specs.Immediate.{Immediate, kind_of}",
+        f"use Rattle.{enum.crate}.specs.{enum.group}.{{{low}_name, {enum.opcode}, {low}_immediates}}",
+        "use Rattle.wasm_instr_rows.specs.Immediate.{Immediate, kind_of}",
     ]
     if words:
-        head.append(f"use Rattle.wasm_row.proofs.Values.{{{', '.join(words)}}}")
+        head.append(f"use Rattle.wasm_instr_rows.proofs.Values.{{{', '.join(words)}}}")
     return "\n".join(head + ["", text, ""])
 
 
@@ -129,13 +129,13 @@ def operator_rows(ops):
     body += ["", "abbrev pub name_of : Operator → List ℕ"]
     body += [f'name_of {pattern(op, low, False)} = codes "{op.name}"' for op in ops]
     body += [f"name_of {pat} = {enum.module}_name op" for enum, pat in inner]
-    body += ["", "-- The byte in front of the code, where there is one.", "abbrev pub prefix_of : Operator → Option ℕ"]
+    body += ["", "-- The prefix byte, where there is one.", "abbrev pub prefix_of : Operator → Option ℕ"]
     prefixes = {"Gc": "fb", "Misc": "fc", "Simd": "fd", "Atomic": "fe"}
     body += [f"prefix_of (operator.{group} _) = Some 0x{prefix}" for group, prefix in prefixes.items()]
     body.append("prefix_of _ = None")
-    body += ["", "-- The code byte, or the number behind the prefix.", "abbrev pub code_of : Operator → ℕ"]
-    body += [f"code_of {pattern(op, low, False)} = {op.hex()}" for op in ops]
-    body += [f"code_of {pat} = {enum.module}_code op" for enum, pat in inner]
+    body += ["", "-- The opcode, or the subopcode behind the prefix byte.", "abbrev pub opcode_of : Operator → ℕ"]
+    body += [f"opcode_of {pattern(op, low, False)} = {op.hex()}" for op in ops]
+    body += [f"opcode_of {pat} = {enum.opcode} op" for enum, pat in inner]
     body += ["", "-- The immediates in order, each with its value.", "abbrev pub immediates_of : Operator → List Immediate"]
     body += [f"immediates_of {pattern(op, low)} = {immediates_of(op)}" for op in ops if op.fields]
     body += [f"immediates_of {pat} = {enum.module}_immediates op" for enum, pat in inner]
@@ -147,17 +147,18 @@ def operator_rows(ops):
         "-- The rows of all operators, by columns.",
         "-- WebAssembly Core Specification 3.0: Binary Format, Instructions; Appendix, Index of Instructions.",
         "use Rattle.std.specs.Prelude.{ℕ, List, [], ◌∷◌, Option, Some, None, codes}",
-        "use Rattle.wasm_imm.specs.declared.memory_argument.MemArgKind.TheVariants as kind",
+        "use Rattle.wasm_imm.specs.memory.memory_argument.MemArgKind.TheVariants as kind",
         *OPERATOR_USES,
     ]
     for enum in held():
-        columns = ", ".join(f"{enum.module}_{c}" for c in ("proposal", "name", "code", "immediates"))
+        low = enum.module
+        columns = f"{low}_proposal, {low}_name, {enum.opcode}, {low}_immediates"
         head.append(f"use Rattle.{enum.crate}.specs.{enum.group}.{{{columns}}}")
-    head.append(f"use Rattle.wasm_row.specs.Immediate.{{{', '.join(['Immediate'] + words)}}}")
+    head.append(f"use Rattle.wasm_instr_rows.specs.Immediate.{{{', '.join(['Immediate'] + words)}}}")
     return "\n".join(head + ["", text, ""])
 
 
-def operator_again(ops):
+def operators_by_opcode(ops):
     """An operator is that of its prefix, its code and its immediates."""
     low = "operator"
     codes = {op.code: op for op in ops if op.name != "TypedSelectMulti"}
@@ -171,7 +172,7 @@ def operator_again(ops):
         else:
             made = made_of(op, low)
         body.append(f"    (λ is. {made}) ∷")
-    body += ["    []", "", "-- The operator of a code byte that is not numeric.", "abbrev pub own_at : ℕ → List Immediate → Operator"]
+    body += ["    []", "", "-- The operator of an opcode that is not numeric.", "abbrev pub own_at : ℕ → List Immediate → Operator"]
     body.append("own_at code is = get_or makers code (λ is. operator.Nop) is")
     text = "\n".join(body)
     words = imported(text, VALUE_WORDS)
@@ -179,10 +180,10 @@ def operator_again(ops):
         f"-- {HEAD}",
         "-- The operators of one byte by their code, but for the numeric ones.",
         "use Rattle.std.proofs.Common.{ℕ, List, [], ◌∷◌, get_or}",
-        "use Rattle.wasm_imm.specs.declared.select.Select.{Select}",
+        "use Rattle.wasm_imm.specs.control.select.Select.{Select}",
         *OPERATOR_USES,
-        "use Rattle.wasm_row.specs.Immediate.{Immediate}",
-        f"use Rattle.wasm_row.proofs.Values.{{{', '.join(words)}}}",
+        "use Rattle.wasm_instr_rows.specs.Immediate.{Immediate}",
+        f"use Rattle.wasm_instr_rows.proofs.Values.{{{', '.join(words)}}}",
         "",
         "abbrev select_at : Select → Operator",
         "select_at (select.One ty) = operator.TypedSelect ty",

@@ -129,7 +129,7 @@ def enum_source(enum, ops):
     low = enum.module
     plain = not any(op.fields for op in ops)
     prelude = ["◌≡◌"]
-    specs = [f"{low}_proposal", f"{low}_name", f"{low}_code"]
+    specs = [f"{low}_proposal", f"{low}_name", f"{enum.opcode}"]
     out = [f"// {HEAD}"]
     cut = len(ops) > 128
     if cut:
@@ -140,7 +140,7 @@ def enum_source(enum, ops):
     derived = not plain and not cut
     if not derived:
         out.append("use std::fmt::{self, Debug, Formatter};")
-    out += uses(ops, [("wasm_row", "OperatorInfo")])
+    out += uses(ops, [("wasm_instr_rows", "OperatorInfo")])
     out.append("")
     out += [f"/// {line}" for line in enum.doc]
     out.append("#[derive(Clone, Copy, Debug, PartialEq, Eq)]" if derived else "#[derive(Clone, Copy, PartialEq, Eq)]")
@@ -157,7 +157,7 @@ def enum_source(enum, ops):
         f"        ensures proposal {{ result.proposal.now ≡ {low}_proposal self.now }}",
         f"        ensures name {{ result.name.now ≡ {low}_name self.now }}",
         f"        ensures prefix {{ result.prefix ≡ {prefix} }}",
-        f"        ensures code {{ result.code ≡ {low}_code self.now }}",
+        f"        ensures code {{ result.code ≡ {enum.opcode} self.now }}",
         "    {",
         "        OperatorInfo {",
         "            proposal: self.proposal(),",
@@ -183,15 +183,15 @@ def enum_source(enum, ops):
     out.append("")
     if plain:
         out += [
-            "    /// The code byte.",
+            "    /// The opcode.",
             "    fn code(&self) -> u32",
-            f"        ensures {{ result ≡ {low}_code self.now }}",
+            f"        ensures {{ result ≡ {enum.opcode} self.now }}",
             "    {",
             "        *self as u32",
             "    }",
         ]
     else:
-        out += column(enum, ops, "code", "The number behind the prefix.", "u32", "result", lambda op: op.hex())
+        out += column(enum, ops, "code", "The subopcode.", "u32", "result", lambda op: op.hex())
     out += ["}", ""]
     if derived:
         return "\n".join(out)
@@ -238,12 +238,12 @@ def debug_arm(enum, those, names):
 
 def column(enum, ops, name, doc, ty, told, value):
     """A private function for a column, in parts where the enum is large."""
-    low = enum.module
+    word = enum.opcode if name == "code" else f"{enum.module}_{name}"
     if len(ops) <= 128:
         return [
             f"    /// {doc}",
             f"    fn {name}(&self) -> {ty}",
-            f"        ensures {{ {told} ≡ {low}_{name} self.now }}",
+            f"        ensures {{ {told} ≡ {word} self.now }}",
             "    {",
             "        match self {",
             *text_match(enum, name, ops, value, None),
@@ -257,32 +257,32 @@ def column(enum, ops, name, doc, ty, told, value):
     out = [
         f"    /// {doc}",
         f"    fn {name}(&self) -> {ty}",
-        f"        ensures {{ {told} ≡ {low}_{name} self.now }}",
+        f"        ensures {{ {told} ≡ {word} self.now }}",
         "    {",
     ]
-    for word in words:
+    for place in words:
         out += [
-            f"        if let Some({name}) = self.{word}_{name}() {{",
+            f"        if let Some({name}) = self.{place}_{name}() {{",
             f"            return {name};",
             "        }",
         ]
     out += ["        unreachable!()", "    }"]
     now = ".now" if told.endswith(".now") else ""
-    for number, (word, part) in enumerate(zip(words, parts)):
+    for number, (place, part) in enumerate(zip(words, parts)):
         low_bound, high_bound = part[0].code, part[-1].code
         outside = []
         if number > 0:
-            outside.append(f"({low}_code self.now < 0x{low_bound:02x})")
+            outside.append(f"({enum.opcode} self.now < 0x{low_bound:02x})")
         if number < len(parts) - 1:
-            outside.append(f"(0x{high_bound + 1:02x} ≤ {low}_code self.now)")
+            outside.append(f"(0x{high_bound + 1:02x} ≤ {enum.opcode} self.now)")
         none = " ⊎ ".join(outside)
         if len(outside) == 2:
             none = f"({none})"
         out += [
             "",
-            f"    /// The same, for codes from {low_bound:02x} to {high_bound:02x}.",
-            f"    fn {word}_{name}(&self) -> Option<{ty}>",
-            f"        ensures {{ MatchOption result {none} (λ x. x{now} ≡ {low}_{name} self.now) }}",
+            f"    /// The same, for subopcodes from {low_bound:02x} to {high_bound:02x}.",
+            f"    fn {place}_{name}(&self) -> Option<{ty}>",
+            f"        ensures {{ MatchOption result {none} (λ x. x{now} ≡ {word} self.now) }}",
             "    {",
             "        match self {",
             *[f"            {rust_pattern(op, enum.type)} => Some({value(op)})," for op in part],
@@ -298,14 +298,14 @@ def operator_source(ops):
     out = [
         f"// {HEAD}",
         "ghost use Rattle.std.specs.Prelude.{◌≡◌, ◌↔◌, IsTrue, IfOk, IfErr};",
-        "ghost use Rattle.wasm_imm.specs.Memory.{IsOutOfMemoryAt};",
-        "ghost use Rattle.wasm_instr.specs.Row.{proposal_of, name_of, prefix_of, code_of};",
+        "ghost use Rattle.wasm_imm.specs.OutOfMemory.{IsOutOfMemoryAt};",
+        "ghost use Rattle.wasm_instr.specs.Row.{proposal_of, name_of, prefix_of, opcode_of};",
         "ghost use Rattle.wasm_instr.specs.Kinds.{IsSimd, IsVector, HoldsList};",
         "",
         "use std::alloc::Global;",
     ]
     more = [(enum.crate, enum.type) for enum in ENUMS]
-    more += [("wasm_row", "OperatorInfo"), ("wasm_below", "Result")]
+    more += [("wasm_instr_rows", "OperatorInfo"), ("wasm_below", "Result")]
     out += uses(ops, more)
     out += [
         "",
@@ -341,7 +341,7 @@ def operator_source(ops):
         "        ensures proposal { result.proposal.now ≡ proposal_of self.now }",
         "        ensures name { result.name.now ≡ name_of self.now }",
         "        ensures prefix { result.prefix ≡ prefix_of self.now }",
-        "        ensures code { result.code ≡ code_of self.now }",
+        "        ensures code { result.code ≡ opcode_of self.now }",
         "    {",
         "        match self {",
     ]
@@ -372,7 +372,7 @@ def operator_source(ops):
     out += ["        }", "    }", ""]
     for name, doc, ty, told, value in [
         ("name", "The name of the variant.", "&'static str", "result.now", lambda op: f'"{op.name}"'),
-        ("code", "The code byte, or the number behind the prefix.", "u32", "result", lambda op: op.hex()),
+        ("code", "The opcode, or the subopcode behind the prefix byte.", "u32", "result", lambda op: op.hex()),
     ]:
         out += [
             f"    /// {doc}",

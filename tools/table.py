@@ -50,12 +50,14 @@ class Enum:
         self.doc = doc
         self.section = section
         self.type = "Operator" if group == "Own" else f"{group}Operator"
+        # The words for the column of opcodes: behind a prefix byte stand subopcodes.
+        self.opcode = f"{module}_opcode" if group == "Numeric" else f"{module}_subopcode"
 
 
 ENUMS = [
     Enum(
         "Numeric",
-        "wasm_ops",
+        "wasm_instr_ops",
         "numeric",
         "the numeric operators of one byte",
         ["The numeric operators of one byte, 45 to c4, which have no immediates. Numeric Instructions."],
@@ -63,7 +65,7 @@ ENUMS = [
     ),
     Enum(
         "Gc",
-        "wasm_ops",
+        "wasm_instr_ops",
         "gc",
         "the operators behind the byte fb",
         ["The operators behind the byte fb: structures, arrays and casts. Aggregate Instructions, and the", "proposal custom descriptors."],
@@ -71,7 +73,7 @@ ENUMS = [
     ),
     Enum(
         "Misc",
-        "wasm_ops",
+        "wasm_instr_ops",
         "misc",
         "the operators behind the byte fc",
         ["The operators behind the byte fc: saturating truncations, bulk memory and tables, and wide", "arithmetic. Numeric, Memory and Table Instructions, and the proposals memory control and wide", "arithmetic."],
@@ -79,7 +81,7 @@ ENUMS = [
     ),
     Enum(
         "Atomic",
-        "wasm_ops",
+        "wasm_instr_ops",
         "atomic",
         "the operators behind the byte fe",
         ["The operators behind the byte fe. Proposals threads, shared-everything threads and", "acquire-release atomics."],
@@ -87,7 +89,7 @@ ENUMS = [
     ),
     Enum(
         "Simd",
-        "wasm_ops_simd",
+        "wasm_instr_simd",
         "simd",
         "the operators behind the byte fd",
         ["The operators behind the byte fd. Vector Instructions, relaxed ones too."],

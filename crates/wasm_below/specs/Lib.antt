@@ -1,10 +1,13 @@
-pub mod Features
-pub mod Refusal
-pub mod Number
-pub mod Source
-pub mod Fault
-pub mod Sequence
-pub mod Reference
-pub mod TypeSpelling
-pub mod FromReader
-pub mod Items
+pub use Rattle.wasm_below_bytes.specs.Fault
+pub use Rattle.wasm_below_bytes.specs.Features
+pub use Rattle.wasm_below_bytes.specs.FromReader
+pub use Rattle.wasm_below_bytes.specs.Items
+pub use Rattle.wasm_below_bytes.specs.Number
+pub use Rattle.wasm_below_bytes.specs.PartFaults
+pub use Rattle.wasm_below_bytes.specs.Refusal
+pub use Rattle.wasm_below_bytes.specs.Sequence
+pub use Rattle.wasm_below_bytes.specs.Source
+pub use Rattle.wasm_below_bytes.specs.declared as bytes
+pub use Rattle.wasm_below_types.specs.Reference
+pub use Rattle.wasm_below_types.specs.TypeEncoding
+pub use Rattle.wasm_below_types.specs.declared as types

@@ -1,24 +1,13 @@
-//! Reading WebAssembly's binary format from the front of borrowed bytes: errors, features, and a
-//! reader of bytes and numbers.
+//! Reading WebAssembly's binary format from the start of borrowed bytes: errors, features, a reader
+//! of bytes and numbers, and types.
 //!
-//! A reading call answers `Ok` exactly where a front of the rest is spelled, and takes that front.
-//! A refused call changes nothing (`specs/Source.antt`).
+//! Its parts are `wasm_below_bytes` and `wasm_below_types`; users list this crate alone.
 #![tactic(auto)]
 
-mod binary_reader;
-mod error;
-mod features;
-mod from_reader;
-pub mod laws;
-mod message;
-mod types;
-
-pub use binary_reader::BinaryReader;
-pub use error::{BinaryReaderError, Error, ErrorKind, Result};
-pub use features::WasmFeatures;
-pub use from_reader::{BinaryReaderIter, FromReader};
-pub use message::{FrameName, Message, Word};
-pub use types::{AbstractHeapType, HeapType, RefType, ValType};
-
-#[cfg(test)]
-mod tests;
+pub use wasm_below_bytes::laws as byte_laws;
+pub use wasm_below_bytes::{
+    BinaryReader, BinaryReaderError, BinaryReaderIter, Error, ErrorKind, FrameName, FromReader,
+    InstructionName, LeadingByteName, Message, NumberName, Result, SizeName, TypeName, WasmFeatures,
+};
+pub use wasm_below_types::laws as type_laws;
+pub use wasm_below_types::{AbstractHeapType, HeapType, RefType, ValType};

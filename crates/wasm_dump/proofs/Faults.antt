@@ -1,11 +1,11 @@
 -- What is so of each way in which the program ends.
 use Rattle.std.proofs.Common.{◌≡◌, ℕ, List, Bool, false, Option, Some, None, Result, Ok, Err, refl, sym, subst, IfErr}
 use Rattle.std.specs.Prelude.{IsTrue, IsOk, IsErrAnd, IfSome}
-use Rattle.wasm_below.specs.declared.error.Error.{Error}
-use Rattle.wasm_below.specs.declared.message.Message.TheVariants as message
-use Rattle.wasm_below.specs.declared.features.WasmFeatures.{WasmFeatures}
+use Rattle.wasm_below.specs.bytes.error.Error.{Error}
+use Rattle.wasm_below.specs.bytes.message.Message.TheVariants as message
+use Rattle.wasm_below.specs.bytes.features.WasmFeatures.{WasmFeatures}
 use Rattle.wasm_operators.specs.Expression.{Placed}
-use Rattle.wasm_operators.specs.Body.{SpellsBody}
+use Rattle.wasm_operators.specs.Body.{EncodesBody}
 use Rattle.wasm_dump.specs.declared.fault.DumpFault.{DumpFault}
 use Rattle.wasm_dump.specs.declared.fault.DumpFault.TheVariants as fault
 use Rattle.wasm_dump.specs.Dump.{input_of, Dumps, IsNotRefused, WritesNothing}
@@ -27,21 +27,21 @@ not_refused fault.Reading h = tt
 not_refused fault.Writing h = tt
 not_refused fault.Memory h = tt
 
-pub whole_fault : (known : Option (List ℕ)) (f : WasmFeatures) (e : DumpFault) → WritesNothing e → IfSome known (λ bytes. (placed : Placed) → SpellsBody (input_of f bytes) placed → IsNotRefused {X = Unit {0}} (Err e))
+pub whole_fault : (known : Option (List ℕ)) (f : WasmFeatures) (e : DumpFault) → WritesNothing e → IfSome known (λ bytes. (placed : Placed) → EncodesBody (input_of f bytes) placed → IsNotRefused {X = Unit {0}} (Err e))
 whole_fault None f e h = tt
-whole_fault (Some bytes) f e h = λ placed spells. not_refused e h
+whole_fault (Some bytes) f e h = λ placed encodes. not_refused e h
 
 err_not_ok : {X E : Type 0} (r : Result X E) (e : E) → r ≡ Err e → IsOk r → ⊥
 err_not_ok (Ok x) e is ok = cc is
 err_not_ok (Err d) e is ok = cc ok
 
--- a body that the input spells is not refused
-pub whole_refused : (known : Option (List ℕ)) (f : WasmFeatures) (input slice : List ℕ) (end : Result (Unit {0}) Error) (e : Error) → IfSome known (λ bytes. input ≡ bytes) → slice ≡ input → end ≡ Err e → ((placed : Placed) → SpellsBody (input_of f slice) placed → IsOk end) → IfSome known (λ bytes. (placed : Placed) → SpellsBody (input_of f bytes) placed → ⊥)
+-- a body that the input encodes is not refused
+pub whole_refused : (known : Option (List ℕ)) (f : WasmFeatures) (input slice : List ℕ) (end : Result (Unit {0}) Error) (e : Error) → IfSome known (λ bytes. input ≡ bytes) → slice ≡ input → end ≡ Err e → ((placed : Placed) → EncodesBody (input_of f slice) placed → IsOk end) → IfSome known (λ bytes. (placed : Placed) → EncodesBody (input_of f bytes) placed → ⊥)
 whole_refused None f input slice end e told same is whole = tt
-whole_refused (Some bytes) f input slice end e told same is whole = λ placed spells.
-    err_not_ok end e is (whole placed (subst (λ b. SpellsBody (input_of f b) placed) (sym same) (subst (λ b. SpellsBody (input_of f b) placed) (sym told) spells)))
+whole_refused (Some bytes) f input slice end e told same is whole = λ placed encodes.
+    err_not_ok end e is (whole placed (subst (λ b. EncodesBody (input_of f b) placed) (sym same) (subst (λ b. EncodesBody (input_of f b) placed) (sym told) encodes)))
 
--- without want of memory it ended well
+-- without allocation failure it ended well
 pub ok_unless : (r : Result (Unit {0}) Error) (b : Bool) → b ≡ false → (IsErrAnd r (λ e. e.message ≡ message.OutOfMemory) → IsTrue b) → IfErr r (λ e. e.message ≡ message.OutOfMemory) → IsOk r
 ok_unless (Ok x) b isnt tells h = refl
 ok_unless (Err e) b isnt tells h = let t : IsTrue false = subst IsTrue isnt (tells h) in absurd (cc t)

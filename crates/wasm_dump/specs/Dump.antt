@@ -1,13 +1,13 @@
 -- What the program writes of a body.
 use Rattle.std.specs.Prelude.{◌≡◌, ℕ, List, [], ◌∷◌, ◌++◌, Option, Result, Ok, Err, codes, decimal, flat_map}
 use Rattle.std.specs.Io.KnownBytes.{Appends}
-use Rattle.wasm_below.specs.declared.error.Error.{Error}
-use Rattle.wasm_below.specs.declared.features.WasmFeatures.{WasmFeatures}
+use Rattle.wasm_below.specs.bytes.error.Error.{Error}
+use Rattle.wasm_below.specs.bytes.features.WasmFeatures.{WasmFeatures}
 use Rattle.wasm_below.specs.Source.{Source}
 use Rattle.wasm_operators.specs.declared.operator.Operator.{Operator}
 use Rattle.wasm_operators.specs.Row.{name_of}
 use Rattle.wasm_operators.specs.Expression.{Placed}
-use Rattle.wasm_operators.specs.Body.{SpellsBody, StopsBody}
+use Rattle.wasm_operators.specs.Body.{EncodesBody, StopsBody}
 use Rattle.wasm_dump.specs.declared.fault.DumpFault.{DumpFault}
 use Rattle.wasm_dump.specs.declared.fault.DumpFault.TheVariants as fault
 
@@ -28,12 +28,12 @@ status_of _ = 3
 
 -- The text is the lines of what was read of the body.
 abbrev pub Lists : {X : Type 0} → Source → Result X Error → List ℕ → Type 0
-Lists s (Ok x) text = (placed : Placed) × SpellsBody s placed × (text ≡ lines placed)
+Lists s (Ok x) text = (placed : Placed) × EncodesBody s placed × (text ≡ lines placed)
 Lists s (Err e) text = (placed : Placed) × StopsBody e s placed × (text ≡ lines placed)
 
--- What the program writes: the lines of the body that the input spells; or, of other input, those of what was read before the refusal. Of the other faults nothing is said here.
+-- What the program writes: the lines of the body that the input encodes; or, of other input, those of what was read before the refusal. Of the other faults nothing is said here.
 abbrev pub Dumps : {X : Type 0} → Source → Result X DumpFault → Option (List ℕ) → Option (List ℕ) → Type 0
-Dumps s (Ok x) old new = (placed : Placed) × SpellsBody s placed × Appends old new (lines placed)
+Dumps s (Ok x) old new = (placed : Placed) × EncodesBody s placed × Appends old new (lines placed)
 Dumps s (Err (fault.Refused e)) old new = (placed : Placed) × StopsBody e s placed × Appends old new (lines placed)
 Dumps s (Err _) old new = Unit {0}
 

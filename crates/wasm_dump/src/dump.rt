@@ -2,7 +2,7 @@ ghost use Rattle.std.specs.Prelude.{◌≡◌, ◌↔◌, IsTrue, IsOk, IsErrAnd
 ghost use Rattle.std.specs.Io.KnownBytes.{Appends};
 ghost use Rattle.wasm_below.specs.Source.{Source};
 ghost use Rattle.wasm_operators.specs.Expression.{Placed};
-ghost use Rattle.wasm_operators.specs.Body.{SpellsBody, ReadsBody};
+ghost use Rattle.wasm_operators.specs.Body.{EncodesBody, ReadsBody};
 ghost use Rattle.wasm_dump.specs.Dump.{input_of, Lists, Dumps, WritesNothing, IsNotRefused};
 
 use crate::fault::DumpFault;
@@ -27,7 +27,7 @@ fn read_body(
     out: &mut Vec<(Operator, u64)>,
 ) -> Result<(), Error>
     ensures reads { ReadsBody result (input_of features bytes.now) out.old.items out.new.items }
-    ensures whole { (placed : Placed) → SpellsBody (input_of features bytes.now) placed → IfErr result (λ e. e.message ≡ Message.OutOfMemory) }
+    ensures whole { (placed : Placed) → EncodesBody (input_of features bytes.now) placed → IfErr result (λ e. e.message ≡ Message.OutOfMemory) }
 {
     let reader = BinaryReader::new_features(bytes, 0, features);
     let mut operators = FunctionBody::new(reader).get_operators_reader(alloc)?;
@@ -37,7 +37,7 @@ fn read_body(
 /// Makes the text for a body, of which only memory can keep it.
 fn list_body(alloc: Global, features: WasmFeatures, bytes: &[u8]) -> Result<Listing, DumpFault>
     ensures lists { IfOk result (λ listing. Lists (input_of features bytes.now) listing.end (string_bytes listing.text)) }
-    ensures whole { (placed : Placed) → SpellsBody (input_of features bytes.now) placed → IfOk result (λ listing. IsOk listing.end) }
+    ensures whole { (placed : Placed) → EncodesBody (input_of features bytes.now) placed → IfOk result (λ listing. IsOk listing.end) }
     ensures memory { IfErr result (λ fault. fault ≡ DumpFault.Memory) }
 {
     let mut operators = Vec::new(alloc);
@@ -51,7 +51,7 @@ fn list_body(alloc: Global, features: WasmFeatures, bytes: &[u8]) -> Result<List
     }
 }
 
-/// Whether reading ended for want of memory.
+/// Whether reading ended for allocation failure.
 fn is_memory(end: &Result<(), Error>) -> bool
     ensures { IsTrue result ↔ IsErrAnd end.now (λ e. e.message ≡ Message.OutOfMemory) }
 {
@@ -88,9 +88,9 @@ pub fn run<R: Read, W: Write>(
     // Over the bytes that the reader tells, the writer gets the lines of what the body holds.
     ensures lines { IfSome (R.remaining reader.old) (λ bytes.
         Dumps (input_of features bytes) result (W.contents writer.old) (W.contents writer.new)) }
-    // Where the bytes spell a body, it is not refused.
+    // Where the bytes encode a body, it is not refused.
     ensures whole { IfSome (R.remaining reader.old) (λ bytes.
-        (placed : Placed) → SpellsBody (input_of features bytes) placed → IsNotRefused result) }
+        (placed : Placed) → EncodesBody (input_of features bytes) placed → IsNotRefused result) }
     ensures nothing { IfErr result (λ fault. WritesNothing fault → writer.new ≡ writer.old) }
 {
     let input = read_input(alloc, reader)?;

@@ -15,7 +15,7 @@ frames_after_at (first ∷ []) kind role next e = ap (option_map (λ (frames : L
 frames_after_at (first ∷ second ∷ outer) kind role next e =
     ap (option_map (λ (frames : List FrameKind). first ∷ frames)) (frames_after_at (second ∷ outer) kind role next e)
 
--- the same at the front of more roles
+-- the same at the start of more roles
 pub run_role : {A : Type 0} (outer : List FrameKind) (kind : FrameKind) (role : Role A) (next : List FrameKind)
     (rest : List (Role A)) →
     replacement kind role ≡ Some next →

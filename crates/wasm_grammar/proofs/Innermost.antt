@@ -57,7 +57,7 @@ pub empty_of_innermost : (frames : List FrameKind) → innermost frames ≡ None
 empty_of_innermost [] e = refl
 empty_of_innermost (first ∷ inside) e = absurd (cc e)
 
--- a list with a front that is always the same
+-- a list with a prefix that is always the same
 abbrev behind : FrameKind → List FrameKind → List FrameKind → List FrameKind
 behind kind inside end = without_innermost_in kind inside ++ end
 

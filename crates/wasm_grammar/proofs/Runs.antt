@@ -114,8 +114,8 @@ pub IsSome_of_begins : {A : Type 0} (roles : List (Role A)) →
 IsSome_of_begins roles begins = let r = beginning_runs roles begins in IsSome_of (frames_along (frame.Block ∷ []) roles) r.0 r.1
 
 -- A beginning of a beginning is one.
-pub begins_front : {A : Type 0} (roles more : List (Role A)) → BeginsWalk (roles ++ more) → BeginsWalk roles
-begins_front roles more (others, tree, e) = (more ++ others, tree, sym (append_assoc roles more others) ∙ e)
+pub begins_beginning : {A : Type 0} (roles more : List (Role A)) → BeginsWalk (roles ++ more) → BeginsWalk roles
+begins_beginning roles more (others, tree, e) = (more ++ others, tree, sym (append_assoc roles more others) ∙ e)
 
 -- From the frames of an open path on, the rules let through what continues it to a beginning of a walk.
 pub path_runs_on : {A : Type 0} (frames : List FrameKind) (roles more : List (Role A)) →

@@ -22,7 +22,7 @@ walk_instructions-push (cons first more) last =
     append_assoc (walk_instruction first) (walk_instructions more) (walk_instruction last)
     ∙ ap (λ roles. walk_instruction first ++ roles) (walk_instructions-push more last)
 
--- handlers that are whole, in front of others
+-- handlers that are whole, before others
 handlers_of : {A : Type 0} → Parts A → Handlers A → Handlers A
 handlers_of [] handlers = handlers
 handlers_of (part ∷ parts) handlers = for_tag part.0 part.1 (handlers_of parts handlers)

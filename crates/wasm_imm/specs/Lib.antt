@@ -1,19 +1,22 @@
-pub mod MemoryArgument
-pub mod FlagsNumber
-pub mod Immediates
-pub mod BlockTypes
-pub mod Lists
-pub mod BranchTables
-pub mod TableEquality
-pub mod Casts
-pub mod Handlers
-pub mod Memory
-pub mod HandlerTables
-pub mod PartFaults
-pub mod BlockFaults
-pub mod BranchFaults
-pub mod CastFaults
-pub mod HandlerFaults
-pub mod ListFaults
-pub mod ShortFaults
-pub mod MemArgFaults
+pub use Rattle.wasm_imm_memory.specs.FlagsNumber
+pub use Rattle.wasm_imm_memory.specs.Indices
+pub use Rattle.wasm_imm_memory.specs.MemArgFaults
+pub use Rattle.wasm_imm_memory.specs.MemoryArgument
+pub use Rattle.wasm_imm_memory.specs.Orderings
+pub use Rattle.wasm_imm_memory.specs.declared as memory
+pub use Rattle.wasm_imm_constants.specs.Vectors
+pub use Rattle.wasm_imm_constants.specs.declared as constants
+pub use Rattle.wasm_imm_control.specs.BlockFaults
+pub use Rattle.wasm_imm_control.specs.BlockTypes
+pub use Rattle.wasm_imm_control.specs.BranchFaults
+pub use Rattle.wasm_imm_control.specs.BranchTables
+pub use Rattle.wasm_imm_control.specs.CastFaults
+pub use Rattle.wasm_imm_control.specs.Casts
+pub use Rattle.wasm_imm_control.specs.HandlerFaults
+pub use Rattle.wasm_imm_control.specs.HandlerTables
+pub use Rattle.wasm_imm_control.specs.Handlers
+pub use Rattle.wasm_imm_control.specs.ListFaults
+pub use Rattle.wasm_imm_control.specs.Lists
+pub use Rattle.wasm_imm_control.specs.OutOfMemory
+pub use Rattle.wasm_imm_control.specs.TableEquality
+pub use Rattle.wasm_imm_control.specs.declared as control

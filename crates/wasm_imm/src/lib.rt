@@ -1,38 +1,20 @@
-//! The immediates of WebAssembly's operators: what stands behind the code of an operator.
+//! The immediates of WebAssembly's operators: what stands behind the opcode of an operator.
 //!
-//! Each reading call answers `Ok` exactly where a front of the rest is spelled (`specs/`), takes
-//! that front and answers its value. A refused call leaves the reader where it was.
+//! Each reading call answers `Ok` exactly where a prefix of the rest encodes a value (`specs/` of the
+//! parts), takes that prefix and answers that value. A refused call leaves the reader where it was.
+//!
+//! Its parts are `wasm_imm_memory`, `wasm_imm_constants` and `wasm_imm_control`; users list this
+//! crate alone.
 #![tactic(auto)]
 
-mod block_type;
-mod branch_table;
-mod cast;
-mod constants;
-mod handler_tables;
-mod handlers;
-mod index;
-mod lanes;
-pub mod laws;
-mod lists;
-mod members;
-mod memory_argument;
-mod ordering;
-mod read_immediates;
-mod select;
-
-pub use block_type::BlockType;
-pub use branch_table::{BrTable, BrTableTargets};
-pub use cast::Cast;
-pub use constants::{Ieee32, Ieee64, V128};
-pub use handler_tables::{ResumeTable, TryTable};
-pub use handlers::{Catch, Handle};
-pub use index::{read_memory_index, read_table_index};
-pub use lanes::{read_lane, read_lanes};
-pub use members::{Catches, Handles, Members, SelectTypes};
-pub use memory_argument::{MemArg, MemArgKind, MemArgOrdering, MemArgTarget};
-pub use ordering::Ordering;
-pub use read_immediates::ReadImmediates;
-pub use select::Select;
-
-#[cfg(test)]
-mod tests;
+pub use wasm_imm_constants::laws as constant_laws;
+pub use wasm_imm_constants::{Ieee32, Ieee64, ReadImmediates, V128, read_lane, read_lanes};
+pub use wasm_imm_control::laws as control_laws;
+pub use wasm_imm_control::{
+    BlockType, BrTable, BrTableTargets, Cast, Catch, Catches, Handle, Handles, Members, ResumeTable,
+    Select, SelectTypes, TryTable,
+};
+pub use wasm_imm_memory::laws as memory_laws;
+pub use wasm_imm_memory::{
+    MemArg, MemArgKind, MemArgOrdering, MemArgTarget, Ordering, read_memory_index, read_table_index,
+};

@@ -1,3 +1,3 @@
-pub mod ByCode
-pub mod OperatorOnce
-pub mod SharedCodes
+pub mod ByOpcode
+pub mod OperatorPrefixCode
+pub mod SharedOpcodes

@@ -2,16 +2,16 @@
 -- The rows of all operators, by columns.
 -- WebAssembly Core Specification 3.0: Binary Format, Instructions; Appendix, Index of Instructions.
 use Rattle.std.specs.Prelude.{ℕ, List, [], ◌∷◌, Option, Some, None, codes}
-use Rattle.wasm_imm.specs.declared.memory_argument.MemArgKind.TheVariants as kind
-use Rattle.wasm_imm.specs.declared.select.Select.TheVariants as select
+use Rattle.wasm_imm.specs.memory.memory_argument.MemArgKind.TheVariants as kind
+use Rattle.wasm_imm.specs.control.select.Select.TheVariants as select
 use Rattle.wasm_instr.specs.declared.operator.Operator.{Operator}
 use Rattle.wasm_instr.specs.declared.operator.Operator.TheVariants as operator
-use Rattle.wasm_ops.specs.Numeric.{numeric_proposal, numeric_name, numeric_code, numeric_immediates}
-use Rattle.wasm_ops.specs.Gc.{gc_proposal, gc_name, gc_code, gc_immediates}
-use Rattle.wasm_ops.specs.Misc.{misc_proposal, misc_name, misc_code, misc_immediates}
-use Rattle.wasm_ops_simd.specs.Simd.{simd_proposal, simd_name, simd_code, simd_immediates}
-use Rattle.wasm_ops.specs.Atomic.{atomic_proposal, atomic_name, atomic_code, atomic_immediates}
-use Rattle.wasm_row.specs.Immediate.{Immediate, unsigned_32, signed_32, signed_64, float_32, float_64, memory_argument, memory_index, table_index_32, heap_type, block_type, branch_table, select_types, try_clauses, resume_clauses}
+use Rattle.wasm_instr_ops.specs.Numeric.{numeric_proposal, numeric_name, numeric_opcode, numeric_immediates}
+use Rattle.wasm_instr_ops.specs.Gc.{gc_proposal, gc_name, gc_subopcode, gc_immediates}
+use Rattle.wasm_instr_ops.specs.Misc.{misc_proposal, misc_name, misc_subopcode, misc_immediates}
+use Rattle.wasm_instr_simd.specs.Simd.{simd_proposal, simd_name, simd_subopcode, simd_immediates}
+use Rattle.wasm_instr_ops.specs.Atomic.{atomic_proposal, atomic_name, atomic_subopcode, atomic_immediates}
+use Rattle.wasm_instr_rows.specs.Immediate.{Immediate, unsigned_32, signed_32, signed_64, float_32, float_64, memory_argument, memory_index, table_index_32, heap_type, block_type, branch_table, select_types, try_clauses, resume_clauses}
 
 abbrev pub proposal_of : Operator → List ℕ
 proposal_of operator.RefEq = codes "gc"
@@ -137,7 +137,7 @@ name_of (operator.Misc op) = misc_name op
 name_of (operator.Simd op) = simd_name op
 name_of (operator.Atomic op) = atomic_name op
 
--- The byte in front of the code, where there is one.
+-- The prefix byte, where there is one.
 abbrev pub prefix_of : Operator → Option ℕ
 prefix_of (operator.Gc _) = Some 0xfb
 prefix_of (operator.Misc _) = Some 0xfc
@@ -145,92 +145,92 @@ prefix_of (operator.Simd _) = Some 0xfd
 prefix_of (operator.Atomic _) = Some 0xfe
 prefix_of _ = None
 
--- The code byte, or the number behind the prefix.
-abbrev pub code_of : Operator → ℕ
-code_of operator.Unreachable = 0x00
-code_of operator.Nop = 0x01
-code_of (operator.Block _) = 0x02
-code_of (operator.Loop _) = 0x03
-code_of (operator.If _) = 0x04
-code_of operator.Else = 0x05
-code_of operator.End = 0x0b
-code_of (operator.Br _) = 0x0c
-code_of (operator.BrIf _) = 0x0d
-code_of (operator.BrTable _) = 0x0e
-code_of operator.Return = 0x0f
-code_of (operator.Call _) = 0x10
-code_of (operator.CallIndirect _ _) = 0x11
-code_of operator.Drop = 0x1a
-code_of operator.Select = 0x1b
-code_of (operator.LocalGet _) = 0x20
-code_of (operator.LocalSet _) = 0x21
-code_of (operator.LocalTee _) = 0x22
-code_of (operator.GlobalGet _) = 0x23
-code_of (operator.GlobalSet _) = 0x24
-code_of (operator.I32Load _) = 0x28
-code_of (operator.I64Load _) = 0x29
-code_of (operator.F32Load _) = 0x2a
-code_of (operator.F64Load _) = 0x2b
-code_of (operator.I32Load8S _) = 0x2c
-code_of (operator.I32Load8U _) = 0x2d
-code_of (operator.I32Load16S _) = 0x2e
-code_of (operator.I32Load16U _) = 0x2f
-code_of (operator.I64Load8S _) = 0x30
-code_of (operator.I64Load8U _) = 0x31
-code_of (operator.I64Load16S _) = 0x32
-code_of (operator.I64Load16U _) = 0x33
-code_of (operator.I64Load32S _) = 0x34
-code_of (operator.I64Load32U _) = 0x35
-code_of (operator.I32Store _) = 0x36
-code_of (operator.I64Store _) = 0x37
-code_of (operator.F32Store _) = 0x38
-code_of (operator.F64Store _) = 0x39
-code_of (operator.I32Store8 _) = 0x3a
-code_of (operator.I32Store16 _) = 0x3b
-code_of (operator.I64Store8 _) = 0x3c
-code_of (operator.I64Store16 _) = 0x3d
-code_of (operator.I64Store32 _) = 0x3e
-code_of (operator.MemorySize _) = 0x3f
-code_of (operator.MemoryGrow _) = 0x40
-code_of (operator.I32Const _) = 0x41
-code_of (operator.I64Const _) = 0x42
-code_of (operator.F32Const _) = 0x43
-code_of (operator.F64Const _) = 0x44
-code_of operator.RefEq = 0xd3
-code_of (operator.TypedSelect _) = 0x1c
-code_of (operator.TypedSelectMulti _) = 0x1c
-code_of (operator.RefNull _) = 0xd0
-code_of operator.RefIsNull = 0xd1
-code_of (operator.RefFunc _) = 0xd2
-code_of (operator.TableGet _) = 0x25
-code_of (operator.TableSet _) = 0x26
-code_of (operator.ReturnCall _) = 0x12
-code_of (operator.ReturnCallIndirect _ _) = 0x13
-code_of (operator.TryTable _) = 0x1f
-code_of (operator.Throw _) = 0x08
-code_of operator.ThrowRef = 0x0a
-code_of (operator.Try _) = 0x06
-code_of (operator.Catch _) = 0x07
-code_of (operator.Rethrow _) = 0x09
-code_of (operator.Delegate _) = 0x18
-code_of operator.CatchAll = 0x19
-code_of (operator.CallRef _) = 0x14
-code_of (operator.ReturnCallRef _) = 0x15
-code_of operator.RefAsNonNull = 0xd4
-code_of (operator.BrOnNull _) = 0xd5
-code_of (operator.BrOnNonNull _) = 0xd6
-code_of (operator.ContNew _) = 0xe0
-code_of (operator.ContBind _ _) = 0xe1
-code_of (operator.Suspend _) = 0xe2
-code_of (operator.Resume _ _) = 0xe3
-code_of (operator.ResumeThrow _ _ _) = 0xe4
-code_of (operator.ResumeThrowRef _ _) = 0xe5
-code_of (operator.Switch _ _) = 0xe6
-code_of (operator.Numeric op) = numeric_code op
-code_of (operator.Gc op) = gc_code op
-code_of (operator.Misc op) = misc_code op
-code_of (operator.Simd op) = simd_code op
-code_of (operator.Atomic op) = atomic_code op
+-- The opcode, or the subopcode behind the prefix byte.
+abbrev pub opcode_of : Operator → ℕ
+opcode_of operator.Unreachable = 0x00
+opcode_of operator.Nop = 0x01
+opcode_of (operator.Block _) = 0x02
+opcode_of (operator.Loop _) = 0x03
+opcode_of (operator.If _) = 0x04
+opcode_of operator.Else = 0x05
+opcode_of operator.End = 0x0b
+opcode_of (operator.Br _) = 0x0c
+opcode_of (operator.BrIf _) = 0x0d
+opcode_of (operator.BrTable _) = 0x0e
+opcode_of operator.Return = 0x0f
+opcode_of (operator.Call _) = 0x10
+opcode_of (operator.CallIndirect _ _) = 0x11
+opcode_of operator.Drop = 0x1a
+opcode_of operator.Select = 0x1b
+opcode_of (operator.LocalGet _) = 0x20
+opcode_of (operator.LocalSet _) = 0x21
+opcode_of (operator.LocalTee _) = 0x22
+opcode_of (operator.GlobalGet _) = 0x23
+opcode_of (operator.GlobalSet _) = 0x24
+opcode_of (operator.I32Load _) = 0x28
+opcode_of (operator.I64Load _) = 0x29
+opcode_of (operator.F32Load _) = 0x2a
+opcode_of (operator.F64Load _) = 0x2b
+opcode_of (operator.I32Load8S _) = 0x2c
+opcode_of (operator.I32Load8U _) = 0x2d
+opcode_of (operator.I32Load16S _) = 0x2e
+opcode_of (operator.I32Load16U _) = 0x2f
+opcode_of (operator.I64Load8S _) = 0x30
+opcode_of (operator.I64Load8U _) = 0x31
+opcode_of (operator.I64Load16S _) = 0x32
+opcode_of (operator.I64Load16U _) = 0x33
+opcode_of (operator.I64Load32S _) = 0x34
+opcode_of (operator.I64Load32U _) = 0x35
+opcode_of (operator.I32Store _) = 0x36
+opcode_of (operator.I64Store _) = 0x37
+opcode_of (operator.F32Store _) = 0x38
+opcode_of (operator.F64Store _) = 0x39
+opcode_of (operator.I32Store8 _) = 0x3a
+opcode_of (operator.I32Store16 _) = 0x3b
+opcode_of (operator.I64Store8 _) = 0x3c
+opcode_of (operator.I64Store16 _) = 0x3d
+opcode_of (operator.I64Store32 _) = 0x3e
+opcode_of (operator.MemorySize _) = 0x3f
+opcode_of (operator.MemoryGrow _) = 0x40
+opcode_of (operator.I32Const _) = 0x41
+opcode_of (operator.I64Const _) = 0x42
+opcode_of (operator.F32Const _) = 0x43
+opcode_of (operator.F64Const _) = 0x44
+opcode_of operator.RefEq = 0xd3
+opcode_of (operator.TypedSelect _) = 0x1c
+opcode_of (operator.TypedSelectMulti _) = 0x1c
+opcode_of (operator.RefNull _) = 0xd0
+opcode_of operator.RefIsNull = 0xd1
+opcode_of (operator.RefFunc _) = 0xd2
+opcode_of (operator.TableGet _) = 0x25
+opcode_of (operator.TableSet _) = 0x26
+opcode_of (operator.ReturnCall _) = 0x12
+opcode_of (operator.ReturnCallIndirect _ _) = 0x13
+opcode_of (operator.TryTable _) = 0x1f
+opcode_of (operator.Throw _) = 0x08
+opcode_of operator.ThrowRef = 0x0a
+opcode_of (operator.Try _) = 0x06
+opcode_of (operator.Catch _) = 0x07
+opcode_of (operator.Rethrow _) = 0x09
+opcode_of (operator.Delegate _) = 0x18
+opcode_of operator.CatchAll = 0x19
+opcode_of (operator.CallRef _) = 0x14
+opcode_of (operator.ReturnCallRef _) = 0x15
+opcode_of operator.RefAsNonNull = 0xd4
+opcode_of (operator.BrOnNull _) = 0xd5
+opcode_of (operator.BrOnNonNull _) = 0xd6
+opcode_of (operator.ContNew _) = 0xe0
+opcode_of (operator.ContBind _ _) = 0xe1
+opcode_of (operator.Suspend _) = 0xe2
+opcode_of (operator.Resume _ _) = 0xe3
+opcode_of (operator.ResumeThrow _ _ _) = 0xe4
+opcode_of (operator.ResumeThrowRef _ _) = 0xe5
+opcode_of (operator.Switch _ _) = 0xe6
+opcode_of (operator.Numeric op) = numeric_opcode op
+opcode_of (operator.Gc op) = gc_subopcode op
+opcode_of (operator.Misc op) = misc_subopcode op
+opcode_of (operator.Simd op) = simd_subopcode op
+opcode_of (operator.Atomic op) = atomic_subopcode op
 
 -- The immediates in order, each with its value.
 abbrev pub immediates_of : Operator → List Immediate

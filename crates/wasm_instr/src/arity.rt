@@ -6,7 +6,7 @@ use crate::fixed_arity::gc_fixed_arity;
 use crate::operator::Operator;
 use wasm_grammar::FrameKind;
 use wasm_imm::BlockType;
-use wasm_ops::GcOperator;
+use wasm_instr_ops::GcOperator;
 
 /// What a module answers to the questions on which arities depend.
 ///

@@ -4,8 +4,8 @@ ghost use Rattle.wasm_instr.specs.FixedArity.{reaching as reaching_of, numeric_p
 
 use crate::operator::Operator;
 use wasm_imm::{MemArg, MemArgTarget};
-use wasm_ops::{AtomicOperator, GcOperator, MiscOperator, NumericOperator};
-use wasm_ops_simd::SimdOperator;
+use wasm_instr_ops::{AtomicOperator, GcOperator, MiscOperator, NumericOperator};
+use wasm_instr_simd::SimdOperator;
 
 /// How many operands an access takes that takes so many of a memory: an array is one more.
 fn reaching(memarg: &MemArg, takes: u32) -> u32

@@ -1,6 +1,6 @@
 //! The operators of WebAssembly, each with its row in the one table of all operators.
 //!
-//! The rows, the spellings and the parts that operators play in the structure stand in `specs/`.
+//! The rows, the encodings and the parts that operators play in the structure stand in `specs/`.
 #![tactic(auto)]
 
 mod arity;
@@ -19,6 +19,6 @@ pub use wasm_imm::{
     ResumeTable, Select, SelectTypes, TryTable, V128, read_lane, read_lanes, read_memory_index,
     read_table_index,
 };
-pub use wasm_ops::{AtomicOperator, GcOperator, MiscOperator, NumericOperator};
-pub use wasm_ops_simd::SimdOperator;
-pub use wasm_row::OperatorInfo;
+pub use wasm_instr_ops::{AtomicOperator, GcOperator, MiscOperator, NumericOperator};
+pub use wasm_instr_simd::SimdOperator;
+pub use wasm_instr_rows::OperatorInfo;

@@ -1,15 +1,15 @@
 // Written by tools/lists.py from tools/operators.tsv.
 ghost use Rattle.std.specs.Prelude.{◌≡◌, ◌↔◌, IsTrue, IfOk, IfErr};
-ghost use Rattle.wasm_imm.specs.Memory.{IsOutOfMemoryAt};
-ghost use Rattle.wasm_instr.specs.Row.{proposal_of, name_of, prefix_of, code_of};
+ghost use Rattle.wasm_imm.specs.OutOfMemory.{IsOutOfMemoryAt};
+ghost use Rattle.wasm_instr.specs.Row.{proposal_of, name_of, prefix_of, opcode_of};
 ghost use Rattle.wasm_instr.specs.Kinds.{IsSimd, IsVector, HoldsList};
 
 use std::alloc::Global;
 use wasm_below::{HeapType, Result, ValType};
 use wasm_imm::{BlockType, BrTable, Ieee32, Ieee64, MemArg, ResumeTable, SelectTypes, TryTable};
-use wasm_ops::{AtomicOperator, GcOperator, MiscOperator, NumericOperator};
-use wasm_ops_simd::SimdOperator;
-use wasm_row::OperatorInfo;
+use wasm_instr_ops::{AtomicOperator, GcOperator, MiscOperator, NumericOperator};
+use wasm_instr_rows::OperatorInfo;
+use wasm_instr_simd::SimdOperator;
 
 /// An operator with its immediates. Instructions.
 ///
@@ -306,7 +306,7 @@ impl<'a> Operator<'a> {
         ensures proposal { result.proposal.now ≡ proposal_of self.now }
         ensures name { result.name.now ≡ name_of self.now }
         ensures prefix { result.prefix ≡ prefix_of self.now }
-        ensures code { result.code ≡ code_of self.now }
+        ensures code { result.code ≡ opcode_of self.now }
     {
         match self {
             Operator::Numeric(op) => op.info(),
@@ -456,7 +456,7 @@ impl<'a> Operator<'a> {
         }
     }
 
-    /// The code byte, or the number behind the prefix.
+    /// The opcode, or the subopcode behind the prefix byte.
     fn code(&self) -> u32
         ensures { result ≡ code_of self.now }
     {

@@ -1,6 +1,6 @@
-pub mod Once
-pub mod Decoding
-pub mod Laying
+pub mod PrefixCode
+pub mod OperatorFaults
+pub mod LayoutLemmas
 pub mod Runs
 pub mod OneRead
 pub mod Locals

@@ -1,9 +1,9 @@
 -- One read of an operators reader.
 use Rattle.std.proofs.Common.{◌≡◌, List, [], ◌∷◌, ◌++◌, Some, refl, sym, subst}
 use Rattle.std.specs.Prelude.{IsSome}
-use Rattle.wasm_below.specs.declared.error.Error.{Error}
-use Rattle.wasm_below.specs.declared.message.Message.{Message}
-use Rattle.wasm_below.specs.declared.message.Message.TheVariants as message
+use Rattle.wasm_below.specs.bytes.error.Error.{Error}
+use Rattle.wasm_below.specs.bytes.message.Message.{Message}
+use Rattle.wasm_below.specs.bytes.message.Message.TheVariants as message
 use Rattle.wasm_below.specs.Refusal.{IsReadFault}
 use Rattle.wasm_below.specs.Source.{IsRefusal}
 use Rattle.wasm_grammar.specs.declared.frame_kind.FrameKind.{FrameKind}
@@ -13,17 +13,17 @@ use Rattle.wasm_grammar.proofs.Innermost.{steps_stay}
 use Rattle.wasm_grammar.proofs.Steps.{path_step}
 use Rattle.wasm_operators.specs.declared.operator.Operator.{Operator}
 use Rattle.wasm_operators.specs.declared.operator.Operator.TheVariants as operator
-use Rattle.wasm_operators.specs.Row.{SpellsAllowed, role_of, roles_of}
+use Rattle.wasm_operators.specs.Row.{EncodesAllowed, role_of, roles_of}
 use Rattle.wasm_operators.specs.Reading.{State, StopsRead}
-use Rattle.wasm_operators.proofs.Laying.{roles_of-append}
+use Rattle.wasm_operators.proofs.LayoutLemmas.{roles_of-append}
 
 -- behind an operator other than `end` the frames are as they were
 pub stays : (frames : List FrameKind) (op : Operator) → (op ≡ operator.End → ⊥) → IsSome (frames_after frames (role_of op)) → frames_after frames (role_of op) ≡ Some frames
 stays frames operator.End not_end allowed = absurd (not_end refl)
 stays frames op not_end allowed = steps_stay frames (role_of op) op refl allowed
 
--- a refusal of what stands at the front stops a read
-pub stops_read : (m : Message) (e : Error) (s : State) (kind : FrameKind) → e.message ≡ m → innermost s.frames ≡ Some kind → IsRefusal (SpellsAllowed s.reader.features kind) e s.reader → StopsRead m e s
+-- a refusal of what stands at the start stops a read
+pub stops_read : (m : Message) (e : Error) (s : State) (kind : FrameKind) → e.message ≡ m → innermost s.frames ≡ Some kind → IsRefusal (EncodesAllowed s.reader.features kind) e s.reader → StopsRead m e s
 stops_read message.OutOfMemory e s kind is at h = absurd (subst IsReadFault is h.fault)
 stops_read message.OperatorsRemaining e s kind is at h = absurd (subst IsReadFault is h.fault)
 stops_read message.FramesRemain e s kind is at h = absurd (subst IsReadFault is h.fault)

@@ -1,11 +1,11 @@
 -- Lists of operators with their offsets: which bytes they lie in, which are an expression, and which begin one.
 -- WebAssembly Core Specification 3.0: Binary Format, Instructions, Expressions.
 use Rattle.std.specs.Prelude.{◌≡◌, ℕ, ◌+◌, ◌≤◌, List, [], ◌∷◌, ◌++◌, length, map}
-use Rattle.wasm_below.specs.declared.features.WasmFeatures.{WasmFeatures}
+use Rattle.wasm_below.specs.bytes.features.WasmFeatures.{WasmFeatures}
 use Rattle.wasm_below.specs.Source.{Source}
 use Rattle.wasm_grammar.specs.Beginning.{IsWalk}
 use Rattle.wasm_operators.specs.declared.operator.Operator.{Operator}
-use Rattle.wasm_operators.specs.Row.{SpellsOperator, roles_of}
+use Rattle.wasm_operators.specs.Row.{EncodesOperator, roles_of}
 
 -- Operators, each with the offset at which it begins.
 abbrev pub Placed : Type 0
@@ -14,45 +14,45 @@ Placed = List (Operator × ℕ)
 abbrev pub operators : Placed → List Operator
 operators placed = map (λ p. p.0) placed
 
--- The bytes are one spelling of each operator, joined, and each offset is where that spelling stands.
+-- The bytes are one encoding of each operator, joined, and each offset is where that encoding stands.
 abbrev pub LaidOut : WasmFeatures → ℕ → Placed → List ℕ → Type 0
 LaidOut f offset [] bytes = bytes ≡ []
-LaidOut f offset (p ∷ ps) bytes = (p.1 ≡ offset) × (text more : List ℕ) × (bytes ≡ text ++ more) × SpellsOperator f p.0 text × LaidOut f (offset + length text) ps more
+LaidOut f offset (p ∷ ps) bytes = (p.1 ≡ offset) × (text more : List ℕ) × (bytes ≡ text ++ more) × EncodesOperator f p.0 text × LaidOut f (offset + length text) ps more
 
 -- The operators, in this order, are the walk of an expression.
 abbrev pub AreWalk : List Operator → Type 0
 AreWalk ops = IsWalk (roles_of ops)
 
--- Each operator has a spelling.
-abbrev pub AreSpelled : WasmFeatures → List Operator → Type 0
-AreSpelled f [] = Unit {0}
-AreSpelled f (op ∷ ops) = ((text : List ℕ) × SpellsOperator f op text) × AreSpelled f ops
+-- Each operator has an encoding.
+abbrev pub AreEncoded : WasmFeatures → List Operator → Type 0
+AreEncoded f [] = Unit {0}
+AreEncoded f (op ∷ ops) = ((text : List ℕ) × EncodesOperator f op text) × AreEncoded f ops
 
--- The operators are a beginning of the walk of an expression whose operators all have spellings.
+-- The operators are a beginning of the walk of an expression whose operators all have encodings.
 abbrev pub Begins : WasmFeatures → List Operator → Type 0
-Begins f ops = (more : List Operator) × AreWalk (ops ++ more) × AreSpelled f (ops ++ more)
+Begins f ops = (more : List Operator) × AreWalk (ops ++ more) × AreEncoded f (ops ++ more)
 
--- Behind the operators before, all of the bytes spell the rest of an expression, and these are its operators.
-abbrev pub SpellsRest : List Operator → Source → Placed → Type 0
-SpellsRest before s placed = LaidOut s.features s.offset placed s.bytes × AreWalk (before ++ operators placed)
+-- Behind the operators before, all of the bytes encode the rest of an expression, and these are its operators.
+abbrev pub EncodesRest : List Operator → Source → Placed → Type 0
+EncodesRest before s placed = LaidOut s.features s.offset placed s.bytes × AreWalk (before ++ operators placed)
 
--- The bytes spell an expression, and these are its operators.
-abbrev pub SpellsExpression : Source → Placed → Type 0
-SpellsExpression s placed = SpellsRest [] s placed
+-- The bytes encode an expression, and these are its operators.
+abbrev pub EncodesExpression : Source → Placed → Type 0
+EncodesExpression s placed = EncodesRest [] s placed
 
--- Some front of the bytes spells these operators, and behind the operators before they go on with an expression.
-pub record IsFrontBehind (before : List Operator) (s : Source) (placed : Placed) : Type 0 where
-  pub front : List ℕ
+-- Some prefix of the bytes encodes these operators, and behind the operators before they go on with an expression.
+pub record IsBeginningBehind (before : List Operator) (s : Source) (placed : Placed) : Type 0 where
+  pub beginning : List ℕ
   pub more : List ℕ
-  pub parts : s.bytes ≡ front ++ more
-  pub laid : LaidOut s.features s.offset placed front
+  pub parts : s.bytes ≡ beginning ++ more
+  pub laid : LaidOut s.features s.offset placed beginning
   pub begins : Begins s.features (before ++ operators placed)
 
 -- The longest such list.
 pub record IsLongestBehind (before : List Operator) (s : Source) (placed : Placed) : Type 0 where
-  pub front : IsFrontBehind before s placed
-  pub longest : (others : Placed) → IsFrontBehind before s others → length others ≤ length placed
+  pub beginning : IsBeginningBehind before s placed
+  pub longest : (others : Placed) → IsBeginningBehind before s others → length others ≤ length placed
 
--- The longest list that some front of the bytes spells and that begins an expression.
-abbrev pub IsLongestFront : Source → Placed → Type 0
-IsLongestFront s placed = IsLongestBehind [] s placed
+-- The longest list that some prefix of the bytes encodes and that begins an expression.
+abbrev pub IsLongestBeginning : Source → Placed → Type 0
+IsLongestBeginning s placed = IsLongestBehind [] s placed

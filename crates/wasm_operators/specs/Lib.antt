@@ -1,6 +1,6 @@
 pub mod Row
 pub mod Expression
-pub mod Decoding
+pub mod OperatorFaults
 pub mod Reading
 pub mod Headline
 pub mod Body

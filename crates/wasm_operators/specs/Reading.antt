@@ -1,14 +1,14 @@
 -- A reader of operators, one read of it, and several.
 use Rattle.std.specs.Prelude.{◌≡◌, ℕ, List, [], ◌∷◌, ◌++◌, Some, Result, Ok, Err}
-use Rattle.wasm_below.specs.declared.error.Error.{Error}
-use Rattle.wasm_below.specs.declared.message.Message.{Message}
-use Rattle.wasm_below.specs.declared.message.Message.TheVariants as message
+use Rattle.wasm_below.specs.bytes.error.Error.{Error}
+use Rattle.wasm_below.specs.bytes.message.Message.{Message}
+use Rattle.wasm_below.specs.bytes.message.Message.TheVariants as message
 use Rattle.wasm_below.specs.Source.{Reader, rest, offset_of, Takes, IsRefusal}
 use Rattle.wasm_grammar.specs.declared.frame_kind.FrameKind.{FrameKind}
 use Rattle.wasm_grammar.specs.declared.frame_kind.FrameKind.TheVariants as frame
 use Rattle.wasm_grammar.specs.Frames.{frames_after, frames_along, innermost}
 use Rattle.wasm_operators.specs.declared.operator.Operator.{Operator}
-use Rattle.wasm_operators.specs.Row.{SpellsOperator, SpellsAllowed, role_of, roles_of}
+use Rattle.wasm_operators.specs.Row.{EncodesOperator, EncodesAllowed, role_of, roles_of}
 use Rattle.wasm_operators.specs.Expression.{Placed, operators, LaidOut}
 
 -- What is before the reader, and the open frames from the outermost to the innermost.
@@ -20,7 +20,7 @@ pub record State : Type 0 where
 abbrev pub IsFresh : State → Type 0
 IsFresh s = s.frames ≡ frame.Block ∷ []
 
--- What is so where a read answers this error: no frame is open; or the rest is refused, since no front of it spells an operator that the innermost frame allows.
+-- What is so where a read answers this error: no frame is open; or the rest is refused, since no prefix of it encodes an operator that the innermost frame allows.
 abbrev pub StopsRead : Message → Error → State → Type 0
 StopsRead message.OutOfMemory e s = ⊥
 StopsRead message.OperatorsRemaining e s = (s.frames ≡ []) × (e.offset ≡ offset_of s.reader)
@@ -29,12 +29,12 @@ StopsRead message.FramesRemainConst e s = ⊥
 StopsRead message.UnexpectedData e s = ⊥
 StopsRead message.TooManyLocals e s = ⊥
 StopsRead message.DataAfterSection e s = ⊥
-StopsRead _ e s = (kind : FrameKind) × (innermost s.frames ≡ Some kind) × IsRefusal (SpellsAllowed s.reader.features kind) e s.reader
+StopsRead _ e s = (kind : FrameKind) × (innermost s.frames ≡ Some kind) × IsRefusal (EncodesAllowed s.reader.features kind) e s.reader
 
--- A front of the rest spelled this operator, which the innermost frame allows, and was taken.
+-- A prefix of the rest encoded this operator, which the innermost frame allows, and was taken.
 pub record TakesOperator (op : Operator) (old new : State) : Type 0 where
   pub text : List ℕ
-  pub spelled : SpellsOperator old.reader.features op text
+  pub encodes : EncodesOperator old.reader.features op text
   pub takes : Takes old.reader new.reader text
   pub frames : frames_after old.frames (role_of op) ≡ Some new.frames
 
@@ -70,7 +70,7 @@ StopsRun message.FramesRemainConst e s = ⊥
 StopsRun message.UnexpectedData e s = ⊥
 StopsRun message.TooManyLocals e s = ⊥
 StopsRun message.DataAfterSection e s = ⊥
-StopsRun _ e s = (rest s.reader ≡ [] → ⊥) × (kind : FrameKind) × (innermost s.frames ≡ Some kind) × IsRefusal (SpellsAllowed s.reader.features kind) e s.reader
+StopsRun _ e s = (rest s.reader ≡ [] → ⊥) × (kind : FrameKind) × (innermost s.frames ≡ Some kind) × IsRefusal (EncodesAllowed s.reader.features kind) e s.reader
 
 abbrev pub EndsRun : {X : Type 0} → Result X Error → State → Type 0
 EndsRun (Ok x) s = (s.frames ≡ []) × (rest s.reader ≡ [])

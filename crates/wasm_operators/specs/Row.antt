@@ -1,8 +1,8 @@
--- The table of the operators by columns, their spellings, and the parts that they play in the structure.
+-- The table of the operators by columns, their encodings, and the parts that they play in the structure.
 -- WebAssembly Core Specification 3.0: Binary Format, Instructions; Appendix, Index of Instructions.
 use Rattle.std.specs.Prelude.{◌≡◌, ℕ, ℤ, List, [], ◌∷◌, ◌++◌, Option, None, codes}
-use Rattle.wasm_below.specs.declared.features.WasmFeatures.{WasmFeatures}
-use Rattle.wasm_below.specs.Number.{SpellsUnsigned, SpellsSigned}
+use Rattle.wasm_below.specs.bytes.features.WasmFeatures.{WasmFeatures}
+use Rattle.wasm_below.specs.Number.{EncodesUnsigned, EncodesSigned}
 use Rattle.wasm_grammar.specs.declared.frame_kind.FrameKind.{FrameKind}
 use Rattle.wasm_grammar.specs.Role.{Role, plain, ends}
 use Rattle.wasm_grammar.specs.Frames.{Allows}
@@ -34,44 +34,44 @@ name_of (operator.LocalGet local_index) = codes "LocalGet"
 name_of (operator.I32Const value) = codes "I32Const"
 name_of (operator.Numeric op) = numeric_name op
 
--- The byte in front of the code, where there is one.
+-- The byte before the code, where there is one.
 abbrev pub prefix_of : Operator → Option ℕ
 prefix_of op = None
 
-abbrev pub numeric_code : NumericOperator → ℕ
-numeric_code numeric.I32Eqz = 0x45
-numeric_code numeric.I32Add = 0x6a
+abbrev pub numeric_opcode : NumericOperator → ℕ
+numeric_opcode numeric.I32Eqz = 0x45
+numeric_opcode numeric.I32Add = 0x6a
 
-abbrev pub code_of : Operator → ℕ
-code_of operator.Unreachable = 0x00
-code_of operator.Nop = 0x01
-code_of operator.End = 0x0b
-code_of operator.Return = 0x0f
-code_of operator.Drop = 0x1a
-code_of operator.Select = 0x1b
-code_of (operator.LocalGet local_index) = 0x20
-code_of (operator.I32Const value) = 0x41
-code_of (operator.Numeric op) = numeric_code op
+abbrev pub opcode_of : Operator → ℕ
+opcode_of operator.Unreachable = 0x00
+opcode_of operator.Nop = 0x01
+opcode_of operator.End = 0x0b
+opcode_of operator.Return = 0x0f
+opcode_of operator.Drop = 0x1a
+opcode_of operator.Select = 0x1b
+opcode_of (operator.LocalGet local_index) = 0x20
+opcode_of (operator.I32Const value) = 0x41
+opcode_of (operator.Numeric op) = numeric_opcode op
 
 abbrev pub immediates_of : Operator → List Immediate
 immediates_of (operator.LocalGet local_index) = unsigned_32 local_index ∷ []
 immediates_of (operator.I32Const value) = signed_32 value ∷ []
 immediates_of op = []
 
-abbrev pub SpellsImmediate : Immediate → List ℕ → Type 0
-SpellsImmediate (unsigned_32 n) bytes = SpellsUnsigned 32 bytes n
-SpellsImmediate (signed_32 n) bytes = SpellsSigned 32 bytes n
+abbrev pub EncodesImmediate : Immediate → List ℕ → Type 0
+EncodesImmediate (unsigned_32 n) bytes = EncodesUnsigned 32 bytes n
+EncodesImmediate (signed_32 n) bytes = EncodesSigned 32 bytes n
 
 -- The immediates, one behind the other.
-abbrev pub SpellsImmediates : List Immediate → List ℕ → Type 0
-SpellsImmediates [] bytes = bytes ≡ []
-SpellsImmediates (i ∷ is) bytes = (front more : List ℕ) × (bytes ≡ front ++ more) × SpellsImmediate i front × SpellsImmediates is more
+abbrev pub EncodesImmediates : List Immediate → List ℕ → Type 0
+EncodesImmediates [] bytes = bytes ≡ []
+EncodesImmediates (i ∷ is) bytes = (beginning more : List ℕ) × (bytes ≡ beginning ++ more) × EncodesImmediate i beginning × EncodesImmediates is more
 
--- Under these features the bytes spell the operator: its code byte, and its immediates in order.
-pub record SpellsOperator (f : WasmFeatures) (op : Operator) (bytes : List ℕ) : Type 0 where
+-- Under these features the bytes encode the operator: its opcode, and its immediates in order.
+pub record EncodesOperator (f : WasmFeatures) (op : Operator) (bytes : List ℕ) : Type 0 where
   pub behind : List ℕ
-  pub parts : bytes ≡ code_of op ∷ behind
-  pub immediates : SpellsImmediates (immediates_of op) behind
+  pub parts : bytes ≡ opcode_of op ∷ behind
+  pub immediates : EncodesImmediates (immediates_of op) behind
 
 -- The part that an operator plays in the structure.
 abbrev pub role_of : Operator → Role Operator
@@ -82,15 +82,15 @@ abbrev pub roles_of : List Operator → List (Role Operator)
 roles_of [] = []
 roles_of (op ∷ ops) = role_of op ∷ roles_of ops
 
--- The bytes spell the operator, and a frame of this kind allows it.
-abbrev pub SpellsAllowed : WasmFeatures → FrameKind → List ℕ → Operator → Type 0
-SpellsAllowed f kind bytes op = SpellsOperator f op bytes × Allows kind (role_of op)
+-- The bytes encode the operator, and a frame of this kind allows it.
+abbrev pub EncodesAllowed : WasmFeatures → FrameKind → List ℕ → Operator → Type 0
+EncodesAllowed f kind bytes op = EncodesOperator f op bytes × Allows kind (role_of op)
 
--- No operator has this code byte.
-abbrev pub IsNoCode : ℕ → Type 0
-IsNoCode byte = (op : Operator) → code_of op ≡ byte → ⊥
+-- No operator has this opcode.
+abbrev pub IsNoOpcode : ℕ → Type 0
+IsNoOpcode byte = (op : Operator) → opcode_of op ≡ byte → ⊥
 
--- Behind this code byte the bytes spell the rest of the operator.
-pub record SpellsBehind (f : WasmFeatures) (code : ℕ) (bytes : List ℕ) (op : Operator) : Type 0 where
-  pub code_is : code_of op ≡ code
-  pub immediates : SpellsImmediates (immediates_of op) bytes
+-- Behind this opcode the bytes encode the rest of the operator.
+pub record EncodesBehind (f : WasmFeatures) (code : ℕ) (bytes : List ℕ) (op : Operator) : Type 0 where
+  pub opcode_is : opcode_of op ≡ code
+  pub immediates : EncodesImmediates (immediates_of op) bytes

@@ -1,17 +1,17 @@
 ghost use Rattle.std.specs.Prelude.{◌≡◌, ◌≤◌, IsErrAnd};
 ghost use Rattle.wasm_below.specs.Source.{Reads, offset_of, end_of};
-ghost use Rattle.wasm_operators.specs.Row.{SpellsAllowed, SpellsBehind, IsNoCode};
-ghost use Rattle.wasm_operators.specs.Decoding.{FindsFrom, RefusesCode};
+ghost use Rattle.wasm_operators.specs.Row.{EncodesAllowed, EncodesBehind, IsNoOpcode};
+ghost use Rattle.wasm_operators.specs.OperatorFaults.{FindsFrom, RefusesOpcode};
 
 use crate::operator::{NumericOperator, Operator};
 use wasm_below::{BinaryReader, Error, Message, Result};
 use wasm_grammar::FrameKind;
 
-/// The operator at the front of the rest, in a frame of this kind.
+/// The operator at the start of the rest, in a frame of this kind.
 #[inline(always)]
 pub fn read_operator(reader: &mut BinaryReader, frame: FrameKind) -> Result<Operator>
-    ensures reads { Reads (SpellsAllowed reader.old.features frame) result reader.old reader.new }
-    ensures unknown { RefusesCode result reader.old }
+    ensures reads { Reads (EncodesAllowed reader.old.features frame) result reader.old reader.new }
+    ensures unknown { RefusesOpcode result reader.old }
 {
     let position = reader.current_position();
     let start = reader.original_position();
@@ -25,13 +25,13 @@ pub fn read_operator(reader: &mut BinaryReader, frame: FrameKind) -> Result<Oper
     }
 }
 
-/// What stands behind the code byte of an operator that begins at `start`.
+/// What stands behind the opcode of an operator that begins at `start`.
 #[inline(always)]
 fn read_behind(reader: &mut BinaryReader, start: u64, code: u8) -> Result<Operator>
     requires behind { start ≤ offset_of reader.old }
     requires within { start ≤ end_of reader.old }
-    ensures finds { FindsFrom start (SpellsBehind reader.old.features code) result reader.old reader.new }
-    ensures unknown { IsNoCode code → IsErrAnd result (λ e. (e.message ≡ Message.IllegalOpcode code) × (e.offset ≡ start)) }
+    ensures finds { FindsFrom start (EncodesBehind reader.old.features code) result reader.old reader.new }
+    ensures unknown { IsNoOpcode code → IsErrAnd result (λ e. (e.message ≡ Message.IllegalOpcode code) × (e.offset ≡ start)) }
 {
     match code {
         0x00 => Ok(Operator::Unreachable),

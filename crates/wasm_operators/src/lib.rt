@@ -1,7 +1,7 @@
 //! The operators of a WebAssembly expression, read from borrowed bytes.
 //!
 //! The contract of [`OperatorsReader::read_all`] is the headline: reading a fresh reader to its end
-//! succeeds exactly where the bytes spell an expression of the recursive grammar, and gives the walk
+//! succeeds exactly where the bytes encode an expression of the recursive grammar, and gives the walk
 //! of its one tree. The definitions stand in `specs/`.
 #![tactic(auto)]
 

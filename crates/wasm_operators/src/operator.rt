@@ -1,5 +1,5 @@
 ghost use Rattle.std.specs.Prelude.{◌≡◌, codes};
-ghost use Rattle.wasm_operators.specs.Row.{proposal_of, name_of, prefix_of, code_of};
+ghost use Rattle.wasm_operators.specs.Row.{proposal_of, name_of, prefix_of, opcode_of};
 
 /// An operator with its immediates. Operators without any, of the codes 45 to c4, are of
 /// [`NumericOperator`].
@@ -42,9 +42,9 @@ pub struct OperatorInfo {
     pub proposal: &'static str,
     /// The name of the operator's variant.
     pub name: &'static str,
-    /// The byte in front of the code, if there is one.
+    /// The byte before the code, if there is one.
     pub prefix: Option<u8>,
-    /// The code byte, or the number behind the prefix.
+    /// The opcode, or the subopcode.
     pub code: u32,
 }
 
@@ -54,7 +54,7 @@ impl Operator {
         ensures proposal { result.proposal.now ≡ proposal_of self.now }
         ensures name { result.name.now ≡ name_of self.now }
         ensures prefix { result.prefix ≡ prefix_of self.now }
-        ensures code { result.code ≡ code_of self.now }
+        ensures code { result.code ≡ opcode_of self.now }
     {
         match self {
             Operator::Unreachable => mvp("Unreachable", 0x00),

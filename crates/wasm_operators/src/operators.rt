@@ -2,10 +2,10 @@ ghost use Rattle.std.specs.Prelude.{◌≡◌, List, [], ◌∷◌, ◌++◌, Is
 ghost use Rattle.wasm_below.specs.Source.{rest, offset_of, source_of};
 ghost use Rattle.wasm_grammar.specs.OpenPath.{OpenPath};
 ghost use Rattle.wasm_operators.specs.Row.{role_of, roles_of};
-ghost use Rattle.wasm_operators.specs.Decoding.{RefusesCode};
-ghost use Rattle.wasm_operators.specs.Expression.{Placed, SpellsRest, SpellsExpression};
+ghost use Rattle.wasm_operators.specs.OperatorFaults.{RefusesOpcode};
+ghost use Rattle.wasm_operators.specs.Expression.{Placed, EncodesRest, EncodesExpression};
 ghost use Rattle.wasm_operators.specs.Reading.{ReadsOperator, RunsToEnd, Finishes, IsFresh};
-ghost use Rattle.wasm_operators.specs.Headline.{StoodBefore, ReadsTree, ReadsFront, Adds};
+ghost use Rattle.wasm_operators.specs.Headline.{StoodBefore, ReadsTree, ReadsBeginning, Appends};
 ghost use Rattle.wasm_operators.specs.declared.operator.Operator.{Operator};
 
 use crate::control::ControlStack;
@@ -60,17 +60,17 @@ impl<'a> OperatorsReader<'a> {
         self.reader.original_position()
     }
 
-    /// The next operator: `Ok` exactly where a frame is open and a front of the rest spells an
-    /// operator that the innermost frame allows. That front is taken.
+    /// The next operator: `Ok` exactly where a frame is open and a prefix of the rest encodes an
+    /// operator that the innermost frame allows. That prefix is taken.
     ///
-    /// E8 at the position where no frame is open. A front that more bytes would make whole is
+    /// E8 at the position where no frame is open. A prefix that more bytes would make whole is
     /// refused by E1.
     pub fn read(&mut self) -> Result<Operator>
         ensures reads { ReadsOperator result self.old self.new }
         // It is E8 exactly where no frame is open.
         ensures closed { IsErrAnd result (λ e. e.message ≡ Message.OperatorsRemaining) ↔ (self.old.frames ≡ []) }
         // A byte that is no operator's code is refused by E12, where it stands.
-        ensures unknown { (self.old.frames ≡ [] → ⊥) → RefusesCode result self.old.reader }
+        ensures unknown { (self.old.frames ≡ [] → ⊥) → RefusesOpcode result self.old.reader }
         // The frames go on being those of the open path, whatever stood before.
         ensures path { IfOk result (λ op. (before : List Operator) → OpenPath (roles_of before) self.old.frames
             → OpenPath (roles_of (before ++ op ∷ [])) self.new.frames) }
@@ -121,23 +121,23 @@ impl<'a> OperatorsReader<'a> {
     /// at the position.
     ///
     /// On a reader that has read operators before, as after E3, the same holds with those put in
-    /// front: the clauses whose names begin with `rest`.
+    /// prefix: the clauses whose names begin with `rest`.
     pub fn read_all(&mut self, out: &mut Vec<(Operator, u64)>) -> Result<()>
-        // On Ok what was added is the walk of the one tree that the bytes spell.
-        ensures tree { IsFresh self.old → OnOk result (Adds out.old.items out.new.items (ReadsTree [] self.old self.new)) }
-        // Where the bytes spell an expression, it is read, unless memory is refused.
-        ensures only { IsFresh self.old → (placed : Placed) → SpellsExpression (source_of self.old.reader) placed
+        // On Ok what was added is the walk of the one tree that the bytes encode.
+        ensures tree { IsFresh self.old → OnOk result (Appends out.old.items out.new.items (ReadsTree [] self.old self.new)) }
+        // Where the bytes encode an expression, it is read, unless memory is refused.
+        ensures only { IsFresh self.old → (placed : Placed) → EncodesExpression (source_of self.old.reader) placed
             → IfErr result (λ e. e.message ≡ Message.OutOfMemory) }
         // Else what was added is the longest beginning of an expression.
-        ensures front { IsFresh self.old → IfErr result (λ e. Adds out.old.items out.new.items (ReadsFront [] e self.old self.new)) }
+        ensures beginning { IsFresh self.old → IfErr result (λ e. Appends out.old.items out.new.items (ReadsBeginning [] e self.old self.new)) }
 
         ensures rest_tree { (before : List Operator) → StoodBefore before self.old
-            → OnOk result (Adds out.old.items out.new.items (ReadsTree before self.old self.new)) }
+            → OnOk result (Appends out.old.items out.new.items (ReadsTree before self.old self.new)) }
         ensures rest_only { (before : List Operator) → StoodBefore before self.old
-            → (placed : Placed) → SpellsRest before (source_of self.old.reader) placed
+            → (placed : Placed) → EncodesRest before (source_of self.old.reader) placed
             → IfErr result (λ e. e.message ≡ Message.OutOfMemory) }
-        ensures rest_front { (before : List Operator) → StoodBefore before self.old
-            → IfErr result (λ e. Adds out.old.items out.new.items (ReadsFront before e self.old self.new)) }
+        ensures rest_beginning { (before : List Operator) → StoodBefore before self.old
+            → IfErr result (λ e. Appends out.old.items out.new.items (ReadsBeginning before e self.old self.new)) }
     {
         self.read_to_end(out)
     }

@@ -1,5 +1,5 @@
 ghost use Rattle.std.specs.Prelude.{◌≡◌, IsOk, IfOk, IfErr};
-ghost use Rattle.wasm_imm.specs.Memory.{IsOutOfMemoryAt};
+ghost use Rattle.wasm_imm.specs.OutOfMemory.{IsOutOfMemoryAt};
 ghost use Rattle.wasm_instr.specs.Kinds.{IsVector, HoldsList};
 
 use crate::owned::{visit_owned, visit_owned_simd};

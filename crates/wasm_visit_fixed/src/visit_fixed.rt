@@ -1,9 +1,9 @@
 // Written by tools/lists.py from tools/operators.tsv.
 ghost use Rattle.wasm_instr.specs.declared.operator.Operator.{Operator};
-ghost use Rattle.wasm_ops.specs.declared.numeric.NumericOperator.{NumericOperator};
-ghost use Rattle.wasm_ops.specs.declared.gc.GcOperator.{GcOperator};
-ghost use Rattle.wasm_ops.specs.declared.misc.MiscOperator.{MiscOperator};
-ghost use Rattle.wasm_ops.specs.declared.atomic.AtomicOperator.{AtomicOperator};
+ghost use Rattle.wasm_instr_ops.specs.declared.numeric.NumericOperator.{NumericOperator};
+ghost use Rattle.wasm_instr_ops.specs.declared.gc.GcOperator.{GcOperator};
+ghost use Rattle.wasm_instr_ops.specs.declared.misc.MiscOperator.{MiscOperator};
+ghost use Rattle.wasm_instr_ops.specs.declared.atomic.AtomicOperator.{AtomicOperator};
 ghost use Rattle.wasm_instr.specs.Kinds.{IsFixed};
 
 use wasm_below::{HeapType, RefType, ValType};

@@ -1,6 +1,6 @@
 // Written by tools/lists.py from tools/operators.tsv.
 ghost use Rattle.wasm_instr.specs.declared.operator.Operator.{Operator};
-ghost use Rattle.wasm_ops_simd.specs.declared.simd.SimdOperator.{SimdOperator};
+ghost use Rattle.wasm_instr_simd.specs.declared.simd.SimdOperator.{SimdOperator};
 ghost use Rattle.wasm_instr.specs.Kinds.{IsVector};
 
 use wasm_imm::{MemArg, V128};

@@ -11,18 +11,18 @@ returns-in_err-operators-clause-reads c =
     rw (p.1, p.2) (refused_body c.in_err-operators.field-0.0 (reader_of c.args.features 0 c.args.bytes.now) c.args.out.now.items (rw same at c.in_err-operators.ensures))
 
 pub returns-in_err-operators-clause-whole : goal.returns-in_err-operators-clause-whole
-returns-in_err-operators-clause-whole c = λ placed spells.
+returns-in_err-operators-clause-whole c = λ placed encodes.
     let same = c.new.ensures ∙ c.new_features-reader.ensures in
-    absurd (no_body c.in_err-operators.field-0.0 (reader_of c.args.features 0 c.args.bytes.now) placed (rw same at c.in_err-operators.ensures) spells)
+    absurd (no_body c.in_err-operators.field-0.0 (reader_of c.args.features 0 c.args.bytes.now) placed (rw same at c.in_err-operators.ensures) encodes)
 
 pub returns-clause-reads : goal.returns-clause-reads
 returns-clause-reads c =
     let same = c.new.ensures ∙ c.new_features-reader.ensures in
     let opens = rw same at c.in_ok-operators.ensures in
-    opened_body c.read_all.result (reader_of c.args.features 0 c.args.bytes.now) c.in_ok-operators.operators c.read_all.new.self c.args.out.now.items c.read_all.new.out.items opens (c.read_all.ensures.tree opens.3) (c.read_all.ensures.front opens.3)
+    opened_body c.read_all.result (reader_of c.args.features 0 c.args.bytes.now) c.in_ok-operators.operators c.read_all.new.self c.args.out.now.items c.read_all.new.out.items opens (c.read_all.ensures.tree opens.3) (c.read_all.ensures.beginning opens.3)
 
 pub returns-clause-whole : goal.returns-clause-whole
-returns-clause-whole c = λ placed spells.
+returns-clause-whole c = λ placed encodes.
     let same = c.new.ensures ∙ c.new_features-reader.ensures in
     let opens = rw same at c.in_ok-operators.ensures in
-    c.read_all.ensures.only opens.3 placed (expression_behind (reader_of c.args.features 0 c.args.bytes.now) c.in_ok-operators.operators placed opens spells)
+    c.read_all.ensures.only opens.3 placed (expression_behind (reader_of c.args.features 0 c.args.bytes.now) c.in_ok-operators.operators placed opens encodes)

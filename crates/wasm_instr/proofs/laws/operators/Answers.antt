@@ -1,5 +1,5 @@
-use Rattle.wasm_instr.proofs.OperatorOnce.{operator_once}
+use Rattle.wasm_instr.proofs.OperatorPrefixCode.{operator_prefix_code}
 use Rattle.wasm_instr.proofs.laws.operators.Goals as goal
 
 pub returns : goal.returns
-returns c = operator_once c.args.features
+returns c = operator_prefix_code c.args.features

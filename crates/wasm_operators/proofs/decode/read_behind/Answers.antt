@@ -3,7 +3,7 @@ use Rattle.wasm_below.specs.Refusal.{IsReadFault}
 use Rattle.wasm_below.specs.Source.{rest}
 use Rattle.wasm_operators.specs.declared.operator.Operator.TheVariants as operator
 use Rattle.wasm_operators.specs.declared.operator.NumericOperator.TheVariants as numeric
-use Rattle.wasm_operators.proofs.Decoding.{no_operator}
+use Rattle.wasm_operators.proofs.OperatorFaults.{no_operator}
 use Rattle.wasm_operators.proofs.decode.read_behind.Goals as goal
 
 pub returns-in_default-clause-finds : goal.returns-in_default-clause-finds

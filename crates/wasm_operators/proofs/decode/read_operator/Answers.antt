@@ -1,4 +1,4 @@
-use Rattle.wasm_operators.proofs.Decoding.{with_code}
+use Rattle.wasm_operators.proofs.OperatorFaults.{with_code}
 use Rattle.wasm_operators.proofs.decode.read_operator.Goals as goal
 
 pub returns-in-Ok-clause-reads : goal.returns-in-Ok-clause-reads

@@ -1,7 +1,7 @@
 use Rattle.std.proofs.Common.{true, not, is_ok, ℕ, ◌≡◌, ◌∙◌, ◌++◌, ◌∷◌, [], refl, ap}
 use Rattle.wasm_below.specs.Source.{offset_of}
 use Rattle.wasm_operators.specs.declared.operator.Operator.{Operator}
-use Rattle.wasm_operators.proofs.Laying.{same_place}
+use Rattle.wasm_operators.proofs.LayoutLemmas.{same_place}
 use Rattle.wasm_operators.proofs.Runs.{ran_push, pushed}
 use Rattle.wasm_operators.proofs.operators.OperatorsReader.read_to_end.Goals as goal
 

@@ -1,0 +1,71 @@
+-- Blocks of bytes, and counts with a limit.
+use Rattle.std.proofs.Common.{◌≡◌, ℕ, ◌+◌, ◌-◌, ◌<◌, ◌≤◌, List, [], ◌++◌, length, take, drop, Ok, refl, sym, subst, ap, ◌∙◌, append_assoc, length-append, length-drop, arith}
+use Rattle.std.proofs.lemmas.List.{take-append-drop, drop-drop, length-take-le, append-nil}
+use Rattle.wasm_below_bytes.specs.declared.error.Error.{Error}
+use Rattle.wasm_below_bytes.specs.declared.message.Message.{Message}
+use Rattle.wasm_below_bytes.specs.declared.message.Message.TheVariants as message
+use Rattle.wasm_below_bytes.specs.Refusal.{IsReadFault}
+use Rattle.wasm_below_bytes.specs.Number.{EncodesUnsigned, EncodesSize}
+use Rattle.wasm_below_bytes.specs.Source.{Reader, rest, offset_of, at_position, Takes, NoPrefix, MayFollow, IsRefusal, Reads, IsShort, NumberFault, SizeFault}
+use Rattle.wasm_below_bytes.proofs.TakesLemmas.{back}
+use Rattle.wasm_below_bytes.proofs.PrefixCode.{unsigned_prefix_code}
+
+-- fewer bytes are left than each such text has
+pub short_refused : {X : Type 0} (Encodes : List ℕ → X → Type 0) (n : ℕ) (e : Error) (r : Reader) → ((text : List ℕ) (x : X) → Encodes text x → length text ≡ n) → r.position ≤ length r.buffer → IsShort n e r → IsRefusal Encodes e r
+short_refused Encodes n e r sized le h =
+    record {
+      refuses = λ more follow text after x p eq. (
+          let none : more ≡ [] = subst (λ m. MayFollow m more) h.0 follow in
+          let left : length (rest r) ≡ length r.buffer - r.position = length-drop r.position r.buffer in
+          let whole : length (rest r) + length more ≡ length text + length after = sym (length-append (rest r) more) ∙ ap length eq ∙ length-append text after in
+          let zero : length more ≡ 0 = ap length none in
+          let size : length text ≡ n = sized text x p in
+          let few : r.start + length r.buffer < r.start + r.position + n = h.2 in
+          omega arith
+          );
+      fault = subst IsReadFault (sym h.0) tt;
+      ahead = (let at : e.offset ≡ offset_of r = h.1 in (omega arith, omega arith));
+    }
+
+-- this many bytes are taken
+pub takes_block : (old new : Reader) (n m : ℕ) → m ≡ n → n ≤ length (rest old) → new ≡ at_position old (old.position + n) → (length (take m (rest old)) ≡ n) × Takes old new (take m (rest old))
+takes_block old new n m same fits moved =
+    let size : length (take m (rest old)) ≡ n = length-take-le m (rest old) (omega arith) ∙ same in (
+      size,
+      record {
+        moved = moved ∙ ap (λ k. at_position old (old.position + k)) (sym size);
+        parts = sym (take-append-drop m (rest old)) ∙ ap (λ z. take m (rest old) ++ z) (drop-drop m old.position old.buffer ∙ ap (λ k. drop (old.position + k) old.buffer) same ∙ sym (ap rest moved));
+      },
+    )
+
+-- a number above the limit is no count
+no_size : (text after more : List ℕ) (limit n : ℕ) → EncodesUnsigned 32 text n → limit < n → NoPrefix (EncodesSize limit) ((text ++ after) ++ more)
+no_size text after more limit n p over t2 more2 k q e =
+    let same : n ≡ k = (unsigned_prefix_code text t2 32 (after ++ more) more2 n k p q.0 (sym (append_assoc text after more) ∙ e)).1 in
+    omega (arith, q.1)
+
+-- back where a number was read that is above the limit
+pub size_refused : (limit n : ℕ) (e : Error) (old mid new : Reader) (position : ℕ) → Reads (EncodesUnsigned 32) (Ok n) old mid → limit < n → position ≡ old.position → position ≤ length old.buffer → new ≡ at_position mid position → e.offset ≡ mid.start + position → IsReadFault e.message → (new ≡ old) × IsRefusal (EncodesSize limit) e old
+size_refused limit n e old mid new position (text, p, takes) over same le went offset fault =
+    let start : mid.start ≡ old.start = ap (λ (r : Reader). r.start) takes.moved in (
+      back old mid new text position takes same went,
+      record {
+        refuses = λ more _. subst (λ z. NoPrefix (EncodesSize limit) (z ++ more)) (sym takes.parts) (no_size text (rest mid) more limit n p over);
+        fault = fault;
+        ahead = (omega (arith, offset, same, start), omega (arith, offset, same, start));
+      },
+    )
+
+-- where the number is refused, so is the count
+pub size_fault : (m : Message) (limit : ℕ) (r : Reader) (offset : ℕ) → NumberFault m 32 r offset → NoPrefix (EncodesUnsigned 32) (rest r) → SizeFault m limit r offset
+size_fault (message.SizeOutOfBounds _) limit r offset h none = absurd h
+size_fault m limit r offset h none = (h, none)
+
+ends_here : (m : Message) → IsReadFault m → MayFollow m []
+ends_here message.EndOfData h = refl
+ends_here message.OutOfMemory h = absurd h
+ends_here m h = tt
+
+-- what is refused does not stand here
+pub refused_now : {X : Type 0} (Encodes : List ℕ → X → Type 0) (e : Error) (r : Reader) → IsRefusal Encodes e r → NoPrefix Encodes (rest r)
+refused_now Encodes e r h = subst (NoPrefix Encodes) (append-nil (rest r)) (h.refuses [] (ends_here e.message h.fault))

@@ -1,0 +1,12 @@
+pub mod Blocks
+pub mod DeterminedRefusals
+pub mod Faults
+pub mod Numbers
+pub mod Parts
+pub mod PrefixCode
+pub mod Prefixes
+pub mod ReadOn
+pub mod Sequences
+pub mod SignedNumbers
+pub mod Steps
+pub mod TakesLemmas

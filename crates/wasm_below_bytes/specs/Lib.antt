@@ -1,0 +1,9 @@
+pub mod Fault
+pub mod Features
+pub mod FromReader
+pub mod Items
+pub mod Number
+pub mod PartFaults
+pub mod Refusal
+pub mod Sequence
+pub mod Source

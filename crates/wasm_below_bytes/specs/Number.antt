@@ -1,0 +1,32 @@
+-- Integers as bytes: LEB128, seven bits a byte, the lowest first.
+-- WebAssembly Core Specification 3.0, Binary Format, Values, Integers.
+use Rattle.std.specs.Prelude.{◌≡◌, ℕ, ◌+◌, ◌-◌, ◌*◌, ◌<◌, ◌≤◌, ◌^◌, List, [], ◌∷◌, ℤ, pos, ◌+ℤ◌, ◌-ℤ◌, ◌*ℤ◌, neg_ℤ, ◌≤ℤ◌, ◌<ℤ◌, cond, ltb}
+use Rattle.std.specs.Int.{Width, byte_len, to_le_bytes}
+
+-- The bytes encode n, a number of at most `width` bits. A byte below 128 is the last one; another has the low seven bits, and the bytes behind it encode the rest.
+abbrev pub EncodesUnsigned : ℕ → List ℕ → ℕ → Type 0
+EncodesUnsigned width [] n = ⊥
+EncodesUnsigned width (c ∷ []) n = (c < 128) × (n ≡ c) × (n < 2 ^ width)
+EncodesUnsigned width (c ∷ d ∷ bytes) n = (7 < width) × (128 ≤ c) × (c < 256) × (high : ℕ) × (n + 128 ≡ 128 * high + c) × EncodesUnsigned (width - 7) (d ∷ bytes) high
+
+-- The seven bits of a last byte, the highest of them the sign.
+abbrev pub last_value : ℕ → ℤ
+last_value c = cond (ltb c 64) (pos c) (pos c -ℤ pos 128)
+
+-- An integer with a sign, of at most `width` bits.
+abbrev pub FitsWidth : ℕ → ℤ → Type 0
+FitsWidth width n = (neg_ℤ (pos (2 ^ (width - 1))) ≤ℤ n) × (n <ℤ pos (2 ^ (width - 1)))
+
+-- The same with a sign.
+abbrev pub EncodesSigned : ℕ → List ℕ → ℤ → Type 0
+EncodesSigned width [] n = ⊥
+EncodesSigned width (c ∷ []) n = (c < 128) × (n ≡ last_value c) × FitsWidth width n
+EncodesSigned width (c ∷ d ∷ bytes) n = (7 < width) × (128 ≤ c) × (c < 256) × (high : ℤ) × (n ≡ (pos 128 *ℤ high) +ℤ pos (c - 128)) × EncodesSigned (width - 7) (d ∷ bytes) high
+
+-- A count of at most `limit`: a number of 32 bits.
+abbrev pub EncodesSize : ℕ → List ℕ → ℕ → Type 0
+EncodesSize limit text n = EncodesUnsigned 32 text n × (n ≤ limit)
+
+-- All bytes of a number of this width, the lowest first.
+abbrev pub EncodesFixed : Width → List ℕ → ℕ → Type 0
+EncodesFixed width text n = (text ≡ to_le_bytes width n) × (n < 2 ^ (8 * byte_len width))

@@ -1,0 +1,154 @@
+-- What a reader has before it, and what a reading call does to it.
+-- The short immediates: indices, orderings, lanes and vectors.
+-- WebAssembly Core Specification 3.0, Binary Format, Instructions.
+use Rattle.std.specs.Prelude.{◌≡◌, ℕ, ◌+◌, ◌-◌, ◌/◌, ◌<◌, ◌≤◌, List, [], ◌∷◌, ◌++◌, length, drop, Result, Ok, Err, slice_index}
+use Rattle.std.specs.Borrow.{Bor}
+use Rattle.wasm_below_bytes.specs.Number.{EncodesUnsigned}
+use Rattle.wasm_below_bytes.specs.declared.error.Error.{Error}
+use Rattle.wasm_below_bytes.specs.declared.message.Message.{Message}
+use Rattle.wasm_below_bytes.specs.declared.message.Message.TheVariants as message
+use Rattle.wasm_below_bytes.specs.declared.features.WasmFeatures.{WasmFeatures}
+use Rattle.wasm_below_bytes.specs.declared.message.NumberName.TheVariants as number_name
+use Rattle.wasm_below_bytes.specs.Refusal.{IsReadFault, NamesNumber}
+
+-- Features, the offset of the bytes, and the bytes.
+pub record Source : Type 0 where
+  pub features : WasmFeatures
+  pub offset : ℕ
+  pub bytes : List ℕ
+
+-- What a reader stands on: its features, all its bytes, the offset of the first of them, and how many were read.
+pub record Reader : Type 0 where
+  pub features : WasmFeatures
+  pub start : ℕ
+  pub buffer : List ℕ
+  pub position : ℕ
+
+-- The bytes that are left.
+abbrev pub rest : Reader → List ℕ
+rest r = drop r.position r.buffer
+
+-- The offset of the next byte.
+abbrev pub offset_of : Reader → ℕ
+offset_of r = r.start + r.position
+
+-- The offset behind the data.
+abbrev pub end_of : Reader → ℕ
+end_of r = r.start + length r.buffer
+
+-- What is left, as a source.
+abbrev pub source_of : Reader → Source
+source_of r = record { features = r.features; offset = offset_of r; bytes = rest r }
+
+-- A reader of these bytes that has read none.
+abbrev pub reader_of : WasmFeatures → ℕ → List ℕ → Reader
+reader_of features offset bytes = record { features = features; start = offset; buffer = bytes; position = 0 }
+
+-- The same reader, where it has read this many bytes.
+abbrev pub at_position : Reader → ℕ → Reader
+at_position r position = record { features = r.features; start = r.start; buffer = r.buffer; position = position }
+
+-- The call took this text from the start.
+pub record Takes (old new : Reader) (text : List ℕ) : Type 0 where
+  pub moved : new ≡ at_position old (old.position + length text)
+  pub parts : rest old ≡ text ++ rest new
+
+-- The same reader with other features.
+abbrev pub with_features : Reader → WasmFeatures → Reader
+with_features r features = record { features = features; start = r.start; buffer = r.buffer; position = r.position }
+
+-- This byte stands first.
+abbrev pub BeginsWith : ℕ → List ℕ → Type 0
+BeginsWith byte bytes = (more : List ℕ) × (bytes ≡ byte ∷ more)
+
+-- No prefix of the bytes is a text of this kind.
+abbrev pub NoPrefix : {X : Type 0} → (List ℕ → X → Type 0) → List ℕ → Type 0
+NoPrefix {X} Encodes bytes = (text more : List ℕ) (x : X) → Encodes text x → bytes ≡ text ++ more → ⊥
+
+-- What may stand behind the bytes that a call had, where it answered this: anything; nothing where it asked for more; and of allocation failure nothing is said.
+abbrev pub MayFollow : Message → List ℕ → Type 0
+MayFollow message.EndOfData more = more ≡ []
+MayFollow message.OutOfMemory more = ⊥
+MayFollow _ more = Unit {0}
+
+-- No prefix of the bytes is such a text, and unless the data ended none would be, however the bytes went on. So a proper prefix of such a text is refused by the end of the data alone.
+abbrev pub Refuses : {X : Type 0} → (List ℕ → X → Type 0) → List ℕ → Message → Type 0
+Refuses Encodes bytes m = (more : List ℕ) → MayFollow m more → NoPrefix Encodes (bytes ++ more)
+
+-- The offset lies where the reader has its rest, or just behind it.
+abbrev pub IsAhead : Reader → ℕ → Type 0
+IsAhead r offset = (offset_of r ≤ offset) × (offset ≤ end_of r)
+
+-- A refusal of a call that began at this reader.
+pub record IsRefusal {X : Type 0} (Encodes : List ℕ → X → Type 0) (e : Error) (old : Reader) : Type 0 where
+  pub refuses : Refuses Encodes (rest old) e.message
+  pub fault : IsReadFault e.message
+  pub ahead : IsAhead old e.offset
+
+-- The call answers Ok exactly where a prefix of the rest encodes a value: it then takes that prefix and answers that value. Else nothing changes.
+abbrev pub Reads : {X : Type 0} → (List ℕ → X → Type 0) → Result X Error → Reader → Reader → Type 0
+Reads Encodes (Ok x) old new = (text : List ℕ) × Encodes text x × Takes old new text
+Reads Encodes (Err e) old new = (new ≡ old) × IsRefusal Encodes e old
+
+-- One byte.
+abbrev pub IsByte : List ℕ → ℕ → Type 0
+IsByte text byte = (text ≡ byte ∷ []) × (byte < 256)
+
+-- A block of this many bytes.
+abbrev pub IsBlock : ℕ → List ℕ → Bor (List ℕ) → Type 0
+IsBlock n text block = (block.now ≡ text) × (length text ≡ n)
+
+-- The data ends where the reader stands.
+abbrev pub IsEndHere : Error → Reader → Type 0
+IsEndHere e r = (e.message ≡ message.EndOfData) × (e.offset ≡ offset_of r) × (offset_of r ≡ end_of r)
+
+-- Fewer than this many bytes are left.
+abbrev pub IsShort : ℕ → Error → Reader → Type 0
+IsShort n e r = (e.message ≡ message.EndOfData) × (e.offset ≡ offset_of r) × (end_of r < offset_of r + n)
+
+-- The byte at an offset.
+abbrev pub byte_at : Reader → ℕ → ℕ
+byte_at r offset = slice_index r.buffer (offset - r.start)
+
+-- The offset of the last byte that a number of this many bits has room for.
+abbrev pub last_offset : ℕ → Reader → ℕ
+last_offset width r = offset_of r + (width - 1) / 7
+
+-- Which refusal a number has: the data ends before the last byte that the width has room for; or that byte says that more follow, or has a bit past the width.
+abbrev pub NumberFault : Message → ℕ → Reader → ℕ → Type 0
+NumberFault message.EndOfData width r offset = (offset ≡ end_of r) × (end_of r ≤ last_offset width r)
+NumberFault (message.IntegerTooLong _) width r offset = (offset ≡ last_offset width r) × (128 ≤ byte_at r offset) × (offset < end_of r)
+NumberFault (message.IntegerTooLarge _) width r offset = (offset ≡ last_offset width r) × (byte_at r offset < 128) × (offset < end_of r)
+NumberFault _ width r offset = ⊥
+
+-- The same for a number whose two faults have one text.
+abbrev pub TooLongFault : Message → ℕ → Reader → ℕ → Type 0
+TooLongFault message.EndOfData width r offset = (offset ≡ end_of r) × (end_of r ≤ last_offset width r)
+TooLongFault (message.IntegerTooLong _) width r offset = (offset ≡ last_offset width r) × (offset < end_of r)
+TooLongFault _ width r offset = ⊥
+
+-- Of an unsigned number of 32 bits, and of a signed one of 33, with its name.
+abbrev pub U32Fault : Message → Reader → ℕ → Type 0
+U32Fault m r offset = NumberFault m 32 r offset × NamesNumber number_name.VarU32 m
+
+abbrev pub S33Fault : Message → Reader → ℕ → Type 0
+S33Fault m r offset = TooLongFault m 33 r offset × NamesNumber number_name.VarS33 m
+
+-- The message with that text.
+abbrev pub as_too_long : Message → Message
+as_too_long (message.IntegerTooLarge kind) = message.IntegerTooLong kind
+as_too_long m = m
+
+-- A prefix of the bytes encodes a number of 32 bits that is above the limit.
+abbrev pub BeginsAbove : ℕ → List ℕ → Type 0
+BeginsAbove limit bytes = (text more : List ℕ) × (n : ℕ) × EncodesUnsigned 32 text n × (limit < n) × (bytes ≡ text ++ more)
+
+-- Which refusal a count has: it is above the limit, or no number stands there.
+abbrev pub SizeFault : Message → ℕ → Reader → ℕ → Type 0
+SizeFault (message.SizeOutOfBounds _) limit r offset = (offset ≡ offset_of r) × BeginsAbove limit (rest r)
+SizeFault m limit r offset = NumberFault m 32 r offset × NoPrefix (EncodesUnsigned 32) (rest r)
+
+-- As `Reads`, of a call whose refusals may stand before the reader, from this offset on.
+abbrev pub ReadsFrom : {X : Type 0} → ℕ → (List ℕ → X → Type 0) → Result X Error → Reader → Reader → Type 0
+ReadsFrom start Encodes (Ok x) old new = Reads Encodes (Ok x) old new
+ReadsFrom start Encodes (Err e) old new = (new ≡ old) × Refuses Encodes (rest old) e.message × IsReadFault e.message × (start ≤ e.offset) × (e.offset ≤ end_of old)

@@ -1,0 +1,578 @@
+//! A reader of bytes and numbers.
+ghost use Rattle.std.specs.Prelude.{◌≡◌, ◌≢◌, ℕ, ◌+◌, ◌-◌, ◌≤◌, ◌<◌, ◌^◌, length, IsTrue, ◌↔◌, [], ◌∷◌, IfOk, IfErr, IfSome, IfNone, pos, ◌*ℤ◌, ◌+ℤ◌};
+ghost use Rattle.std.specs.Int.{w32, w64};
+ghost use Rattle.wasm_below_bytes.specs.Source.{Takes, Reads, IsByte, IsBlock, IsEndHere, IsShort, BeginsWith, NumberFault, TooLongFault, SizeFault, as_too_long, rest, offset_of, end_of, at_position, with_features, reader_of};
+ghost use Rattle.wasm_below_bytes.specs.Features.{all_features};
+ghost use Rattle.wasm_below_bytes.specs.Refusal.{NamesNumber, NamesSize};
+ghost use Rattle.wasm_below_bytes.specs.Number.{EncodesUnsigned, EncodesSigned, EncodesFixed, EncodesSize, FitsWidth, last_value};
+
+use crate::error::{Error, Result};
+use crate::features::WasmFeatures;
+use crate::message::{Message, NumberName, SizeName};
+use bitflags::Flags;
+use std::alloc::AllocError;
+use std::marker::Model;
+use std::ops::Range;
+
+/// The code of the instruction `end`.
+const END: u8 = 0x0b;
+
+/// Bytes that are read from the start.
+///
+/// Offsets in errors count from the offset that the reader was given for its first byte.
+#[derive(Debug, Drop)]
+pub struct BinaryReader<'a> {
+    buffer: &'a [u8],
+    position: usize,
+    original_offset: u64,
+    features: WasmFeatures,
+}
+
+impl<'a> Model for BinaryReader<'a> {
+    ghost use Rattle.std.specs.Prelude.{◌+◌, ◌<◌, ◌≤◌, ◌^◌, length};
+    ghost use Rattle.wasm_below_bytes.specs.Source.{Reader};
+
+    ghost Value = { Reader };
+
+    ghost view = { λ r. record { features = r.features; start = r.original_offset; buffer = r.buffer.now; position = r.position } };
+
+    ghost invariant = { λ r. (r.position ≤ length r.buffer.now) × (r.original_offset + length r.buffer.now < 2 ^ 64) };
+}
+
+impl<'a> Clone for BinaryReader<'a> {
+    ghost use Rattle.std.specs.Prelude.{◌≡◌, ⊤};
+
+    ghost is_clone = { λ source copy. copy ≡ source };
+
+    ghost is_infallible = { λ _. ⊤ };
+
+    fn clone(&self) -> std::result::Result<BinaryReader<'a>, AllocError> {
+        Ok(BinaryReader::clone(self))
+    }
+}
+
+impl<'a> BinaryReader<'a> {
+    /// A reader of these bytes, of which the first has this offset, with all features.
+    pub fn new(bytes: &'a [u8], original_offset: u64) -> BinaryReader<'a>
+        requires { original_offset + length bytes.now < 2 ^ 64 }
+        ensures { result ≡ reader_of all_features original_offset bytes.now }
+    {
+        BinaryReader::new_features(bytes, original_offset, WasmFeatures::all())
+    }
+
+    /// A reader of these bytes, of which the first has this offset, with these features.
+    pub fn new_features(
+        bytes: &'a [u8],
+        original_offset: u64,
+        features: WasmFeatures,
+    ) -> BinaryReader<'a>
+        requires { original_offset + length bytes.now < 2 ^ 64 }
+        ensures { result ≡ reader_of features original_offset bytes.now }
+    {
+        BinaryReader {
+            buffer: bytes,
+            position: 0,
+            original_offset,
+            features,
+        }
+    }
+
+    /// How many bytes may stand at this offset: the test for what `new` wants.
+    pub fn max_data_len(original_offset: u64) -> usize
+        ensures { result + original_offset + 1 ≡ 2 ^ 64 }
+    {
+        (u64::MAX - original_offset) as usize
+    }
+
+    /// The features that are on.
+    pub fn features(&self) -> WasmFeatures
+        ensures { result ≡ self.now.features }
+    {
+        self.features
+    }
+
+    /// The offset of the next byte.
+    #[inline(always)]
+    pub fn original_position(&self) -> u64
+        ensures { result ≡ offset_of self.now }
+    {
+        self.original_offset + self.position as u64
+    }
+
+    /// How many bytes were read.
+    #[inline(always)]
+    pub fn current_position(&self) -> usize
+        ensures { result ≡ self.now.position }
+    {
+        self.position
+    }
+
+    /// Whether no byte is left.
+    #[inline(always)]
+    pub fn eof(&self) -> bool
+        ensures { IsTrue result ↔ (rest self.now ≡ []) }
+    {
+        self.position >= self.buffer.len()
+    }
+
+    /// How many bytes are left.
+    #[inline(always)]
+    pub fn bytes_remaining(&self) -> usize
+        ensures { result ≡ length (rest self.now) }
+    {
+        self.buffer.len() - self.position
+    }
+
+    /// The bytes that are left.
+    pub fn remaining_buffer(&self) -> &'a [u8]
+        ensures { result.now ≡ rest self.now }
+    {
+        &self.buffer[self.position..]
+    }
+
+    /// The offsets of all the data: of the first byte, and behind the last.
+    pub fn range(&self) -> Range<u64>
+        ensures start { result.start ≡ self.now.start }
+        ensures end { result.end ≡ end_of self.now }
+    {
+        self.original_offset..self.original_offset + self.buffer.len() as u64
+    }
+
+    /// The offsets of what is left: of the next byte, and behind the last.
+    pub fn remaining_range(&self) -> Range<u64>
+        ensures start { result.start ≡ offset_of self.now }
+        ensures end { result.end ≡ end_of self.now }
+    {
+        self.original_position()..self.original_offset + self.buffer.len() as u64
+    }
+
+    /// Whether what is left is one `end` instruction.
+    pub fn is_end_then_eof(&self) -> bool
+        ensures { IsTrue result ↔ (rest self.now ≡ END ∷ []) }
+    {
+        matches!(self.remaining_buffer(), [END])
+    }
+
+    /// Turns features on and off.
+    pub fn set_features(&mut self, features: WasmFeatures)
+        ensures { self.new ≡ with_features self.old features }
+    {
+        self.features = features;
+    }
+
+    /// The next byte, which stays.
+    ///
+    /// `EndOfData` where no byte is left.
+    #[inline(always)]
+    pub fn peek(&self) -> Result<u8>
+        ensures prefix { IfOk result (λ byte. BeginsWith byte (rest self.now)) }
+        ensures end { IfErr result (λ e. IsEndHere e self.now) }
+    {
+        if self.position >= self.buffer.len() {
+            return Err(self.end_of_data());
+        }
+        Ok(self.buffer[self.position])
+    }
+
+    /// The same reader again, which takes no memory.
+    #[inline(always)]
+    pub fn clone(&self) -> BinaryReader<'a>
+        ensures { result ≡ self.now }
+    {
+        BinaryReader {
+            buffer: self.buffer,
+            position: self.position,
+            original_offset: self.original_offset,
+            features: self.features,
+        }
+    }
+
+    /// Goes back to where this many bytes were read.
+    #[inline(always)]
+    pub fn rewind(&mut self, position: usize)
+        requires { position ≤ self.old.position }
+        ensures { self.new ≡ at_position self.old position }
+    {
+        self.position = position;
+    }
+
+    /// Goes past the next byte.
+    #[inline(always)]
+    pub fn advance(&mut self)
+        requires { rest self.old ≢ [] }
+        ensures { self.new ≡ at_position self.old (self.old.position + 1) }
+    {
+        self.position += 1;
+    }
+
+    /// One byte.
+    #[inline(always)]
+    pub fn read_u8(&mut self) -> Result<u8>
+        ensures reads { Reads IsByte result self.old self.new }
+        ensures end { IfErr result (λ e. IsEndHere e self.old) }
+    {
+        if self.position >= self.buffer.len() {
+            return Err(self.end_of_data());
+        }
+        let byte = self.buffer[self.position];
+        self.position += 1;
+        Ok(byte)
+    }
+
+    /// The data ends here.
+    #[cold]
+    #[inline(never)]
+    fn end_of_data(&self) -> Error
+        requires { offset_of self.now ≡ end_of self.now }
+        ensures { IsEndHere result self.now }
+    {
+        Error::new(Message::EndOfData, self.original_position())
+    }
+
+    /// An unsigned number of 32 bits, in at most five bytes. Values, Integers.
+    ///
+    /// `EndOfData` at the end of the data; `IntegerTooLong` or `IntegerTooLarge` at the fifth byte.
+    #[inline(always)]
+    pub fn read_var_u32(&mut self) -> Result<u32>
+        ensures reads { Reads (EncodesUnsigned 32) result self.old self.new }
+        ensures fault { IfErr result (λ e. NumberFault e.message 32 self.old e.offset) }
+        ensures named { IfErr result (λ e. NamesNumber NumberName.VarU32 e.message) }
+    {
+        if let Some(byte) = self.take_last_byte() {
+            return Ok(u32::from(byte));
+        }
+        self.read_long_u32()
+    }
+
+    /// An unsigned number of 64 bits, in at most ten bytes. Values, Integers.
+    ///
+    /// `EndOfData` at the end of the data; `IntegerTooLong` or `IntegerTooLarge` at the tenth byte.
+    #[inline(always)]
+    pub fn read_var_u64(&mut self) -> Result<u64>
+        ensures reads { Reads (EncodesUnsigned 64) result self.old self.new }
+        ensures fault { IfErr result (λ e. NumberFault e.message 64 self.old e.offset) }
+        ensures named { IfErr result (λ e. NamesNumber NumberName.VarU64 e.message) }
+    {
+        if let Some(byte) = self.take_last_byte() {
+            return Ok(u64::from(byte));
+        }
+        self.read_long_u64()
+    }
+
+    /// A signed number of 32 bits, in at most five bytes. Values, Integers.
+    ///
+    /// `EndOfData` at the end of the data; `IntegerTooLong` or `IntegerTooLarge` at the fifth byte.
+    #[inline(always)]
+    pub fn read_var_i32(&mut self) -> Result<i32>
+        ensures reads { Reads (EncodesSigned 32) result self.old self.new }
+        ensures fault { IfErr result (λ e. NumberFault e.message 32 self.old e.offset) }
+        ensures named { IfErr result (λ e. NamesNumber NumberName.VarI32 e.message) }
+    {
+        if let Some(byte) = self.take_last_byte() {
+            return Ok(last_value(byte) as i32);
+        }
+        self.read_long_i32()
+    }
+
+    /// A signed number of 33 bits, in at most five bytes. Values, Integers.
+    ///
+    /// `EndOfData` at the end of the data; `IntegerTooLong` at the fifth byte.
+    #[inline(always)]
+    pub fn read_var_s33(&mut self) -> Result<i64>
+        ensures reads { Reads (EncodesSigned 33) result self.old self.new }
+        ensures fault { IfErr result (λ e. TooLongFault e.message 33 self.old e.offset) }
+        ensures named { IfErr result (λ e. NamesNumber NumberName.VarS33 e.message) }
+    {
+        if let Some(byte) = self.take_last_byte() {
+            return Ok(last_value(byte));
+        }
+        self.read_long_s33()
+    }
+
+    /// A signed number of 64 bits, in at most ten bytes. Values, Integers.
+    ///
+    /// `EndOfData` at the end of the data; `IntegerTooLong` or `IntegerTooLarge` at the tenth byte.
+    #[inline(always)]
+    pub fn read_var_i64(&mut self) -> Result<i64>
+        ensures reads { Reads (EncodesSigned 64) result self.old self.new }
+        ensures fault { IfErr result (λ e. NumberFault e.message 64 self.old e.offset) }
+        ensures named { IfErr result (λ e. NamesNumber NumberName.VarI64 e.message) }
+    {
+        if let Some(byte) = self.take_last_byte() {
+            return Ok(last_value(byte));
+        }
+        self.read_long_i64()
+    }
+
+    /// The next byte, where it is a number by itself.
+    #[inline(always)]
+    fn take_last_byte(&mut self) -> Option<u8>
+        ensures taken { IfSome result (λ b. (b < 128) × Takes self.old self.new (b ∷ [])) }
+        ensures left { IfNone result (self.new ≡ self.old) }
+    {
+        if self.position >= self.buffer.len() {
+            return None;
+        }
+        let byte = self.buffer[self.position];
+        if byte >= 128 {
+            return None;
+        }
+        self.position += 1;
+        Some(byte)
+    }
+
+    /// The long form of `read_var_u32`.
+    #[inline(never)]
+    fn read_long_u32(&mut self) -> Result<u32>
+        ensures reads { Reads (EncodesUnsigned 32) result self.old self.new }
+        ensures fault { IfErr result (λ e. NumberFault e.message 32 self.old e.offset) }
+        ensures named { IfErr result (λ e. NamesNumber NumberName.VarU32 e.message) }
+    {
+        match self.read_unsigned(32, NumberName::VarU32) {
+            Ok(n) => Ok(n as u32),
+            Err(e) => Err(e),
+        }
+    }
+
+    /// The long form of `read_var_u64`.
+    #[inline(never)]
+    fn read_long_u64(&mut self) -> Result<u64>
+        ensures reads { Reads (EncodesUnsigned 64) result self.old self.new }
+        ensures fault { IfErr result (λ e. NumberFault e.message 64 self.old e.offset) }
+        ensures named { IfErr result (λ e. NamesNumber NumberName.VarU64 e.message) }
+    {
+        self.read_unsigned(64, NumberName::VarU64)
+    }
+
+    /// The long form of `read_var_i32`.
+    #[inline(never)]
+    fn read_long_i32(&mut self) -> Result<i32>
+        ensures reads { Reads (EncodesSigned 32) result self.old self.new }
+        ensures fault { IfErr result (λ e. NumberFault e.message 32 self.old e.offset) }
+        ensures named { IfErr result (λ e. NamesNumber NumberName.VarI32 e.message) }
+    {
+        match self.read_signed(32, NumberName::VarI32) {
+            Ok(n) => Ok(n as i32),
+            Err(e) => Err(e),
+        }
+    }
+
+    /// The long form of `read_var_s33`.
+    #[inline(never)]
+    fn read_long_s33(&mut self) -> Result<i64>
+        ensures reads { Reads (EncodesSigned 33) result self.old self.new }
+        ensures fault { IfErr result (λ e. TooLongFault e.message 33 self.old e.offset) }
+        ensures named { IfErr result (λ e. NamesNumber NumberName.VarS33 e.message) }
+    {
+        match self.read_signed(33, NumberName::VarS33) {
+            Ok(n) => Ok(n),
+            Err(e) => Err(as_too_long(e)),
+        }
+    }
+
+    /// The long form of `read_var_i64`.
+    #[inline(never)]
+    fn read_long_i64(&mut self) -> Result<i64>
+        ensures reads { Reads (EncodesSigned 64) result self.old self.new }
+        ensures fault { IfErr result (λ e. NumberFault e.message 64 self.old e.offset) }
+        ensures named { IfErr result (λ e. NamesNumber NumberName.VarI64 e.message) }
+    {
+        self.read_signed(64, NumberName::VarI64)
+    }
+
+    /// This many bytes.
+    ///
+    /// `EndOfData` where they begin.
+    #[inline(always)]
+    pub fn read_bytes(&mut self, n: usize) -> Result<&'a [u8]>
+        ensures reads { Reads (IsBlock n) result self.old self.new }
+        ensures end { IfErr result (λ e. IsShort n e self.old) }
+    {
+        if n > self.buffer.len() - self.position {
+            return Err(self.block_missing(n));
+        }
+        let start = self.position;
+        self.position = start + n;
+        Ok(&self.buffer[start..start + n])
+    }
+
+    /// The data has fewer bytes than these.
+    #[cold]
+    #[inline(never)]
+    fn block_missing(&self, n: usize) -> Error
+        requires { end_of self.now < offset_of self.now + n }
+        ensures { IsShort n result self.now }
+    {
+        Error::new(Message::EndOfData, self.original_position())
+    }
+
+    /// A reader of these bytes, of which the first has this offset, with the same features.
+    pub fn part(&self, bytes: &'a [u8], offset: u64) -> BinaryReader<'a>
+        requires { offset + length bytes.now ≤ end_of self.now }
+        ensures { result ≡ reader_of self.now.features offset bytes.now }
+    {
+        let _ = &self.buffer;
+        BinaryReader::new_features(bytes, offset, self.features)
+    }
+
+    /// Four bytes, the lowest first.
+    ///
+    /// `EndOfData` where they begin.
+    #[inline(always)]
+    pub fn read_u32(&mut self) -> Result<u32>
+        ensures reads { Reads (EncodesFixed w32) result self.old self.new }
+        ensures end { IfErr result (λ e. IsShort 4 e self.old) }
+    {
+        let block = self.read_bytes(4)?;
+        Ok(u32::from_le_bytes([block[0], block[1], block[2], block[3]]))
+    }
+
+    /// Eight bytes, the lowest first.
+    ///
+    /// `EndOfData` where they begin.
+    #[inline(always)]
+    pub fn read_u64(&mut self) -> Result<u64>
+        ensures reads { Reads (EncodesFixed w64) result self.old self.new }
+        ensures end { IfErr result (λ e. IsShort 8 e self.old) }
+    {
+        let block = self.read_bytes(8)?;
+        Ok(u64::from_le_bytes([
+            block[0], block[1], block[2], block[3], block[4], block[5], block[6], block[7],
+        ]))
+    }
+
+    /// A count of the list that `desc` names: a number of 32 bits, at most `limit`.
+    ///
+    /// `SizeOutOfBounds` where the number begins, if it is above the limit.
+    pub fn read_size(&mut self, limit: usize, desc: SizeName) -> Result<usize>
+        ensures reads { Reads (EncodesSize limit) result self.old self.new }
+        ensures fault { IfErr result (λ e. SizeFault e.message limit self.old e.offset) }
+        ensures named { IfErr result (λ e. NamesSize desc e.message) }
+        ensures number { IfErr result (λ e. NamesNumber NumberName.VarU32 e.message) }
+    {
+        let start = self.position;
+        let size = self.read_var_u32()? as usize;
+        if size > limit {
+            return Err(self.refuse(start, Message::SizeOutOfBounds(desc)));
+        }
+        Ok(size)
+    }
+
+    /// A number of at most this many bits.
+    fn read_unsigned(&mut self, bits: u32, kind: NumberName) -> Result<u64>
+        requires low { 0 < bits }
+        requires high { bits ≤ 64 }
+        ensures reads { Reads (EncodesUnsigned bits) result self.old self.new }
+        ensures below { IfOk result (λ n. n < 2 ^ bits) }
+        ensures fault { IfErr result (λ e. NumberFault e.message bits self.old e.offset) }
+        ensures named { IfErr result (λ e. NamesNumber kind e.message) }
+    {
+        let start = self.position;
+        let byte = self.read_u8()?;
+        if byte < 128 {
+            if bits < 7 && byte >> bits != 0 {
+                return Err(self.refuse(start, Message::IntegerTooLarge(kind)));
+            }
+            return Ok(u64::from(byte));
+        }
+        if bits <= 7 {
+            return Err(self.refuse(start, Message::IntegerTooLong(kind)));
+        }
+        match self.read_unsigned(bits - 7, kind) {
+            Ok(high) => Ok(128 * high + u64::from(byte - 128)),
+            Err(e) => {
+                self.rewind(start);
+                Err(e)
+            }
+        }
+    }
+
+    /// A number with a sign, of at most this many bits.
+    fn read_signed(&mut self, bits: u32, kind: NumberName) -> Result<i64>
+        requires low { 0 < bits }
+        requires high { bits ≤ 64 }
+        ensures reads { Reads (EncodesSigned bits) result self.old self.new }
+        ensures within { IfOk result (λ n. FitsWidth bits n) }
+        ensures fault { IfErr result (λ e. NumberFault e.message bits self.old e.offset) }
+        ensures named { IfErr result (λ e. NamesNumber kind e.message) }
+    {
+        let start = self.position;
+        let byte = self.read_u8()?;
+        if byte < 128 {
+            let value = last_value(byte);
+            if !fits_width(value, bits) {
+                return Err(self.refuse(start, Message::IntegerTooLarge(kind)));
+            }
+            return Ok(value);
+        }
+        if bits <= 7 {
+            return Err(self.refuse(start, Message::IntegerTooLong(kind)));
+        }
+        match self.read_signed(bits - 7, kind) {
+            Ok(high) => Ok(join_signed(high, byte - 128)),
+            Err(e) => {
+                self.rewind(start);
+                Err(e)
+            }
+        }
+    }
+
+    /// Goes back to where this many bytes were read, and refuses what stands there.
+    #[cold]
+    #[inline(never)]
+    pub fn refuse(&mut self, position: usize, message: Message) -> Error
+        requires { position ≤ self.old.position }
+        ensures rewound { self.new ≡ at_position self.old position }
+        ensures message { result.message ≡ message }
+        ensures offset { result.offset ≡ self.old.start + position }
+    {
+        self.rewind(position);
+        Error::new(message, self.original_position())
+    }
+}
+
+/// The same refusal, which names both faults of the fifth byte by one text.
+fn as_too_long(e: Error) -> Error
+    ensures offset { result.offset ≡ e.offset }
+    ensures message { result.message ≡ as_too_long e.message }
+{
+    match e.message {
+        Message::IntegerTooLarge(kind) => Error::new(Message::IntegerTooLong(kind), e.offset),
+        _ => e,
+    }
+}
+
+/// The seven bits of a last byte, the highest of them the sign.
+fn last_value(byte: u8) -> i64
+    requires { byte < 128 }
+    ensures value { result ≡ last_value byte }
+    ensures small { FitsWidth 7 result }
+{
+    if byte < 64 {
+        i64::from(byte)
+    } else {
+        i64::from(byte) - 128
+    }
+}
+
+/// Whether a value of seven bits has no more than these.
+fn fits_width(value: i64, bits: u32) -> bool
+    requires low { 0 < bits }
+    requires small { FitsWidth 7 value }
+    ensures { IsTrue result ↔ FitsWidth bits value }
+{
+    if bits >= 7 {
+        return true;
+    }
+    let half = i64::from(1u8 << (bits - 1));
+    -half <= value && value < half
+}
+
+/// A number from its high bits and its seven low bits.
+fn join_signed(high: i64, low: u8) -> i64
+    requires fits { FitsWidth 57 high }
+    requires small { low < 128 }
+    ensures { result ≡ (pos 128 *ℤ high) +ℤ pos low }
+{
+    128 * high + i64::from(low)
+}

@@ -1,0 +1,337 @@
+//! What was refused, and the names that its text tells.
+ghost use Rattle.std.specs.Prelude.{◌≡◌};
+ghost use Rattle.wasm_below_bytes.specs.Refusal.{number_of, number_name_text, size_name_text, instruction_name_text, leading_byte_name_text, type_name_text};
+
+use std::fmt;
+
+/// The kind of frame that an operator wanted to stand in.
+#[derive(Clone, Copy, Debug, PartialEq, Eq)]
+pub enum FrameName {
+    /// The first body of an `if`.
+    If,
+    /// The body of a legacy `try`.
+    LegacyTry,
+}
+
+impl fmt::Display for FrameName {
+    fn fmt<W: fmt::Write>(&self, f: &mut fmt::Formatter<W>) -> fmt::Result {
+        match self {
+            FrameName::If => f.write_str("If"),
+            FrameName::LegacyTry => f.write_str("LegacyTry"),
+        }
+    }
+}
+
+/// The name of a kind of number, in the texts of the two faults that a number may have.
+#[derive(Clone, Copy, Debug, PartialEq, Eq)]
+pub enum NumberName {
+    /// An unsigned LEB128 number of 32 bits.
+    VarU32,
+    /// An unsigned LEB128 number of 64 bits.
+    VarU64,
+    /// A signed LEB128 number of 32 bits.
+    VarI32,
+    /// A signed LEB128 number of 33 bits.
+    VarS33,
+    /// A signed LEB128 number of 64 bits.
+    VarI64,
+}
+
+impl NumberName {
+    /// The text of the name.
+    pub fn text(self) -> &'static str
+        ensures { result.now ≡ number_name_text self }
+    {
+        match self {
+            NumberName::VarU32 => "var_u32",
+            NumberName::VarU64 => "var_u64",
+            NumberName::VarI32 => "var_i32",
+            NumberName::VarS33 => "var_s33",
+            NumberName::VarI64 => "var_i64",
+        }
+    }
+}
+
+impl fmt::Display for NumberName {
+    fn fmt<W: fmt::Write>(&self, f: &mut fmt::Formatter<W>) -> fmt::Result {
+        f.write_str(self.text())
+    }
+}
+
+/// The name of a list, in the text of a count that is above its limit.
+#[derive(Clone, Copy, Debug, PartialEq, Eq)]
+pub enum SizeName {
+    /// The targets of a branch table.
+    BrTable,
+    /// The types of a `select`.
+    SelectTypes,
+    /// The catches of a try table.
+    Catches,
+    /// The clauses of a resume table.
+    ResumeTable,
+}
+
+impl SizeName {
+    /// The text of the name.
+    pub fn text(self) -> &'static str
+        ensures { result.now ≡ size_name_text self }
+    {
+        match self {
+            SizeName::BrTable => "br_table",
+            SizeName::SelectTypes => "select types",
+            SizeName::Catches => "catches",
+            SizeName::ResumeTable => "resume table",
+        }
+    }
+}
+
+impl fmt::Display for SizeName {
+    fn fmt<W: fmt::Write>(&self, f: &mut fmt::Formatter<W>) -> fmt::Result {
+        f.write_str(self.text())
+    }
+}
+
+/// The name of an instruction of the legacy exceptions, or `else`.
+#[derive(Clone, Copy, Debug, PartialEq, Eq)]
+pub enum InstructionName {
+    /// The instruction `else`.
+    Else,
+    /// The instruction `try`.
+    Try,
+    /// The instruction `catch`.
+    Catch,
+    /// The instruction `catch_all`.
+    CatchAll,
+    /// The instruction `delegate`.
+    Delegate,
+}
+
+impl InstructionName {
+    /// The text of the name.
+    pub fn text(self) -> &'static str
+        ensures { result.now ≡ instruction_name_text self }
+    {
+        match self {
+            InstructionName::Else => "else",
+            InstructionName::Try => "try",
+            InstructionName::Catch => "catch",
+            InstructionName::CatchAll => "catch_all",
+            InstructionName::Delegate => "delegate",
+        }
+    }
+}
+
+impl fmt::Display for InstructionName {
+    fn fmt<W: fmt::Write>(&self, f: &mut fmt::Formatter<W>) -> fmt::Result {
+        f.write_str(self.text())
+    }
+}
+
+/// The name of what a leading byte tells the form of.
+#[derive(Clone, Copy, Debug, PartialEq, Eq)]
+pub enum LeadingByteName {
+    /// A catch of a try table.
+    Catch,
+    /// A clause of a resume table.
+    OnClause,
+}
+
+impl LeadingByteName {
+    /// The text of the name.
+    pub fn text(self) -> &'static str
+        ensures { result.now ≡ leading_byte_name_text self }
+    {
+        match self {
+            LeadingByteName::Catch => "catch",
+            LeadingByteName::OnClause => "on clause",
+        }
+    }
+}
+
+impl fmt::Display for LeadingByteName {
+    fn fmt<W: fmt::Write>(&self, f: &mut fmt::Formatter<W>) -> fmt::Result {
+        f.write_str(self.text())
+    }
+}
+
+/// The name of a kind of type.
+#[derive(Clone, Copy, Debug, PartialEq, Eq)]
+pub enum TypeName {
+    /// A value type.
+    ValueType,
+    /// A reference type.
+    ReferenceType,
+    /// A heap type.
+    HeapType,
+}
+
+impl TypeName {
+    /// The text of the name.
+    pub fn text(self) -> &'static str
+        ensures { result.now ≡ type_name_text self }
+    {
+        match self {
+            TypeName::ValueType => "value type",
+            TypeName::ReferenceType => "reference type",
+            TypeName::HeapType => "heap type",
+        }
+    }
+}
+
+impl fmt::Display for TypeName {
+    fn fmt<W: fmt::Write>(&self, f: &mut fmt::Formatter<W>) -> fmt::Result {
+        f.write_str(self.text())
+    }
+}
+
+/// What was refused. `docs/REFUSALS.md` has each with its number, its text and the offset at which
+/// it is answered.
+#[derive(Clone, Copy, Debug, PartialEq, Eq)]
+pub enum Message {
+    /// The data ends too early.
+    EndOfData,
+    /// The instruction named needs a feature that is off.
+    FeatureRequired(InstructionName),
+    /// Memory was refused.
+    OutOfMemory,
+    /// A number of the kind named goes on past its greatest length.
+    IntegerTooLong(NumberName),
+    /// A number of the kind named has a bit past its width.
+    IntegerTooLarge(NumberName),
+    /// A count of the list named is above its limit.
+    SizeOutOfBounds(SizeName),
+    /// A block type's index is negative.
+    InvalidFunctionType,
+    /// The instruction named stands outside the frame that it needs.
+    WrongFrame(InstructionName, FrameName),
+    /// No frame is open.
+    OperatorsRemaining,
+    /// Frames are open at the end of a body or an expression.
+    FramesRemain,
+    /// Frames are open behind the first `end` of a constant expression.
+    FramesRemainConst,
+    /// Data is left behind the last operator.
+    UnexpectedData,
+    /// No operator has this opcode.
+    IllegalOpcode(u8),
+    /// No operator has this subopcode behind this prefix byte.
+    UnknownSubopcode(u8, u32),
+    /// A vector operator where none is read.
+    UnexpectedSimd,
+    /// A byte is not 0.
+    ZeroByteExpected,
+    /// The byte of `atomic.fence` is not 0.
+    NonzeroAfterFence,
+    /// A memory argument names a memory and an array.
+    MemoryAndArray,
+    /// A memory argument of an operator that is not atomic has an ordering.
+    OrderingOnPlain,
+    /// A byte is no ordering. `hex` tells how the byte is printed.
+    InvalidOrdering { byte: u8, hex: bool },
+    /// A memory argument has bits that mean nothing.
+    ReservedFlags,
+    /// The flags of a cast are above 3.
+    InvalidCastFlags(u8),
+    /// No form of what is named begins with this byte.
+    InvalidLeadingByte(u8, LeadingByteName),
+    /// More than 4294967295 locals.
+    TooManyLocals,
+    /// No type of the kind named stands here.
+    InvalidType(TypeName),
+    /// Data is left behind the items of a section.
+    DataAfterSection,
+}
+
+impl Message {
+    /// The number of the refusal, from 1 to 25.
+    pub fn number(&self) -> u8
+        ensures { result ≡ number_of self.now }
+    {
+        match self {
+            Message::EndOfData => 1,
+            Message::FeatureRequired(_) => 2,
+            Message::OutOfMemory => 3,
+            Message::IntegerTooLong(_) | Message::IntegerTooLarge(_) => 4,
+            Message::SizeOutOfBounds(_) => 5,
+            Message::InvalidFunctionType => 6,
+            Message::WrongFrame(..) => 7,
+            Message::OperatorsRemaining => 8,
+            Message::FramesRemain => 9,
+            Message::FramesRemainConst => 10,
+            Message::UnexpectedData => 11,
+            Message::IllegalOpcode(_) => 12,
+            Message::UnknownSubopcode(..) => 13,
+            Message::UnexpectedSimd => 14,
+            Message::ZeroByteExpected => 15,
+            Message::NonzeroAfterFence => 16,
+            Message::MemoryAndArray => 17,
+            Message::OrderingOnPlain => 18,
+            Message::InvalidOrdering { .. } => 19,
+            Message::ReservedFlags => 20,
+            Message::InvalidCastFlags(_) => 21,
+            Message::InvalidLeadingByte(..) => 22,
+            Message::TooManyLocals => 23,
+            Message::InvalidType(_) => 24,
+            Message::DataAfterSection => 25,
+        }
+    }
+}
+
+impl fmt::Display for Message {
+    fn fmt<W: fmt::Write>(&self, f: &mut fmt::Formatter<W>) -> fmt::Result {
+        match *self {
+            Message::EndOfData => f.write_str("unexpected end-of-file"),
+            Message::FeatureRequired(instruction) => write!(
+                f,
+                "legacy_exceptions feature required for {instruction} instruction"
+            ),
+            Message::OutOfMemory => f.write_str("out of memory"),
+            Message::IntegerTooLong(kind) => {
+                write!(f, "invalid {kind}: integer representation too long")
+            }
+            Message::IntegerTooLarge(kind) => write!(f, "invalid {kind}: integer too large"),
+            Message::SizeOutOfBounds(list) => write!(f, "{list} size is out of bounds"),
+            Message::InvalidFunctionType => f.write_str("invalid function type"),
+            Message::WrongFrame(instruction, frame) => {
+                write!(f, "`{instruction}` found outside `{frame}` block")
+            }
+            Message::OperatorsRemaining => {
+                f.write_str("operators remaining after end of function body or expression")
+            }
+            Message::FramesRemain => {
+                f.write_str("control frames remain at end of function body or expression")
+            }
+            Message::FramesRemainConst => {
+                f.write_str("control frames remain at end of expression")
+            }
+            Message::UnexpectedData => f.write_str("unexpected data at the end of operators"),
+            Message::IllegalOpcode(code) => write!(f, "illegal opcode: 0x{code:x}"),
+            Message::UnknownSubopcode(prefix, code) => {
+                write!(f, "unknown 0x{prefix:x} subopcode: 0x{code:x}")
+            }
+            Message::UnexpectedSimd => f.write_str("unexpected SIMD opcode: 0xfd"),
+            Message::ZeroByteExpected => f.write_str("zero byte expected"),
+            Message::NonzeroAfterFence => f.write_str("nonzero byte after `atomic.fence`"),
+            Message::MemoryAndArray => f.write_str("cannot specify both memory and array index"),
+            Message::OrderingOnPlain => {
+                f.write_str("cannot specify atomic ordering on non-atomic instruction")
+            }
+            Message::InvalidOrdering { byte, hex: true } => {
+                write!(f, "invalid atomic consistency ordering 0x{byte:x}")
+            }
+            Message::InvalidOrdering { byte, hex: false } => {
+                write!(f, "invalid atomic consistency ordering {byte}")
+            }
+            Message::ReservedFlags => f.write_str("malformed memop: reserved flags bits set"),
+            Message::InvalidCastFlags(flags) => write!(f, "invalid cast flags: {flags:08b}"),
+            Message::InvalidLeadingByte(byte, what) => {
+                write!(f, "invalid leading byte (0x{byte:x}) for {what}")
+            }
+            Message::TooManyLocals => f.write_str("too many locals"),
+            Message::InvalidType(what) => write!(f, "invalid {what}"),
+            Message::DataAfterSection => {
+                f.write_str("unexpected data at the end of the section")
+            }
+        }
+    }
+}

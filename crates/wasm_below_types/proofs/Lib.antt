@@ -1,0 +1,4 @@
+pub mod DeterminedTypeRefusals
+pub mod TypeEncodings
+pub mod TypeFaults
+pub mod TypePrefixCodes

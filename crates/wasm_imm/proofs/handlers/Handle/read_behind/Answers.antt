@@ -1,8 +1,0 @@
-use Rattle.wasm_below.proofs.Sequences.{refuses_by}
-use Rattle.wasm_imm.specs.Handlers.{SpellsPair, IsHandleBehind}
-use Rattle.wasm_imm.proofs.Clauses.{handle_pair}
-use Rattle.wasm_imm.proofs.handlers.Handle.read_behind.Goals as goal
-
-pub returns-in-Err-clause-reads : goal.returns-in-Err-clause-reads
-returns-in-Err-clause-reads c =
-    (c.in-Err.ensures.reads.0, refuses_by SpellsPair (IsHandleBehind c.args.byte) c.in-Err.e c.args.reader.now (handle_pair c.args.byte c.if-byte-eq0.true) c.in-Err.ensures.reads.1)

@@ -1,8 +1,0 @@
-use Rattle.std.proofs.Common.{ℕ, ◌≤◌, List}
-use Rattle.std.specs.Prelude.{vec_capacity, vec_len, ◌≡◌}
-use Rattle.wasm_below.specs.Source.{Takes}
-use Rattle.wasm_imm.specs.Lists.{SpellsMany}
-use Rattle.wasm_imm.proofs.lists.read_members.Given as goal
-
-abbrev pub invariant-loop-member : goal.invariant-loop-member
-invariant-loop-member g l = (text : List ℕ) × SpellsMany (g.T.FromReader.spelled l.fn.reader.features) l._member text l.items.items × Takes l.fn.reader l.reader text × (vec_len l.items ≡ l._member) × (l.count ≤ vec_capacity l.items)

@@ -1,0 +1,3 @@
+pub mod DeterminedRefusals
+pub mod Sixteen
+pub mod VectorPrefixCodes

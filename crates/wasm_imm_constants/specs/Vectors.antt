@@ -1,0 +1,20 @@
+-- The short immediates: indices, orderings, lanes and vectors.
+-- WebAssembly Core Specification 3.0, Binary Format, Instructions.
+-- Which refusal a short immediate has: an index, an ordering, the byte of a fence, lanes. A fault relates a message, the reader at which the reading began, and the offset that the refusal names.
+use Rattle.std.specs.Prelude.{◌≡◌, ℕ, List, length, ◌+◌, ◌<◌}
+use Rattle.wasm_below.specs.Source.{Reader, end_of, offset_of}
+use Rattle.wasm_imm_constants.specs.declared.constants.V128.{V128}
+use Rattle.wasm_below.specs.bytes.message.Message.{Message}
+use Rattle.wasm_below.specs.bytes.message.Message.TheVariants as message
+
+-- Sixteen bytes, as they stand: the lanes of a shuffle. Vector Instructions.
+abbrev pub EncodesSixteen : List ℕ → List ℕ → Type 0
+EncodesSixteen text bytes = (text ≡ bytes) × (length bytes ≡ 16)
+
+-- A vector: its sixteen bytes, the lowest first. Vector Instructions.
+abbrev pub EncodesVector : List ℕ → V128 → Type 0
+EncodesVector text v = EncodesSixteen text v.0
+
+-- Of the lanes of a shuffle: fewer than sixteen bytes are left, and the refusal stands behind them.
+abbrev pub LanesFault : Message → Reader → ℕ → Type 0
+LanesFault m r offset = (m ≡ message.EndOfData) × (offset ≡ end_of r) × (end_of r < offset_of r + 16)

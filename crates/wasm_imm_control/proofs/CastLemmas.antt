@@ -1,0 +1,118 @@
+-- Casts.
+use Rattle.std.proofs.Common.{◌≡◌, ℕ, zero, suc, ◌≤◌, Bool, true, false, List, [], ◌∷◌, ◌++◌, Ok, refl, sym, ap, ◌∙◌, arith}
+use Rattle.wasm_below.specs.bytes.error.Error.{Error}
+use Rattle.wasm_below.specs.types.types.HeapType.{HeapType}
+use Rattle.wasm_below.specs.Number.{EncodesUnsigned}
+use Rattle.wasm_below.specs.Reference.{Reference}
+use Rattle.wasm_below.specs.Sequence.{Then, PrefixCode}
+use Rattle.wasm_below.specs.Source.{Reader, at_position, Takes, IsRefusal, Reads, IsByte}
+use Rattle.wasm_below.proofs.Sequences.{then_first, then_second, then_prefix_code, refuses_by}
+use Rattle.wasm_below.proofs.TakesLemmas.{back, takes_then}
+use Rattle.wasm_below.proofs.TypePrefixCodes.{heap_prefix_code}
+use Rattle.wasm_imm_control.specs.declared.cast.Cast.{Cast}
+use Rattle.wasm_imm_control.specs.Casts.{cast_flags, EncodesCast, EncodesReference, first_null, second_null}
+use Rattle.wasm_below.proofs.PrefixCode.{byte_prefix_code}
+use Rattle.wasm_below.proofs.Steps.{number_prefix_code}
+
+reference_of : Bool → HeapType → Reference
+reference_of nullable h = record { nullable = nullable; heap_type = h }
+
+same_reference : (r s : Reference) → r.nullable ≡ s.nullable → r.heap_type ≡ s.heap_type → r ≡ s
+unfolding reference_of
+same_reference r s n h = ap (λ z. reference_of z r.heap_type) n ∙ ap (reference_of s.nullable) h
+
+pub reference_prefix_code : (nullable : Bool) → PrefixCode (EncodesReference nullable)
+reference_prefix_code nullable a b x y r s p q e = let o = heap_prefix_code a b x y r.heap_type s.heap_type p.1 q.1 e in (o.0, same_reference r s (p.0 ∙ sym q.0) o.1)
+
+first_of_flags : (a b : Bool) → first_null (cast_flags a b) ≡ a
+first_of_flags false false = refl
+first_of_flags true false = refl
+first_of_flags false true = refl
+first_of_flags true true = refl
+
+second_of_flags : (a b : Bool) → second_null (cast_flags a b) ≡ b
+second_of_flags false false = refl
+second_of_flags true false = refl
+second_of_flags false true = refl
+second_of_flags true true = refl
+
+at_most_3 : (a b : Bool) → cast_flags a b ≤ 3
+at_most_3 false false = omega arith
+at_most_3 true false = omega arith
+at_most_3 false true = omega arith
+at_most_3 true true = omega arith
+
+flags_restored : (flags : ℕ) → flags ≤ 3 → cast_flags (first_null flags) (second_null flags) ≡ flags
+flags_restored zero le = refl
+flags_restored (suc zero) le = refl
+flags_restored (suc (suc zero)) le = refl
+flags_restored (suc (suc (suc zero))) le = refl
+flags_restored (suc (suc (suc (suc n)))) le = absurd (omega arith)
+
+abbrev pub cast_of : ℕ → Reference → Reference → Cast
+cast_of depth from to = record { relative_depth = depth; from = from; to = to }
+
+-- the parts in the order in which they are read
+abbrev pub Third : ℕ → ℕ → Reference → List ℕ → Cast → Type 0
+Third flags depth from text c = EncodesReference (second_null flags) text c.to × (c ≡ cast_of depth from c.to)
+
+abbrev pub Second : ℕ → ℕ → List ℕ → Cast → Type 0
+Second flags depth = Then (EncodesReference (first_null flags)) (Third flags depth)
+
+abbrev pub First : ℕ → List ℕ → Cast → Type 0
+First flags text c = (flags ≤ 3) × Then (EncodesUnsigned 32) (Second flags) text c
+
+abbrev pub Parts : List ℕ → Cast → Type 0
+Parts = Then IsByte First
+
+to_parts : (text : List ℕ) (c : Cast) → EncodesCast text c → Parts text c
+to_parts text c (label, first, second, e, pl, pf, ps) =
+    let n = cast_flags c.from.nullable c.to.nullable in
+    let le = at_most_3 c.from.nullable c.to.nullable in (
+      n ∷ [],
+      label ++ (first ++ second),
+      n,
+      e,
+      (refl, omega (arith, le)),
+      (le, (label, first ++ second, c.relative_depth, refl, pl, (first, second, c.from, refl, (sym (first_of_flags c.from.nullable c.to.nullable), pf), ((sym (second_of_flags c.from.nullable c.to.nullable), ps), refl)))),
+    )
+
+third_prefix_code : (flags depth : ℕ) (from : Reference) → PrefixCode (Third flags depth from)
+third_prefix_code flags depth from a b x y c d p q e =
+    let o = reference_prefix_code (second_null flags) a b x y c.to d.to p.0 q.0 e in
+    (o.0, p.1 ∙ ap (cast_of depth from) o.1 ∙ sym q.1)
+
+-- an encoding of a cast begins no other, and is that of one
+pub cast_prefix_code : PrefixCode EncodesCast
+cast_prefix_code a b x y c d p q e = parts a b x y c d (to_parts a c p) (to_parts b d q) e
+  where
+    first : (flags : ℕ) → PrefixCode (First flags)
+    first flags a b x y c d p q e = then_prefix_code (EncodesUnsigned 32) (Second flags) (number_prefix_code 32) (λ depth. then_prefix_code (EncodesReference (first_null flags)) (Third flags depth) (reference_prefix_code (first_null flags)) (third_prefix_code flags depth)) a b x y c d p.1 q.1 e
+
+    parts : PrefixCode Parts
+    parts = then_prefix_code IsByte First byte_prefix_code first
+
+module _ (old mid : Reader) (flags : ℕ) (flagged : Reads IsByte (Ok flags) old mid) where
+  parts_refused : (e : Error) (now new : Reader) (text : List ℕ) (position : ℕ) → Takes old now text → position ≡ old.position → new ≡ at_position now position → IsRefusal (Then (EncodesUnsigned 32) (Second flags)) e mid → (new ≡ old) × IsRefusal EncodesCast e old
+  parts_refused e now new text position t at went h = (
+    back old now new text position t at went,
+    refuses_by Parts EncodesCast e old (λ text c s. (c, to_parts text c s)) (then_second IsByte First e old mid flags byte_prefix_code flagged (refuses_by (Then (EncodesUnsigned 32) (Second flags)) (First flags) e mid (λ text c s. (c, s.1)) h)),
+  )
+
+  pub first_refused : (e : Error) (now now2 new : Reader) (depth position : ℕ) → Reads (EncodesUnsigned 32) (Ok depth) mid now → (now2 ≡ now) × IsRefusal (EncodesReference (first_null flags)) e now → position ≡ old.position → new ≡ at_position now2 position → (new ≡ old) × IsRefusal EncodesCast e old
+  first_refused e now now2 new depth position rd h at went =
+      parts_refused e now new (flagged.0 ++ rd.0) position (takes_then old mid now flagged.0 rd.0 flagged.2 rd.2) at (went ∙ ap (λ (r : Reader). at_position r position) h.0) (then_second (EncodesUnsigned 32) (Second flags) e mid now depth (number_prefix_code 32) rd (then_first (EncodesReference (first_null flags)) (Third flags depth) e now h.1))
+
+  pub second_refused : (e : Error) (now last last2 new : Reader) (depth : ℕ) (from : Reference) (position : ℕ) → Reads (EncodesUnsigned 32) (Ok depth) mid now → Reads (EncodesReference (first_null flags)) (Ok from) now last → (last2 ≡ last) × IsRefusal (EncodesReference (second_null flags)) e last → position ≡ old.position → new ≡ at_position last2 position → (new ≡ old) × IsRefusal EncodesCast e old
+  second_refused e now last last2 new depth from position rd rf h at went =
+      let taken = takes_then old now last (flagged.0 ++ rd.0) rf.0 (takes_then old mid now flagged.0 rd.0 flagged.2 rd.2) rf.2 in
+      let third = refuses_by (EncodesReference (second_null flags)) (Third flags depth from) e last (λ text c s. (c.to, s.0)) h.1 in
+      parts_refused e last new ((flagged.0 ++ rd.0) ++ rf.0) position taken at (went ∙ ap (λ (r : Reader). at_position r position) h.0) (then_second (EncodesUnsigned 32) (Second flags) e mid now depth (number_prefix_code 32) rd (then_second (EncodesReference (first_null flags)) (Third flags depth) e now last from (reference_prefix_code (first_null flags)) rf third))
+
+  pub cast_read : (now last new : Reader) (depth : ℕ) (from to : Reference) → flags ≤ 3 → Reads (EncodesUnsigned 32) (Ok depth) mid now → Reads (EncodesReference (first_null flags)) (Ok from) now last → Reads (EncodesReference (second_null flags)) (Ok to) last new → Reads EncodesCast (Ok (cast_of depth from to)) old new
+  cast_read now last new depth from to le rd rf rt =
+      let byte : cast_flags from.nullable to.nullable ≡ flags = ap (λ z. cast_flags z to.nullable) rf.1.0 ∙ ap (cast_flags (first_null flags)) rt.1.0 ∙ flags_restored flags le in (
+        flagged.0 ++ (rd.0 ++ (rf.0 ++ rt.0)),
+        (rd.0, rf.0, rt.0, ap (λ z. z ++ (rd.0 ++ (rf.0 ++ rt.0))) flagged.1.0 ∙ ap (λ z. z ∷ (rd.0 ++ (rf.0 ++ rt.0))) (sym byte), rd.1, rf.1.1, rt.1.1),
+        takes_then old mid new flagged.0 (rd.0 ++ (rf.0 ++ rt.0)) flagged.2 (takes_then mid now new rd.0 (rf.0 ++ rt.0) rd.2 (takes_then now last new rf.0 rt.0 rf.2 rt.2)),
+      )

@@ -1,0 +1,9 @@
+pub mod Blocks
+pub mod CastLemmas
+pub mod DeterminedRefusals
+pub mod Faults
+pub mod HandlerLemmas
+pub mod HandlerTableLemmas
+pub mod Many
+pub mod Refused
+pub mod Targets

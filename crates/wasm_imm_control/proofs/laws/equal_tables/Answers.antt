@@ -1,0 +1,5 @@
+use Rattle.wasm_imm_control.proofs.Targets.{equal_targets}
+use Rattle.wasm_imm_control.proofs.laws.equal_tables.Goals as goal
+
+pub returns : goal.returns
+returns c = equal_targets

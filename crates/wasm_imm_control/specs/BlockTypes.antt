@@ -1,0 +1,18 @@
+-- Block types.
+-- WebAssembly Core Specification 3.0, Binary Format, Instructions, Control Instructions.
+use Rattle.std.specs.Prelude.{◌≡◌, ℕ, List, [], ◌∷◌, pos}
+use Rattle.wasm_below.specs.Number.{EncodesSigned}
+use Rattle.wasm_below.specs.TypeEncoding.{EncodesValType}
+use Rattle.wasm_imm_control.specs.declared.block_type.BlockType.{BlockType}
+use Rattle.wasm_imm_control.specs.declared.block_type.BlockType.TheVariants as block
+
+-- The byte 40; a value type; or the index of a function type, as a signed number that is not negative.
+abbrev pub EncodesBlockType : List ℕ → BlockType → Type 0
+EncodesBlockType text block.Empty = text ≡ 0x40 ∷ []
+EncodesBlockType text (block.Value ty) = EncodesValType text ty
+EncodesBlockType text (block.FuncType index) = EncodesSigned 33 text (pos index)
+
+-- The index of a function type alone.
+abbrev pub EncodesFunctionType : List ℕ → BlockType → Type 0
+EncodesFunctionType text (block.FuncType index) = EncodesSigned 33 text (pos index)
+EncodesFunctionType text _ = ⊥

@@ -1,0 +1,17 @@
+-- Which refusal a cast has.
+use Rattle.std.specs.Prelude.{◌≡◌, ℕ, ◌≤◌, ◌<◌, ◌⊎◌}
+use Rattle.wasm_below.specs.bytes.message.Message.{Message}
+use Rattle.wasm_below.specs.bytes.message.Message.TheVariants as message
+use Rattle.wasm_below.specs.Fault.{ThenFault}
+use Rattle.wasm_below.specs.Number.{EncodesUnsigned}
+use Rattle.wasm_below.specs.Source.{Reader, offset_of, IsByte, U32Fault}
+use Rattle.wasm_below.specs.TypeEncoding.{EncodesHeapType, HeapTypeFault}
+use Rattle.wasm_below.specs.PartFaults.{EndFault}
+
+-- Behind the label: the flags, which stood at this offset, are above 3; or one of the two heap types is refused.
+abbrev pub CastTypesFault : ℕ → ℕ → Message → Reader → ℕ → Type 0
+CastTypesFault start flags m r offset = ((3 < flags) × (m ≡ message.InvalidCastFlags flags) × (offset ≡ start)) ⊎ ((flags ≤ 3) × ThenFault EncodesHeapType HeapTypeFault (λ first. HeapTypeFault) m r offset)
+
+-- That of the flags' byte, that of the label, or one found behind the label.
+abbrev pub CastFault : Message → Reader → ℕ → Type 0
+CastFault m r offset = ThenFault IsByte EndFault (λ flags. ThenFault (EncodesUnsigned 32) U32Fault (λ label. CastTypesFault (offset_of r) flags)) m r offset

@@ -1,0 +1,29 @@
+-- Casts: what `br_on_cast` and its kin carry behind their code.
+-- WebAssembly Core Specification 3.0, Binary Format, Instructions, Control Instructions.
+use Rattle.std.specs.Prelude.{◌≡◌, ◌==◌, ℕ, ◌/◌, ◌%◌, Bool, true, false, List, ◌∷◌, ◌++◌}
+use Rattle.wasm_below.specs.Number.{EncodesUnsigned}
+use Rattle.wasm_below.specs.Reference.{Reference}
+use Rattle.wasm_below.specs.TypeEncoding.{EncodesHeapType}
+use Rattle.wasm_imm_control.specs.declared.cast.Cast.{Cast}
+
+-- The flags: bit 0 where null is in the first type, bit 1 where it is in the second.
+abbrev pub cast_flags : Bool → Bool → ℕ
+cast_flags false false = 0
+cast_flags true false = 1
+cast_flags false true = 2
+cast_flags true true = 3
+
+-- The flags, the label, and the heap types of the two reference types.
+abbrev pub EncodesCast : List ℕ → Cast → Type 0
+EncodesCast text c = (label first second : List ℕ) × (text ≡ cast_flags c.from.nullable c.to.nullable ∷ (label ++ (first ++ second))) × EncodesUnsigned 32 label c.relative_depth × EncodesHeapType first c.from.heap_type × EncodesHeapType second c.to.heap_type
+
+-- A heap type, of a reference type with null or without.
+abbrev pub EncodesReference : Bool → List ℕ → Reference → Type 0
+EncodesReference nullable text r = (r.nullable ≡ nullable) × EncodesHeapType text r.heap_type
+
+-- The two bits of the flags.
+abbrev pub first_null : ℕ → Bool
+first_null flags = flags % 2 == 1
+
+abbrev pub second_null : ℕ → Bool
+second_null flags = flags / 2 == 1

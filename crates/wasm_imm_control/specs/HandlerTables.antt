@@ -1,0 +1,39 @@
+-- Try tables, resume tables and the types of a select.
+-- WebAssembly Core Specification 3.0, Binary Format, Instructions, Control Instructions and Parametric Instructions; proposal stack switching (resume tables).
+use Rattle.std.specs.Prelude.{◌≡◌, ◌≢◌, ℕ, List, [], ◌∷◌, ◌++◌, length}
+use Rattle.wasm_below.specs.Number.{EncodesUnsigned}
+use Rattle.wasm_below.specs.TypeEncoding.{EncodesValType}
+use Rattle.wasm_imm_control.specs.declared.handler_tables.TryTable.{TryTable}
+use Rattle.wasm_imm_control.specs.declared.handler_tables.ResumeTable.{ResumeTable}
+use Rattle.wasm_imm_control.specs.declared.select.Select.{Select}
+use Rattle.wasm_imm_control.specs.declared.select.Select.TheVariants as select
+use Rattle.wasm_imm_control.specs.BlockTypes.{EncodesBlockType}
+use Rattle.wasm_imm_control.specs.Handlers.{EncodesCatch, EncodesHandle}
+use Rattle.wasm_imm_control.specs.Lists.{EncodesList}
+
+-- How many members these lists may have. Limits of this project, and none of the specification.
+abbrev pub max_catches : ℕ
+max_catches = 10000
+
+abbrev pub max_handlers : ℕ
+max_handlers = 10000
+
+abbrev pub max_select_types : ℕ
+max_select_types = 10
+
+-- A block type and a list of catches.
+abbrev pub EncodesTryTable : List ℕ → TryTable → Type 0
+EncodesTryTable text t = (ty catches : List ℕ) × (text ≡ ty ++ catches) × EncodesBlockType ty t.ty × EncodesList max_catches EncodesCatch catches t.catches
+
+-- A list of clauses.
+abbrev pub EncodesResumeTable : List ℕ → ResumeTable → Type 0
+EncodesResumeTable text t = EncodesList max_handlers EncodesHandle text t.handlers
+
+-- A list of value types, of which one stands by itself.
+abbrev pub EncodesSelect : List ℕ → Select → Type 0
+EncodesSelect text (select.One ty) = EncodesList max_select_types EncodesValType text (ty ∷ [])
+EncodesSelect text (select.Multi tys) = EncodesList max_select_types EncodesValType text tys × (length tys ≢ 1)
+
+-- The number 1.
+abbrev pub EncodesOne : List ℕ → ℕ → Type 0
+EncodesOne text n = EncodesUnsigned 32 text n × (n ≡ 1)

@@ -1,0 +1,49 @@
+-- Catches of try tables, and clauses of resume tables.
+-- WebAssembly Core Specification 3.0, Binary Format, Instructions, Control Instructions (try tables); proposal stack switching (resume tables).
+use Rattle.std.specs.Prelude.{◌≡◌, ℕ, List, ◌∷◌, ◌++◌}
+use Rattle.wasm_below.specs.Number.{EncodesUnsigned}
+use Rattle.wasm_imm_control.specs.declared.handlers.Catch.{Catch}
+use Rattle.wasm_imm_control.specs.declared.handlers.Catch.TheVariants as clause
+use Rattle.wasm_imm_control.specs.declared.handlers.Handle.{Handle}
+use Rattle.wasm_imm_control.specs.declared.handlers.Handle.TheVariants as handle
+
+-- Two indices, one after the other.
+abbrev pub EncodesPair : List ℕ → ℕ × ℕ → Type 0
+EncodesPair text p = (first second : List ℕ) × (text ≡ first ++ second) × EncodesUnsigned 32 first p.0 × EncodesUnsigned 32 second p.1
+
+-- The byte that a catch begins with.
+abbrev pub catch_byte : Catch → ℕ
+catch_byte (clause.One tag label) = 0x00
+catch_byte (clause.OneRef tag label) = 0x01
+catch_byte (clause.All label) = 0x02
+catch_byte (clause.AllRef label) = 0x03
+
+-- What stands behind it.
+abbrev pub EncodesCatchIndices : List ℕ → Catch → Type 0
+EncodesCatchIndices text (clause.One tag label) = EncodesPair text (tag, label)
+EncodesCatchIndices text (clause.OneRef tag label) = EncodesPair text (tag, label)
+EncodesCatchIndices text (clause.All label) = EncodesUnsigned 32 text label
+EncodesCatchIndices text (clause.AllRef label) = EncodesUnsigned 32 text label
+
+abbrev pub EncodesCatch : List ℕ → Catch → Type 0
+EncodesCatch text c = (behind : List ℕ) × (text ≡ catch_byte c ∷ behind) × EncodesCatchIndices behind c
+
+-- The byte that a clause begins with.
+abbrev pub handle_byte : Handle → ℕ
+handle_byte (handle.OnLabel tag label) = 0x00
+handle_byte (handle.OnSwitch tag) = 0x01
+
+-- What stands behind it.
+abbrev pub EncodesHandleIndices : List ℕ → Handle → Type 0
+EncodesHandleIndices text (handle.OnLabel tag label) = EncodesPair text (tag, label)
+EncodesHandleIndices text (handle.OnSwitch tag) = EncodesUnsigned 32 text tag
+
+abbrev pub EncodesHandle : List ℕ → Handle → Type 0
+EncodesHandle text h = (behind : List ℕ) × (text ≡ handle_byte h ∷ behind) × EncodesHandleIndices behind h
+
+-- A catch, and a clause, whose first byte was read.
+abbrev pub IsCatchBehind : ℕ → List ℕ → Catch → Type 0
+IsCatchBehind byte text c = (byte ≡ catch_byte c) × EncodesCatchIndices text c
+
+abbrev pub IsHandleBehind : ℕ → List ℕ → Handle → Type 0
+IsHandleBehind byte text h = (byte ≡ handle_byte h) × EncodesHandleIndices text h

@@ -1,0 +1,13 @@
+pub mod BlockFaults
+pub mod BlockTypes
+pub mod BranchFaults
+pub mod BranchTables
+pub mod CastFaults
+pub mod Casts
+pub mod HandlerFaults
+pub mod HandlerTables
+pub mod Handlers
+pub mod ListFaults
+pub mod Lists
+pub mod OutOfMemory
+pub mod TableEquality

@@ -1,0 +1,31 @@
+-- Which refusals lists have, and what holds them.
+use Rattle.std.specs.Prelude.{ℕ, List}
+use Rattle.wasm_below.specs.bytes.message.Message.{Message}
+use Rattle.wasm_below.specs.bytes.message.SizeName.{SizeName}
+use Rattle.wasm_below.specs.bytes.message.SizeName.TheVariants as size_name
+use Rattle.wasm_below.specs.Fault.{ThenFault, ManyFault}
+use Rattle.wasm_below.specs.Number.{EncodesSize}
+use Rattle.wasm_below.specs.Source.{Reader}
+use Rattle.wasm_below.specs.TypeEncoding.{EncodesValType, ValTypeFault}
+use Rattle.wasm_imm_control.specs.BlockTypes.{EncodesBlockType}
+use Rattle.wasm_imm_control.specs.BlockFaults.{BlockTypeFault}
+use Rattle.wasm_imm_control.specs.Handlers.{EncodesCatch, EncodesHandle}
+use Rattle.wasm_imm_control.specs.HandlerFaults.{CatchFault, HandleFault}
+use Rattle.wasm_imm_control.specs.HandlerTables.{max_catches, max_handlers, max_select_types}
+use Rattle.wasm_below.specs.PartFaults.{CountFault}
+
+-- A list of this name: that of its count, or that of a member behind it.
+abbrev pub ListFault : {X : Type 0} → SizeName → ℕ → (List ℕ → X → Type 0) → (Message → Reader → ℕ → Type 0) → Message → Reader → ℕ → Type 0
+ListFault name limit Encodes Fault = ThenFault (EncodesSize limit) (CountFault name limit) (ManyFault Encodes Fault)
+
+-- A try table: that of its block type, or that of the catches behind it.
+abbrev pub TryTableFault : Message → Reader → ℕ → Type 0
+TryTableFault = ThenFault EncodesBlockType BlockTypeFault (λ ty. ListFault size_name.Catches max_catches EncodesCatch CatchFault)
+
+-- A resume table: that of its clauses.
+abbrev pub ResumeTableFault : Message → Reader → ℕ → Type 0
+ResumeTableFault = ListFault size_name.ResumeTable max_handlers EncodesHandle HandleFault
+
+-- The types of a select.
+abbrev pub SelectFault : Message → Reader → ℕ → Type 0
+SelectFault = ListFault size_name.SelectTypes max_select_types EncodesValType ValTypeFault

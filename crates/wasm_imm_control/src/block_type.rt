@@ -1,0 +1,61 @@
+//! Block types.
+ghost use Rattle.std.specs.Prelude.{IfErr};
+ghost use Rattle.wasm_below.specs.Source.{Reads};
+ghost use Rattle.wasm_imm_control.specs.BlockFaults.{BlockTypeFault, FunctionTypeFault};
+ghost use Rattle.wasm_imm_control.specs.BlockTypes.{EncodesBlockType, EncodesFunctionType};
+
+use wasm_below::{BinaryReader, Error, Message, Result, ValType};
+
+/// What a block takes and gives.
+#[derive(Clone, Copy, Debug, PartialEq, Eq)]
+pub enum BlockType {
+    /// It takes and gives nothing.
+    Empty,
+    /// It gives one value of this type.
+    Value(ValType),
+    /// It takes and gives what the function type of this index does.
+    FuncType(u32),
+}
+
+impl BlockType {
+    /// A block type. Control Instructions.
+    ///
+    /// Where a byte from 41 to 7f leads, refused as `ValType::read`. Else as `read_var_s33`, or by
+    /// `InvalidFunctionType` behind a negative number.
+    #[inline(never)]
+    pub fn read(reader: &mut BinaryReader<'_>) -> Result<BlockType>
+        ensures reads { Reads EncodesBlockType result reader.old reader.new }
+        ensures fault { IfErr result (λ e. BlockTypeFault e.message reader.old e.offset) }
+    {
+        let byte = match reader.peek() {
+            Ok(byte) => byte,
+            Err(e) => return Err(e),
+        };
+        match byte {
+            0x40 => {
+                reader.advance();
+                Ok(BlockType::Empty)
+            }
+            0x41..=0x7f => match ValType::read(reader) {
+                Ok(ty) => Ok(BlockType::Value(ty)),
+                Err(e) => Err(e),
+            },
+            _ => read_function_type(reader),
+        }
+    }
+}
+
+/// The index of a function type.
+fn read_function_type(reader: &mut BinaryReader<'_>) -> Result<BlockType>
+    ensures reads { Reads EncodesFunctionType result reader.old reader.new }
+    ensures fault { IfErr result (λ e. FunctionTypeFault e.message reader.old e.offset) }
+{
+    let start = reader.current_position();
+    let index = reader.read_var_s33()?;
+    if index < 0 {
+        let behind = reader.original_position();
+        reader.rewind(start);
+        return Err(Error::new(Message::InvalidFunctionType, behind));
+    }
+    Ok(BlockType::FuncType(index as u32))
+}

@@ -1,0 +1,201 @@
+//! Branch tables, whose targets stay in the bytes.
+ghost use Rattle.std.specs.Prelude.{◌≡◌, ◌↔◌, ℕ, List, map, length, IsTrue, IfErr, IfSome, Ok};
+ghost use Rattle.std.specs.Iterator.{YieldsFirst, at_most, UpTo};
+ghost use Rattle.std.specs.Iterator.SizeHint.{IsWithinCount};
+ghost use Rattle.wasm_below.specs.Fault.{ManyFault};
+ghost use Rattle.wasm_below.specs.Source.{Reads};
+ghost use Rattle.wasm_below.specs.Number.{EncodesUnsigned};
+ghost use Rattle.wasm_imm_control.specs.Lists.{EncodesMany};
+ghost use Rattle.wasm_imm_control.specs.BranchFaults.{BranchTableFault};
+ghost use Rattle.wasm_imm_control.specs.BranchTables.{EncodesBranchTable, EncodesTargets};
+ghost use Rattle.wasm_below.specs.Source.{U32Fault};
+
+use std::alloc::AllocError;
+use std::marker::Model;
+use wasm_below::{BinaryReader, Error, Result, SizeName};
+
+/// How many targets a table may have.
+const MAX_TARGETS: usize = 7654321;
+
+/// The labels of `br_table`: targets, and one for all other values.
+///
+/// The targets stay in the bytes that were read. Two tables are equal exactly where the count, the
+/// bytes of the targets and the default target are.
+#[derive(Debug, Drop)]
+pub struct BrTable<'a> {
+    count: u32,
+    default: u32,
+    targets: &'a [u8],
+}
+
+impl<'a> Model for BrTable<'a> {
+    ghost use Rattle.wasm_imm_control.specs.BranchTables.{BranchTable, AreTargets};
+
+    ghost Value = { BranchTable };
+
+    ghost view = { λ t. record { count = t.count; targets = t.targets.now; default = t.default } };
+
+    ghost invariant = { λ t. AreTargets t.count t.targets.now };
+}
+
+impl<'a> BrTable<'a> {
+    /// A branch table. Control Instructions.
+    ///
+    /// `SizeOutOfBounds` of `br_table` where a count above 7654321 begins; else as `read_size`, or
+    /// as `read_var_u32` at the first target, or the default one, that is refused.
+    #[inline(never)]
+    pub fn read(reader: &mut BinaryReader<'a>) -> Result<BrTable<'a>>
+        ensures reads { Reads EncodesBranchTable result reader.old reader.new }
+        ensures fault { IfErr result (λ e. BranchTableFault e.message reader.old e.offset) }
+    {
+        let start = reader.current_position();
+        let count = reader.read_size(MAX_TARGETS, SizeName::BrTable)?;
+        let bytes = reader.remaining_buffer();
+        let size = match read_targets(reader, count) {
+            Ok(size) => size,
+            Err(e) => {
+                reader.rewind(start);
+                return Err(e);
+            }
+        };
+        match reader.read_var_u32() {
+            Ok(default) => Ok(BrTable {
+                count: count as u32,
+                default,
+                targets: &bytes[..size],
+            }),
+            Err(e) => {
+                reader.rewind(start);
+                Err(e)
+            }
+        }
+    }
+
+    /// How many targets there are, without the default target.
+    pub fn len(&self) -> u32
+        ensures { result ≡ self.now.count }
+    {
+        self.count
+    }
+
+    /// Whether there is no target but the default one.
+    pub fn is_empty(&self) -> bool
+        ensures { IsTrue result ↔ (self.now.count ≡ 0) }
+    {
+        self.count == 0
+    }
+
+    /// The target of all values that have none of their own.
+    pub fn default(&self) -> u32
+        ensures { result ≡ self.now.default }
+    {
+        self.default
+    }
+
+    /// The targets, without the default one.
+    pub fn targets(&self) -> BrTableTargets<'_>
+        ensures { EncodesMany (EncodesUnsigned 32) self.now.count self.now.targets result }
+    {
+        BrTableTargets {
+            reader: BinaryReader::new(self.targets, 0),
+            remaining: self.count,
+        }
+    }
+}
+
+/// How many bytes this many targets take.
+fn read_targets(reader: &mut BinaryReader<'_>, count: usize) -> Result<usize>
+    ensures reads { Reads (EncodesTargets count) result reader.old reader.new }
+    ensures fault { IfErr result (λ e.
+        ManyFault (EncodesUnsigned 32) U32Fault count e.message reader.old e.offset) }
+{
+    let start = reader.current_position();
+    for _target in 0..count {
+        match reader.read_var_u32() {
+            Ok(_) => {}
+            Err(e) => {
+                reader.rewind(start);
+                return Err(e);
+            }
+        }
+    }
+    Ok(reader.current_position() - start)
+}
+
+impl<'a> Clone for BrTable<'a> {
+    ghost use Rattle.std.specs.Prelude.{◌≡◌, ⊤};
+
+    ghost is_clone = { λ source copy. copy ≡ source };
+
+    ghost is_infallible = { λ _. ⊤ };
+
+    fn clone(&self) -> std::result::Result<BrTable<'a>, AllocError> {
+        Ok(BrTable {
+            count: self.count,
+            default: self.default,
+            targets: self.targets,
+        })
+    }
+}
+
+impl<'a> PartialEq for BrTable<'a> {
+    ghost use Rattle.wasm_imm_control.specs.TableEquality.{same_table, same_table_partial};
+
+    ghost eq = { same_table };
+
+    ghost laws = { same_table_partial };
+
+    fn eq(&self, other: &BrTable<'a>) -> bool {
+        self.count == other.count && self.default == other.default && self.targets == other.targets
+    }
+}
+
+impl<'a> Eq for BrTable<'a> {
+    ghost use Rattle.wasm_imm_control.specs.TableEquality.{same_table_equiv};
+
+    ghost laws = { same_table_equiv };
+}
+
+/// The targets of a branch table, one after another. Each is `Ok`.
+#[derive(Debug, Drop)]
+pub struct BrTableTargets<'a> {
+    reader: BinaryReader<'a>,
+    remaining: u32,
+}
+
+impl<'a> Model for BrTableTargets<'a> {
+    ghost use Rattle.std.specs.Prelude.{ℕ, List};
+    ghost use Rattle.wasm_below.specs.Source.{rest};
+    ghost use Rattle.wasm_imm_control.specs.BranchTables.{AreTargets, numbers_of};
+
+    ghost Value = { List ℕ };
+
+    ghost view = { λ t. numbers_of (rest t.reader) };
+
+    ghost invariant = { λ t. AreTargets t.remaining (rest t.reader) };
+}
+
+impl<'a> Iterator for BrTableTargets<'a> {
+    type Item = Result<u32>;
+
+    ghost next_gives = { YieldsFirst (λ targets. map Ok targets) };
+
+    ghost remaining = { λ targets. at_most (length targets) };
+
+    fn next(&mut self) -> Option<Result<u32>> {
+        if self.remaining == 0 {
+            return None;
+        }
+        self.remaining -= 1;
+        Some(self.reader.read_var_u32())
+    }
+
+    fn size_hint(&self) -> (usize, Option<usize>)
+        ensures lower { IsWithinCount result.0 (at_most (length self.now)) }
+        ensures upper { IfSome result.1 (UpTo (at_most (length self.now))) }
+        ensures exact { result ≡ record { 0 = length self.now; 1 = Some (length self.now) } }
+    {
+        let remaining = self.remaining as usize;
+        (remaining, Some(remaining))
+    }
+}

@@ -1,0 +1,79 @@
+//! Casts.
+ghost use Rattle.std.specs.Prelude.{IfErr};
+ghost use Rattle.wasm_below.specs.Source.{Reads};
+ghost use Rattle.wasm_below.specs.TypeEncoding.{HeapTypeFault};
+ghost use Rattle.wasm_imm_control.specs.CastFaults.{CastFault};
+ghost use Rattle.wasm_imm_control.specs.Casts.{EncodesCast, EncodesReference};
+
+use wasm_below::{BinaryReader, HeapType, Message, RefType, Result};
+
+/// A branch on the type of a reference.
+#[derive(Clone, Copy, Debug, PartialEq, Eq)]
+pub struct Cast {
+    /// The label, counted outwards.
+    pub relative_depth: u32,
+    /// The type that the reference has.
+    pub from: RefType,
+    /// The type that it is tested for.
+    pub to: RefType,
+}
+
+impl Cast {
+    /// The flags, the label and the two heap types of a cast. Control Instructions.
+    ///
+    /// `EndOfData` where the flags are wanted; as `read_var_u32` at the label; `InvalidCastFlags` at
+    /// flags above 3, once the label was read; then as `HeapType::read` at either heap type.
+    #[inline(never)]
+    pub fn read(reader: &mut BinaryReader<'_>) -> Result<Cast>
+        ensures reads { Reads EncodesCast result reader.old reader.new }
+        ensures fault { IfErr result (λ e. CastFault e.message reader.old e.offset) }
+    {
+        let start = reader.current_position();
+        let flags = match reader.read_u8() {
+            Ok(flags) => flags,
+            Err(e) => return Err(e),
+        };
+        let relative_depth = match reader.read_var_u32() {
+            Ok(relative_depth) => relative_depth,
+            Err(e) => {
+                reader.rewind(start);
+                return Err(e);
+            }
+        };
+        if flags > 3 {
+            return Err(reader.refuse(start, Message::InvalidCastFlags(flags)));
+        }
+        let from = match read_reference(reader, flags % 2 == 1) {
+            Ok(from) => from,
+            Err(e) => {
+                reader.rewind(start);
+                return Err(e);
+            }
+        };
+        match read_reference(reader, flags / 2 == 1) {
+            Ok(to) => Ok(Cast {
+                relative_depth,
+                from,
+                to,
+            }),
+            Err(e) => {
+                reader.rewind(start);
+                Err(e)
+            }
+        }
+    }
+}
+
+/// A heap type, as a reference type with null or without.
+fn read_reference(reader: &mut BinaryReader<'_>, nullable: bool) -> Result<RefType>
+    ensures reads { Reads (EncodesReference nullable) result reader.old reader.new }
+    ensures fault { IfErr result (λ e. HeapTypeFault e.message reader.old e.offset) }
+{
+    match HeapType::read(reader) {
+        Ok(heap_type) => match RefType::new(nullable, heap_type) {
+            Some(ty) => Ok(ty),
+            None => unreachable!(),
+        },
+        Err(e) => Err(e),
+    }
+}

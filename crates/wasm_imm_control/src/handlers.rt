@@ -1,0 +1,181 @@
+//! Catches, and clauses of resume tables.
+ghost use Rattle.std.specs.Prelude.{◌<◌, ◌≤◌, ◌≡◌, false, IfErr};
+ghost use Rattle.wasm_below.specs.Source.{Reads};
+ghost use Rattle.wasm_imm_control.specs.HandlerFaults.{PairFault, IndicesFault, CatchFault, HandleFault};
+ghost use Rattle.wasm_imm_control.specs.Handlers.{EncodesPair, EncodesCatch, EncodesHandle, IsCatchBehind, IsHandleBehind};
+
+use std::alloc::Global;
+use wasm_below::{BinaryReader, FromReader, Message, Result, LeadingByteName};
+
+/// One catch of a try table.
+#[derive(Clone, Copy, Debug, PartialEq, Eq)]
+pub enum Catch {
+    /// Exceptions of this tag go to this label, with what they carry.
+    One { tag: u32, label: u32 },
+    /// Exceptions of this tag go to this label, with what they carry and a reference to them.
+    OneRef { tag: u32, label: u32 },
+    /// All exceptions go to this label.
+    All { label: u32 },
+    /// All exceptions go to this label, with a reference to them.
+    AllRef { label: u32 },
+}
+
+impl Catch {
+    /// A catch. Control Instructions.
+    ///
+    /// `EndOfData` where the first byte is wanted; `InvalidLeadingByte` of `catch` at one above 3;
+    /// else as `read_var_u32` at the tag or the label.
+    #[inline(never)]
+    pub fn read(reader: &mut BinaryReader<'_>) -> Result<Catch>
+        ensures reads { Reads EncodesCatch result reader.old reader.new }
+        ensures fault { IfErr result (λ e. CatchFault e.message reader.old e.offset) }
+    {
+        let start = reader.current_position();
+        let byte = match reader.read_u8() {
+            Ok(byte) => byte,
+            Err(e) => return Err(e),
+        };
+        if byte > 3 {
+            return Err(reader.refuse(start, Message::InvalidLeadingByte(byte, LeadingByteName::Catch)));
+        }
+        match Catch::read_behind(reader, byte) {
+            Ok(catch) => Ok(catch),
+            Err(e) => {
+                reader.rewind(start);
+                Err(e)
+            }
+        }
+    }
+
+    /// A catch whose first byte was read.
+    fn read_behind(reader: &mut BinaryReader<'_>, byte: u8) -> Result<Catch>
+        requires { byte ≤ 3 }
+        ensures reads { Reads (IsCatchBehind byte) result reader.old reader.new }
+        ensures fault { IfErr result (λ e. IndicesFault 1 byte e.message reader.old e.offset) }
+    {
+        if byte <= 1 {
+            return match read_pair(reader) {
+                Ok((tag, label)) => Ok(if byte == 0 {
+                    Catch::One { tag, label }
+                } else {
+                    Catch::OneRef { tag, label }
+                }),
+                Err(e) => Err(e),
+            };
+        }
+        match reader.read_var_u32() {
+            Ok(label) => Ok(if byte == 2 {
+                Catch::All { label }
+            } else {
+                Catch::AllRef { label }
+            }),
+            Err(e) => Err(e),
+        }
+    }
+}
+
+impl<'a> FromReader<'a> for Catch {
+    ghost TAKES_MEMORY = { false };
+
+    const TAKES_MEMORY: bool = false;
+
+    ghost encodes = { λ features text c. EncodesCatch text c };
+
+    ghost fault = { λ m r offset. CatchFault m r offset };
+
+    fn from_reader(_alloc: Global, reader: &mut BinaryReader<'a>) -> Result<Catch> {
+        Catch::read(reader)
+    }
+
+    fn is_prefix_code() {}
+}
+
+/// One clause of a resume table. Proposal stack switching.
+#[derive(Clone, Copy, Debug, PartialEq, Eq)]
+pub enum Handle {
+    /// Suspensions by this tag go to this label.
+    OnLabel { tag: u32, label: u32 },
+    /// Switches by this tag.
+    OnSwitch { tag: u32 },
+}
+
+impl Handle {
+    /// A clause. Proposal stack switching.
+    ///
+    /// `EndOfData` where the first byte is wanted; `InvalidLeadingByte` of `on clause` at one above
+    /// 1; else as `read_var_u32` at the tag or the label.
+    #[inline(never)]
+    pub fn read(reader: &mut BinaryReader<'_>) -> Result<Handle>
+        ensures reads { Reads EncodesHandle result reader.old reader.new }
+        ensures fault { IfErr result (λ e. HandleFault e.message reader.old e.offset) }
+    {
+        let start = reader.current_position();
+        let byte = match reader.read_u8() {
+            Ok(byte) => byte,
+            Err(e) => return Err(e),
+        };
+        if byte > 1 {
+            return Err(reader.refuse(start, Message::InvalidLeadingByte(byte, LeadingByteName::OnClause)));
+        }
+        match Handle::read_behind(reader, byte) {
+            Ok(handle) => Ok(handle),
+            Err(e) => {
+                reader.rewind(start);
+                Err(e)
+            }
+        }
+    }
+
+    /// A clause whose first byte was read.
+    fn read_behind(reader: &mut BinaryReader<'_>, byte: u8) -> Result<Handle>
+        requires { byte ≤ 1 }
+        ensures reads { Reads (IsHandleBehind byte) result reader.old reader.new }
+        ensures fault { IfErr result (λ e. IndicesFault 0 byte e.message reader.old e.offset) }
+    {
+        if byte == 0 {
+            return match read_pair(reader) {
+                Ok((tag, label)) => Ok(Handle::OnLabel { tag, label }),
+                Err(e) => Err(e),
+            };
+        }
+        match reader.read_var_u32() {
+            Ok(tag) => Ok(Handle::OnSwitch { tag }),
+            Err(e) => Err(e),
+        }
+    }
+}
+
+impl<'a> FromReader<'a> for Handle {
+    ghost TAKES_MEMORY = { false };
+
+    const TAKES_MEMORY: bool = false;
+
+    ghost encodes = { λ features text h. EncodesHandle text h };
+
+    ghost fault = { λ m r offset. HandleFault m r offset };
+
+    fn from_reader(_alloc: Global, reader: &mut BinaryReader<'a>) -> Result<Handle> {
+        Handle::read(reader)
+    }
+
+    fn is_prefix_code() {}
+}
+
+/// Two indices.
+fn read_pair(reader: &mut BinaryReader<'_>) -> Result<(u32, u32)>
+    ensures reads { Reads EncodesPair result reader.old reader.new }
+    ensures fault { IfErr result (λ e. PairFault e.message reader.old e.offset) }
+{
+    let start = reader.current_position();
+    let first = match reader.read_var_u32() {
+        Ok(first) => first,
+        Err(e) => return Err(e),
+    };
+    match reader.read_var_u32() {
+        Ok(second) => Ok((first, second)),
+        Err(e) => {
+            reader.rewind(start);
+            Err(e)
+        }
+    }
+}

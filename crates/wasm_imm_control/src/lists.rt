@@ -1,0 +1,88 @@
+//! Lists: a count, and that many members.
+ghost use Rattle.std.specs.Prelude.{◌≡◌, ◌+◌, ◌≤◌, false, true, IfErr};
+ghost use Rattle.wasm_below.specs.Fault.{HasFault, ManyFault};
+ghost use Rattle.wasm_below.specs.FromReader.{ReadsValue};
+ghost use Rattle.wasm_below.specs.Source.{at_position, offset_of, end_of};
+ghost use Rattle.wasm_imm_control.specs.ListFaults.{ListFault};
+ghost use Rattle.wasm_imm_control.specs.Lists.{EncodesMany, EncodesList};
+ghost use Rattle.wasm_imm_control.specs.OutOfMemory.{IsBegunAt};
+
+use crate::members::Members;
+use std::alloc::Global;
+use wasm_below::{BinaryReader, Error, FromReader, Message, Result, SizeName};
+
+/// A count, at most `limit`, and that many members, in memory that is made once.
+///
+/// `SizeOutOfBounds` of `desc` where a count above `limit` begins, else as `read_size`; as the
+/// member at the first member that is refused; `OutOfMemory` where the count begins.
+pub fn read_list<'a, T: FromReader<'a>>(
+    alloc: Global,
+    reader: &mut BinaryReader<'a>,
+    limit: usize,
+    desc: SizeName,
+) -> Result<Members<T>>
+    requires { T.TAKES_MEMORY ≡ false }
+    ensures reads { ReadsValue (EncodesList limit (T.encodes reader.old.features)) true
+        result reader.old reader.new }
+    ensures fault { IfErr result (λ e.
+        HasFault (ListFault desc limit (T.encodes reader.old.features) T.fault) e reader.old) }
+{
+    let start = reader.current_position();
+    let count = match reader.read_size(limit, desc) {
+        Ok(count) => count,
+        Err(e) => return Err(e),
+    };
+    match read_members::<T>(alloc, reader, count) {
+        Ok(members) => Ok(members),
+        Err(e) => Err(begun_at(reader, start, e)),
+    }
+}
+
+/// This many members.
+///
+/// Refused as the member at the first member that is; `OutOfMemory` where the members begin.
+pub fn read_members<'a, T: FromReader<'a>>(
+    alloc: Global,
+    reader: &mut BinaryReader<'a>,
+    count: usize,
+) -> Result<Members<T>>
+    requires lean { T.TAKES_MEMORY ≡ false }
+    requires within { offset_of reader.old ≤ end_of reader.old }
+    ensures reads { ReadsValue (EncodesMany (T.encodes reader.old.features) count) true
+        result reader.old reader.new }
+    ensures fault { IfErr result (λ e.
+        HasFault (ManyFault (T.encodes reader.old.features) T.fault count) e reader.old) }
+{
+    T::is_prefix_code();
+    let start = reader.current_position();
+    let mut items = match Vec::with_capacity(alloc, count) {
+        Ok(items) => items,
+        Err(_) => return Err(Error::new(Message::OutOfMemory, reader.original_position())),
+    };
+    for _member in 0..count {
+        match T::from_reader(alloc, reader) {
+            Ok(item) => items.push(item).unwrap(),
+            Err(e) => {
+                reader.rewind(start);
+                return Err(e);
+            }
+        }
+    }
+    Ok(Members::from_vec(items))
+}
+
+/// Goes back to where this many bytes were read, and says there that memory was refused. Any other
+/// refusal stays as it was.
+#[cold]
+#[inline(never)]
+pub fn begun_at(reader: &mut BinaryReader<'_>, position: usize, e: Error) -> Error
+    requires { position ≤ reader.old.position }
+    ensures rewound { reader.new ≡ at_position reader.old position }
+    ensures begun { IsBegunAt (reader.old.start + position) e result }
+{
+    reader.rewind(position);
+    match e.message {
+        Message::OutOfMemory => Error::new(e.message, reader.original_position()),
+        _ => e,
+    }
+}

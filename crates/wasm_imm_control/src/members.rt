@@ -1,0 +1,106 @@
+//! Lists that own their memory.
+ghost use Rattle.std.specs.Prelude.{◌≡◌, ◌↔◌, [], length, IsTrue, IfOk, IfErr, Ok};
+ghost use Rattle.wasm_imm_control.specs.OutOfMemory.{IsOutOfMemoryAt};
+
+use crate::handlers::{Catch, Handle};
+use std::alloc::Global;
+use std::marker::Model;
+use wasm_below::{Error, Message, Result, ValType};
+
+/// A list that owns its memory. Contracts see the list alone.
+#[derive(Debug, Drop)]
+pub struct Members<T> {
+    items: Vec<T>,
+}
+
+/// The types of a `select`.
+pub type SelectTypes = Members<ValType>;
+
+/// The catches of a try table.
+pub type Catches = Members<Catch>;
+
+/// The clauses of a resume table.
+pub type Handles = Members<Handle>;
+
+impl<T> Model for Members<T> {
+    ghost use Rattle.std.specs.Prelude.{List};
+
+    ghost Value = { List T };
+
+    ghost view = { λ m. m.items.items };
+}
+
+impl<T> Members<T> {
+    /// The list of this vector, which takes no memory.
+    pub fn from_vec(items: Vec<T>) -> Members<T>
+        ensures { result ≡ items.items }
+    {
+        Members { items }
+    }
+
+    /// The vector, which takes no memory.
+    pub fn into_vec(self) -> Vec<T>
+        ensures { result.items ≡ self }
+    {
+        let Members { items } = self;
+        items
+    }
+
+    /// The members.
+    pub fn as_slice(&self) -> &[T]
+        ensures { result.now ≡ self.now }
+    {
+        self.items.as_slice()
+    }
+
+    /// How many members there are.
+    pub fn len(&self) -> usize
+        ensures { result ≡ length self.now }
+    {
+        self.items.len()
+    }
+
+    /// Whether there is none.
+    pub fn is_empty(&self) -> bool
+        ensures { IsTrue result ↔ (self.now ≡ []) }
+    {
+        self.items.is_empty()
+    }
+}
+
+impl<T: Copy + Drop> Members<T> {
+    /// The same list in memory of its own.
+    ///
+    /// `OutOfMemory` at offset 0.
+    pub fn clone(&self, alloc: Global) -> Result<Members<T>>
+        ensures ok { IfOk result (λ copy. copy ≡ self.now) }
+        ensures err { IfErr result (λ e. IsOutOfMemoryAt 0 e) }
+    {
+        let mut items = match Vec::with_capacity(alloc, self.items.len()) {
+            Ok(items) => items,
+            Err(_) => return Err(Error::new(Message::OutOfMemory, 0)),
+        };
+        for item in self.items.as_slice() {
+            items.push(*item).unwrap();
+        }
+        Ok(Members { items })
+    }
+}
+
+impl<T: PartialEq> PartialEq for Members<T> {
+    ghost use Rattle.std.specs.Cmp.Lexicographic.{pointwise, lists_per};
+
+    ghost eq = { λ a b. pointwise T.eq a b };
+
+    ghost laws = { lists_per T.PartialEq.laws };
+
+    fn eq(&self, other: &Members<T>) -> bool {
+        self.items == other.items
+    }
+}
+
+impl<T: Eq> Eq for Members<T> {
+    ghost use Rattle.std.specs.Cmp.Lexicographic.{lists_equiv};
+
+    ghost laws = { lists_equiv T.Eq.laws };
+}

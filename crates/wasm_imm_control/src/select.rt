@@ -1,0 +1,58 @@
+//! The types of a `select`.
+ghost use Rattle.std.specs.Prelude.{◌≡◌, true, IfErr};
+ghost use Rattle.wasm_below.specs.Fault.{HasFault};
+ghost use Rattle.wasm_below.specs.FromReader.{ReadsValue};
+ghost use Rattle.wasm_below.specs.Source.{NoPrefix, rest};
+ghost use Rattle.wasm_imm_control.specs.HandlerTables.{EncodesSelect, EncodesOne};
+ghost use Rattle.wasm_imm_control.specs.ListFaults.{SelectFault};
+
+use crate::lists::{begun_at, read_members};
+use crate::members::SelectTypes;
+use std::alloc::Global;
+use wasm_below::{BinaryReader, Message, Result, ValType, SizeName};
+
+/// How many types a `select` may have.
+const MAX_SELECT_TYPES: usize = 10;
+
+/// The types of a `select`.
+#[derive(Debug, PartialEq, Eq, Drop)]
+pub enum Select {
+    /// One type, which takes no memory.
+    One { ty: ValType },
+    /// None or several.
+    Multi { tys: SelectTypes },
+}
+
+impl Select {
+    /// The types of a `select`. Parametric Instructions.
+    ///
+    /// `SizeOutOfBounds` of `select types` where a count above 10 begins, else as `read_size`; then
+    /// as `ValType::read` at the first type that is refused. `OutOfMemory` where the count begins;
+    /// one type takes no memory.
+    #[inline(never)]
+    pub fn read(alloc: Global, reader: &mut BinaryReader<'_>) -> Result<Select>
+        ensures reads { ReadsValue EncodesSelect true result reader.old reader.new }
+        ensures lone { IfErr result (λ e. e.message ≡ Message.OutOfMemory
+            → NoPrefix EncodesOne (rest reader.old)) }
+        ensures fault { IfErr result (λ e. HasFault SelectFault e reader.old) }
+    {
+        let start = reader.current_position();
+        let count = match reader.read_size(MAX_SELECT_TYPES, SizeName::SelectTypes) {
+            Ok(count) => count,
+            Err(e) => return Err(e),
+        };
+        if count == 1 {
+            return match ValType::read(reader) {
+                Ok(ty) => Ok(Select::One { ty }),
+                Err(e) => {
+                    reader.rewind(start);
+                    Err(e)
+                }
+            };
+        }
+        match read_members::<ValType>(alloc, reader, count) {
+            Ok(tys) => Ok(Select::Multi { tys }),
+            Err(e) => Err(begun_at(reader, start, e)),
+        }
+    }
+}

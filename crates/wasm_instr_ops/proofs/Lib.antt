@@ -1,0 +1,4 @@
+pub mod NumericByOpcode
+pub mod GcByOpcode
+pub mod MiscByOpcode
+pub mod AtomicByOpcode

@@ -1,0 +1,2 @@
+pub mod ImmediatePrefixCodes
+pub mod Values

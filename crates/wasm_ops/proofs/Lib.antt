@@ -1,4 +1,0 @@
-pub mod NumericAgain
-pub mod GcAgain
-pub mod MiscAgain
-pub mod AtomicAgain

@@ -1,2 +1,0 @@
-pub mod ImmediatesOnce
-pub mod Values

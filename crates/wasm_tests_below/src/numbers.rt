@@ -1,0 +1,182 @@
+use wasm_below::{BinaryReader, Error, Message, NumberName};
+
+/// How many strings were read, and at how many the answers differ.
+#[derive(Clone, Copy)]
+pub struct Tally {
+    pub read: u32,
+    pub differ: u32,
+}
+
+impl Tally {
+    /// Nothing compared.
+    pub fn new() -> Tally {
+        Tally { read: 0, differ: 0 }
+    }
+
+    /// One more comparison.
+    pub fn count(&mut self, read: bool, same: bool) {
+        if read {
+            self.read = self.read.wrapping_add(1);
+        }
+        if !same {
+            self.differ = self.differ.wrapping_add(1);
+        }
+    }
+}
+
+/// A width, whether its numbers have a sign, and what its refusals name.
+#[derive(Clone, Copy)]
+struct Kind {
+    bits: u32,
+    signed: bool,
+    word: NumberName,
+}
+
+/// Where the last byte that a width has room for stands.
+fn last_place(bits: u32) -> usize {
+    if bits > 35 { 9 } else { 4 }
+}
+
+/// The number at the start, without a sign, and its length. No width is looked at.
+fn unsigned_first(bytes: &[u8]) -> Option<(u64, usize)> {
+    let (first, others) = bytes.split_first()?;
+    if *first < 128 {
+        return Some((u64::from(*first), 1));
+    }
+    let (high, length) = unsigned_first(others)?;
+    let value = high.checked_mul(128)?.checked_add(u64::from(*first & 127))?;
+    Some((value, length.checked_add(1)?))
+}
+
+/// The number at the start, with a sign, and its length. No width is looked at.
+fn signed_first(bytes: &[u8]) -> Option<(i64, usize)> {
+    let (first, others) = bytes.split_first()?;
+    if *first < 128 {
+        let value = i64::from(*first);
+        return Some((if value < 64 { value } else { value - 128 }, 1));
+    }
+    let (high, length) = signed_first(others)?;
+    let value = high.checked_mul(128)?.checked_add(i64::from(*first & 127))?;
+    Some((value, length.checked_add(1)?))
+}
+
+/// An unsigned number of this many bits, by the definition.
+pub fn slow_unsigned(bytes: &[u8], bits: u32) -> Option<(u64, usize)> {
+    let (value, length) = unsigned_first(bytes)?;
+    let fits = bits >= 64 || value < 1u64.wrapping_shl(bits);
+    if fits && length.saturating_sub(1) <= last_place(bits) {
+        Some((value, length))
+    } else {
+        None
+    }
+}
+
+/// A signed number of this many bits, by the definition.
+pub fn slow_signed(bytes: &[u8], bits: u32) -> Option<(i64, usize)> {
+    let (value, length) = signed_first(bytes)?;
+    let half = 1i64.wrapping_shl(bits.wrapping_sub(1));
+    let fits = bits >= 64 || (value < half && value.wrapping_add(half) >= 0);
+    if fits && length.saturating_sub(1) <= last_place(bits) {
+        Some((value, length))
+    } else {
+        None
+    }
+}
+
+/// Which refusal these bytes have, where they begin with no number.
+pub fn slow_fault(bytes: &[u8], bits: u32, word: NumberName) -> Error {
+    let last = last_place(bits);
+    match bytes.get(last) {
+        Some(byte) if *byte >= 128 || bits == 33 => {
+            Error::new(Message::IntegerTooLong(word), last as u64)
+        }
+        Some(_) => Error::new(Message::IntegerTooLarge(word), last as u64),
+        None => Error::new(Message::EndOfData, bytes.len() as u64),
+    }
+}
+
+/// What the reader answers, and how many bytes it takes. A sign is seen in the number's bits.
+fn answer(bytes: &[u8], kind: Kind) -> (Result<u64, Error>, usize) {
+    let mut reader = BinaryReader::new(bytes, 0);
+    let value = match (kind.bits, kind.signed) {
+        (32, false) => reader.read_var_u32().map(u64::from),
+        (64, false) => reader.read_var_u64(),
+        (32, true) => reader.read_var_i32().map(|n| i64::from(n).cast_unsigned()),
+        (33, true) => reader.read_var_s33().map(|n| n.cast_unsigned()),
+        _ => reader.read_var_i64().map(|n| n.cast_unsigned()),
+    };
+    (value, reader.current_position())
+}
+
+/// What the definition says.
+fn wanted(bytes: &[u8], kind: Kind) -> (Result<u64, Error>, usize) {
+    let found = if kind.signed {
+        slow_signed(bytes, kind.bits).map(|(n, length)| (n.cast_unsigned(), length))
+    } else {
+        slow_unsigned(bytes, kind.bits)
+    };
+    match found {
+        Some((value, length)) => (Ok(value), length),
+        None => (Err(slow_fault(bytes, kind.bits, kind.word)), 0),
+    }
+}
+
+/// Compares one string.
+fn compare(tally: &mut Tally, bytes: &[u8], kind: Kind) {
+    let got = answer(bytes, kind);
+    tally.count(got.0.is_ok(), got == wanted(bytes, kind));
+}
+
+/// Compares one string for all five readers.
+fn compare_all(tally: &mut Tally, bytes: &[u8]) {
+    for (bits, signed, word) in [
+        (32, false, NumberName::VarU32),
+        (64, false, NumberName::VarU64),
+        (32, true, NumberName::VarI32),
+        (33, true, NumberName::VarS33),
+        (64, true, NumberName::VarI64),
+    ] {
+        compare(tally, bytes, Kind { bits, signed, word });
+    }
+}
+
+/// Every string of up to two bytes.
+pub fn short_strings() -> Tally {
+    let mut tally = Tally::new();
+    compare_all(&mut tally, &[]);
+    for first in 0..=255u8 {
+        compare_all(&mut tally, &[first]);
+        for second in 0..=255u8 {
+            compare_all(&mut tally, &[first, second]);
+        }
+    }
+    tally
+}
+
+/// This number in this many bytes, as far as they go, in eleven.
+fn encodes(number: i64, length: usize) -> [u8; 11] {
+    let mut bytes = [0u8; 11];
+    let mut left = number;
+    for i in 0..11 {
+        let low = (left & 127) as u8;
+        bytes[i] = if i + 1 < length { low | 128 } else { low };
+        left >>= 7;
+    }
+    bytes
+}
+
+/// The boundary values of each width and those beside them, in every length of up to eleven bytes.
+pub fn boundaries() -> Tally {
+    let mut tally = Tally::new();
+    for power in [0u32, 6, 7, 13, 14, 20, 21, 27, 28, 31, 32, 33, 62, 63] {
+        let boundary = 1i64.wrapping_shl(power);
+        for beside in [-1i64, 0, 1] {
+            let value = boundary.wrapping_add(beside);
+            for length in 1..12usize {
+                compare_all(&mut tally, &encodes(value, length)[..length]);
+                compare_all(&mut tally, &encodes(value.wrapping_neg(), length)[..length]);
+            }
+        }
+    }
+    tally
+}
