@@ -27,7 +27,7 @@ use Rattle.wasm_imm_control.specs.ListFaults.{ListFault, TryTableFault, ResumeTa
 use Rattle.wasm_below.specs.PartFaults.{EndFault, CountFault}
 use Rattle.wasm_imm_control.proofs.Blocks.{block_prefix_code}
 use Rattle.wasm_imm_control.proofs.HandlerLemmas.{catch_prefix_code, handle_prefix_code}
-use Rattle.wasm_below.proofs.TypeFaults.{no_byte}
+use Rattle.wasm_below.proofs.Faults.{no_byte}
 use Rattle.wasm_below.proofs.Steps.{number_prefix_code}
 use Rattle.wasm_below.proofs.DeterminedRefusals.{same_first_byte}
 use Rattle.wasm_below.proofs.DeterminedRefusals.{end_determines}

@@ -19,7 +19,7 @@ use Rattle.wasm_imm_control.specs.BlockFaults.{LeadsValType, FunctionTypeFault, 
 use Rattle.wasm_imm_control.specs.Casts.{EncodesReference}
 use Rattle.wasm_imm_control.specs.HandlerFaults.{IsLeading, LeadingFault}
 use Rattle.wasm_imm_control.specs.OutOfMemory.{IsBegunAt}
-use Rattle.wasm_below.proofs.TypeFaults.{no_byte}
+use Rattle.wasm_below.proofs.Faults.{no_byte}
 
 ends_here : (m : Message) → m ≢ message.OutOfMemory → MayFollow m []
 ends_here message.EndOfData some = refl
