@@ -377,7 +377,7 @@ def operator_source(ops):
         out += [
             f"    /// {doc}",
             f"    fn {name}(&self) -> {ty}",
-            f"        ensures {{ {told} ≡ {name}_of self.now }}",
+            f"        ensures {{ {told} ≡ {'opcode' if name == 'code' else name}_of self.now }}",
             "    {",
             "        match self {",
             *text_match(own, name, ops, value, None),

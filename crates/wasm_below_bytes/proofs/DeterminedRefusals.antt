@@ -1,5 +1,4 @@
--- A fault determines the refusal.
--- What the fault of an immediate says determines its refusal.
+-- What a fault says determines the refusal: of numbers, counts, bytes, and one part behind another.
 use Rattle.std.proofs.Common.{◌≡◌, ℕ, ◌+◌, ◌<◌, ◌≤◌, inl, inr, List, length, Ok, refl, sym, subst, ap, ◌∙◌, arith, ◌≢◌, ◌⊎◌}
 use Rattle.wasm_below_bytes.specs.declared.message.Message.{Message}
 use Rattle.wasm_below_bytes.specs.declared.message.Message.TheVariants as message

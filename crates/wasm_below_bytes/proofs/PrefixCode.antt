@@ -1,6 +1,4 @@
--- No encoding of a number begins another, and an encoding is that of one number.
--- No encoding of a type begins another, and an encoding is that of one type.
--- No encoding of a short immediate begins another, and each is that of one value.
+-- No encoding of a number or a byte begins another, and an encoding is that of one value.
 use Rattle.std.proofs.Common.{◌≡◌, ℕ, ◌-◌, ◌<◌, List, [], ◌∷◌, ◌++◌, length, ℤ, pos, ◌*ℤ◌, ◌+ℤ◌, sym, ap, ◌∙◌, arith, refl}
 use Rattle.wasm_below_bytes.specs.Number.{EncodesUnsigned, EncodesSigned, EncodesFixed, EncodesSize}
 use Rattle.std.specs.Int.{w32, w64, from_le_bytes}

@@ -4,6 +4,7 @@ use Rattle.std.specs.Prelude.{◌≡◌, ℕ, ◌+◌, ◌-◌, ◌*◌, ◌<◌
 use Rattle.std.specs.Int.{Width, byte_len, to_le_bytes}
 
 -- The bytes encode n, a number of at most `width` bits. A byte below 128 is the last one; another has the low seven bits, and the bytes behind it encode the rest.
+--   uN ::= n:byte ⇒ n, if n < 2^7 and n < 2^N  |  n:byte m:u(N-7) ⇒ 2^7·m + (n - 2^7), if n ≥ 2^7 and N > 7
 abbrev pub EncodesUnsigned : ℕ → List ℕ → ℕ → Type 0
 EncodesUnsigned width [] n = ⊥
 EncodesUnsigned width (c ∷ []) n = (c < 128) × (n ≡ c) × (n < 2 ^ width)
@@ -17,16 +18,19 @@ last_value c = cond (ltb c 64) (pos c) (pos c -ℤ pos 128)
 abbrev pub FitsWidth : ℕ → ℤ → Type 0
 FitsWidth width n = (neg_ℤ (pos (2 ^ (width - 1))) ≤ℤ n) × (n <ℤ pos (2 ^ (width - 1)))
 
--- The same with a sign.
+-- The same with a sign, of which the last byte has the highest bit.
+--   sN ::= n:byte ⇒ n, if n < 2^6 and n < 2^(N-1)  |  n:byte ⇒ n - 2^7, if 2^6 ≤ n < 2^7 and n ≥ 2^7 - 2^(N-1)
+--        |  n:byte i:s(N-7) ⇒ 2^7·i + (n - 2^7), if n ≥ 2^7 and N > 7
 abbrev pub EncodesSigned : ℕ → List ℕ → ℤ → Type 0
 EncodesSigned width [] n = ⊥
 EncodesSigned width (c ∷ []) n = (c < 128) × (n ≡ last_value c) × FitsWidth width n
 EncodesSigned width (c ∷ d ∷ bytes) n = (7 < width) × (128 ≤ c) × (c < 256) × (high : ℤ) × (n ≡ (pos 128 *ℤ high) +ℤ pos (c - 128)) × EncodesSigned (width - 7) (d ∷ bytes) high
 
--- A count of at most `limit`: a number of 32 bits.
+-- A count of at most `limit`: a u32.
 abbrev pub EncodesSize : ℕ → List ℕ → ℕ → Type 0
 EncodesSize limit text n = EncodesUnsigned 32 text n × (n ≤ limit)
 
--- All bytes of a number of this width, the lowest first.
+-- All bytes of a number of this width, the lowest first: the bits of a float.
+--   fN ::= b^(N/8):byte* ⇒ bytes_fN^-1(b*)
 abbrev pub EncodesFixed : Width → List ℕ → ℕ → Type 0
 EncodesFixed width text n = (text ≡ to_le_bytes width n) × (n < 2 ^ (8 * byte_len width))

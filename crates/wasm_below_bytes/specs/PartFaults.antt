@@ -1,6 +1,4 @@
--- Which refusals the parts of immediates have: bytes, numbers and counts.
--- Which refusal a short immediate has: an index, an ordering, the byte of a fence, lanes. A fault relates a message, the reader at which the reading began, and the offset that the refusal names.
--- WebAssembly Core Specification 3.0, Binary Format, Instructions.
+-- Which refusals the parts of immediates have: bytes, bytes that are checked, numbers and counts.
 use Rattle.std.specs.Prelude.{◌≡◌, ℕ, ◌≢◌, ◌⊎◌}
 use Rattle.wasm_below_bytes.specs.declared.message.Message.{Message}
 use Rattle.wasm_below_bytes.specs.declared.message.Message.TheVariants as message

@@ -48,7 +48,7 @@ reader_of features offset bytes = record { features = features; start = offset; 
 abbrev pub at_position : Reader → ℕ → Reader
 at_position r position = record { features = r.features; start = r.start; buffer = r.buffer; position = position }
 
--- The call took this text from the start.
+-- The call took this text from the start of the rest.
 pub record Takes (old new : Reader) (text : List ℕ) : Type 0 where
   pub moved : new ≡ at_position old (old.position + length text)
   pub parts : rest old ≡ text ++ rest new

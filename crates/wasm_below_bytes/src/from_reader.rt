@@ -2,7 +2,7 @@
 ghost use Rattle.std.specs.Prelude.{◌≡◌, ℕ, Bool, true, false, List, ◌++◌, IfOk, IfErr, IfSome, []};
 ghost use Rattle.wasm_below_bytes.specs.declared.features.WasmFeatures.{WasmFeatures};
 ghost use Rattle.wasm_below_bytes.specs.declared.message.Message.{Message};
-ghost use Rattle.wasm_below_bytes.specs.Fault.{HasFault};
+ghost use Rattle.wasm_below_bytes.specs.Fault.{HasFault, DeterminesRefusal};
 ghost use Rattle.wasm_below_bytes.specs.Items.{items_left, items_reader, items_name};
 ghost use Rattle.wasm_below_bytes.specs.FromReader.{ReadsValue, EncodesReader, ReaderFault, StepsItems, ReadsOn};
 ghost use Rattle.wasm_below_bytes.specs.Refusal.{NamesNumber, NamesSize};
@@ -44,6 +44,11 @@ pub trait FromReader<'a>: Drop + Sized {
     /// nothing; generic code calls it to use the law.
     fn is_prefix_code()
         ensures { (features : WasmFeatures) → PrefixCodeUpTo same (encodes features) };
+
+    /// A law: what the fault of a reading says determines the message and the offset. It does
+    /// nothing; generic code calls it to use the law.
+    fn determines_refusal()
+        ensures { DeterminesRefusal fault };
 }
 
 impl<'a> FromReader<'a> for u32 {
@@ -60,6 +65,8 @@ impl<'a> FromReader<'a> for u32 {
     }
 
     fn is_prefix_code() {}
+
+    fn determines_refusal() {}
 }
 
 impl<'a> BinaryReader<'a> {

@@ -33,7 +33,9 @@ heap_type_byte ty.Array = 0x6a
 heap_type_byte ty.Exn = 0x69
 heap_type_byte ty.Cont = 0x68
 
--- A short form: the byte of an abstract heap type; where it is shared, behind the byte 101.
+-- A short form: the byte of an abstract heap type; where it is shared, behind the byte 65.
+--   absheaptype ::= 0x69 ⇒ exn | 0x6A ⇒ array | 0x6B ⇒ struct | 0x6C ⇒ i31 | 0x6D ⇒ eq | 0x6E ⇒ any | 0x6F ⇒ extern
+--                 | 0x70 ⇒ func | 0x71 ⇒ none | 0x72 ⇒ noextern | 0x73 ⇒ nofunc | 0x74 ⇒ noexn
 abbrev pub EncodesShort : List ℕ → HeapType → Type 0
 EncodesShort text (heap.Abstract false ty) = text ≡ heap_type_byte ty ∷ []
 EncodesShort text (heap.Abstract true ty) = text ≡ 0x65 ∷ heap_type_byte ty ∷ []
@@ -50,6 +52,7 @@ EncodesExact text (heap.Exact index) = (behind : List ℕ) × (text ≡ 0x62 ∷
 EncodesExact text _ = ⊥
 
 -- Heap Types.
+--   heaptype ::= absheaptype | x33:s33 ⇒ x33, if x33 ≥ 0
 abbrev pub EncodesHeapType : List ℕ → HeapType → Type 0
 EncodesHeapType text (heap.Abstract shared ty) = EncodesShort text (heap.Abstract shared ty)
 EncodesHeapType text (heap.Concrete index) = EncodesConcrete text (heap.Concrete index)
@@ -69,10 +72,12 @@ abbrev pub EncodesLongRef : List ℕ → Reference → Type 0
 EncodesLongRef text r = (behind : List ℕ) × (text ≡ ref_byte r.nullable ∷ behind) × EncodesHeapType behind r.heap_type
 
 -- Reference Types.
+--   reftype ::= 0x63 ht:heaptype ⇒ ref null ht | 0x64 ht:heaptype ⇒ ref ht | ht:absheaptype ⇒ ref null ht
 abbrev pub EncodesRefType : List ℕ → Reference → Type 0
 EncodesRefType text r = EncodesShortRef text r ⊎ EncodesLongRef text r
 
 -- Number Types and Vector Types.
+--   numtype ::= 0x7C ⇒ f64 | 0x7D ⇒ f32 | 0x7E ⇒ i64 | 0x7F ⇒ i32      vectype ::= 0x7B ⇒ v128
 abbrev pub EncodesNumberType : List ℕ → ValType → Type 0
 EncodesNumberType text value.I32 = text ≡ 0x7f ∷ []
 EncodesNumberType text value.I64 = text ≡ 0x7e ∷ []
@@ -82,6 +87,7 @@ EncodesNumberType text value.V128 = text ≡ 0x7b ∷ []
 EncodesNumberType text (value.Ref r) = ⊥
 
 -- Value Types.
+--   valtype ::= numtype | vectype | reftype
 abbrev pub EncodesValType : List ℕ → ValType → Type 0
 EncodesValType text (value.Ref r) = EncodesRefType text r
 EncodesValType text ty = EncodesNumberType text ty

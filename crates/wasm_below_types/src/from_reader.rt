@@ -20,6 +20,8 @@ impl<'a> FromReader<'a> for HeapType {
     }
 
     fn is_prefix_code() {}
+
+    fn determines_refusal() {}
 }
 
 impl<'a> FromReader<'a> for RefType {
@@ -36,6 +38,8 @@ impl<'a> FromReader<'a> for RefType {
     }
 
     fn is_prefix_code() {}
+
+    fn determines_refusal() {}
 }
 
 impl<'a> FromReader<'a> for ValType {
@@ -52,4 +56,6 @@ impl<'a> FromReader<'a> for ValType {
     }
 
     fn is_prefix_code() {}
+
+    fn determines_refusal() {}
 }

@@ -1,4 +1,4 @@
--- What the fault of an immediate says determines its refusal.
+-- What the fault of lanes says determines its refusal.
 use Rattle.std.proofs.Common.{sym, ◌∙◌}
 use Rattle.wasm_below.specs.Fault.{DeterminesRefusal}
 use Rattle.wasm_imm_constants.specs.Vectors.{LanesFault}

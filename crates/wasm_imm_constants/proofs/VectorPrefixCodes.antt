@@ -1,4 +1,4 @@
--- No encoding of a short immediate begins another, and each is that of one value.
+-- No encoding of sixteen bytes or of a vector begins another, and each is that of one value.
 use Rattle.std.proofs.Common.{◌≡◌, ℕ, List, [], ◌∷◌, ◌++◌, length, refl, sym, ap, ◌∙◌, arith}
 use Rattle.wasm_imm_constants.specs.declared.constants.V128.{V128}
 use Rattle.wasm_below.specs.Sequence.{PrefixCode}

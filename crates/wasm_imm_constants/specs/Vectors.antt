@@ -1,6 +1,5 @@
--- The short immediates: indices, orderings, lanes and vectors.
--- WebAssembly Core Specification 3.0, Binary Format, Instructions.
--- Which refusal a short immediate has: an index, an ordering, the byte of a fence, lanes. A fault relates a message, the reader at which the reading began, and the offset that the refusal names.
+-- Vectors and the lanes of a shuffle, and which refusal lanes have.
+-- WebAssembly Core Specification 3.0, Binary Format, Instructions, Vector Instructions.
 use Rattle.std.specs.Prelude.{◌≡◌, ℕ, List, length, ◌+◌, ◌<◌}
 use Rattle.wasm_below.specs.Source.{Reader, end_of, offset_of}
 use Rattle.wasm_imm_constants.specs.declared.constants.V128.{V128}

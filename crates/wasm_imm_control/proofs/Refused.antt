@@ -1,4 +1,4 @@
--- Refusals of calls that may want memory.
+-- Refusals of calls that may take memory.
 use Rattle.std.proofs.Common.{◌≡◌, ◌≢◌, ℕ, ◌+◌, ◌<◌, ◌≤◌, ◌⊎◌, inl, inr, Bool, true, false, List, ◌++◌, length, Ok, refl, sym, subst, ap, ◌∙◌, arith}
 use Rattle.wasm_below.specs.bytes.error.Error.{Error}
 use Rattle.wasm_below.specs.bytes.message.Message.TheVariants as message

@@ -23,6 +23,7 @@ abbrev pub max_targets : ℕ
 max_targets = 7654321
 
 -- The count, the targets and the default target.
+--   0x0E l*:list(labelidx) l_N:labelidx ⇒ br_table l* l_N
 abbrev pub EncodesBranchTable : List ℕ → BranchTable → Type 0
 EncodesBranchTable text t = (count default : List ℕ) × (text ≡ count ++ (t.targets ++ default)) × EncodesSize max_targets count t.count × AreTargets t.count t.targets × EncodesUnsigned 32 default t.default
 

@@ -1,4 +1,4 @@
--- Casts: what `br_on_cast` and its kin carry behind their code.
+-- Casts: what `br_on_cast` and its kin carry behind their subopcode.
 -- WebAssembly Core Specification 3.0, Binary Format, Instructions, Control Instructions.
 use Rattle.std.specs.Prelude.{◌≡◌, ◌==◌, ℕ, ◌/◌, ◌%◌, Bool, true, false, List, ◌∷◌, ◌++◌}
 use Rattle.wasm_below.specs.Number.{EncodesUnsigned}
@@ -14,6 +14,8 @@ cast_flags false true = 2
 cast_flags true true = 3
 
 -- The flags, the label, and the heap types of the two reference types.
+--   castop ::= 0x00 ⇒ (ε, ε) | 0x01 ⇒ (null, ε) | 0x02 ⇒ (ε, null) | 0x03 ⇒ (null, null)
+--   0xFB 24:u32 (null1?, null2?):castop l:labelidx ht1:heaptype ht2:heaptype ⇒ br_on_cast l (ref null1? ht1) (ref null2? ht2)
 abbrev pub EncodesCast : List ℕ → Cast → Type 0
 EncodesCast text c = (label first second : List ℕ) × (text ≡ cast_flags c.from.nullable c.to.nullable ∷ (label ++ (first ++ second))) × EncodesUnsigned 32 label c.relative_depth × EncodesHeapType first c.from.heap_type × EncodesHeapType second c.to.heap_type
 

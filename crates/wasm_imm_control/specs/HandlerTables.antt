@@ -22,6 +22,7 @@ abbrev pub max_select_types : ℕ
 max_select_types = 10
 
 -- A block type and a list of catches.
+--   0x1F bt:blocktype c*:list(catch) .. ⇒ try_table bt c* ..
 abbrev pub EncodesTryTable : List ℕ → TryTable → Type 0
 EncodesTryTable text t = (ty catches : List ℕ) × (text ≡ ty ++ catches) × EncodesBlockType ty t.ty × EncodesList max_catches EncodesCatch catches t.catches
 

@@ -25,6 +25,8 @@ EncodesCatchIndices text (clause.OneRef tag label) = EncodesPair text (tag, labe
 EncodesCatchIndices text (clause.All label) = EncodesUnsigned 32 text label
 EncodesCatchIndices text (clause.AllRef label) = EncodesUnsigned 32 text label
 
+-- Control Instructions.
+--   catch ::= 0x00 x:tagidx l:labelidx | 0x01 x:tagidx l:labelidx | 0x02 l:labelidx | 0x03 l:labelidx
 abbrev pub EncodesCatch : List ℕ → Catch → Type 0
 EncodesCatch text c = (behind : List ℕ) × (text ≡ catch_byte c ∷ behind) × EncodesCatchIndices behind c
 
@@ -38,6 +40,7 @@ abbrev pub EncodesHandleIndices : List ℕ → Handle → Type 0
 EncodesHandleIndices text (handle.OnLabel tag label) = EncodesPair text (tag, label)
 EncodesHandleIndices text (handle.OnSwitch tag) = EncodesUnsigned 32 text tag
 
+-- A clause: `on` a tag and a label, or `on` a tag and a switch. Proposal stack switching.
 abbrev pub EncodesHandle : List ℕ → Handle → Type 0
 EncodesHandle text h = (behind : List ℕ) × (text ≡ handle_byte h ∷ behind) × EncodesHandleIndices behind h
 

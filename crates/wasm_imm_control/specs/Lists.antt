@@ -14,5 +14,6 @@ abbrev pub EncodesMany : {X : Type 0} → (List ℕ → X → Type 0) → ℕ �
 EncodesMany Encodes count text xs = (length xs ≡ count) × EncodesEach Encodes text xs
 
 -- Their count, which is at most `limit`, and the members.
+--   list(X) ::= n:u32 (el:X)^n ⇒ el^n
 abbrev pub EncodesList : {X : Type 0} → ℕ → (List ℕ → X → Type 0) → List ℕ → List X → Type 0
 EncodesList limit Encodes = Then (EncodesSize limit) (EncodesMany Encodes)

@@ -6,14 +6,14 @@ ghost use Rattle.wasm_imm_control.specs.BlockTypes.{EncodesBlockType, EncodesFun
 
 use wasm_below::{BinaryReader, Error, Message, Result, ValType};
 
-/// What a block takes and gives.
+/// The type of a block: its parameters and its results. Control Instructions.
 #[derive(Clone, Copy, Debug, PartialEq, Eq)]
 pub enum BlockType {
-    /// It takes and gives nothing.
+    /// No parameters and no results.
     Empty,
-    /// It gives one value of this type.
+    /// No parameters, and one result of this type.
     Value(ValType),
-    /// It takes and gives what the function type of this index does.
+    /// The parameters and the results of the function type of this index.
     FuncType(u32),
 }
 

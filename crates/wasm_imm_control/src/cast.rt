@@ -10,7 +10,7 @@ use wasm_below::{BinaryReader, HeapType, Message, RefType, Result};
 /// A branch on the type of a reference.
 #[derive(Clone, Copy, Debug, PartialEq, Eq)]
 pub struct Cast {
-    /// The label, counted outwards.
+    /// The label, counted outwards from the innermost block.
     pub relative_depth: u32,
     /// The type that the reference has.
     pub from: RefType,

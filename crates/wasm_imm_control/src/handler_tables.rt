@@ -71,6 +71,8 @@ impl<'a> FromReader<'a> for TryTable {
     }
 
     fn is_prefix_code() {}
+
+    fn determines_refusal() {}
 }
 
 /// What `resume` carries: what is handled while a continuation runs. Proposal stack switching.
@@ -124,4 +126,6 @@ impl<'a> FromReader<'a> for ResumeTable {
     }
 
     fn is_prefix_code() {}
+
+    fn determines_refusal() {}
 }

@@ -88,6 +88,8 @@ impl<'a> FromReader<'a> for Catch {
     }
 
     fn is_prefix_code() {}
+
+    fn determines_refusal() {}
 }
 
 /// One clause of a resume table. Proposal stack switching.
@@ -159,6 +161,8 @@ impl<'a> FromReader<'a> for Handle {
     }
 
     fn is_prefix_code() {}
+
+    fn determines_refusal() {}
 }
 
 /// Two indices.

@@ -1,4 +1,4 @@
--- What the fault of an immediate says determines its refusal.
+-- What the fault of an index, an ordering or a fence says determines its refusal.
 use Rattle.std.proofs.Common.{◌≢◌, ℕ, false}
 use Rattle.wasm_below.specs.bytes.features.WasmFeatures.{WasmFeatures}
 use Rattle.wasm_below.specs.bytes.message.Message.TheVariants as message

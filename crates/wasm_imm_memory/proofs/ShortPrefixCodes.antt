@@ -1,4 +1,4 @@
--- No encoding of a short immediate begins another, and each is that of one value.
+-- No encoding of an index, an ordering or a fence begins another, and each is that of one value.
 use Rattle.std.proofs.Common.{inl, inr, [], ◌∷◌, refl, sym, ap, ◌∙◌}
 use Rattle.wasm_below.specs.bytes.features.WasmFeatures.{WasmFeatures}
 use Rattle.wasm_below.specs.Sequence.{PrefixCode}

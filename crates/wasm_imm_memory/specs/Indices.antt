@@ -1,6 +1,5 @@
--- The short immediates: indices, orderings, lanes and vectors.
--- WebAssembly Core Specification 3.0, Binary Format, Instructions.
--- Which refusal a short immediate has: an index, an ordering, the byte of a fence, lanes. A fault relates a message, the reader at which the reading began, and the offset that the refusal names.
+-- Indices of memories and tables, which a feature announces, and which refusal they have.
+-- WebAssembly Core Specification 3.0, Binary Format, Instructions, Memory and Table Instructions.
 use Rattle.std.specs.Prelude.{◌≡◌, ℕ, ◌⊎◌, List, [], ◌∷◌}
 use Rattle.wasm_below.specs.bytes.features.WasmFeatures.{WasmFeatures}
 use Rattle.wasm_below.specs.Features.{HasFeature, multi_memory, call_indirect_overlong}

@@ -59,6 +59,7 @@ pub record EncodesBehindFlags (f : WasmFeatures) (k : MemArgKind) (max : ℕ) (f
   pub ordering : EncodesOrdering f k of_ordering byte m.ordering
   pub offset : EncodesOffset f behind m.offset
 
--- A memory argument of an operator of this kind, whose own alignment is `max`.
+-- A memory argument of an operator of this kind, whose natural alignment is `max`, the exponent of a power of two.
+--   memarg ::= n:u32 m:u64 ⇒ (0, {align n, offset m}), if n < 2^6  |  n:u32 x:memidx m:u64 ⇒ (x, {align n - 2^6, offset m}), if 2^6 ≤ n < 2^7
 abbrev pub EncodesMemArg : WasmFeatures → MemArgKind → ℕ → List ℕ → MemArg → Type 0
 EncodesMemArg f k max = Then (EncodesUnsigned 32) (EncodesBehindFlags f k max)

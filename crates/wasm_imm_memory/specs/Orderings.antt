@@ -1,6 +1,5 @@
--- The short immediates: indices, orderings, lanes and vectors.
--- WebAssembly Core Specification 3.0, Binary Format, Instructions.
--- Which refusal a short immediate has: an index, an ordering, the byte of a fence, lanes. A fault relates a message, the reader at which the reading began, and the offset that the refusal names.
+-- The byte of an ordering by itself and that of a fence, and which refusal they have.
+-- Proposals threads, shared-everything threads and acquire-release atomics.
 use Rattle.std.specs.Prelude.{◌≡◌, ℕ, ◌⊎◌, List, [], ◌∷◌, ◌≢◌, false}
 use Rattle.wasm_below.specs.bytes.features.WasmFeatures.{WasmFeatures}
 use Rattle.wasm_below.specs.Features.{HasFeature, acquire_release_atomics}

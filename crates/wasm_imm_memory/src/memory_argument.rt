@@ -9,23 +9,23 @@ ghost use Rattle.wasm_imm_memory.specs.MemArgFaults.{TargetFault, OrderingFault,
 use crate::ordering::Ordering;
 use wasm_below::{BinaryReader, Error, Message, Result, WasmFeatures};
 
-/// What an operator that reaches memory carries: how its address is aligned, where it lies, and
-/// what it reaches.
+/// The memory argument of a load, a store or an atomic access: its alignment, its static offset, and
+/// what it accesses. Memory Instructions.
 #[derive(Clone, Copy, Debug, PartialEq, Eq)]
 pub struct MemArg {
-    /// The exponent of the alignment, at most 15.
+    /// The alignment that the argument gives, as the exponent of a power of two, at most 15.
     pub align: u8,
-    /// The exponent of the operator's own alignment, which is not read.
+    /// The operator's natural alignment, as the exponent of a power of two; not read from the format.
     pub max_align: u8,
-    /// What is added to the address.
+    /// The static offset in bytes, added to the address.
     pub offset: u64,
-    /// What is reached.
+    /// The memory or the array that is accessed.
     pub target: MemArgTarget,
-    /// The ordering, where one is given.
+    /// The memory ordering, where the argument announces one.
     pub ordering: Option<MemArgOrdering>,
 }
 
-/// What an operator reaches.
+/// What a memory operator accesses.
 #[derive(Clone, Copy, Debug, PartialEq, Eq, Hash)]
 pub enum MemArgTarget {
     /// The memory of this index.
@@ -70,7 +70,7 @@ const ARRAY_INDEX: u32 = 32;
 const MEMORY_INDEX: u32 = 64;
 
 impl MemArg {
-    /// A memory argument of an operator of this kind, whose own alignment is `max_align`. Binary
+    /// A memory argument of an operator of this kind, whose natural alignment is `max_align`. Binary
     /// Format, Memory Instructions.
     ///
     /// The first that applies of: what `read_var_u32` refuses in the flags number; `MemoryAndArray` at

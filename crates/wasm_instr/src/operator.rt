@@ -458,7 +458,7 @@ impl<'a> Operator<'a> {
 
     /// The opcode, or the subopcode behind the prefix byte.
     fn code(&self) -> u32
-        ensures { result ≡ code_of self.now }
+        ensures { result ≡ opcode_of self.now }
     {
         match self {
             Operator::Unreachable => 0x00,

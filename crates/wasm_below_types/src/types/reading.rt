@@ -105,7 +105,7 @@ impl HeapType {
 
     /// An index of a type behind the byte 62.
     fn read_exact(reader: &mut BinaryReader<'_>) -> Result<HeapType>
-        requires { BeginsWith 98 (rest reader.old) }
+        requires { BeginsWith 0x62 (rest reader.old) }
         ensures reads { Reads EncodesExact result reader.old reader.new }
         ensures fault { IfErr result (λ e. ExactFault e.message reader.old e.offset) }
     {
