@@ -3,12 +3,12 @@ ghost use Rattle.std.specs.Prelude.{◌≡◌, ◌↔◌, IsTrue};
 ghost use Rattle.wasm_below.specs.Features.{HasFeature, memory64};
 ghost use Rattle.wasm_below.specs.Source.{Reader};
 
-use wasm_below::{
-    AbstractHeapType, BinaryReader, Error, ErrorKind, FrameName, HeapType, Message, RefType,
-    ValType, WasmFeatures, NumberName,
-};
 use bitflags::Flags;
 use std::test::Fail;
+use wasm_below::{
+    AbstractHeapType, BinaryReader, Error, ErrorKind, FrameName, HeapType, Message, RefType,
+    ValType, WasmFeatures,
+};
 
 mod messages;
 mod numbers;

@@ -1,14 +1,14 @@
 //! Bytes and their answers, and each call that takes memory on its happy path.
+use bitflags::Flags;
+use std::test::Fail;
+use wasm_below::{
+    AbstractHeapType, BinaryReader, Error, FromReader, HeapType, LeadingByteName, Message,
+    NumberName, RefType, Result, SizeName, TypeName, ValType, WasmFeatures,
+};
 use wasm_imm::{
     BlockType, BrTable, Cast, Catch, Handle, Ieee32, MemArg, MemArgKind, MemArgOrdering,
     MemArgTarget, Members, Ordering, ReadImmediates, ResumeTable, Select, TryTable, V128,
     read_lane, read_lanes, read_memory_index, read_table_index,
-};
-use bitflags::Flags;
-use std::test::Fail;
-use wasm_below::{
-    AbstractHeapType, BinaryReader, Error, FromReader, HeapType, Message, RefType, Result, ValType,
-    WasmFeatures, LeadingByteName, NumberName, SizeName, TypeName,
 };
 
 /// An error of this message at this offset.

@@ -1,8 +1,11 @@
 //! The text, the number and the kind of each refusal.
-use wasm_below::{Error, ErrorKind, FrameName, Message, InstructionName, LeadingByteName, NumberName, SizeName, TypeName};
 use std::alloc::Global;
 use std::process::Abort;
 use std::test::Fail;
+use wasm_below::{
+    Error, ErrorKind, FrameName, InstructionName, LeadingByteName, Message, NumberName, SizeName,
+    TypeName,
+};
 
 /// A refusal has this number and prints so.
 fn prints(

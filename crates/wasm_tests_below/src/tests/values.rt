@@ -1,9 +1,10 @@
 //! Types, and lists of items: the rows.
 use super::value_type;
-use wasm_below::{
-    AbstractHeapType, BinaryReader, Error, FromReader, HeapType, Message, RefType, ValType, SizeName, TypeName,
-};
 use std::test::Fail;
+use wasm_below::{
+    AbstractHeapType, BinaryReader, Error, FromReader, HeapType, Message, RefType, SizeName,
+    TypeName, ValType,
+};
 
 /// A reference type of this.
 fn reference(nullable: bool, heap_type: HeapType) -> Option<ValType> {
@@ -52,7 +53,10 @@ fn no_types(rt: HostRuntime) {
     let exact = value_type(&[0x64, 0x62, 0x80, 0x80, 0x40]);
     assert_eq!(rt; exact, no_type(TypeName::HeapType, 1));
     assert_eq!(rt; value_type(&[0x7a]), no_type(TypeName::ValueType, 0));
-    assert_eq!(rt; value_type(&[0x65, 0x7f]), no_type(TypeName::ReferenceType, 0));
+    assert_eq!(rt;
+        value_type(&[0x65, 0x7f]),
+        no_type(TypeName::ReferenceType, 0)
+    );
     assert_eq!(rt; value_type(&[0x63]), Err(Error::new(Message::EndOfData, 1)));
     let heap = HeapType::read(&mut BinaryReader::new(&[0x7f], 0));
     assert_eq!(rt;
