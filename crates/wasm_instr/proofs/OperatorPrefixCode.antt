@@ -18,7 +18,7 @@ use Rattle.wasm_instr.specs.Row.{prefix_of, opcode_of, immediates_of}
 use Rattle.wasm_instr.specs.Encoding.{EncodesOpcode, EncodesOperator}
 use Rattle.wasm_instr.proofs.ByOpcode.{own_at}
 
--- The operator of a prefix, a code and immediates.
+-- The operator of a prefix byte, an opcode or subopcode, and immediates.
 abbrev pub operator_at : Option ℕ → ℕ → List Immediate → Operator
 operator_at None code is = cond (is_numeric code) (operator.Numeric (numeric_at code is)) (own_at code is)
 operator_at (Some prefix) code is =
@@ -35,7 +35,7 @@ again (operator.Simd op) = ap operator.Simd (simd_by_opcode op)
 again (operator.Atomic op) = ap operator.Atomic (atomic_by_opcode op)
 again op = refl
 
--- The kinds of the immediates behind a code.
+-- The kinds of the immediates behind an opcode or a subopcode.
 abbrev kinds_at : Option ℕ → ℕ → List Kind
 kinds_at prefix code = map kind_of (immediates_of (operator_at prefix code []))
 

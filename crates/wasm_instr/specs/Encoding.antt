@@ -9,7 +9,7 @@ use Rattle.wasm_instr.specs.declared.operator.Operator.TheVariants as operator
 use Rattle.wasm_instr.specs.Row.{prefix_of, opcode_of, immediates_of}
 use Rattle.wasm_instr_rows.specs.Immediate.{EncodesImmediates}
 
--- The opcode; or the prefix, and the code as a number of 32 bits.
+-- The opcode; or the prefix byte, and the subopcode as a u32.
 abbrev pub EncodesOpcode : Option ℕ → ℕ → List ℕ → Type 0
 EncodesOpcode None code bytes = bytes ≡ code ∷ []
 EncodesOpcode (Some prefix) code bytes = (number : List ℕ) × (bytes ≡ prefix ∷ number) × EncodesUnsigned 32 number code

@@ -28,7 +28,7 @@ HoldsList (operator.ResumeThrow _ _ _) = Unit {0}
 HoldsList (operator.ResumeThrowRef _ _) = Unit {0}
 HoldsList _ = ⊥
 
--- The two variants that share a code.
+-- The two variants that share an opcode.
 abbrev pub IsTypedSelect : Operator → Type 0
 IsTypedSelect (operator.TypedSelect _) = Unit {0}
 IsTypedSelect (operator.TypedSelectMulti _) = Unit {0}

@@ -17,7 +17,7 @@ pub fn operators(features: WasmFeatures)
         → (op ≡ other) × (a ≡ b) }
 {}
 
-/// Two variants share a code only if they are `TypedSelect` and `TypedSelectMulti`.
+/// Two variants share an opcode only if they are `TypedSelect` and `TypedSelectMulti`.
 pub fn shared_opcodes()
     ensures { (op other : Operator)
         → prefix_of op ≡ prefix_of other

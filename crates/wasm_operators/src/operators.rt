@@ -120,8 +120,8 @@ impl<'a> OperatorsReader<'a> {
     /// `out` with their offsets. Room for one is made before it is read; where that is refused, E3
     /// at the position.
     ///
-    /// On a reader that has read operators before, as after E3, the same holds with those put in
-    /// prefix: the clauses whose names begin with `rest`.
+    /// On a reader that has read operators before, as after E3, the same holds with those put
+    /// before it: the clauses whose names begin with `rest`.
     pub fn read_all(&mut self, out: &mut Vec<(Operator, u64)>) -> Result<()>
         // On Ok what was added is the walk of the one tree that the bytes encode.
         ensures tree { IsFresh self.old → OnOk result (Appends out.old.items out.new.items (ReadsTree [] self.old self.new)) }
