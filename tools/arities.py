@@ -1,58 +1,71 @@
 """What operators take and leave, where that is fixed."""
 
 from source import joined_arm
-from table import HEAD, enum_uses, held, pattern
+from table import ENUMS, HEAD, enum_uses, grouped, held, pattern
+
+REACHING = " and an array"
 
 
-def pair_of(op, argument="memarg"):
+def argument_of(op):
+    """The name of the field that is the memory argument, if the operator has one."""
+    return next((name for name, ty in op.fields if ty == "MemArg"), None)
+
+
+def pair_of(op):
     """What a fixed operator takes and leaves, in both languages."""
-    if op.takes.endswith(" and an array"):
-        takes = op.takes.split()[0]
-        return f"(reaching {argument} {takes}, {op.leaves})", f"(reaching({argument}, {takes}), {op.leaves})"
-    return f"({op.takes}, {op.leaves})", f"({op.takes}, {op.leaves})"
+    takes = op.takes.removesuffix(REACHING)
+    if op.takes == takes:
+        return (f"({takes}, {op.leaves})",) * 2
+    name = argument_of(op)
+    return f"(reaching {name} {takes}, {op.leaves})", f"(reaching({name}, {takes}), {op.leaves})"
 
 
 def by_pair(ops):
     """The fixed operators by their pair, that of the most last."""
-    found = {}
-    for op in ops:
-        if op.takes != "by rule":
-            found.setdefault(pair_of(op), []).append(op)
-    most = max(found, key=lambda pair: len(found[pair]))
-    return [(pair, those) for pair, those in found.items() if pair != most] + [(most, found[most])]
+    return grouped([op for op in ops if not op.is_by_rule], pair_of)
 
 
-def memarg_pattern(op, alias):
-    names = " ".join(name if name == "memarg" else "_" for name, _ in op.fields)
+def argument_pattern(op, alias):
+    """A pattern of antt that names the memory argument alone."""
+    names = " ".join(name if name == argument_of(op) else "_" for name, _ in op.fields)
     return f"({alias}.{op.name} {names})" if op.fields else f"{alias}.{op.name}"
+
+
+def enum_pairs(enum, ops):
+    """The pairs of an inner enum, as a definition; where some go by rule, each may be none."""
+    ruled = [op for op in ops if op.is_by_rule]
+    low, ty = enum.module, "ℕ × ℕ"
+    made = lambda pair: pair
+    title = f"-- Of {enum.title}."
+    if ruled:
+        ty, made = f"Option ({ty})", lambda pair: f"Some {pair}"
+        title = f"-- Of {enum.title}; none where it depends on the module."
+    body = [title, f"abbrev pub {low}_pair : {enum.type} → {ty}"]
+    *others, ((most, _), _) = by_pair(ops)
+    for (pair, _), those in others:
+        body += [f"{low}_pair {argument_pattern(op, low)} = {made(pair)}" for op in those]
+    body += [f"{low}_pair {pattern(op, low, False)} = None" for op in ruled]
+    return [*body, f"{low}_pair _ = {made(most)}", ""]
+
+
+def is_ruled(enum, ops):
+    """Whether an operator of an inner enum goes by rule."""
+    return any(op.is_by_rule for op in ops if op.group == enum.group)
 
 
 def fixed_arity_specs(ops):
     """The pairs that are fixed, as definitions."""
     body = []
     for enum in held():
-        those = [op for op in ops if op.group == enum.group]
-        ruled = [op for op in those if op.takes == "by rule"]
-        low = enum.module
-        ty = "Option (ℕ × ℕ)" if ruled else "ℕ × ℕ"
-        body += [f"-- Of {enum.title}." if not ruled else f"-- Of {enum.title}; none where it depends on the module."]
-        body.append(f"abbrev pub {low}_pair : {enum.type} → {ty}")
-        pairs = by_pair(those)
-        for (pair, _), group in pairs[:-1]:
-            made = f"Some {pair}" if ruled else pair
-            body += [f"{low}_pair {memarg_pattern(op, low)} = {made}" for op in group]
-        body += [f"{low}_pair {pattern(op, low, False)} = None" for op in ruled]
-        last = pairs[-1][0][0]
-        body += [f"{low}_pair _ = {f'Some {last}' if ruled else last}", ""]
-    own = [op for op in ops if op.group == "Own"]
+        body += enum_pairs(enum, [op for op in ops if op.group == enum.group])
     body += ["-- Of all operators; none where it depends on the module.", "abbrev pub fixed_arity : Operator → Option (ℕ × ℕ)"]
-    for (pair, _), group in by_pair(own):
-        body += [f"fixed_arity {memarg_pattern(op, 'operator')} = Some {pair}" for op in group]
+    for (pair, _), those in by_pair([op for op in ops if op.group == "Own"]):
+        body += [f"fixed_arity {argument_pattern(op, 'operator')} = Some {pair}" for op in those]
     for enum in held():
-        inner = f"{enum.module}_pair op"
-        body.append(f"fixed_arity (operator.{enum.group} op) = {inner if enum.group == 'Gc' else f'Some ({inner})'}")
+        pair = f"{enum.module}_pair op"
+        made = pair if is_ruled(enum, ops) else f"Some ({pair})"
+        body.append(f"fixed_arity (operator.{enum.group} op) = {made}")
     body.append("fixed_arity _ = None")
-    text = "\n".join(body)
     head = [
         f"-- {HEAD}",
         "-- How many operands an operator takes and how many values it leaves, where that is fixed.",
@@ -77,79 +90,82 @@ def fixed_arity_specs(ops):
         "reaching m takes = takes + arrays_in m.target",
         "",
     ]
-    return "\n".join(head + [text, ""])
+    return "\n".join([*head, *body, ""])
 
 
-def memarg_rust(op, ty):
-    """A pattern that names the memory argument alone."""
+def argument_binding(op, ty):
+    """A pattern of Rust that names the memory argument alone, where the pair depends on it."""
     if not op.fields:
         return f"{ty}::{op.name}"
-    if op.takes.endswith(" and an array"):
-        return f"{ty}::{op.name} {{ memarg }}" if len(op.fields) == 1 else f"{ty}::{op.name} {{ memarg, .. }}"
+    if op.takes.endswith(REACHING):
+        more = "" if len(op.fields) == 1 else ", .."
+        return f"{ty}::{op.name} {{ {argument_of(op)}{more} }}"
     return f"{ty}::{op.name} {{ .. }}"
 
 
-def pair_arm(ty, group, value):
+def pair_arm(ty, ops, value):
     """An arm for operators of one pair."""
-    return joined_arm([memarg_rust(op, ty) for op in group], value, "        ")
+    return joined_arm([argument_binding(op, ty) for op in ops], value)
+
+
+def enum_arity(enum, ops):
+    """The pairs of an inner enum, in code."""
+    ruled = [op for op in ops if op.is_by_rule]
+    low, ty, title = enum.module, "(u32, u32)", enum.title
+    made = lambda pair: pair
+    if ruled:
+        ty, title, made = f"Option<{ty}>", f"{title} takes and leaves, where that is fixed", lambda pair: f"Some({pair})"
+    else:
+        title = f"{title} takes and leaves"
+    out = ["", f"/// What one of {title}.", f"pub fn {low}_fixed_arity(op: &{enum.type}) -> {ty}"]
+    out += [f"ensures {{ result ≡ {low}_pair op.now }}", "{", "match op {"]
+    *others, ((_, most), _) = by_pair(ops)
+    out += [pair_arm(enum.type, those, made(pair)) for (_, pair), those in others]
+    if ruled:
+        out.append(pair_arm(enum.type, ruled, "None"))
+    return [*out, f"_ => {made(most)},", "}", "}"]
 
 
 def fixed_arity_source(ops):
     """The pairs that are fixed, in code."""
+    inner = sorted(enum.type for enum in ENUMS if enum.group != "Simd")
+    words = ["reaching as reaching_of", *[f"{enum.module}_pair" for enum in held()], "fixed_arity as pair_of"]
     out = [
         f"// {HEAD}",
         "ghost use Rattle.std.specs.Prelude.{◌≡◌, ◌<◌};",
-        "ghost use Rattle.wasm_instr.specs.FixedArity.{reaching as reaching_of, "
-        + ", ".join(f"{enum.module}_pair" for enum in held())
-        + ", fixed_arity as pair_of};",
+        f"ghost use Rattle.wasm_instr.specs.FixedArity.{{{', '.join(words)}}};",
         "",
         "use crate::operator::Operator;",
         "use wasm_imm::{MemArg, MemArgTarget};",
-        "use wasm_instr_ops::{AtomicOperator, GcOperator, MiscOperator, NumericOperator};",
+        f"use wasm_instr_ops::{{{', '.join(inner)}}};",
         "use wasm_instr_simd::SimdOperator;",
         "",
         "/// How many operands an access takes that takes so many of a memory: an array is one more.",
         "fn reaching(memarg: &MemArg, takes: u32) -> u32",
-        "    requires { takes < 8 }",
-        "    ensures { result ≡ reaching_of memarg.now takes }",
+        "requires { takes < 8 }",
+        "ensures { result ≡ reaching_of memarg.now takes }",
         "{",
-        "    match memarg.target {",
-        "        MemArgTarget::Array(_) => takes + 1,",
-        "        MemArgTarget::Memory(_) => takes,",
-        "    }",
+        "match memarg.target {",
+        "MemArgTarget::Array(_) => takes + 1,",
+        "MemArgTarget::Memory(_) => takes,",
+        "}",
         "}",
     ]
     for enum in held():
-        those = [op for op in ops if op.group == enum.group]
-        ruled = [op for op in those if op.takes == "by rule"]
-        low = enum.module
-        ty = "Option<(u32, u32)>" if ruled else "(u32, u32)"
-        out += ["", f"/// What one of {enum.title} takes and leaves{', where that is fixed' if ruled else ''}."]
-        out.append(f"pub fn {low}_fixed_arity(op: &{enum.type}) -> {ty}")
-        out += [f"    ensures {{ result ≡ {low}_pair op.now }}", "{", "    match op {"]
-        pairs = by_pair(those)
-        for (_, pair), group in pairs[:-1]:
-            out += pair_arm(enum.type, group, f"Some({pair})" if ruled else pair)
-        if ruled:
-            out += pair_arm(enum.type, ruled, "None")
-        last = pairs[-1][0][1]
-        out += [f"        _ => {f'Some({last})' if ruled else last},", "    }", "}"]
+        out += enum_arity(enum, [op for op in ops if op.group == enum.group])
     own = [op for op in ops if op.group == "Own"]
     out += [
         "",
         "impl<'a> Operator<'a> {",
-        "    /// What the operator takes and leaves, where that is fixed.",
-        "    pub(crate) fn fixed_arity(&self) -> Option<(u32, u32)>",
-        "        ensures { result ≡ pair_of self.now }",
-        "    {",
-        "        match self {",
+        "/// What the operator takes and leaves, where that is fixed.",
+        "pub(crate) fn fixed_arity(&self) -> Option<(u32, u32)>",
+        "ensures { result ≡ pair_of self.now }",
+        "{",
+        "match self {",
+        *[pair_arm("Operator", those, f"Some({pair})") for (_, pair), those in by_pair(own)],
     ]
-    for (_, pair), group in by_pair(own):
-        out += ["    " + line for line in pair_arm("Operator", group, f"Some({pair})")]
     for enum in held():
         call = f"{enum.module}_fixed_arity(op)"
-        out.append(f"            Operator::{enum.group}(op) => {call if enum.group == 'Gc' else f'Some({call})'},")
-    ruled = [op for op in own if op.takes == "by rule"]
-    out += ["    " + line for line in pair_arm("Operator", ruled, "None")]
-    out += ["        }", "    }", "}", ""]
-    return "\n".join(out)
+        out.append(f"Operator::{enum.group}(op) => {call if is_ruled(enum, ops) else f'Some({call})'},")
+    out.append(pair_arm("Operator", [op for op in own if op.is_by_rule], "None"))
+    return "\n".join([*out, "}", "}", "}", ""])

@@ -2,27 +2,28 @@
 """Writes every list over the operators from the one table, operators.tsv.
 
     tools/lists.py            writes the files
-    tools/lists.py --check    fails where a file is not what the table gives
+    tools/lists.py --check    fails where a file is not what the table gives, byte by byte
 
-To add an operator, add its row to the table and run this. A row has the proposal, the name of the
-variant, the name of its visit, the prefix byte if there is one, the opcode or subopcode, the fields with their
-types, the kinds of the immediates in order, and how many operands the operator takes and how many
-values it leaves ("by rule" where that depends on the module).
+Before that it judges the table: the rows by themselves and together (rules.py), and against what the
+original lists (original.py). `rt fmt` lays the files out, so the Rattle kit has to be there.
+docs/ARCHITECTURE.md says what the columns are, docs/ADDING-AN-OPERATOR.md what a new row needs besides.
 """
 
 import sys
 
 from arities import fixed_arity_source, fixed_arity_specs
-from printed import values_printed, values_source
-from rows import enum_by_opcode, enum_rows, operators_by_opcode, operator_rows
+from layout import laid_out
+from original import differences
+from printed import made_source, values_source
+from rows import enum_by_opcode, enum_rows, operator_rows, operators_by_opcode
+from rules import faults
 from source import enum_source, operator_source
 from table import ENUMS, TOP, table
 from visits import dispatch, fixed_trait, passed, simd_trait
 
 
-def files():
+def files(ops):
     """Each generated file with its text."""
-    ops = table()
     out = {}
     for enum in ENUMS:
         those = [op for op in ops if op.group == enum.group]
@@ -31,7 +32,7 @@ def files():
         out[f"{crate}/specs/{enum.group}.antt"] = enum_rows(enum, those)
         out[f"{crate}/proofs/{enum.group}ByOpcode.antt"] = enum_by_opcode(enum, those)
     own = [op for op in ops if op.group == "Own"]
-    out["crates/wasm_instr/src/operator.rt"] = operator_source(own)
+    out["crates/wasm_instr/src/operator.rt"] = operator_source(own, {op.group for op in ops if op.holds_list})
     out["crates/wasm_instr/specs/Row.antt"] = operator_rows(own)
     out["crates/wasm_instr/specs/FixedArity.antt"] = fixed_arity_specs(ops)
     out["crates/wasm_instr/src/fixed_arity.rt"] = fixed_arity_source(ops)
@@ -43,26 +44,32 @@ def files():
         out[f"crates/wasm_visit_simd/src/{module}.rt"] = passed(ops, "VisitSimdOperator", what)
     out["crates/wasm_visit_dispatch/src/dispatch.rt"] = dispatch(ops)
     out["crates/wasm_tests_lists/src/values.rt"] = values_source(ops)
-    out["crates/wasm_tests_lists/stdout"] = values_printed(ops)
-    return out
+    out["crates/wasm_tests_lists/src/made.rt"] = made_source(ops)
+    return laid_out(out)
+
+
+def stale(wanted, top=TOP):
+    """The files that are not, byte by byte, what they should be."""
+    paths = {name: top / name for name in wanted}
+    return [it for it, path in paths.items() if not path.exists() or path.read_bytes() != wanted[it].encode()]
 
 
 def main():
     check = sys.argv[1:] == ["--check"]
     if sys.argv[1:] and not check:
-        sys.exit(__doc__)
-    wrong = []
-    for name, text in files().items():
-        path = TOP / name
-        if path.exists() and path.read_text(encoding="utf-8") == text:
-            continue
-        wrong.append(name)
-        if not check:
-            path.parent.mkdir(parents=True, exist_ok=True)
-            path.write_text(text, encoding="utf-8")
+        print(__doc__)
+        sys.exit(sys.argv[1:] not in (["--help"], ["-h"]))
+    found = faults() or differences(table())
+    if found:
+        sys.exit("\n".join(found))
+    wanted = files(table())
+    wrong = stale(wanted)
     if check and wrong:
         sys.exit("not what the table gives: " + ", ".join(wrong))
     for name in wrong:
+        path = TOP / name
+        path.parent.mkdir(parents=True, exist_ok=True)
+        path.write_bytes(wanted[name].encode())
         print(name)
 
 

@@ -1,8 +1,9 @@
-"""The enums in code, each with what it answers."""
+"""The enums in code, each with what it answers. `rt fmt` lays the text out."""
 
-from table import ENUMS, HEAD, WIDTH, Enum, held
+from table import ENUMS, HEAD, Enum, grouped, held
 
-IMM_MODULES = {
+# The layers in which the types of fields stand; the other types are Rust's own.
+LAYERS = {
     "BlockType": "wasm_imm",
     "BrTable": "wasm_imm",
     "HeapType": "wasm_below",
@@ -17,6 +18,9 @@ IMM_MODULES = {
     "V128": "wasm_imm",
     "ValType": "wasm_below",
 }
+# Up to so many variants an enum derives `Debug`, and a column is one function. Larger ones are cut.
+LARGE = 128
+PART = 64
 
 
 def uses(ops, more=()):
@@ -25,22 +29,11 @@ def uses(ops, more=()):
     for op in ops:
         for _, ty in op.fields:
             name = ty.split("<")[0]
-            if name in IMM_MODULES:
-                found.setdefault(IMM_MODULES[name], set()).add(name)
+            if name in LAYERS:
+                found.setdefault(LAYERS[name], set()).add(name)
     for crate, name in more:
         found.setdefault(crate, set()).add(name)
-    lines = []
-    for crate in sorted(found):
-        names = sorted(found[crate])
-        if len(names) == 1:
-            lines.append(f"use {crate}::{names[0]};")
-            continue
-        line = f"use {crate}::{{{', '.join(names)}}};"
-        if len(line) <= WIDTH:
-            lines.append(line)
-        else:
-            lines += [f"use {crate}::{{", f"    {', '.join(names)},", "};"]
-    return lines
+    return [f"use {crate}::{{{', '.join(sorted(found[crate]))}}};" for crate in sorted(found)]
 
 
 def inner(op):
@@ -48,66 +41,43 @@ def inner(op):
     return ", ".join(f"{name}: {ty}" for name, ty in op.fields)
 
 
-def are_short(ops):
-    """Whether the variants with fields take a line each: all do, or none."""
-    return all(len(inner(op)) + 4 <= 35 for op in ops if op.fields)
+def names_of(op):
+    """The names of the fields."""
+    return ", ".join(name for name, _ in op.fields)
 
 
-def variant(op, short, code=False):
+def variant(op, with_opcode=False):
     """A variant in an enum."""
-    if not op.fields:
-        return f"    {op.name} = {op.hex()}," if code else f"    {op.name},"
-    if short:
-        return f"    {op.name} {{ {inner(op)} }},"
-    lines = [f"    {op.name} {{"] + [f"        {name}: {ty}," for name, ty in op.fields] + ["    },"]
-    return "\n".join(lines)
+    if op.fields:
+        return f"{op.name} {{ {inner(op)} }},"
+    return f"{op.name} = {op.hex()}," if with_opcode else f"{op.name},"
 
 
 def rust_pattern(op, ty):
+    """A pattern at an operator, whatever its fields."""
     return f"{ty}::{op.name}" + (" { .. }" if op.fields else "")
 
 
-def text_match(enum, column, ops, value, default, indent="        "):
+def rust_binding(op, ty):
+    """A pattern at an operator that names its fields; and the operator made of them."""
+    return f"{ty}::{op.name}" + (f" {{ {names_of(op)} }}" if op.fields else "")
+
+
+def arms(ops, ty, value):
     """The arms of a match over operators with one value for each."""
-    lines = []
-    for op in ops:
-        lines.append(f"{indent}    {rust_pattern(op, enum.type)} => {value(op)},")
-    if default is not None:
-        lines.append(f"{indent}    _ => {default},")
-    return lines
+    return [f"{rust_pattern(op, ty)} => {value(op)}," for op in ops]
 
 
-def or_arm(enum, ops, value, indent="            ", names=None):
-    """An arm of the patterns of several operators."""
-    pats = []
-    for op in ops:
-        if names is None:
-            pats.append(rust_pattern(op, enum.type))
-        else:
-            pats.append(f"{enum.type}::{op.name} {{ {', '.join(names)} }}")
-    return joined_arm(pats, value, indent)
+def joined_arm(patterns, value):
+    """One arm for several patterns."""
+    return f"{' | '.join(patterns)} => {value},"
 
 
-def joined_arm(pats, value, indent):
-    """An arm of these patterns, broken as the layout wants it."""
-    one = indent + " | ".join(pats) + f" => {value},"
-    if len(one) <= WIDTH:
-        return [one]
-    lines = [indent + pats[0]] + [indent + "| " + p for p in pats[1:]]
-    if len(lines[-1]) + len(f" => {value},") <= WIDTH:
-        lines[-1] += f" => {value},"
-        return lines
-    lines[-1] += " => {"
-    return lines + [f"{indent}    {value}", indent + "}"]
-
-
-def by_proposal(ops):
-    """The proposals in order, the one with the most operators last."""
-    found = {}
-    for op in ops:
-        found.setdefault(op.proposal, []).append(op)
-    most = max(found, key=lambda p: len(found[p]))
-    return [(p, found[p]) for p in found if p != most] + [(most, None)]
+def proposal_arms(ops, ty, inner_arms=()):
+    """The arms of a match that answers the proposal, that of the most operators by `_`."""
+    *others, (most, _) = grouped(ops, lambda op: op.proposal)
+    out = [joined_arm([rust_pattern(op, ty) for op in those], f'"{it}"') for it, those in others]
+    return [*out, *inner_arms, f'_ => "{most}",']
 
 
 def shapes(ops):
@@ -115,187 +85,175 @@ def shapes(ops):
     found = {}
     for op in ops:
         if op.fields:
-            found.setdefault(tuple(name for name, _ in op.fields), []).append(op)
+            found.setdefault(names_of(op), []).append(op)
     return found
 
 
-def fields_printed(names):
-    """The expression that prints an operator with these fields."""
-    return "f.debug_struct(self.name())" + "".join(f'.field("{n}", {n})' for n in names) + ".finish()"
+class Shape:
+    """What the form of an enum depends on."""
+
+    def __init__(self, ops):
+        self.is_plain = not any(op.fields for op in ops)
+        self.is_large = len(ops) > LARGE
+        self.holds_list = any(op.holds_list for op in ops)
+        self.derives_debug = not self.is_plain and not self.is_large
+
+    @property
+    def derived(self):
+        copied = ["Drop"] if self.holds_list else ["Clone", "Copy"]
+        return ", ".join([*copied, *(["Debug"] if self.derives_debug else []), "PartialEq", "Eq"])
+
+
+def enum_head(enum, ops, shape):
+    """What an enum's file brings in."""
+    prelude = ["◌≡◌"]
+    words = [f"{enum.module}_proposal", f"{enum.module}_name", f"{enum.opcode}"]
+    out = [f"// {HEAD}"]
+    if shape.is_large:
+        prelude += ["◌⊎◌", "◌<◌", "◌≤◌", "MatchOption"]
+    if shape.holds_list:
+        prelude += ["IfOk", "IfErr"]
+        words.append(f"{enum.module}_holds_list")
+    out.append(f"ghost use Rattle.std.specs.Prelude.{{{', '.join(prelude)}}};")
+    if shape.holds_list:
+        out.append("ghost use Rattle.wasm_imm.specs.OutOfMemory.{IsOutOfMemoryAt};")
+    out += [f"ghost use Rattle.{enum.crate}.specs.{enum.group}.{{{', '.join(words)}}};", ""]
+    if shape.holds_list:
+        out.append("use std::alloc::Global;")
+    if not shape.derives_debug:
+        out.append("use std::fmt::{self, Debug, Formatter};")
+    more = [("wasm_instr_rows", "OperatorInfo")] + ([("wasm_below", "Result")] if shape.holds_list else [])
+    return out + uses(ops, more) + [""]
+
+
+def info_of(enum, ops):
+    """The functions that answer the row of an operator of an inner enum."""
+    low = enum.module
+    prefix = ops[0].prefix
+    return [
+        "/// The row of the operator.",
+        "pub fn info(&self) -> OperatorInfo",
+        f"ensures proposal {{ result.proposal.now ≡ {low}_proposal self.now }}",
+        f"ensures name {{ result.name.now ≡ {low}_name self.now }}",
+        f"ensures prefix {{ result.prefix ≡ {f'Some 0x{prefix}' if prefix else 'None'} }}",
+        f"ensures code {{ result.code ≡ {enum.opcode} self.now }}",
+        "{",
+        "OperatorInfo {",
+        "proposal: self.proposal(),",
+        "name: self.name(),",
+        f"prefix: {f'Some(0x{prefix})' if prefix else 'None'},",
+        "code: self.code(),",
+        "}",
+        "}",
+        "",
+        "/// The proposal that brought the operator.",
+        "fn proposal(&self) -> &'static str",
+        f"ensures {{ result.now ≡ {low}_proposal self.now }}",
+        "{",
+        "match self {",
+        *proposal_arms(ops, enum.type),
+        "}",
+        "}",
+        "",
+        *column(enum, ops, "name", "The name of the variant.", "&'static str", lambda op: f'"{op.name}"'),
+        "",
+        *opcode_column(enum, ops),
+    ]
+
+
+def opcode_column(enum, ops):
+    """The function that answers the opcode or subopcode."""
+    if any(op.fields for op in ops):
+        return column(enum, ops, "code", "The subopcode.", "u32", lambda op: op.hex())
+    return [
+        f"/// The {'subopcode' if ops[0].prefix else 'opcode'}.",
+        "fn code(&self) -> u32",
+        f"ensures {{ result ≡ {enum.opcode} self.now }}",
+        "{",
+        "*self as u32",
+        "}",
+    ]
 
 
 def enum_source(enum, ops):
-    """The enum with what it answers."""
-    low = enum.module
-    plain = not any(op.fields for op in ops)
-    prelude = ["◌≡◌"]
-    specs = [f"{low}_proposal", f"{low}_name", f"{enum.opcode}"]
-    out = [f"// {HEAD}"]
-    cut = len(ops) > 128
-    if cut:
-        prelude += ["◌⊎◌", "◌<◌", "◌≤◌", "MatchOption"]
-    out.append(f"ghost use Rattle.std.specs.Prelude.{{{', '.join(prelude)}}};")
-    out.append(f"ghost use Rattle.{enum.crate}.specs.{enum.group}.{{{', '.join(specs)}}};")
-    out.append("")
-    derived = not plain and not cut
-    if not derived:
-        out.append("use std::fmt::{self, Debug, Formatter};")
-    out += uses(ops, [("wasm_instr_rows", "OperatorInfo")])
-    out.append("")
+    """An inner enum with what it answers."""
+    shape = Shape(ops)
+    out = enum_head(enum, ops, shape)
     out += [f"/// {line}" for line in enum.doc]
-    out.append("#[derive(Clone, Copy, Debug, PartialEq, Eq)]" if derived else "#[derive(Clone, Copy, PartialEq, Eq)]")
-    out.append(f"pub enum {enum.type} {{")
-    out += [variant(op, are_short(ops), plain) for op in ops]
-    out.append("}")
-    out.append("")
-    out.append(f"impl {enum.type} {{")
-    prefix = f"Some 0x{ops[0].prefix}" if ops[0].prefix else "None"
-    rust_prefix = f"Some(0x{ops[0].prefix})" if ops[0].prefix else "None"
-    out += [
-        "    /// The row of the operator.",
-        "    pub fn info(&self) -> OperatorInfo",
-        f"        ensures proposal {{ result.proposal.now ≡ {low}_proposal self.now }}",
-        f"        ensures name {{ result.name.now ≡ {low}_name self.now }}",
-        f"        ensures prefix {{ result.prefix ≡ {prefix} }}",
-        f"        ensures code {{ result.code ≡ {enum.opcode} self.now }}",
-        "    {",
-        "        OperatorInfo {",
-        "            proposal: self.proposal(),",
-        "            name: self.name(),",
-        f"            prefix: {rust_prefix},",
-        "            code: self.code(),",
-        "        }",
-        "    }",
-        "",
-        "    /// The proposal that brought the operator.",
-        "    fn proposal(&self) -> &'static str",
-        f"        ensures {{ result.now ≡ {low}_proposal self.now }}",
-        "    {",
-        "        match self {",
-    ]
-    for proposal, those in by_proposal(ops):
-        if those is None:
-            out.append(f'            _ => "{proposal}",')
-        else:
-            out += or_arm(enum, those, f'"{proposal}"')
-    out += ["        }", "    }", ""]
-    out += column(enum, ops, "name", "The name of the variant.", "&'static str", "result.now", lambda op: f'"{op.name}"')
-    out.append("")
-    if plain:
-        out += [
-            "    /// The opcode.",
-            "    fn code(&self) -> u32",
-            f"        ensures {{ result ≡ {enum.opcode} self.now }}",
-            "    {",
-            "        *self as u32",
-            "    }",
-        ]
-    else:
-        out += column(enum, ops, "code", "The subopcode.", "u32", "result", lambda op: op.hex())
+    out += [f"#[derive({shape.derived})]", f"pub enum {enum.type} {{"]
+    out += [variant(op, shape.is_plain) for op in ops]
+    out += ["}", "", f"impl {enum.type} {{", *info_of(enum, ops)]
+    if shape.holds_list:
+        out += ["", *clone_of(enum.type, f"{enum.module}_holds_list", ops)]
     out += ["}", ""]
-    if derived:
-        return "\n".join(out)
-    out += [f"impl Debug for {enum.type} {{", "    fn fmt<W: fmt::Write>(&self, f: &mut Formatter<W>) -> fmt::Result {"]
-    if plain:
-        out.append("        f.write_str(self.name())")
-    else:
-        out.append("        match self {")
-        found = shapes(ops)
-        for names, those in found.items():
-            out += debug_arm(enum, those, names)
-        if any(not op.fields for op in ops):
-            out.append("            _ => f.write_str(self.name()),")
-        out.append("        }")
-    out += ["    }", "}", ""]
+    if not shape.derives_debug:
+        out += debug_of(enum, ops, shape)
     return "\n".join(out)
 
 
-def debug_arm(enum, those, names):
-    """The arm that prints operators with these fields."""
-    indent = "            "
-    pats = [f"{enum.type}::{op.name} {{ {', '.join(names)} }}" for op in those]
-    lines = []
-    for number, pat in enumerate(pats):
-        bar = "" if number == 0 else "| "
-        if len(indent + bar + pat) <= WIDTH - 5:
-            lines.append(indent + bar + pat)
-        else:
-            lines.append(f"{indent}{bar}{enum.type}::{those[number].name} {{")
-            lines += [f"{indent}    {name}," for name in names]
-            lines.append(indent + "}")
-    call = fields_printed(names)
-    if len(pats) == 1 and len(lines) == 1 and len(f"{lines[0]} => {call},") <= WIDTH:
-        return [f"{lines[0]} => {call},"]
-    chain = ["f", ".debug_struct(self.name())"] + [f'.field("{n}", {n})' for n in names] + [".finish()"]
-    if len(indent) + 4 + len(call) <= WIDTH and len(names) <= 1:
-        lines[-1] += " => {"
-        return lines + [f"{indent}    {call}", indent + "}"]
-    lines[-1] += " => f"
-    lines += [f"{indent}    {part}" for part in chain[1:]]
-    lines[-1] += ","
-    return lines
+def debug_of(enum, ops, shape):
+    """The impl that prints an operator, where it is not derived."""
+    out = [f"impl Debug for {enum.type} {{", "fn fmt<W: fmt::Write>(&self, f: &mut Formatter<W>) -> fmt::Result {"]
+    if shape.is_plain:
+        return [*out, "f.write_str(self.name())", "}", "}", ""]
+    out.append("match self {")
+    for names, those in shapes(ops).items():
+        patterns = [f"{enum.type}::{op.name} {{ {names} }}" for op in those]
+        fields = "".join(f'.field("{name}", {name})' for name in names.split(", "))
+        out.append(joined_arm(patterns, f"f.debug_struct(self.name()){fields}.finish()"))
+    if any(not op.fields for op in ops):
+        out.append("_ => f.write_str(self.name()),")
+    return [*out, "}", "}", "}", ""]
 
 
-def column(enum, ops, name, doc, ty, told, value):
+def column(enum, ops, name, doc, ty, value):
     """A private function for a column, in parts where the enum is large."""
     word = enum.opcode if name == "code" else f"{enum.module}_{name}"
-    if len(ops) <= 128:
-        return [
-            f"    /// {doc}",
-            f"    fn {name}(&self) -> {ty}",
-            f"        ensures {{ {told} ≡ {word} self.now }}",
-            "    {",
-            "        match self {",
-            *text_match(enum, name, ops, value, None),
-            "        }",
-            "    }",
-        ]
-    size = 64
+    now = ".now" if ty.startswith("&") else ""
+    head = [f"/// {doc}", f"fn {name}(&self) -> {ty}", f"ensures {{ result{now} ≡ {word} self.now }}", "{"]
+    if len(ops) <= LARGE:
+        return [*head, "match self {", *arms(ops, enum.type, value), "}", "}"]
     ordered = sorted(ops, key=lambda op: op.code)
-    parts = [ordered[i : i + size] for i in range(0, len(ordered), size)]
-    words = ["first", "second", "third", "fourth"]
-    out = [
-        f"    /// {doc}",
-        f"    fn {name}(&self) -> {ty}",
-        f"        ensures {{ {told} ≡ {word} self.now }}",
-        "    {",
-    ]
-    for place in words:
-        out += [
-            f"        if let Some({name}) = self.{place}_{name}() {{",
-            f"            return {name};",
-            "        }",
-        ]
-    out += ["        unreachable!()", "    }"]
-    now = ".now" if told.endswith(".now") else ""
-    for number, (place, part) in enumerate(zip(words, parts)):
-        low_bound, high_bound = part[0].code, part[-1].code
-        outside = []
-        if number > 0:
-            outside.append(f"({enum.opcode} self.now < 0x{low_bound:02x})")
-        if number < len(parts) - 1:
-            outside.append(f"(0x{high_bound + 1:02x} ≤ {enum.opcode} self.now)")
-        none = " ⊎ ".join(outside)
-        if len(outside) == 2:
-            none = f"({none})"
+    parts = [ordered[i : i + PART] for i in range(0, len(ordered), PART)]
+    places = ["first", "second", "third", "fourth"][: len(parts)]
+    out = head
+    for place in places:
+        out += [f"if let Some({name}) = self.{place}_{name}() {{", f"return {name};", "}"]
+    out += ["unreachable!()", "}"]
+    for number, (place, part) in enumerate(zip(places, parts)):
+        none = outside(enum, part, number == 0, number == len(parts) - 1)
         out += [
             "",
-            f"    /// The same, for subopcodes from {low_bound:02x} to {high_bound:02x}.",
-            f"    fn {place}_{name}(&self) -> Option<{ty}>",
-            f"        ensures {{ MatchOption result {none} (λ x. x{now} ≡ {word} self.now) }}",
-            "    {",
-            "        match self {",
-            *[f"            {rust_pattern(op, enum.type)} => Some({value(op)})," for op in part],
-            "            _ => None,",
-            "        }",
-            "    }",
+            f"/// The same, for subopcodes from {part[0].code:02x} to {part[-1].code:02x}.",
+            f"fn {place}_{name}(&self) -> Option<{ty}>",
+            f"ensures {{ MatchOption result {none} (λ x. x{now} ≡ {word} self.now) }}",
+            "{",
+            "match self {",
+            *[f"{rust_pattern(op, enum.type)} => Some({value(op)})," for op in part],
+            "_ => None,",
+            "}",
+            "}",
         ]
     return out
 
 
-def operator_source(ops):
-    """The operators of one byte, and the enums of the others."""
-    out = [
+def outside(enum, part, is_first, is_last):
+    """That the subopcode of an operator is not among those of a part."""
+    below = f"({enum.opcode} self.now < 0x{part[0].code:02x})"
+    above = f"(0x{part[-1].code + 1:02x} ≤ {enum.opcode} self.now)"
+    if is_first or is_last:
+        return above if is_first else below
+    return f"({below} ⊎ {above})"
+
+
+OWN = Enum("Own", "wasm_instr", "operator", "the other operators of one byte", [], "")
+
+
+def operator_head(ops):
+    """What the file of all operators brings in."""
+    more = [(enum.crate, enum.type) for enum in ENUMS]
+    more += [("wasm_instr_rows", "OperatorInfo"), ("wasm_below", "Result")]
+    return [
         f"// {HEAD}",
         "ghost use Rattle.std.specs.Prelude.{◌≡◌, ◌↔◌, IsTrue, IfOk, IfErr};",
         "ghost use Rattle.wasm_imm.specs.OutOfMemory.{IsOutOfMemoryAt};",
@@ -303,152 +261,157 @@ def operator_source(ops):
         "ghost use Rattle.wasm_instr.specs.Kinds.{IsSimd, IsVector, HoldsList};",
         "",
         "use std::alloc::Global;",
-    ]
-    more = [(enum.crate, enum.type) for enum in ENUMS]
-    more += [("wasm_instr_rows", "OperatorInfo"), ("wasm_below", "Result")]
-    out += uses(ops, more)
-    out += [
+        *uses(ops, more),
         "",
+    ]
+
+
+def operator_enum(ops):
+    """The enum of all operators, and how the inner enums become one of them."""
+    out = [
         "/// An operator with its immediates. Instructions.",
         "///",
         "/// The variants are those of one byte but for the numeric ones, and at the end the enums of the",
         "/// others, each of which is also made by `From`.",
         "#[derive(Debug, Drop, PartialEq, Eq)]",
         "pub enum Operator<'a> {",
+        *[variant(op) for op in ops],
+        *[f"{enum.group}({enum.type})," for enum in held()],
+        "}",
+        "",
     ]
-    short = are_short(ops)
-    out += [variant(op, short) for op in ops]
-    out += [f"    {enum.group}({enum.type})," for enum in held()]
-    out += ["}", ""]
     for enum in held():
         out += [
             f"impl<'a> From<{enum.type}> for Operator<'a> {{",
-            "    ghost use Rattle.std.specs.Prelude.{◌≡◌};",
-            f"    ghost use Rattle.wasm_instr.specs.declared.operator.Operator.TheVariants.{{{enum.group}}};",
+            "ghost use Rattle.std.specs.Prelude.{◌≡◌};",
+            f"ghost use Rattle.wasm_instr.specs.declared.operator.Operator.TheVariants.{{{enum.group}}};",
             "",
-            f"    ghost from_gives = {{ λ inner operator. operator ≡ {enum.group} inner }};",
+            f"ghost from_gives = {{ λ inner operator. operator ≡ {enum.group} inner }};",
             "",
-            f"    fn from(operator: {enum.type}) -> Operator<'a> {{",
-            f"        Operator::{enum.group}(operator)",
-            "    }",
+            f"fn from(operator: {enum.type}) -> Operator<'a> {{",
+            f"Operator::{enum.group}(operator)",
+            "}",
             "}",
             "",
         ]
-    out += [
-        "impl<'a> Operator<'a> {",
-        "    /// The row of the operator.",
-        "    pub fn info(&self) -> OperatorInfo",
-        "        ensures proposal { result.proposal.now ≡ proposal_of self.now }",
-        "        ensures name { result.name.now ≡ name_of self.now }",
-        "        ensures prefix { result.prefix ≡ prefix_of self.now }",
-        "        ensures code { result.code ≡ opcode_of self.now }",
-        "    {",
-        "        match self {",
-    ]
-    out += [f"            Operator::{enum.group}(op) => op.info()," for enum in held()]
-    out += [
-        "            _ => OperatorInfo {",
-        "                proposal: self.proposal(),",
-        "                name: self.name(),",
-        "                prefix: None,",
-        "                code: self.code(),",
-        "            },",
-        "        }",
-        "    }",
+    return out
+
+
+def operator_info(ops):
+    """The functions that answer the row of an operator."""
+    out = [
+        "/// The row of the operator.",
+        "pub fn info(&self) -> OperatorInfo",
+        "ensures proposal { result.proposal.now ≡ proposal_of self.now }",
+        "ensures name { result.name.now ≡ name_of self.now }",
+        "ensures prefix { result.prefix ≡ prefix_of self.now }",
+        "ensures code { result.code ≡ opcode_of self.now }",
+        "{",
+        "match self {",
+        *[f"Operator::{enum.group}(op) => op.info()," for enum in held()],
+        "_ => OperatorInfo {",
+        "proposal: self.proposal(),",
+        "name: self.name(),",
+        "prefix: None,",
+        "code: self.code(),",
+        "},",
+        "}",
+        "}",
         "",
-        "    /// The proposal that brought the operator.",
-        "    fn proposal(&self) -> &'static str",
-        "        ensures { result.now ≡ proposal_of self.now }",
-        "    {",
-        "        match self {",
+        "/// The proposal that brought the operator.",
+        "fn proposal(&self) -> &'static str",
+        "ensures { result.now ≡ proposal_of self.now }",
+        "{",
+        "match self {",
+        *proposal_arms(ops, "Operator", [f"Operator::{enum.group}(op) => op.info().proposal," for enum in held()]),
+        "}",
+        "}",
     ]
-    own = Enum("Own", "wasm_instr", "operator", "", [], "")
-    for proposal, those in by_proposal(ops):
-        if those is None:
-            out += [f"            Operator::{enum.group}(op) => op.info().proposal," for enum in held()]
-            out.append(f'            _ => "{proposal}",')
-        else:
-            out += or_arm(own, those, f'"{proposal}"')
-    out += ["        }", "    }", ""]
-    for name, doc, ty, told, value in [
-        ("name", "The name of the variant.", "&'static str", "result.now", lambda op: f'"{op.name}"'),
-        ("code", "The opcode, or the subopcode behind the prefix byte.", "u32", "result", lambda op: op.hex()),
+    for name, word, doc, ty, now, value in [
+        ("name", "name_of", "The name of the variant.", "&'static str", ".now", lambda op: f'"{op.name}"'),
+        ("code", "opcode_of", "The opcode, or the subopcode behind the prefix byte.", "u32", "", lambda op: op.hex()),
     ]:
         out += [
-            f"    /// {doc}",
-            f"    fn {name}(&self) -> {ty}",
-            f"        ensures {{ {told} ≡ {'opcode' if name == 'code' else name}_of self.now }}",
-            "    {",
-            "        match self {",
-            *text_match(own, name, ops, value, None),
-            *[f"            Operator::{enum.group}(op) => op.info().{name}," for enum in held()],
-            "        }",
-            "    }",
             "",
+            f"/// {doc}",
+            f"fn {name}(&self) -> {ty}",
+            f"ensures {{ result{now} ≡ {word} self.now }}",
+            "{",
+            "match self {",
+            *arms(ops, "Operator", value),
+            *[f"Operator::{enum.group}(op) => op.info().{name}," for enum in held()],
+            "}",
+            "}",
         ]
-    out += [
-        "    /// Whether it is a vector operator: its proposal is `simd` or `relaxed_simd`.",
-        "    pub fn is_simd(&self) -> bool",
-        "        ensures simd { IsTrue result ↔ IsSimd self.now }",
-        "        ensures vector { IsTrue result ↔ IsVector self.now }",
-        "    {",
-        "        matches!(self, Operator::Simd(_))",
-        "    }",
+    return out
+
+
+def operator_source(ops, owning=()):
+    """The operators of one byte, and the enums of the others; of these some may own lists."""
+    return "\n".join([
+        *operator_head(ops),
+        *operator_enum(ops),
+        "impl<'a> Operator<'a> {",
+        *operator_info(ops),
         "",
-        "    /// The same operator, with lists in memory of its own.",
-        "    ///",
-        "    /// `OutOfMemory` at offset 0, and only where it holds a list.",
-        "    pub fn clone(&self, alloc: Global) -> Result<Operator<'a>>",
-        "        ensures ok { IfOk result (λ copy. copy ≡ self.now) }",
-        "        ensures err { IfErr result (λ e. HoldsList self.now × IsOutOfMemoryAt 0 e) }",
-        "    {",
-        "        Ok(match self {",
-    ]
-    for op in ops:
-        out += clone_arm(op)
-    out += [f"            Operator::{enum.group}(op) => Operator::{enum.group}(*op)," for enum in held()]
-    out += [
-        "        })",
-        "    }",
+        "/// Whether it is a vector operator: its proposal is `simd` or `relaxed_simd`.",
+        "pub fn is_simd(&self) -> bool",
+        "ensures simd { IsTrue result ↔ IsSimd self.now }",
+        "ensures vector { IsTrue result ↔ IsVector self.now }",
+        "{",
+        "matches!(self, Operator::Simd(_))",
+        "}",
+        "",
+        *clone_of("Operator", "HoldsList", ops, owning),
         "}",
         "",
         "/// The same table, which takes no memory.",
         "fn same_table<'a>(table: &BrTable<'a>) -> BrTable<'a>",
-        "    ensures { result ≡ table.now }",
+        "ensures { result ≡ table.now }",
         "{",
-        "    match table.clone() {",
-        "        Ok(table) => table,",
-        "        Err(_) => unreachable!(),",
-        "    }",
+        "match table.clone() {",
+        "Ok(table) => table,",
+        "Err(_) => unreachable!(),",
+        "}",
         "}",
         "",
+    ])
+
+
+def clone_of(ty, holds_list, ops, owning=()):
+    """The call that copies an operator with the lists that it owns."""
+    out = [
+        "/// The same operator, with lists in memory of its own.",
+        "///",
+        "/// `OutOfMemory` at offset 0, and only where it holds a list.",
+        f"pub fn clone(&self, alloc: Global) -> Result<{ty}{lifetime(ty)}>",
+        "ensures ok { IfOk result (λ copy. copy ≡ self.now) }",
+        f"ensures err {{ IfErr result (λ e. {holds_list} self.now × IsOutOfMemoryAt 0 e) }}",
+        "{",
+        "Ok(match self {",
+        *[clone_arm(op, ty) for op in ops],
     ]
-    return "\n".join(out)
+    if ty == "Operator":
+        for enum in held():
+            copied = "op.clone(alloc)?" if enum.group in owning else "*op"
+            out.append(f"Operator::{enum.group}(op) => Operator::{enum.group}({copied}),")
+    return [*out, "})", "}"]
 
 
-def clone_arm(op):
+def lifetime(ty):
+    """The lifetime of the enum that borrows: it alone has a branch table."""
+    return "<'a>" if ty == "Operator" else ""
+
+
+def clone_arm(op, ty):
     """The arm of `clone` for an operator."""
-    if not op.fields:
-        return [f"            Operator::{op.name} => Operator::{op.name},"]
-    names = [name for name, _ in op.fields]
-    values = []
-    for name, ty in op.fields:
-        if ty in ("SelectTypes", "TryTable", "ResumeTable"):
-            values.append((name, f"{name}.clone(alloc)?"))
-        elif ty.startswith("BrTable"):
-            values.append((name, f"same_table({name})"))
+    copied = []
+    for name, field in op.fields:
+        if field in ("SelectTypes", "TryTable", "ResumeTable"):
+            copied.append(f"{name}: {name}.clone(alloc)?")
+        elif field.startswith("BrTable"):
+            copied.append(f"{name}: same_table({name})")
         else:
-            values.append((name, f"*{name}"))
-    pat = f"Operator::{op.name} {{ {', '.join(names)} }}"
-    made = ", ".join(f"{name}: {value}" for name, value in values)
-    lines = []
-    if len(f"{{ {', '.join(names)} }}") - 4 <= 18:
-        lines.append(f"            {pat} => ")
-    else:
-        lines += [f"            Operator::{op.name} {{", *[f"                {name}," for name in names], "            } => "]
-    lines[-1] += f"Operator::{op.name} {{"
-    if len(made) <= 18:
-        lines[-1] += f" {made} }},"
-        if len(lines[-1]) <= WIDTH:
-            return lines
-    return lines + [f"                {name}: {value}," for name, value in values] + ["            },"]
+            copied.append(f"{name}: *{name}")
+    made = f"{ty}::{op.name}" + (f" {{ {', '.join(copied)} }}" if copied else "")
+    return f"{rust_binding(op, ty)} => {made},"

@@ -3,6 +3,8 @@ use Rattle.std.proofs.Common.{ℕ, ℤ, pos, false, List, [], ◌∷◌, None}
 use Rattle.wasm_below.specs.Reference.{Reference}
 use Rattle.wasm_below.specs.types.types.HeapType.{HeapType}
 use Rattle.wasm_below.specs.types.types.HeapType.TheVariants as heap
+use Rattle.wasm_below.specs.types.types.ValType.{ValType}
+use Rattle.wasm_below.specs.types.types.ValType.TheVariants.{I32}
 use Rattle.wasm_imm.specs.control.block_type.BlockType.{BlockType}
 use Rattle.wasm_imm.specs.control.block_type.BlockType.TheVariants as block
 use Rattle.wasm_imm.specs.constants.constants.V128.{V128}
@@ -82,6 +84,14 @@ branch_table_in _ = record { count = 0; targets = []; default = 0 }
 abbrev pub select_in : List Immediate → Select
 select_in (select_types types ∷ _) = types
 select_in _ = select.Multi []
+
+abbrev pub one_type_in : List Immediate → ValType
+one_type_in (select_types (select.One ty) ∷ _) = ty
+one_type_in _ = I32
+
+abbrev pub types_in : List Immediate → List ValType
+types_in (select_types (select.Multi tys) ∷ _) = tys
+types_in _ = []
 
 abbrev pub try_table_in : List Immediate → TryTable
 try_table_in (try_clauses t ∷ _) = t

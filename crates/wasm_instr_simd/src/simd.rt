@@ -951,9 +951,10 @@ impl Debug for SimdOperator {
             | SimdOperator::V128Load64Splat { memarg }
             | SimdOperator::V128Load32Zero { memarg }
             | SimdOperator::V128Load64Zero { memarg }
-            | SimdOperator::V128Store { memarg } => {
-                f.debug_struct(self.name()).field("memarg", memarg).finish()
-            }
+            | SimdOperator::V128Store { memarg } => f
+                .debug_struct(self.name())
+                .field("memarg", memarg)
+                .finish(),
             SimdOperator::V128Load8Lane { memarg, lane }
             | SimdOperator::V128Load16Lane { memarg, lane }
             | SimdOperator::V128Load32Lane { memarg, lane }
@@ -966,12 +967,14 @@ impl Debug for SimdOperator {
                 .field("memarg", memarg)
                 .field("lane", lane)
                 .finish(),
-            SimdOperator::V128Const { value } => {
-                f.debug_struct(self.name()).field("value", value).finish()
-            }
-            SimdOperator::I8x16Shuffle { lanes } => {
-                f.debug_struct(self.name()).field("lanes", lanes).finish()
-            }
+            SimdOperator::V128Const { value } => f
+                .debug_struct(self.name())
+                .field("value", value)
+                .finish(),
+            SimdOperator::I8x16Shuffle { lanes } => f
+                .debug_struct(self.name())
+                .field("lanes", lanes)
+                .finish(),
             SimdOperator::I8x16ExtractLaneS { lane }
             | SimdOperator::I8x16ExtractLaneU { lane }
             | SimdOperator::I8x16ReplaceLane { lane }
@@ -985,9 +988,10 @@ impl Debug for SimdOperator {
             | SimdOperator::F32x4ExtractLane { lane }
             | SimdOperator::F32x4ReplaceLane { lane }
             | SimdOperator::F64x2ExtractLane { lane }
-            | SimdOperator::F64x2ReplaceLane { lane } => {
-                f.debug_struct(self.name()).field("lane", lane).finish()
-            }
+            | SimdOperator::F64x2ReplaceLane { lane } => f
+                .debug_struct(self.name())
+                .field("lane", lane)
+                .finish(),
             _ => f.write_str(self.name()),
         }
     }

@@ -1,100 +1,62 @@
-use std::alloc::Global;
-use wasm_below::{BinaryReader, HeapType, RefType, ValType};
-use wasm_imm::{
-    BlockType, BrTable, Catch, Catches, Handle, Handles, Ieee32, Ieee64, ResumeTable, SelectTypes,
-    TryTable, V128,
+// Written by tools/lists.py from tools/operators.tsv.
+use crate::parts::{
+    branch_table, float_32, float_64, not_nullable, nullable, resume_table, select, try_table,
+    vector,
 };
+use std::alloc::Global;
 use wasm_instr::{GcOperator, Operator, SimdOperator};
 
-/// One target, 1, and the default target 0.
-static TABLE: [u8; 3] = [1, 1, 0];
+/// How many operators are made here.
+pub const COUNT: u32 = 13;
 
-/// The operators with fields that no constant makes, by number.
+/// The operators with fields that no constant makes, by number. `None` where memory was refused.
 pub fn made(alloc: Global, number: u32) -> Option<Operator<'static>> {
-    match number {
-        0 => branch_table(),
-        1 => Some(Operator::F32Const {
-            value: Ieee32::from_bits(32),
+    Some(match number {
+        0 => Operator::BrTable {
+            targets: branch_table()?,
+        },
+        1 => Operator::F32Const { value: float_32() },
+        2 => Operator::F64Const { value: float_64() },
+        3 => Operator::from(GcOperator::BrOnCast {
+            relative_depth: 0,
+            from_ref_type: nullable()?,
+            to_ref_type: not_nullable()?,
         }),
-        2 => Some(Operator::F64Const {
-            value: Ieee64::from_bits(64),
+        4 => Operator::from(GcOperator::BrOnCastFail {
+            relative_depth: 0,
+            from_ref_type: nullable()?,
+            to_ref_type: not_nullable()?,
         }),
-        3 => select(alloc),
-        4 => try_table(alloc),
-        5 => Some(Operator::Resume {
+        5 => Operator::from(GcOperator::BrOnCastDescEq {
+            relative_depth: 0,
+            from_ref_type: nullable()?,
+            to_ref_type: not_nullable()?,
+        }),
+        6 => Operator::from(GcOperator::BrOnCastDescEqFail {
+            relative_depth: 0,
+            from_ref_type: nullable()?,
+            to_ref_type: not_nullable()?,
+        }),
+        7 => Operator::TypedSelectMulti {
+            tys: select(alloc)?,
+        },
+        8 => Operator::from(SimdOperator::V128Const { value: vector() }),
+        9 => Operator::TryTable {
+            try_table: try_table(alloc)?,
+        },
+        10 => Operator::Resume {
             cont_type_index: 2,
             resume_table: resume_table(alloc)?,
-        }),
-        6 => Some(Operator::ResumeThrow {
+        },
+        11 => Operator::ResumeThrow {
             cont_type_index: 2,
             tag_index: 0,
             resume_table: resume_table(alloc)?,
-        }),
-        7 => Some(Operator::ResumeThrowRef {
+        },
+        12 => Operator::ResumeThrowRef {
             cont_type_index: 2,
             resume_table: resume_table(alloc)?,
-        }),
-        8 | 9 | 10 | 11 => cast(number),
-        12 => Some(Operator::from(SimdOperator::V128Const {
-            value: V128::from(0x0f0e_0d0c_0b0a_0908_0706_0504_0302_0100u128),
-        })),
-        _ => None,
-    }
-}
-
-fn branch_table() -> Option<Operator<'static>> {
-    let targets = BrTable::read(&mut BinaryReader::new(&TABLE, 0)).ok()?;
-    Some(Operator::BrTable { targets })
-}
-
-fn select(alloc: Global) -> Option<Operator<'static>> {
-    let tys = Vec::from_slice(alloc, &[ValType::I32, ValType::I64]).ok()?;
-    Some(Operator::TypedSelectMulti {
-        tys: SelectTypes::from_vec(tys),
+        },
+        _ => return None,
     })
-}
-
-fn try_table(alloc: Global) -> Option<Operator<'static>> {
-    let catches = Vec::from_slice(alloc, &[Catch::All { label: 1 }]).ok()?;
-    Some(Operator::TryTable {
-        try_table: TryTable {
-            ty: BlockType::FuncType(0),
-            catches: Catches::from_vec(catches),
-        },
-    })
-}
-
-fn resume_table(alloc: Global) -> Option<ResumeTable> {
-    let handlers = Vec::from_slice(alloc, &[Handle::OnSwitch { tag: 0 }]).ok()?;
-    Some(ResumeTable {
-        handlers: Handles::from_vec(handlers),
-    })
-}
-
-fn cast(number: u32) -> Option<Operator<'static>> {
-    let relative_depth = 0;
-    let from_ref_type = RefType::new(true, HeapType::Concrete(7))?;
-    let to_ref_type = RefType::new(false, HeapType::Exact(8))?;
-    Some(Operator::from(match number {
-        8 => GcOperator::BrOnCast {
-            relative_depth,
-            from_ref_type,
-            to_ref_type,
-        },
-        9 => GcOperator::BrOnCastFail {
-            relative_depth,
-            from_ref_type,
-            to_ref_type,
-        },
-        10 => GcOperator::BrOnCastDescEq {
-            relative_depth,
-            from_ref_type,
-            to_ref_type,
-        },
-        _ => GcOperator::BrOnCastDescEqFail {
-            relative_depth,
-            from_ref_type,
-            to_ref_type,
-        },
-    }))
 }

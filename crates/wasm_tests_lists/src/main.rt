@@ -5,11 +5,12 @@
 
 mod made;
 mod module;
+mod parts;
 mod rows;
 mod uniform;
 mod values;
 
-use crate::made::made;
+use crate::made::{COUNT, made};
 use crate::module::Module;
 use crate::rows::print_rows;
 use crate::values::{
@@ -55,7 +56,7 @@ fn main(rt: HostRuntime) -> io::Result<()> {
     for op in &atomic() {
         print(&rt, rt.alloc(), &Operator::from(*op))?;
     }
-    for number in 0..13 {
+    for number in 0..COUNT {
         match made(rt.alloc(), number) {
             Some(op) => print(&rt, rt.alloc(), &op)?,
             None => println!(rt; "not made")?,

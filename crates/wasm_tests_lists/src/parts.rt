@@ -1,0 +1,58 @@
+//! The values of fields that no constant has.
+
+use std::alloc::Global;
+use wasm_below::{BinaryReader, HeapType, RefType, ValType};
+use wasm_imm::{
+    BlockType, BrTable, Catch, Catches, Handle, Handles, Ieee32, Ieee64, ResumeTable, SelectTypes,
+    TryTable, V128,
+};
+
+/// One target, 1, and the default target 0.
+static TABLE: [u8; 3] = [1, 1, 0];
+
+pub fn float_32() -> Ieee32 {
+    Ieee32::from_bits(32)
+}
+
+pub fn float_64() -> Ieee64 {
+    Ieee64::from_bits(64)
+}
+
+pub fn vector() -> V128 {
+    V128::from(0x0f0e_0d0c_0b0a_0908_0706_0504_0302_0100u128)
+}
+
+pub fn nullable() -> Option<RefType> {
+    RefType::new(true, HeapType::Concrete(7))
+}
+
+pub fn not_nullable() -> Option<RefType> {
+    RefType::new(false, HeapType::Exact(8))
+}
+
+pub fn branch_table() -> Option<BrTable<'static>> {
+    BrTable::read(&mut BinaryReader::new(&TABLE, 0)).ok()
+}
+
+/// The types i32 and i64.
+pub fn select(alloc: Global) -> Option<SelectTypes> {
+    let tys = Vec::from_slice(alloc, &[ValType::I32, ValType::I64]).ok()?;
+    Some(SelectTypes::from_vec(tys))
+}
+
+/// One catch of all, to label 1.
+pub fn try_table(alloc: Global) -> Option<TryTable> {
+    let catches = Vec::from_slice(alloc, &[Catch::All { label: 1 }]).ok()?;
+    Some(TryTable {
+        ty: BlockType::FuncType(0),
+        catches: Catches::from_vec(catches),
+    })
+}
+
+/// One clause, which switches on tag 0.
+pub fn resume_table(alloc: Global) -> Option<ResumeTable> {
+    let handlers = Vec::from_slice(alloc, &[Handle::OnSwitch { tag: 0 }]).ok()?;
+    Some(ResumeTable {
+        handlers: Handles::from_vec(handlers),
+    })
+}

@@ -1,0 +1,116 @@
+#!/usr/bin/env python3
+"""Writes what the program wasm_tests_lists has to print, from the original's lists alone.
+
+    tools/expected.py            writes crates/wasm_tests_lists/stdout
+    tools/expected.py --check    fails where that file is not what they give
+
+It reads tools/original and two files beside the program that are written by hand: by_rule.tsv, what
+the operators whose arity goes by rule take and leave in the program's module, and edges.txt, the
+lines of what stands at the edges. It reads neither the table nor anything that is made of it.
+"""
+
+import csv
+import sys
+from pathlib import Path
+
+from original import originals
+
+TOP = Path(__file__).resolve().parent.parent
+CRATE = TOP / "crates" / "wasm_tests_lists"
+
+# How the program's values print: those of fields of these names, and else those of these types.
+BY_NAME = {
+    "array_size": "5",
+    "struct_type_index": "1",
+    "cont_type_index": "2",
+    "argument_index": "2",
+    "result_index": "3",
+    "function_index": "0",
+    "type_index": "0",
+    "tag_index": "0",
+    "relative_depth": "0",
+    "table_index": "4",
+    "mem": "6",
+    "lane": "7",
+    "from_ref_type": "RefType { nullable: true, heap_type: Concrete(7) }",
+    "to_ref_type": "RefType { nullable: false, heap_type: Exact(8) }",
+}
+BY_TYPE = {
+    "u8": "9",
+    "u32": "9",
+    "i32": "-1",
+    "i64": "-2",
+    "[u8; 16]": "[0, 1, 2, 3, 4, 5, 6, 7, 8, 9, 10, 11, 12, 13, 14, 15]",
+    "MemArg": "MemArg { align: 1, max_align: 2, offset: 8, target: Memory(3), ordering: None }",
+    "Ordering": "AcqRel",
+    "HeapType": "Concrete(7)",
+    "ValType": "I64",
+    "BlockType": "FuncType(0)",
+    "Ieee32": "Ieee32(32)",
+    "Ieee64": "Ieee64(64)",
+    "V128": "V128([0, 1, 2, 3, 4, 5, 6, 7, 8, 9, 10, 11, 12, 13, 14, 15])",
+    "BrTable<'a>": "BrTable { count: 1, default: 0, targets: [1] }",
+    "SelectTypes": "Members { items: [I32, I64] }",
+    "TryTable": "TryTable { ty: FuncType(0), catches: Members { items: [All { label: 1 }] } }",
+    "ResumeTable": "ResumeTable { handlers: Members { items: [OnSwitch { tag: 0 }] } }",
+}
+# The types of which the program makes a value as it runs, and prints what has one of them last.
+MADE = ("Ieee32", "Ieee64", "V128", "RefType", "BrTable<'a>", "SelectTypes", "TryTable", "ResumeTable")
+# The order in which the program prints the operators, by the enums that have them.
+ORDER = ["Own", "Numeric", "Gc", "Misc", "Simd", "Atomic"]
+
+
+def is_made(op):
+    """Whether the program makes the operator as it runs."""
+    return any(ty in MADE for _, ty in op.fields)
+
+
+def shown(op):
+    """The operator as it prints."""
+    text = op.name
+    if op.fields:
+        values = [f"{name}: {BY_NAME.get(name) or BY_TYPE[ty]}" for name, ty in op.fields]
+        text = f"{op.name} {{ {', '.join(values)} }}"
+    return text if op.group == "Own" else f"{op.group}({text})"
+
+
+def line_of(op, by_rule):
+    """The line of an operator: its row, its arity, four answers, and itself."""
+    prefix = f"Some({int(op.prefix, 16)})" if op.prefix else "None"
+    takes, leaves = by_rule[op.name] if op.is_by_rule else (op.takes.split()[0], op.leaves)
+    is_simd = "true" if op.is_simd else "false"
+    is_end = "true" if op.name == "End" else "false"
+    row = f"{op.name} {op.proposal} {prefix} {op.code}"
+    return f"{row} Some(({takes}, {leaves})) {is_simd} true {is_end} true {shown(op)}"
+
+
+def expected():
+    """All that the program prints."""
+    with open(CRATE / "by_rule.tsv", encoding="utf-8", newline="") as lines:
+        rows = csv.DictReader(lines, delimiter="\t")
+        by_rule = {row["name"]: (row["takes"], row["leaves"]) for row in rows}
+    ops = originals()
+    plain = [op for op in ops if not is_made(op)]
+    ordered = [op for group in ORDER for op in plain if op.group == group]
+    ordered += [op for op in ops if is_made(op)]
+    lines = [line_of(op, by_rule) + "\n" for op in ordered]
+    return "".join(lines) + (CRATE / "edges.txt").read_text(encoding="utf-8")
+
+
+def main():
+    check = sys.argv[1:] == ["--check"]
+    if sys.argv[1:] and not check:
+        sys.exit(__doc__)
+    path = CRATE / "stdout"
+    wanted = expected().encode()
+    if path.exists() and path.read_bytes() == wanted:
+        return
+    if check:
+        sys.exit(f"{path.relative_to(TOP)} is not what tools/original gives: run tools/expected.py")
+    path.write_bytes(wanted)
+    print(path.relative_to(TOP))
+
+
+if __name__ == "__main__":
+    sys.dont_write_bytecode = True
+    main()

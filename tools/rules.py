@@ -1,0 +1,180 @@
+"""What the rows of the table have to be. Each fault names the file, the line and the operator."""
+
+import re
+
+from arities import REACHING
+from table import (
+    COLUMNS,
+    KINDS,
+    LARGEST_ALIGN,
+    MEMORY_SORTS,
+    OWNING,
+    PREFIXES,
+    PROPOSALS,
+    ROW_WORDS,
+    SHARED,
+    TABLE,
+    VALUE_WORDS,
+    Operator,
+    held,
+    named,
+    rows_of,
+)
+
+# Words that a field can't have: Rust's own, and those that the generated definitions use.
+TAKEN = set(
+    "as box break const continue crate dyn else enum extern false fn for if impl in let loop match mod move mut"
+    " pub ref return self static struct super trait true type unsafe use where while async await ghost result"
+    " op code is alloc result kind select operator numeric gc misc simd atomic".split()
+) | set(ROW_WORDS) | set(VALUE_WORDS)
+TYPES = {ty for kind in KINDS.values() for ty in kind.types}
+# The toolchain's limits: variants of an enum, and those at which a value that owns or borrows can be made.
+MOST_VARIANTS = 256
+MOST_OWNING = 128
+# The lists over subopcodes are as long as the largest is.
+LARGEST_SUBOPCODE = 0x3FF
+# Adding one for an array has to stay within what is proved.
+MOST_TAKEN = 7
+VECTOR_PROPOSALS = ("simd", "relaxed_simd")
+
+
+def faults(path=TABLE):
+    """All that is wrong with the table."""
+    rows = rows_of(path)
+    place = named(path)
+    if rows.get(1) != COLUMNS:
+        return [f"{place}:1: the columns are {', '.join(COLUMNS)}"]
+    found, ops = [], []
+    for number, cells in rows.items():
+        if number == 1:
+            continue
+        name = cells[1] if len(cells) > 1 and cells[1] else "a row with no name"
+        wrong = cell_faults(cells)
+        if not wrong:
+            op = Operator(cells, f"{place}:{number}")
+            ops.append(op)
+            wrong = row_faults(op)
+        found += [f"{place}:{number}: {name}: {what}" for what in wrong]
+    return found + shared_faults(ops) + enum_faults(ops)
+
+
+def cell_faults(cells):
+    """What is wrong with the cells by themselves, so that no operator can be made of them."""
+    if len(cells) != len(COLUMNS):
+        return [f"{len(cells)} columns, and not {len(COLUMNS)}"]
+    row = dict(zip(COLUMNS, cells))
+    out = []
+    if any(cell != cell.strip() for cell in cells):
+        out.append("a blank at the edge of a column")
+    if not re.fullmatch(r"[0-9a-f]{2,3}", row["code"]):
+        out.append(f"the code {row['code']!r} is not of two or three hexadecimal digits in small letters")
+    if row["prefix"] not in ("", *PREFIXES):
+        out.append(f"the prefix byte {row['prefix']!r} is none of {', '.join(PREFIXES)}")
+    for field in filter(None, row["fields"].split(", ")):
+        if not re.fullmatch(r"[a-z][a-z0-9_]*: \S.*", field):
+            out.append(f"the field {field!r} is not a name and a type")
+    return out
+
+
+def row_faults(op):
+    """What is wrong with an operator by itself."""
+    out = []
+    if not re.fullmatch(r"[A-Z][A-Za-z0-9]*", op.name):
+        out.append("the name is not a variant's: letters and digits, the first a capital")
+    if not re.fullmatch(r"visit_[a-z0-9_]+", op.visit):
+        out.append(f"the visit {op.visit!r} does not begin with visit_, or has other than small letters")
+    if op.proposal not in PROPOSALS:
+        out.append(f"the proposal {op.proposal!r} is not known")
+    if (op.prefix == "fd") != (op.proposal in VECTOR_PROPOSALS):
+        out.append("the vector operators are those behind fd, and those of simd and relaxed_simd")
+    if not op.prefix and (op.code > 0xFF or f"{op.code:02x}" in PREFIXES):
+        out.append(f"{op.code:02x} is a prefix byte, or more than a byte")
+    if op.code > LARGEST_SUBOPCODE:
+        out.append(f"the subopcode is above {LARGEST_SUBOPCODE:x}")
+    return out + field_faults(op) + immediate_faults(op) + arity_faults(op)
+
+
+def field_faults(op):
+    """What is wrong with the fields."""
+    names = [name for name, _ in op.fields]
+    out = [f"two fields are named {name}" for name in sorted({it for it in names if names.count(it) > 1})]
+    for name, ty in op.fields:
+        if name in TAKEN:
+            out.append(f"no field can be named {name}")
+        if ty not in TYPES:
+            out.append(f"the type {ty} of {name} is not known")
+    return out
+
+
+def immediate_faults(op):
+    """What is wrong with the immediates, or with how the fields fit them."""
+    out, wanted = [], []
+    for immediate in op.immediates:
+        word, *more = immediate.split(" ")
+        if word not in KINDS:
+            out.append(f"the immediate {immediate!r} is of no known kind")
+            continue
+        if (word == "memory") != bool(more) or (more and not is_memory(more)):
+            out.append(f"{immediate!r}: memory stands with {', '.join(MEMORY_SORTS)} and 0 to {LARGEST_ALIGN}, others alone")
+        wanted += KINDS[word].types
+    types = [ty for _, ty in op.fields]
+    if not out and types != wanted:
+        out.append(f"the immediates need fields of {', '.join(wanted) or 'no type'}, and the fields are of {', '.join(types) or 'none'}")
+    if "branch_table" in op.immediates and op.name != "BrTable":
+        out.append("only BrTable has a branch table: it borrows, and visitors have a visit of its own for it")
+    return out
+
+
+def is_memory(words):
+    """Whether these are the sort of a memory argument, and the alignment of its operator."""
+    return len(words) == 2 and words[0] in MEMORY_SORTS and words[1] in map(str, range(LARGEST_ALIGN + 1))
+
+
+def arity_faults(op):
+    """What is wrong with what the operator takes and leaves."""
+    if "by rule" in (op.takes, op.leaves):
+        return [] if op.takes == op.leaves else ["it takes and leaves by rule, or neither"]
+    out = []
+    takes = op.takes.removesuffix(REACHING)
+    for word, number in (("takes", takes), ("leaves", op.leaves)):
+        if not re.fullmatch(r"[0-9]", number):
+            out.append(f"{word} {number!r}, and not a digit")
+    if op.takes != takes and [ty for _, ty in op.fields].count("MemArg") != 1:
+        out.append("it takes an array more, and has not one memory argument")
+    if not out and op.takes != takes and int(takes) > MOST_TAKEN:
+        out.append(f"it takes more than {MOST_TAKEN} beside the array")
+    return out
+
+
+def shared_faults(ops):
+    """Names, visits and codes that stand twice."""
+    out = []
+    for what, key in {
+        "the name": lambda op: op.name.lower(),
+        "the visit": lambda op: op.visit,
+        "the code": lambda op: (op.prefix, op.code),
+    }.items():
+        first = {}
+        for op in ops:
+            other = first.setdefault(key(op), op)
+            is_pair = what == "the code" and (other.name, op.name) == SHARED
+            if other is not op and not is_pair:
+                out.append(f"{op.place}: {what} is that of {other.name}, line {other.place.split(':')[-2]}")
+    return out
+
+
+def enum_faults(ops):
+    """Enums that the toolchain refuses."""
+    out = []
+    inner = [enum.group for enum in held()]
+    for group in [*inner, "Own"]:
+        those = [op for op in ops if op.group == group]
+        count = len(those) + (len(inner) if group == "Own" else 0)
+        owning = [op for op in those if group == "Own" or any(ty in OWNING for _, ty in op.fields)]
+        if count > MOST_VARIANTS:
+            out.append(f"{those[-1].place}: the enum of its group has {count} variants, and at most {MOST_VARIANTS} are possible")
+        elif owning and count > MOST_OWNING:
+            out.append(f"{owning[-1].place}: an enum with a list has at most {MOST_OWNING} variants, and that of its group has {count}")
+        elif not those:
+            out.append(f"no operator is of the group {group}")
+    return out

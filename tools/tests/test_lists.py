@@ -1,0 +1,134 @@
+"""The generated files: a row of each kind in each group, long names, and what --check compares."""
+
+import tempfile
+import unittest
+from pathlib import Path
+
+import layout
+from lists import files, stale
+from rules import faults
+from table import COLUMNS, KINDS, rows_of, table
+
+# The prefix byte and a proposal of each group that may get a row more. The vector operators are 256 already.
+GROUPS = {"Own": ("", "mvp"), "Gc": ("fb", "gc"), "Misc": ("fc", "bulk_memory"), "Atomic": ("fe", "threads")}
+# Opcodes that no operator has.
+FREE = {"Own": iter([0x16, 0x17, 0x1D, 0x1E, 0x27, *range(0xC5, 0xD0), *range(0xD7, 0xE0), *range(0xE7, 0xFB)])}
+
+
+def cells_of(**row):
+    return [row.get(column, "") for column in COLUMNS]
+
+
+def row_of(kind, group, number):
+    """A row with one immediate of a kind."""
+    prefix, proposal = GROUPS[group]
+    types = KINDS[kind].types
+    fields = ", ".join(f"{'abc'[at]}_field: {ty}" for at, ty in enumerate(types))
+    code = next(FREE["Own"]) if group == "Own" else 0x100 + number
+    immediate = "memory Plain 2" if kind == "memory" else kind
+    name = f"Trial{group}{kind.title().replace('_', '')}"
+    return cells_of(
+        proposal=proposal, name=name, visit=f"visit_trial_{group.lower()}_{kind}", prefix=prefix,
+        code=f"{code:02x}", fields=fields, immediates=immediate, takes="by rule", leaves="by rule",
+    )
+
+
+def text_of(*rows):
+    """The whole table with more rows."""
+    lines = [*rows_of().values(), *rows]
+    return "".join("\t".join(cells) + "\n" for cells in lines)
+
+
+def files_with(*rows):
+    """The files of the table with these rows more, which have to be good."""
+    with tempfile.TemporaryDirectory() as folder:
+        path = Path(folder) / "operators.tsv"
+        path.write_text(text_of(*rows), encoding="utf-8")
+        found = faults(path)
+        assert not found, found
+        return files(table(path))
+
+
+@unittest.skipUnless(layout.is_here(), "rt, which lays files out, is not on this machine")
+class Generated(unittest.TestCase):
+    """What the generator writes."""
+
+    def test_nothing_is_stale(self):
+        self.assertEqual(stale(files(table())), [])
+
+    def test_each_kind_in_each_group(self):
+        rows = [
+            row_of(kind, group, number)
+            for group in GROUPS
+            for number, kind in enumerate(KINDS)
+            if kind != "branch_table"
+        ]
+        out = files_with(*rows)
+        self.assertEqual(layout.laid_out(out), out)
+        for group, (prefix, _) in GROUPS.items():
+            crate = "wasm_instr" if group == "Own" else "wasm_instr_ops"
+            module = "operator" if group == "Own" else group.lower()
+            source = out[f"crates/{crate}/src/{module}.rt"]
+            specs = out[f"crates/{crate}/specs/{'Row' if group == 'Own' else group}.antt"]
+            for kind in KINDS:
+                if kind != "branch_table":
+                    name = f"Trial{group}{kind.title().replace('_', '')}"
+                    with self.subTest(name):
+                        self.assertIn(f'"{name}"', source)
+                        self.assertIn(f'= codes "{name}"', specs)
+            self.assertIn("a_field: a_field.clone(alloc)?", source)
+            self.assertIn("(select.One a_field) ∷ []", specs)
+            self.assertIn("TheVariants as select", specs)
+            if group != "Own":
+                lemmas = out[f"crates/{crate}/proofs/{group}ByOpcode.antt"]
+                self.assertIn(f"(λ is. {module}.Trial{group}Cast (depth_in is) (from_in is) (to_in is)) ∷", lemmas)
+                self.assertIn(f"(λ is. {module}.Trial{group}Types (types_in is)) ∷", lemmas)
+
+    def test_lists_in_an_inner_enum(self):
+        row = row_of("types", "Misc", 0)
+        out = files_with(row)
+        source = out["crates/wasm_instr_ops/src/misc.rt"]
+        self.assertIn("#[derive(Drop, Debug, PartialEq, Eq)]", source)
+        self.assertIn("pub fn clone(&self, alloc: Global) -> Result<MiscOperator>", source)
+        self.assertIn("misc_holds_list self.now × IsOutOfMemoryAt 0 e", source)
+        self.assertIn("misc_holds_list (misc.TrialMiscTypes _) = Unit {0}", out["crates/wasm_instr_ops/specs/Misc.antt"])
+        whole = out["crates/wasm_instr/src/operator.rt"]
+        self.assertIn("Operator::Misc(op) => Operator::Misc(op.clone(alloc)?)", whole)
+        self.assertIn("Operator::Gc(op) => Operator::Gc(*op)", whole)
+
+    def test_rule_in_another_group(self):
+        row = row_of("unsigned", "Misc", 0)
+        out = files_with(row)
+        specs = out["crates/wasm_instr/specs/FixedArity.antt"]
+        self.assertIn("misc_pair : MiscOperator → Option (ℕ × ℕ)", specs)
+        self.assertIn("misc_pair (misc.TrialMiscUnsigned _) = None", specs)
+        self.assertIn("fixed_arity (operator.Misc op) = misc_pair op", specs)
+        source = out["crates/wasm_instr/src/fixed_arity.rt"]
+        self.assertIn("Operator::Misc(op) => misc_fixed_arity(op)", source)
+
+    def test_argument_by_another_name(self):
+        row = cells_of(
+            proposal="threads", name="Trial", visit="visit_trial", prefix="fe", code="100",
+            fields="place: MemArg, lane: u8", immediates="memory Op 2, lane_index", takes="2 and an array", leaves="1",
+        )
+        out = files_with(row)
+        self.assertIn("atomic_pair (atomic.Trial place _) = (reaching place 2, 1)", out["crates/wasm_instr/specs/FixedArity.antt"])
+
+    def test_long_names(self):
+        long = "VeryLongNameOfAnOperatorThatNoLineOfOneHundredColumnsHasRoomForWithAllOfItsFields"
+        row = cells_of(
+            proposal="bulk_memory", name=long, visit=f"visit_{long.lower()}", prefix="fc", code="100",
+            fields="first_long_field: u32, second_long_field: MemArg, third_long_field: Ordering",
+            immediates="unsigned, memory Plain 2, ordered", takes="1", leaves="1",
+        )
+        out = files_with(row)
+        self.assertEqual(layout.laid_out(out), out)
+        self.assertIn(f"    {long} {{\n        first_long_field: u32,\n", out["crates/wasm_instr_ops/src/misc.rt"])
+
+    def test_check_compares_bytes(self):
+        wanted = {"a.rt": "one\ntwo\n", "b.rt": "é\n", "c.rt": ""}
+        with tempfile.TemporaryDirectory() as folder:
+            top = Path(folder)
+            (top / "a.rt").write_bytes(b"one\r\ntwo\r\n")
+            (top / "b.rt").write_bytes("é\n".encode())
+            self.assertEqual(stale(wanted, top), ["a.rt", "c.rt"])

@@ -1,0 +1,168 @@
+"""The table of the operators: that it is the original's, and that its errors are told."""
+
+import tempfile
+import unittest
+from pathlib import Path
+
+from original import differences, originals, proposals
+from rules import faults
+from table import COLUMNS, PROPOSALS, SHARED, Operator, rows_of, table
+
+
+def faults_with(change):
+    """What is wrong with a table whose rows, the line of names first, were changed."""
+    rows = [list(cells) for cells in rows_of().values()]
+    change(rows)
+    with tempfile.TemporaryDirectory() as folder:
+        path = Path(folder) / "operators.tsv"
+        path.write_text("".join("\t".join(cells) + "\n" for cells in rows), encoding="utf-8")
+        return [fault.removeprefix(f"{folder}/") for fault in faults(path)]
+
+
+def line_of(rows, name):
+    """The place of an operator among the rows."""
+    return next(at for at, cells in enumerate(rows) if cells[1] == name)
+
+
+class Original(unittest.TestCase):
+    """What the original's lists say of themselves, and that the table says the same."""
+
+    def test_counts(self):
+        found = {}
+        for op in originals():
+            found[op.proposal] = found.get(op.proposal, 0) + 1
+        self.assertEqual(found, proposals())
+        self.assertEqual(len(found), 19)
+        self.assertEqual(len(originals()), 628)
+        self.assertEqual(sum(op.is_simd for op in originals()), 256)
+        self.assertEqual(tuple(proposals()), PROPOSALS)
+
+    def test_codes_are_distinct_but_for_one_pair(self):
+        found = {}
+        for op in originals():
+            found.setdefault((op.prefix, op.code), []).append(op.name)
+        self.assertEqual([tuple(names) for names in found.values() if len(names) > 1], [SHARED])
+
+    def test_table_is_the_original(self):
+        self.assertEqual(differences(table()), [])
+
+    def test_each_column_is_compared(self):
+        for column, other in {
+            "proposal": "gc", "visit": "visit_nip", "prefix": "fc", "code": "05", "fields": "mem: u32",
+            "immediates": "unsigned", "takes": "1", "leaves": "1",
+        }.items():
+            ops = table()
+            row = dict(zip(COLUMNS, rows_of()[3])) | {column: other}
+            ops[1] = Operator([row[name] for name in COLUMNS], "tools/operators.tsv:3")
+            with self.subTest(column):
+                self.assertIn("tools/operators.tsv:3: Nop: ", differences(ops)[0])
+
+    def test_more_less_and_order(self):
+        ops = table()
+        self.assertEqual(differences(ops[1:]), ["Unreachable: an operator of the original, and not in the table"])
+        self.assertIn("order", differences([ops[1], ops[0], *ops[2:]])[0])
+        more = Operator(rows_of()[2], "tools/operators.tsv:630")
+        more.name = "Unheard"
+        self.assertIn("no operator of the original", differences([*ops, more])[0])
+
+    def test_swapped_codes(self):
+        ops = table()
+        add = next(op for op in ops if op.name == "I32Add")
+        sub = next(op for op in ops if op.name == "I32Sub")
+        add.code, sub.code = sub.code, add.code
+        self.assertEqual(
+            [fault.split(": ", 1)[1] for fault in differences(ops)],
+            ["I32Add: code 6b, and in the original 6a", "I32Sub: code 6a, and in the original 6b"],
+        )
+
+
+# A change of the row of one operator, and what the error has to say.
+WRONG = [
+    ("Nop", "name", "nop", "the name is not a variant's"),
+    ("Nop", "name", "Unreachable", "the name is that of Unreachable, line 2"),
+    ("Nop", "name", "UNREACHABLE", "the name is that of Unreachable, line 2"),
+    ("Nop", "visit", "nop", "does not begin with visit_"),
+    ("Nop", "visit", "visit_unreachable", "the visit is that of Unreachable, line 2"),
+    ("Nop", "code", "00", "the code is that of Unreachable, line 2"),
+    ("TypedSelectMulti", "code", "1b", "the code is that of Select"),
+    ("Nop", "code", "1", "is not of two or three hexadecimal digits"),
+    ("Nop", "code", "FF", "is not of two or three hexadecimal digits"),
+    ("Nop", "code", "fd", "fd is a prefix byte"),
+    ("Nop", "code", "101", "more than a byte"),
+    ("DataDrop", "code", "400", "the subopcode is above 3ff"),
+    ("DataDrop", "prefix", "fa", "the prefix byte 'fa' is none of fb, fc, fd, fe"),
+    ("Nop", "proposal", "mpv", "the proposal 'mpv' is not known"),
+    ("Nop", "proposal", "simd", "the vector operators are those behind fd"),
+    ("I8x16Add", "proposal", "mvp", "the vector operators are those behind fd"),
+    ("Br", "fields", "depth u32", "is not a name and a type"),
+    ("Br", "fields", "depth: u33", "the type u33 of depth is not known"),
+    ("Br", "fields", "op: u32", "no field can be named op"),
+    ("Br", "fields", "kind: u32", "no field can be named kind"),
+    ("Br", "fields", "depth: i32", "the immediates need fields of u32, and the fields are of i32"),
+    ("Br", "fields", "", "the immediates need fields of u32, and the fields are of none"),
+    ("MemoryCopy", "fields", "mem: u32, mem: u32", "two fields are named mem"),
+    ("Br", "immediates", "number", "the immediate 'number' is of no known kind"),
+    ("Br", "immediates", "branch_table", "only BrTable has a branch table"),
+    ("I32Load", "immediates", "memory", "memory stands with Plain, Op, Rmw"),
+    ("I32Load", "immediates", "memory Plain 5", "memory stands with Plain, Op, Rmw"),
+    ("I32Load", "immediates", "memory Simple 2", "memory stands with Plain, Op, Rmw"),
+    ("Br", "immediates", "unsigned 3", "others alone"),
+    ("Nop", "takes", "by rule", "by rule, or neither"),
+    ("Nop", "takes", "many", "takes 'many', and not a digit"),
+    ("Nop", "leaves", "10", "leaves '10', and not a digit"),
+    ("Nop", "takes", "1 and an array", "has not one memory argument"),
+    ("I32Load", "takes", "8 and an array", "takes more than 7 beside the array"),
+    ("Nop", "visit", "visit_nop ", "a blank at the edge"),
+]
+
+
+class Rules(unittest.TestCase):
+    """Each error, with the file, the line and the operator."""
+
+    def test_no_fault(self):
+        self.assertEqual(faults(), [])
+
+    def test_each_error(self):
+        for name, column, value, wanted in WRONG:
+            line = 0
+
+            def change(rows):
+                nonlocal line
+                at = line_of(rows, name)
+                rows[at][COLUMNS.index(column)] = value
+                line = at + 1
+
+            with self.subTest(f"{name} {column} {value}"):
+                found = faults_with(change)
+                now = value if column == "name" else name
+                self.assertTrue(found)
+                self.assertTrue(all(it.startswith(f"operators.tsv:{line}: {now}: ") for it in found[:1]), found)
+                self.assertTrue(any(wanted in fault for fault in found), found)
+
+    def test_columns(self):
+        found = faults_with(lambda rows: rows[0].reverse())
+        self.assertEqual(found, [f"operators.tsv:1: the columns are {', '.join(COLUMNS)}"])
+        found = faults_with(lambda rows: rows[3].pop())
+        self.assertEqual(found, ["operators.tsv:4: Block: 8 columns, and not 9"])
+        found = faults_with(lambda rows: rows.insert(1, []))
+        self.assertIn("operators.tsv:2: a row with no name: ", found[0])
+
+    def test_too_many_variants(self):
+        def change(rows):
+            rows.append(["simd", "V128More", "visit_v128_more", "fd", "200", "", "", "0", "0"])
+
+        self.assertIn("has 257 variants", faults_with(change)[0])
+
+    def test_lists_in_large_enums(self):
+        def change(rows):
+            row = ["simd", "V128More", "visit_v128_more", "fd", "200", "tys: SelectTypes", "types", "0", "0"]
+            rows[line_of(rows, "I8x16Add")] = row
+
+        self.assertIn("an enum with a list has at most 128 variants", faults_with(change)[0])
+
+    def test_all_faults_are_told(self):
+        def change(rows):
+            rows[1][0] = "mpv"
+            rows[2][0] = "mpv"
+
+        self.assertEqual(len(faults_with(change)), 2)
