@@ -13,6 +13,7 @@ mod tests;
 mod words;
 
 use crate::dump::run;
+use crate::fault::DumpFault;
 use crate::words::features_of;
 use std::env::Env;
 use std::process::ExitCode;
@@ -20,11 +21,15 @@ use std::{env, io};
 use wasm_operators::WasmFeatures;
 
 fn main(rt: HostRuntime) -> ExitCode {
-    let Some(features) = read_features(&rt) else {
-        let _ = eprintln!(rt; "bad features");
-        return ExitCode::from(2);
+    let ended = match read_features(&rt) {
+        Ok(Some(features)) => run(rt.alloc(), features, &mut rt.reader(), &mut io::writer(&rt)),
+        Ok(None) => {
+            let _ = eprintln!(rt; "bad features");
+            return ExitCode::from(2);
+        }
+        Err(fault) => Err(fault),
     };
-    match run(rt.alloc(), features, &mut rt.reader(), &mut io::writer(&rt)) {
+    match ended {
         Ok(()) => ExitCode::SUCCESS,
         Err(fault) => {
             let _ = eprintln!(rt; "{fault}");
@@ -33,16 +38,25 @@ fn main(rt: HostRuntime) -> ExitCode {
     }
 }
 
-/// The features that the arguments ask for: one word at most is read.
-fn read_features<R: Env + AllocGlobal>(rt: &R) -> Option<WasmFeatures> {
-    let mut words = env::args(rt).ok()?;
+/// The features that the arguments ask for: one word at most is read. `None` where there are more, or
+/// where the word is no text or names none of the features; `Memory` where memory was refused.
+fn read_features<R: Env + AllocGlobal>(rt: &R) -> Result<Option<WasmFeatures>, DumpFault> {
+    let mut words = match env::args(rt) {
+        Ok(words) => words,
+        Err(error) => {
+            return match error.kind() {
+                io::ErrorKind::OutOfMemory => Err(DumpFault::Memory),
+                _ => Ok(None),
+            };
+        }
+    };
     let _program = words.next();
     let word = words.next();
     if words.next().is_some() {
-        return None;
+        return Ok(None);
     }
     match word {
-        None => features_of(None),
-        Some(text) => features_of(Some(text.as_str())),
+        None => Ok(features_of(None)),
+        Some(text) => Ok(features_of(Some(text.as_str()))),
     }
 }

@@ -1,0 +1,153 @@
+#!/usr/bin/env python3
+"""Runs programs and tests with each of their allocations refused in turn.
+
+    tools/allocations.py [NAME..]
+
+It takes what `rt ci` or `rt test` built, `crates/NAME/out/NAME` and `crates/NAME/out/NAME_tests`, of the
+crates named, else of all. Each test and each program is run with its first allocation refused, then
+with its second, and so on until none is. Each run has to end by itself, with no fault:
+
+- a test whose name has the word `memory` passes, whichever allocation was refused;
+- another test passes, or ends by an error or an assertion of its own;
+- a program ends with a status of its own. One that has a file `refused` beside its src/ ends
+  as that file says, or as it does when no allocation is refused. The file has three lines: the status,
+  what it writes and what it complains.
+
+The allocations are counted in the C library's `malloc` and `realloc`, which is where Rattle's go:
+`refuse_allocation.c` is built with the kit's own compiler and loaded first.
+"""
+
+import os
+import signal
+import subprocess
+import sys
+import tempfile
+from pathlib import Path
+
+TOP = Path(__file__).resolve().parent.parent
+SECONDS = 60
+# A test or a program that takes more allocations than these is one to make smaller.
+MOST = 1000
+
+
+def built_library(folder):
+    """The library that refuses, built by the kit's compiler."""
+    page = subprocess.run(["rt", "doc"], capture_output=True, text=True, check=True).stdout.strip()
+    compiler = Path(page).parent / "toolchain" / "bin" / "clang"
+    library = f"{folder}/refuse.so"
+    words = [compiler, "-O1", "-shared", "-fPIC", "-nostdlib", "-fuse-ld=lld", "-o", library]
+    subprocess.run([*words, TOP / "tools" / "refuse_allocation.c"], check=True)
+    return library
+
+
+class Run:
+    """One run of a program: whether an allocation was refused, and how it ended."""
+
+    def __init__(self, words, given, library, number):
+        reading, writing = os.pipe()
+        env = {"PATH": "/usr/bin:/bin", "LD_PRELOAD": library}
+        env |= {"REFUSED_ALLOCATION": str(number), "REFUSAL_TOLD": str(writing)}
+        how = {"input": given, "capture_output": True, "timeout": SECONDS, "env": env}
+        try:
+            ran = subprocess.run(words, pass_fds=[writing], **how)
+            self.status, self.wrote, self.complained = ran.returncode, ran.stdout, ran.stderr
+        except subprocess.TimeoutExpired:
+            self.status, self.wrote, self.complained = None, b"", b""
+        os.close(writing)
+        self.was_refused = os.read(reading, 1) == b"!"
+        os.close(reading)
+
+    @property
+    def shape(self):
+        """How the run ended, to compare with another."""
+        return self.status, self.wrote, self.complained
+
+
+def is_own_end(status):
+    """Whether a program ended by a status or an assertion of its own."""
+    return status is not None and (status >= 0 or status == -signal.SIGABRT)
+
+
+def followed(label, words, given, library, allowed):
+    """Runs a program through its refusals, and returns how many there were and what was wrong."""
+    wrong = []
+    for number in range(1, MOST + 1):
+        ran = Run(words, given, library, number)
+        if not allowed(ran):
+            said = (ran.complained or ran.wrote).decode(errors="replace").strip()[-200:]
+            which = f"allocation {number} refused" if ran.was_refused else "no allocation refused"
+            wrong.append(f"{label}: {which}: status {ran.status}; {said}")
+        if not ran.was_refused:
+            return number - 1, wrong
+    return MOST, [*wrong, f"{label}: it takes more than {MOST} allocations"]
+
+
+def tests_of(program):
+    """The names of the tests that a program has."""
+    listed = subprocess.run([program, "--list"], capture_output=True, text=True, check=True).stdout
+    return [line[: -len(": test")] for line in listed.splitlines() if line.endswith(": test")]
+
+
+def follow_tests(program, library):
+    """Each test of a crate through its refusals."""
+    for test in tests_of(program):
+        of_memory = "memory" in test.split("::")[-1].split("_")
+        allowed = (lambda ran: ran.status == 0) if of_memory else (lambda ran: is_own_end(ran.status))
+        yield test, followed(test, [program, test], b"", library, allowed)
+
+
+def refused_shapes(crate):
+    """How the program may end where an allocation was refused, or None where nothing is said of that."""
+    path = crate / "refused"
+    if not path.exists():
+        return None
+    status, wrote, complained = path.read_text(encoding="utf-8").split("\n")[:3]
+    line = lambda text: f"{text}\n".encode() if text else b""
+    return int(status), line(wrote), line(complained)
+
+
+def follow_program(program, crate, library):
+    """A crate's program through its refusals."""
+    read = lambda name: (crate / name).read_bytes() if (crate / name).exists() else b""
+    words = [program, *read("args").decode().splitlines()]
+    plain = Run(words, read("stdin"), library, 0).shape
+    refused = refused_shapes(crate)
+    if refused is None:
+        allowed = lambda ran: ran.status is not None and ran.status >= 0
+    else:
+        allowed = lambda ran: ran.shape == (refused if ran.was_refused else plain)
+    return followed(program.name, words, read("stdin"), library, allowed)
+
+
+def main():
+    if any(word.startswith("-") for word in sys.argv[1:]):
+        print(__doc__)
+        sys.exit(sys.argv[1:] not in (["--help"], ["-h"]))
+    names = sys.argv[1:] or sorted(path.name for path in (TOP / "crates").iterdir())
+    wrong, runs = [], 0
+    with tempfile.TemporaryDirectory() as folder:
+        library = built_library(folder)
+        for name in names:
+            crate = TOP / "crates" / name
+            for program in (crate / "out" / name, crate / "out" / f"{name}.by-rattle"):
+                if program.exists():
+                    count, faults = follow_program(program, crate, library)
+                    print(f"{program.name}: {count} allocations refused in turn")
+                    wrong, runs = wrong + faults, runs + count
+            tests = crate / "out" / f"{name}_tests"
+            if tests.exists():
+                for test, (count, faults) in follow_tests(tests, library):
+                    if count:
+                        print(f"{name} {test}: {count} allocations refused in turn")
+                    wrong, runs = wrong + [f"{name} {fault}" for fault in faults], runs + count
+    for fault in wrong:
+        print(f"NOT AS IT SHOULD: {fault}")
+    if not runs:
+        wrong.append("nothing was run")
+        print("no program and no test was found: build them with rt ci first")
+    print(f"allocations: {runs} refused, {len(wrong)} ends not as they should be")
+    sys.exit(1 if wrong else 0)
+
+
+if __name__ == "__main__":
+    main()

@@ -1,0 +1,32 @@
+/* Loaded into a program before the C library, this refuses one of its allocations: that whose number
+   REFUSED_ALLOCATION has, from 1. Where it comes to that one, it writes a byte to the descriptor
+   that REFUSAL_TOLD has. */
+void *__libc_malloc(unsigned long size);
+void *__libc_realloc(void *from, unsigned long size);
+char *getenv(const char *name);
+long write(int to, const void *from, unsigned long size);
+
+static long asked;
+
+static long number_in(const char *name) {
+    const char *text = getenv(name);
+    long number = 0;
+    while (text && *text >= '0' && *text <= '9') {
+        number = 10 * number + (*text++ - '0');
+    }
+    return number;
+}
+
+static int is_refused(void) {
+    if (++asked != number_in("REFUSED_ALLOCATION")) {
+        return 0;
+    }
+    write((int)number_in("REFUSAL_TOLD"), "!", 1);
+    return 1;
+}
+
+void *malloc(unsigned long size) { return is_refused() ? 0 : __libc_malloc(size); }
+
+void *realloc(void *from, unsigned long size) {
+    return is_refused() ? 0 : __libc_realloc(from, size);
+}

@@ -1,0 +1,139 @@
+#!/usr/bin/env python3
+"""Runs the proofs of the gate, and tells what each crate cost.
+
+    tools/timed.py COMMAND..
+
+It runs the command (`rt ci`) and passes on what that writes. Once a second it looks at the provers that work
+below the command, and counts the processor time of each for its crate: for the crate's proof, for that of
+its tests, or for its must-fail edits. When the command has ended it writes
+
+    cost NAME PART PROCESSOR WALL    a line for each crate and part, in seconds
+    cost all PROCESSOR WALL COUNT    of the whole run, and on how many processors
+
+and then the command's own last line once more. tools/gate_table.py makes docs/GATE.md of such a log.
+The status is the command's.
+"""
+
+import os
+import resource
+import subprocess
+import sys
+import threading
+import time
+
+TICKS = os.sysconf("SC_CLK_TCK")
+EVERY = 1
+
+
+class Process:
+    """A process as /proc shows it: what started it, when, and its processor time."""
+
+    def __init__(self, pid):
+        with open(f"/proc/{pid}/stat", encoding="utf-8", errors="replace") as it:
+            stat = it.read().rpartition(")")[2].split()
+        self.parent = int(stat[1])
+        self.key = (pid, stat[19])
+        # its own time, and that of its children that have ended
+        self.seconds = sum(int(it) for it in stat[11:15]) / TICKS
+
+
+def work_of(pid):
+    """The crate that a prover works for, and which part of it; None where the process is no prover."""
+    try:
+        with open(f"/proc/{pid}/cmdline", "rb") as it:
+            words = it.read().decode(errors="replace").split("\0")
+        if "--crate-name" not in words:
+            return None
+        is_edit = os.path.basename(os.readlink(f"/proc/{pid}/cwd")).startswith("rt-edit-")
+    except OSError:
+        return None
+    part = "edits" if is_edit else "tests" if "--test" in words else "proof"
+    return words[words.index("--crate-name") + 1], part
+
+
+def below(top):
+    """The processes that were started by a process, or by one below it."""
+    found = {}
+    for name in os.listdir("/proc"):
+        if name.isdigit():
+            try:
+                found[int(name)] = Process(int(name))
+            except (OSError, ValueError, IndexError):
+                pass
+
+    def chain(pid):
+        while pid in found:
+            yield pid
+            pid = found[pid].parent
+
+    return {pid: it for pid, it in found.items() if top in chain(it.parent)}
+
+
+class Costs:
+    """What the provers have cost so far."""
+
+    def __init__(self):
+        self.processor = {}
+        self.first = {}
+        self.last = {}
+        self.of = {}
+
+    def look(self, top):
+        """Counts the provers below a process. A prover's own children count for it."""
+        found = below(top)
+        totals = {}
+        for pid, process in found.items():
+            work, at = None, pid
+            while at in found:
+                here = work_of(at)
+                if here:
+                    work, prover = here, found[at].key
+                at = found[at].parent
+            if work:
+                self.of[prover] = work
+                totals[prover] = totals.get(prover, 0) + process.seconds
+        now = time.monotonic()
+        for key, total in totals.items():
+            self.processor[key] = max(total, self.processor.get(key, 0))
+            self.first.setdefault(key, now)
+            self.last[key] = now
+
+    def lines(self):
+        """A line for each crate and part."""
+        sums = {}
+        for key, of in self.of.items():
+            processor, wall = sums.get(of, (0, 0))
+            sums[of] = processor + self.processor[key], wall + self.last[key] - self.first[key]
+        return [f"cost {crate} {part} {p:.0f} {w:.0f}" for (crate, part), (p, w) in sorted(sums.items())]
+
+
+def watch(costs, top, is_done):
+    while not is_done.wait(EVERY):
+        costs.look(top)
+
+
+def main():
+    if len(sys.argv) < 2 or sys.argv[1] in ("--help", "-h"):
+        print(__doc__)
+        sys.exit(len(sys.argv) < 2)
+    costs, is_done, began = Costs(), threading.Event(), time.monotonic()
+    how = {"stdin": subprocess.DEVNULL, "stdout": subprocess.PIPE, "stderr": subprocess.STDOUT}
+    with subprocess.Popen(sys.argv[1:], text=True, errors="replace", **how) as ran:
+        watching = threading.Thread(target=watch, args=(costs, ran.pid, is_done))
+        watching.start()
+        last = ""
+        for line in ran.stdout:
+            print(line, end="", flush=True)
+            last = line
+    is_done.set()
+    watching.join()
+    print("\n".join(costs.lines()))
+    used = resource.getrusage(resource.RUSAGE_CHILDREN)
+    wall, count = time.monotonic() - began, len(os.sched_getaffinity(0))
+    print(f"cost all {used.ru_utime + used.ru_stime:.0f} {wall:.0f} {count}")
+    print(last, end="", flush=True)
+    sys.exit(ran.returncode if ran.returncode >= 0 else 1)
+
+
+if __name__ == "__main__":
+    main()
