@@ -5,8 +5,8 @@
 
 A word is a definition of some crate's `specs/` that a clause of a public function, or of a public trait's
 method, names. Each has to stand in the first column of a table of docs/DEFINITIONS.md, and each
-word that stands there has to be one of the repository's. It prints what is wanting, a word a line
-with the file that defines it and a function that uses it, and the words that nothing has.
+word that stands there has to be defined in the file that its row names. It prints what is wanting, a
+word a line with the file that defines it and a function that uses it, and what is misplaced.
 """
 
 import re
@@ -76,37 +76,62 @@ def used():
     return found
 
 
+class Row:
+    """A line of a table: the words, and the files of specs/ that it names for them."""
+
+    def __init__(self, number, line):
+        cells = line.strip("|").split("|")
+        self.number = number
+        self.words = re.findall(r"`([^`]+)`", cells[0])
+        self.files = re.findall(r"`(\w+)\.antt`", cells[-1])
+
+
 def listed():
-    """The words in the first columns of the tables, and with a heading's words those of its section."""
-    text = (TOP / "docs" / "DEFINITIONS.md").read_text(encoding="utf-8")
-    cells = [line.split("|")[1] for line in text.split("\n") if line.startswith("| `")]
-    return [word for cell in cells for word in re.findall(r"`([^`]+)`", cell)]
+    """The rows of the tables."""
+    lines = (TOP / "docs" / "DEFINITIONS.md").read_text(encoding="utf-8").split("\n")
+    return [Row(number, line) for number, line in enumerate(lines, 1) if line.startswith("| `")]
 
 
 def known():
-    """All words of the repository's specs, and of what its code declares."""
-    out = set()
-    for path in [*TOP.glob("crates/*/specs/*.antt"), *TOP.glob("crates/*/src/**/*.rt")]:
-        out |= set(re.findall(WORD, path.read_text(encoding="utf-8")))
-    return out
+    """The words that files of specs/ define, each with the names of those files, and all words of the code."""
+    defined, words = {}, set()
+    for path in TOP.glob("crates/*/specs/*.antt"):
+        text = path.read_text(encoding="utf-8")
+        found = re.findall(rf"^ *(?:abbrev )?pub (?:record |data )?({WORD})", text, re.M)
+        # (the constructors of a data type stand without pub, several to a line)
+        for line in re.findall(rf"^ +((?:{WORD} )+):", text, re.M):
+            found += line.split()
+        for word in found:
+            defined.setdefault(word, set()).add(path.stem)
+    for path in TOP.glob("crates/*/src/**/*.rt"):
+        words |= set(re.findall(WORD, path.read_text(encoding="utf-8")))
+    return defined, words
+
+
+def misplaced(rows):
+    """The words that are not where their row says, and those that nothing has."""
+    defined, words = known()
+    for row in rows:
+        for word in row.words:
+            place = f"docs/DEFINITIONS.md:{row.number}: {word}"
+            if word not in defined and word not in words:
+                yield f"{place}: nothing has this name"
+            elif row.files and not defined.get(word, set()) & set(row.files):
+                yield f"{place}: defined in {', '.join(sorted(defined.get(word, {'no file'})))}, and not in {', '.join(row.files)}"
 
 
 def main():
     if sys.argv[1:]:
         print(__doc__)
         sys.exit(sys.argv[1:] not in (["--help"], ["-h"]))
-    words = listed()
+    rows = listed()
+    words = {word for row in rows for word in row.words}
     wanting = {word: where for word, where in used().items() if word not in words}
     for word, (place, function) in sorted(wanting.items()):
         print(f"not in docs/DEFINITIONS.md: {word} ({place}), used by {function}")
-    gone = sorted(set(words) - known())
-    for word in gone:
-        print(f"in docs/DEFINITIONS.md, and nowhere else: {word}")
-    twice = sorted({word for word in words if words.count(word) > 1})
-    print(f"definitions: {len(words)} listed, {len(wanting)} wanting, {len(gone)} that nothing has")
-    if twice:
-        print(f"listed for two crates: {', '.join(twice)}")
-    sys.exit(1 if wanting or gone else 0)
+    wrong = list(misplaced(rows))
+    print("\n".join([*wrong, f"definitions: {len(words)} listed, {len(wanting)} wanting, {len(wrong)} misplaced"]))
+    sys.exit(1 if wanting or wrong else 0)
 
 
 if __name__ == "__main__":
