@@ -2,7 +2,8 @@
 """Writes every list over the operators from the one table, operators.tsv.
 
     tools/lists.py            writes the files
-    tools/lists.py --check    fails where a file is not what the table gives, byte by byte
+    tools/lists.py --check    fails where a file is not what the table gives, byte by byte, or where a
+                              page tells a count of operators that is not the table's
 
 Before that it judges the table: the rows by themselves and together (rules.py), and against what the
 original lists (original.py). `rt fmt` lays the files out, so the Rattle kit has to be there.
@@ -12,13 +13,14 @@ docs/ARCHITECTURE.md says what the columns are, docs/ADDING-AN-OPERATOR.md what 
 import sys
 
 from arities import fixed_arity_source, fixed_arity_specs
+from counts import wrong_counts
 from layout import laid_out
 from original import differences
 from printed import made_source, values_source
 from rows import enum_by_opcode, enum_rows, operator_rows, operators_by_opcode
 from rules import faults
 from source import enum_source, operator_source
-from table import ENUMS, TOP, table
+from table import ENUMS, HEAD, TOP, table
 from visits import dispatch, fixed_trait, passed, simd_trait
 
 
@@ -54,6 +56,13 @@ def stale(wanted, top=TOP):
     return [it for it, path in paths.items() if not path.exists() or path.read_bytes() != wanted[it].encode()]
 
 
+def left_over(wanted, top=TOP):
+    """The files that say they are written from the table, and no longer are."""
+    found = [*top.glob("crates/*/src/**/*.rt"), *top.glob("crates/*/specs/*.antt"), *top.glob("crates/*/proofs/*.antt")]
+    names = [str(path.relative_to(top)) for path in found if HEAD in path.read_text(encoding="utf-8")[:200]]
+    return sorted(name for name in names if name not in wanted)
+
+
 def main():
     check = sys.argv[1:] == ["--check"]
     if sys.argv[1:] and not check:
@@ -64,8 +73,10 @@ def main():
         sys.exit("\n".join(found))
     wanted = files(table())
     wrong = stale(wanted)
-    if check and wrong:
-        sys.exit("not what the table gives: " + ", ".join(wrong))
+    if check:
+        found = [f"{name}: not what the table gives: run tools/lists.py" for name in wrong]
+        found += [f"{name}: no list is written there any more: remove it" for name in left_over(wanted)]
+        sys.exit("\n".join(found + wrong_counts(table())) or None)
     for name in wrong:
         path = TOP / name
         path.parent.mkdir(parents=True, exist_ok=True)

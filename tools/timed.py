@@ -127,7 +127,8 @@ def main():
             last = line
     is_done.set()
     watching.join()
-    print("\n".join(costs.lines()))
+    for line in costs.lines():
+        print(line)
     used = resource.getrusage(resource.RUSAGE_CHILDREN)
     wall, count = time.monotonic() - began, len(os.sched_getaffinity(0))
     print(f"cost all {used.ru_utime + used.ru_stime:.0f} {wall:.0f} {count}")

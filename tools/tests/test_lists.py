@@ -5,9 +5,10 @@ import unittest
 from pathlib import Path
 
 import layout
-from lists import files, stale
+from counts import wrong_counts
+from lists import files, left_over, stale
 from rules import faults
-from table import COLUMNS, KINDS, rows_of, table
+from table import COLUMNS, HEAD, KINDS, rows_of, table
 
 # The prefix byte and a proposal of each group that may get a row more. The vector operators are 256 already.
 GROUPS = {"Own": ("", "mvp"), "Gc": ("fb", "gc"), "Misc": ("fc", "bulk_memory"), "Atomic": ("fe", "threads")}
@@ -132,3 +133,28 @@ class Generated(unittest.TestCase):
             (top / "a.rt").write_bytes(b"one\r\ntwo\r\n")
             (top / "b.rt").write_bytes("é\n".encode())
             self.assertEqual(stale(wanted, top), ["a.rt", "c.rt"])
+
+    def test_files_left_over(self):
+        with tempfile.TemporaryDirectory() as folder:
+            source = Path(folder) / "crates" / "wasm_low" / "src"
+            source.mkdir(parents=True)
+            for name in ("new.rt", "old.rt"):
+                (source / name).write_text(f"// {HEAD}\n")
+            (source / "own.rt").write_text("//! By hand.\n")
+            self.assertEqual(left_over({"crates/wasm_low/src/new.rt": ""}, Path(folder)), ["crates/wasm_low/src/old.rt"])
+
+
+class Counts(unittest.TestCase):
+    """The counts that stand in the docs."""
+
+    def test_counts_of_the_docs(self):
+        self.assertEqual(wrong_counts(table()), [])
+
+    def test_a_count_that_is_no_more(self):
+        with tempfile.TemporaryDirectory() as folder:
+            (Path(folder) / "README.md").write_text("All 628 operators,\n256 vector operators of 20 proposals.\n")
+            self.assertEqual(
+                wrong_counts(table(), Path(folder)),
+                ["README.md:2: 20 proposals: no such count in the table"],
+            )
+            self.assertEqual(len(wrong_counts(table()[1:], Path(folder))), 2)

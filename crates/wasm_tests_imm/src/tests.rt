@@ -412,3 +412,60 @@ fn casts(rt: HostRuntime) -> std::result::Result<(), Fail> {
     assert_eq!(rt; error, Some(Error::new(Message::InvalidCastFlags(4), 0)));
     Ok(())
 }
+
+/// Where memory is refused, the refusal stands where the call began and the reader stays there, so
+/// that a second call reads; a copy that is refused leaves its source.
+#[test]
+fn memory(rt: HostRuntime) -> std::result::Result<(), Fail> {
+    let mut reader = BinaryReader::new(&[0x40, 0x02, 0x02, 0x00, 0x03, 0x01], 7);
+    let table = match TryTable::from_reader(rt.alloc(), &mut reader) {
+        Ok(table) => table,
+        Err(error) => {
+            assert_eq!(rt; error, Error::new(Message::OutOfMemory, 7));
+            assert_eq!(rt; reader.current_position(), 0);
+            TryTable::from_reader(rt.alloc(), &mut reader)?
+        }
+    };
+    let catches = [Catch::All { label: 0 }, Catch::AllRef { label: 1 }];
+    assert_eq!(rt; table.catches.as_slice(), catches.as_slice());
+    assert!(rt; reader.eof());
+    let copy = match table.clone(rt.alloc()) {
+        Ok(copy) => copy,
+        Err(error) => {
+            assert_eq!(rt; error, Error::new(Message::OutOfMemory, 0));
+            table.clone(rt.alloc())?
+        }
+    };
+    assert_eq!(rt; copy, table);
+    Ok(())
+}
+
+/// The same of a resume table and of the types of a select.
+#[test]
+fn memory_of_lists(rt: HostRuntime) -> std::result::Result<(), Fail> {
+    let mut reader = BinaryReader::new(&[0x01, 0x01, 0x03], 7);
+    let table = match ResumeTable::from_reader(rt.alloc(), &mut reader) {
+        Ok(table) => table,
+        Err(error) => {
+            assert_eq!(rt; error, Error::new(Message::OutOfMemory, 7));
+            assert_eq!(rt; reader.current_position(), 0);
+            ResumeTable::from_reader(rt.alloc(), &mut reader)?
+        }
+    };
+    assert_eq!(rt;
+        table.handlers.as_slice(),
+        [Handle::OnSwitch { tag: 3 }].as_slice()
+    );
+    let mut reader = BinaryReader::new(&[0x02, 0x7f, 0x7e], 7);
+    let types = match Select::read(rt.alloc(), &mut reader) {
+        Ok(types) => types,
+        Err(error) => {
+            assert_eq!(rt; error, Error::new(Message::OutOfMemory, 7));
+            assert_eq!(rt; reader.current_position(), 0);
+            Select::read(rt.alloc(), &mut reader)?
+        }
+    };
+    assert!(rt; matches!(types, Select::Multi { .. }));
+    assert!(rt; reader.eof());
+    Ok(())
+}

@@ -1,0 +1,32 @@
+"""The counts of operators that stand in the docs, held to the table."""
+
+import re
+
+from table import TOP
+
+# A number, perhaps a word, and what is counted; the numbers of other things are not looked at.
+COUNTED = re.compile(r"\b(\d+) (?:vector |one-byte |numeric )?(operators|visits|proposals)\b")
+
+
+def counts(ops):
+    """The counts that the docs may tell."""
+    groups = {}
+    for op in ops:
+        groups.setdefault(op.group, []).append(op)
+    each = {group: len(those) for group, those in groups.items()}
+    not_vector = len(ops) - each["Simd"]
+    of_one_byte = each["Own"] + each["Numeric"]
+    operators = {len(ops), not_vector, not_vector - 1, of_one_byte, *each.values()}
+    return {"operators": operators, "visits": operators, "proposals": {len({op.proposal for op in ops})}}
+
+
+def wrong_counts(ops, top=TOP):
+    """The counts in the docs that are none of the table's."""
+    allowed = counts(ops)
+    out = []
+    for page in sorted([*top.glob("*.md"), *top.glob("docs/*.md"), *top.glob("crates/*/README.md")]):
+        for number, line in enumerate(page.read_text(encoding="utf-8").split("\n"), 1):
+            for count, what in COUNTED.findall(line):
+                if int(count) not in allowed[what]:
+                    out.append(f"{page.relative_to(top)}:{number}: {count} {what}: no such count in the table")
+    return out
