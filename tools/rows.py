@@ -117,7 +117,8 @@ def enum_by_opcode(enum, ops):
     prelude = ["◌≡◌", "ℕ", *minus, "List", "[]", "◌∷◌", "map", "get_or", "refl"]
     if enum.group == "Numeric":
         prelude += ["Bool", "true", "ltb", "◌&&◌"]
-    titles = [f"Of {enum.title}: each is that of its code and its immediates, and its code gives the kinds of these."]
+    word = enum.opcode.removeprefix(f"{low}_")
+    titles = [f"Of {enum.title}: each is that of its {word} and its immediates, and its {word} gives the kinds of these."]
     uses = [
         f"use Rattle.std.proofs.Common.{{{', '.join(prelude)}}}",
         *enum_uses(enum),
@@ -195,7 +196,7 @@ def operators_by_opcode(ops):
     body += ["    []", "", "-- The operator of an opcode that is not numeric."]
     body += ["abbrev pub own_at : ℕ → List Immediate → Operator"]
     body.append("own_at code is = get_or makers code (λ is. operator.Nop) is")
-    titles = ["The operators of one byte by their code, but for the numeric ones."]
+    titles = ["The operators of one byte by their opcode, but for the numeric ones."]
     uses = [
         "use Rattle.std.proofs.Common.{ℕ, List, [], ◌∷◌, get_or}",
         "use Rattle.wasm_imm.specs.control.select.Select.{Select}",

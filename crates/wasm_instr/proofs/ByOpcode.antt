@@ -1,5 +1,5 @@
 -- Written by tools/lists.py from tools/operators.tsv.
--- The operators of one byte by their code, but for the numeric ones.
+-- The operators of one byte by their opcode, but for the numeric ones.
 use Rattle.std.proofs.Common.{ℕ, List, [], ◌∷◌, get_or}
 use Rattle.wasm_imm.specs.control.select.Select.{Select}
 use Rattle.wasm_imm.specs.control.select.Select.TheVariants as select

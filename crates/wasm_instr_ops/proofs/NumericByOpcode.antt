@@ -1,5 +1,5 @@
 -- Written by tools/lists.py from tools/operators.tsv.
--- Of the numeric operators of one byte: each is that of its code and its immediates, and its code gives the kinds of these.
+-- Of the numeric operators of one byte: each is that of its opcode and its immediates, and its opcode gives the kinds of these.
 use Rattle.std.proofs.Common.{◌≡◌, ℕ, ◌-◌, List, [], ◌∷◌, map, get_or, refl, Bool, true, ltb, ◌&&◌}
 use Rattle.wasm_instr_ops.specs.declared.numeric.NumericOperator.{NumericOperator}
 use Rattle.wasm_instr_ops.specs.declared.numeric.NumericOperator.TheVariants as numeric
