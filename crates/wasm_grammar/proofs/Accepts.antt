@@ -29,7 +29,8 @@ pub run_inner_role : {A : Type 0} (outer : List FrameKind) (kind inner : FrameKi
     replacement inner role ≡ Some next →
     frames_along (outer ++ kind ∷ inner ∷ []) (role ∷ rest) ≡ frames_along (outer ++ kind ∷ next) rest
 run_inner_role outer kind inner role next rest e =
-    ap (λ frames. frames_along frames (role ∷ rest)) (sym (append_assoc outer (kind ∷ []) (inner ∷ []))) ∙ run_role (outer ++ kind ∷ []) inner role next rest e ∙ ap (λ frames. frames_along frames rest) (append_assoc outer (kind ∷ []) next)
+    ap (λ frames. frames_along frames (role ∷ rest)) (sym (append_assoc outer (kind ∷ []) (inner ∷ []))) ∙
+    run_role (outer ++ kind ∷ []) inner role next rest e ∙ ap (λ frames. frames_along frames rest) (append_assoc outer (kind ∷ []) next)
 
 -- the roles of a whole body leave the frames as they are
 pub run_body : {A : Type 0} (outer : List FrameKind) (kind inner : FrameKind) (body close rest : List (Role A)) →
@@ -60,7 +61,8 @@ mutual
   run_instruction (single a) outer kind rest = run_role outer kind (plain a) (kind ∷ []) rest refl
   run_instruction (nest n a body) outer kind rest =
       run_role outer kind (opens n a) (kind ∷ kind_of_nest n ∷ []) ((walk_instructions body ++ ends ∷ []) ++ rest) refl
-      ∙ run_body outer kind (kind_of_nest n) (walk_instructions body) (ends ∷ []) rest (run_instructions body (outer ++ kind ∷ []) (kind_of_nest n) (ends ∷ rest))
+      ∙ run_body outer kind (kind_of_nest n) (walk_instructions body) (ends ∷ []) rest
+      (run_instructions body (outer ++ kind ∷ []) (kind_of_nest n) (ends ∷ rest))
       ∙ run_inner_role outer kind (kind_of_nest n) ends [] rest refl
   run_instruction (if_one a body) outer kind rest =
       run_role outer kind (opens_if a) (kind ∷ frame.If ∷ []) ((walk_instructions body ++ ends ∷ []) ++ rest) refl
@@ -68,17 +70,20 @@ mutual
       ∙ run_inner_role outer kind frame.If ends [] rest refl
   run_instruction (if_two a body other) outer kind rest =
       run_role outer kind (opens_if a) (kind ∷ frame.If ∷ []) ((walk_instructions body ++ turns_else ∷ (walk_instructions other ++ ends ∷ [])) ++ rest) refl
-      ∙ run_body outer kind frame.If (walk_instructions body) (turns_else ∷ (walk_instructions other ++ ends ∷ [])) rest (run_instructions body (outer ++ kind ∷ []) frame.If (turns_else ∷ ((walk_instructions other ++ ends ∷ []) ++ rest)))
+      ∙ run_body outer kind frame.If (walk_instructions body) (turns_else ∷ (walk_instructions other ++ ends ∷ [])) rest
+      (run_instructions body (outer ++ kind ∷ []) frame.If (turns_else ∷ ((walk_instructions other ++ ends ∷ []) ++ rest)))
       ∙ run_inner_role outer kind frame.If turns_else (frame.Else ∷ []) ((walk_instructions other ++ ends ∷ []) ++ rest) refl
       ∙ run_body outer kind frame.Else (walk_instructions other) (ends ∷ []) rest (run_instructions other (outer ++ kind ∷ []) frame.Else (ends ∷ rest))
       ∙ run_inner_role outer kind frame.Else ends [] rest refl
   run_instruction {A} (try_handle a body handlers) outer kind rest =
       run_role outer kind (opens_try a) (kind ∷ frame.LegacyTry ∷ []) ((walk_instructions body ++ walk_handlers handlers) ++ rest) refl
-      ∙ run_body outer kind frame.LegacyTry (walk_instructions body) (walk_handlers handlers) rest (run_instructions body (outer ++ kind ∷ []) frame.LegacyTry (walk_handlers handlers ++ rest))
+      ∙ run_body outer kind frame.LegacyTry (walk_instructions body) (walk_handlers handlers) rest
+      (run_instructions body (outer ++ kind ∷ []) frame.LegacyTry (walk_handlers handlers ++ rest))
       ∙ run_handlers handlers outer kind frame.LegacyTry rest (handles_try A)
   run_instruction (try_delegate a body depth) outer kind rest =
       run_role outer kind (opens_try a) (kind ∷ frame.LegacyTry ∷ []) ((walk_instructions body ++ delegates depth ∷ []) ++ rest) refl
-      ∙ run_body outer kind frame.LegacyTry (walk_instructions body) (delegates depth ∷ []) rest (run_instructions body (outer ++ kind ∷ []) frame.LegacyTry (delegates depth ∷ rest))
+      ∙ run_body outer kind frame.LegacyTry (walk_instructions body) (delegates depth ∷ []) rest
+      (run_instructions body (outer ++ kind ∷ []) frame.LegacyTry (delegates depth ∷ rest))
       ∙ run_inner_role outer kind frame.LegacyTry (delegates depth) [] rest refl
 
   pub run_instructions : {A : Type 0} (body : Instructions A) (outer : List FrameKind) (kind : FrameKind)
@@ -86,7 +91,8 @@ mutual
       frames_along (outer ++ kind ∷ []) (walk_instructions body ++ rest) ≡ frames_along (outer ++ kind ∷ []) rest
   run_instructions nil outer kind rest = refl
   run_instructions (cons instruction body) outer kind rest =
-      ap (frames_along (outer ++ kind ∷ [])) (append_assoc (walk_instruction instruction) (walk_instructions body) rest) ∙ run_instruction instruction outer kind (walk_instructions body ++ rest) ∙ run_instructions body outer kind rest
+      ap (frames_along (outer ++ kind ∷ [])) (append_assoc (walk_instruction instruction) (walk_instructions body) rest) ∙
+      run_instruction instruction outer kind (walk_instructions body ++ rest) ∙ run_instructions body outer kind rest
 
   run_handlers : {A : Type 0} (handlers : Handlers A) (outer : List FrameKind) (kind inner : FrameKind)
       (rest : List (Role A)) →
@@ -95,11 +101,14 @@ mutual
   run_handlers no_more outer kind inner rest handles = run_inner_role outer kind inner ends [] rest refl
   run_handlers (for_all body) outer kind inner rest handles =
       run_inner_role outer kind inner turns_catch_all (frame.LegacyCatchAll ∷ []) ((walk_instructions body ++ ends ∷ []) ++ rest) handles.all
-      ∙ run_body outer kind frame.LegacyCatchAll (walk_instructions body) (ends ∷ []) rest (run_instructions body (outer ++ kind ∷ []) frame.LegacyCatchAll (ends ∷ rest))
+      ∙ run_body outer kind frame.LegacyCatchAll (walk_instructions body) (ends ∷ []) rest
+      (run_instructions body (outer ++ kind ∷ []) frame.LegacyCatchAll (ends ∷ rest))
       ∙ run_inner_role outer kind frame.LegacyCatchAll ends [] rest refl
   run_handlers {A} (for_tag tag body handlers) outer kind inner rest handles =
-      run_inner_role outer kind inner (turns_catch tag) (frame.LegacyCatch ∷ []) ((walk_instructions body ++ walk_handlers handlers) ++ rest) (handles.tags tag)
-      ∙ run_body outer kind frame.LegacyCatch (walk_instructions body) (walk_handlers handlers) rest (run_instructions body (outer ++ kind ∷ []) frame.LegacyCatch (walk_handlers handlers ++ rest))
+      run_inner_role outer kind inner (turns_catch tag) (frame.LegacyCatch ∷ []) ((walk_instructions body ++ walk_handlers handlers) ++ rest)
+      (handles.tags tag)
+      ∙ run_body outer kind frame.LegacyCatch (walk_instructions body) (walk_handlers handlers) rest
+      (run_instructions body (outer ++ kind ∷ []) frame.LegacyCatch (walk_handlers handlers ++ rest))
       ∙ run_handlers handlers outer kind frame.LegacyCatch rest (handles_catch A)
 
 -- From the frame of the expression on, its walk closes all frames.

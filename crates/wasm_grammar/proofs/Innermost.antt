@@ -72,10 +72,12 @@ map_twice f g (Some x) = refl
 
 -- A role changes the innermost frame alone.
 pub step_by_innermost : {A : Type 0} (kind : FrameKind) (inside : List FrameKind) (role : Role A) →
-    frames_after_in kind inside role ≡ option_map (λ (x : List FrameKind). without_innermost_in kind inside ++ x) (replacement (innermost_in kind inside) role)
+    frames_after_in kind inside role ≡ option_map (λ (x : List FrameKind). without_innermost_in kind inside ++ x)
+    (replacement (innermost_in kind inside) role)
 step_by_innermost kind [] role = map_same (replacement kind role)
 step_by_innermost kind (next ∷ inside) role =
-    ap (option_map (λ (x : List FrameKind). kind ∷ x)) (step_by_innermost next inside role) ∙ map_twice (behind next inside) (λ (x : List FrameKind). kind ∷ x) (replacement (innermost_in next inside) role)
+    ap (option_map (λ (x : List FrameKind). kind ∷ x)) (step_by_innermost next inside role) ∙
+    map_twice (behind next inside) (λ (x : List FrameKind). kind ∷ x) (replacement (innermost_in next inside) role)
 
 -- The frames after a role, by the innermost frame and what stands in its place.
 pub step_at : {A : Type 0} (frames : List FrameKind) (kind : FrameKind) (role : Role A) →
@@ -119,7 +121,8 @@ stepped kind inside role h = go (replacement (innermost_in kind inside) role) re
     go : (o : Option (List FrameKind)) →
         replacement (innermost_in kind inside) role ≡ o →
         (end : List FrameKind) × (replacement (innermost_in kind inside) role ≡ Some end) × (frames_after_in kind inside role ≡ Some (behind kind inside end))
-    go None e = let x = some_of (frames_after_in kind inside role) h in absurd (none_some x.0 (sym (step_by_innermost kind inside role ∙ ap (option_map (behind kind inside)) e) ∙ x.1))
+    go None e = let x = some_of (frames_after_in kind inside role) h in
+        absurd (none_some x.0 (sym (step_by_innermost kind inside role ∙ ap (option_map (behind kind inside)) e) ∙ x.1))
     go (Some end) e = (end, e, step_by_innermost kind inside role ∙ ap (option_map (behind kind inside)) e)
 
 -- Where a role is one that opens a frame of this kind inside any other, that frame is added.
@@ -129,8 +132,11 @@ pub steps_open : {A : Type 0} (frames : List FrameKind) (role other : Role A) (k
 steps_open [] role other kind e h opening = absurd (cc h)
 steps_open {A} (first ∷ inside) role other kind e h opening =
     let s = stepped first inside role h in
-    let end_is : s.0 ≡ innermost_in first inside ∷ kind ∷ [] = cc (s.1, ap (λ (x : Role A). replacement (innermost_in first inside) x) e, opening (innermost_in first inside)) in
-    s.2 ∙ ap (λ (x : List FrameKind). some (behind first inside x)) end_is ∙ ap some (sym (append_assoc (without_innermost_in first inside) (innermost_in first inside ∷ []) (kind ∷ [])) ∙ ap (λ (x : List FrameKind). x ++ kind ∷ []) (whole_again first inside))
+    let end_is : s.0 ≡ innermost_in first inside ∷ kind ∷ [] =
+    cc (s.1, ap (λ (x : Role A). replacement (innermost_in first inside) x) e, opening (innermost_in first inside)) in
+    s.2 ∙ ap (λ (x : List FrameKind). some (behind first inside x)) end_is ∙
+    ap some (sym (append_assoc (without_innermost_in first inside) (innermost_in first inside ∷ []) (kind ∷ [])) ∙
+    ap (λ (x : List FrameKind). x ++ kind ∷ []) (whole_again first inside))
 
 -- Where it is one that leaves this frame in the place of each that allows it, the innermost is replaced.
 pub steps_turn : {A : Type 0} (frames : List FrameKind) (role other : Role A) (kind : FrameKind) →
@@ -140,7 +146,8 @@ pub steps_turn : {A : Type 0} (frames : List FrameKind) (role other : Role A) (k
 steps_turn [] role other kind e h turning = absurd (cc h)
 steps_turn {A} (first ∷ inside) role other kind e h turning =
     let s = stepped first inside role h in
-    s.2 ∙ ap (λ (x : List FrameKind). some (behind first inside x)) (turning (innermost_in first inside) s.0 (sym (ap (λ (x : Role A). replacement (innermost_in first inside) x) e) ∙ s.1))
+    s.2 ∙ ap (λ (x : List FrameKind). some (behind first inside x))
+    (turning (innermost_in first inside) s.0 (sym (ap (λ (x : Role A). replacement (innermost_in first inside) x) e) ∙ s.1))
 
 -- Where it is one that leaves no frame in the place of each that allows it, the innermost is closed.
 pub steps_close : {A : Type 0} (frames : List FrameKind) (role other : Role A) →
@@ -150,7 +157,9 @@ pub steps_close : {A : Type 0} (frames : List FrameKind) (role other : Role A) �
 steps_close [] role other e h closing = absurd (cc h)
 steps_close {A} (first ∷ inside) role other e h closing =
     let s = stepped first inside role h in
-    s.2 ∙ ap (λ (x : List FrameKind). some (behind first inside x)) (closing (innermost_in first inside) s.0 (sym (ap (λ (x : Role A). replacement (innermost_in first inside) x) e) ∙ s.1)) ∙ ap some (append-nil (without_innermost_in first inside))
+    s.2 ∙ ap (λ (x : List FrameKind). some (behind first inside x))
+    (closing (innermost_in first inside) s.0 (sym (ap (λ (x : Role A). replacement (innermost_in first inside) x) e) ∙ s.1)) ∙
+    ap some (append-nil (without_innermost_in first inside))
 
 -- Where it is plain, the frames stay.
 pub steps_stay : {A : Type 0} (frames : List FrameKind) (role : Role A) (a : A) →
@@ -238,6 +247,7 @@ innermost_view around (Some kind) frames h e = sym (ap innermost (sym e) ∙ inn
 pub without_innermost_view : (around : List FrameKind) (current : Option FrameKind) (frames : List FrameKind) →
     MatchOption current (around ≡ []) (λ _. ⊤) → around ++ option_to_list current ≡ frames →
     around ≡ without_innermost frames
-without_innermost_view around None frames h e = let none_open : frames ≡ [] = sym e ∙ ap (λ (x : List FrameKind). x ++ []) h in h ∙ ap without_innermost (sym none_open)
+without_innermost_view around None frames h e = let none_open : frames ≡ [] = sym e ∙ ap (λ (x : List FrameKind). x ++ []) h in h ∙
+    ap without_innermost (sym none_open)
 without_innermost_view around (Some kind) frames h e =
     sym (ap without_innermost (sym e) ∙ without_innermost-push around kind)

@@ -21,18 +21,22 @@ run_parts : {A : Type 0} (parts : Parts A) (outer : List FrameKind) (kind inner 
 run_parts [] outer kind inner role next rest handles at_inner at_catch =
     run_inner_role outer kind inner role (next ∷ []) rest at_inner
 run_parts {A} (part ∷ parts) outer kind inner role next rest handles at_inner at_catch =
-    run_inner_role outer kind inner (turns_catch part.0) (frame.LegacyCatch ∷ []) ((walk_instructions part.1 ++ walk_parts parts) ++ role ∷ rest) (handles.tags part.0)
-    ∙ run_body outer kind frame.LegacyCatch (walk_instructions part.1) (walk_parts parts) (role ∷ rest) (run_instructions part.1 (outer ++ kind ∷ []) frame.LegacyCatch (walk_parts parts ++ role ∷ rest))
+    run_inner_role outer kind inner (turns_catch part.0) (frame.LegacyCatch ∷ []) ((walk_instructions part.1 ++ walk_parts parts) ++ role ∷ rest)
+    (handles.tags part.0)
+    ∙ run_body outer kind frame.LegacyCatch (walk_instructions part.1) (walk_parts parts) (role ∷ rest)
+    (run_instructions part.1 (outer ++ kind ∷ []) frame.LegacyCatch (walk_parts parts ++ role ∷ rest))
     ∙ run_parts parts outer kind frame.LegacyCatch role next rest (handles_catch A) at_catch at_catch
 
 -- the same from the opener of the try on
 run_tries : {A : Type 0} (a : A) (body : Instructions A) (parts : Parts A) (role : Role A) (next : FrameKind)
     (outer : List FrameKind) (kind : FrameKind) (rest : List (Role A)) →
     replacement frame.LegacyTry role ≡ Some (next ∷ []) → replacement frame.LegacyCatch role ≡ Some (next ∷ []) →
-    frames_along (outer ++ kind ∷ []) (opens_try a ∷ ((walk_instructions body ++ (walk_parts parts ++ role ∷ [])) ++ rest)) ≡ frames_along (outer ++ kind ∷ next ∷ []) rest
+    frames_along (outer ++ kind ∷ []) (opens_try a ∷ ((walk_instructions body ++ (walk_parts parts ++ role ∷ [])) ++ rest)) ≡ frames_along
+    (outer ++ kind ∷ next ∷ []) rest
 run_tries {A} a body parts role next outer kind rest at_try at_catch =
     run_role outer kind (opens_try a) (kind ∷ frame.LegacyTry ∷ []) ((walk_instructions body ++ (walk_parts parts ++ role ∷ [])) ++ rest) refl
-    ∙ run_body outer kind frame.LegacyTry (walk_instructions body) (walk_parts parts ++ role ∷ []) rest (run_instructions body (outer ++ kind ∷ []) frame.LegacyTry ((walk_parts parts ++ role ∷ []) ++ rest))
+    ∙ run_body outer kind frame.LegacyTry (walk_instructions body) (walk_parts parts ++ role ∷ []) rest
+    (run_instructions body (outer ++ kind ∷ []) frame.LegacyTry ((walk_parts parts ++ role ∷ []) ++ rest))
     ∙ ap (frames_along (outer ++ kind ∷ frame.LegacyTry ∷ [])) (append_assoc (walk_parts parts) (role ∷ []) rest)
     ∙ run_parts parts outer kind frame.LegacyTry role next rest (handles_try A) at_try at_catch
 

@@ -39,7 +39,8 @@ pub frames_along-append : {A : Type 0} (frames : List FrameKind) (roles more : L
     frames_along frames (roles ++ more) ≡ option_and_then (λ next. frames_along next more) (frames_along frames roles)
 frames_along-append frames [] more = refl
 frames_along-append frames (role ∷ roles) more =
-    chained (λ next. frames_along next roles) (λ next. frames_along next more) (λ next. frames_along next (roles ++ more)) (λ next. frames_along-append next roles more) (frames_after frames role)
+    chained (λ next. frames_along next roles) (λ next. frames_along next more) (λ next. frames_along next (roles ++ more))
+    (λ next. frames_along-append next roles more) (frames_after frames role)
 
 -- Where the roles so far have an open path, so have those behind which the rules come to some frames.
 pub path_run : {A : Type 0} (more : List (Role A)) (frames : List FrameKind) (roles : List (Role A))
@@ -91,7 +92,8 @@ pub ends_complete : {A : Type 0} (roles : List (Role A)) (frames : List FrameKin
     frames_along (frame.Block ∷ []) roles ≡ Some frames → IsWalk (roles ++ replicate (length frames) ends)
 ends_complete {A} roles frames e =
     let n = length frames in
-    tree_of (roles ++ replicate n ends) (frames_along-append (frame.Block ∷ []) roles (replicate n ends) ∙ ap (option_and_then (λ next. frames_along next (replicate n ends))) e ∙ ends_close A n frames refl)
+    tree_of (roles ++ replicate n ends) (frames_along-append (frame.Block ∷ []) roles (replicate n ends) ∙
+    ap (option_and_then (λ next. frames_along next (replicate n ends))) e ∙ ends_close A n frames refl)
 
 pub run_begins : {A : Type 0} (roles : List (Role A)) (frames : List FrameKind) →
     frames_along (frame.Block ∷ []) roles ≡ Some frames → BeginsWalk roles
@@ -101,7 +103,8 @@ run_begins roles frames e = let t = ends_complete roles frames e in (replicate (
 pub beginning_runs : {A : Type 0} (roles : List (Role A)) →
     BeginsWalk roles → (frames : List FrameKind) × (frames_along (frame.Block ∷ []) roles ≡ Some frames)
 beginning_runs roles (more, tree, e) =
-    let b = bound (λ next. frames_along next more) (frames_along (frame.Block ∷ []) roles) [] (sym (frames_along-append (frame.Block ∷ []) roles more) ∙ walk_runs_out (roles ++ more) tree e) in
+    let b = bound (λ next. frames_along next more) (frames_along (frame.Block ∷ []) roles) [] (sym (frames_along-append (frame.Block ∷ []) roles more) ∙
+    walk_runs_out (roles ++ more) tree e) in
     (b.0, b.1)
 
 -- The rules come to some frames exactly by a beginning of a walk.
@@ -122,11 +125,15 @@ pub path_runs_on : {A : Type 0} (frames : List FrameKind) (roles more : List (Ro
     OpenPath roles frames → BeginsWalk (roles ++ more) →
     (next : List FrameKind) × (frames_along frames more ≡ Some next)
 path_runs_on frames roles more path begins =
-    let r = beginning_runs (roles ++ more) begins in
-    (r.0, sym (ap (option_and_then (λ next. frames_along next more)) (run_path frames roles path)) ∙ sym (frames_along-append (frame.Block ∷ []) roles more) ∙ r.1)
+    let r = beginning_runs (roles ++ more) begins in (
+      r.0,
+      sym (ap (option_and_then (λ next. frames_along next more)) (run_path frames roles path)) ∙ sym (frames_along-append (frame.Block ∷ []) roles more) ∙
+          r.1,
+    )
 
 -- In particular it closes them exactly where it completes an expression.
 pub path_runs_out : {A : Type 0} (frames : List FrameKind) (roles more : List (Role A)) →
     OpenPath roles frames → IsWalk (roles ++ more) → frames_along frames more ≡ Some []
 path_runs_out frames roles more path (tree, e) =
-    sym (ap (option_and_then (λ next. frames_along next more)) (run_path frames roles path)) ∙ sym (frames_along-append (frame.Block ∷ []) roles more) ∙ walk_runs_out (roles ++ more) tree e
+    sym (ap (option_and_then (λ next. frames_along next more)) (run_path frames roles path)) ∙ sym (frames_along-append (frame.Block ∷ []) roles more) ∙
+    walk_runs_out (roles ++ more) tree e

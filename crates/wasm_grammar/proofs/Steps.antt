@@ -32,13 +32,15 @@ walk-handlers_of : {A : Type 0} (parts : Parts A) (handlers : Handlers A) →
 unfolding handlers_of
 walk-handlers_of [] handlers = refl
 walk-handlers_of (part ∷ parts) handlers =
-    ap (λ roles. turns_catch part.0 ∷ roles) (append_assoc (walk_instructions part.1) (walk_parts parts) (walk_handlers handlers) ∙ ap (λ roles. walk_instructions part.1 ++ roles) (walk-handlers_of parts handlers))
+    ap (λ roles. turns_catch part.0 ∷ roles) (append_assoc (walk_instructions part.1) (walk_parts parts) (walk_handlers handlers) ∙
+    ap (λ roles. walk_instructions part.1 ++ roles) (walk-handlers_of parts handlers))
 
 walk_parts-push : {A : Type 0} (parts : Parts A) (tag : ℕ) (body : Instructions A) →
     walk_parts parts ++ turns_catch tag ∷ walk_instructions body ≡ walk_parts (parts ++ (tag, body) ∷ [])
 walk_parts-push [] tag body = ap (λ roles. turns_catch tag ∷ roles) (sym (append-nil (walk_instructions body)))
 walk_parts-push (part ∷ parts) tag body =
-    ap (λ roles. turns_catch part.0 ∷ roles) (append_assoc (walk_instructions part.1) (walk_parts parts) (turns_catch tag ∷ walk_instructions body) ∙ ap (λ roles. walk_instructions part.1 ++ roles) (walk_parts-push parts tag body))
+    ap (λ roles. turns_catch part.0 ∷ roles) (append_assoc (walk_instructions part.1) (walk_parts parts) (turns_catch tag ∷ walk_instructions body) ∙
+    ap (λ roles. walk_instructions part.1 ++ roles) (walk_parts-push parts tag body))
 
 -- the instruction that an `end` completes behind this head and body
 closed : {A : Type 0} → Head A → Instructions A → Instruction A
@@ -62,9 +64,11 @@ walk-closed (of_else a before) body =
     ap (λ roles. opens_if a ∷ roles) (append_assoc (walk_instructions before) (turns_else ∷ []) (walk_instructions body ++ ends ∷ []))
 walk-closed (of_try a) body = refl
 walk-closed (of_catch a before parts tag) body =
-    ap (λ roles. opens_try a ∷ roles) (regroup (walk_instructions before) (walk_parts parts) (turns_catch tag) (walk_instructions body ++ ends ∷ []) ∙ ap (λ roles. walk_instructions before ++ roles) (walk-handlers_of parts (for_tag tag body no_more)))
+    ap (λ roles. opens_try a ∷ roles) (regroup (walk_instructions before) (walk_parts parts) (turns_catch tag) (walk_instructions body ++ ends ∷ []) ∙
+    ap (λ roles. walk_instructions before ++ roles) (walk-handlers_of parts (for_tag tag body no_more)))
 walk-closed (of_catch_all a before parts) body =
-    ap (λ roles. opens_try a ∷ roles) (regroup (walk_instructions before) (walk_parts parts) turns_catch_all (walk_instructions body ++ ends ∷ []) ∙ ap (λ roles. walk_instructions before ++ roles) (walk-handlers_of parts (for_all body)))
+    ap (λ roles. opens_try a ∷ roles) (regroup (walk_instructions before) (walk_parts parts) turns_catch_all (walk_instructions body ++ ends ∷ []) ∙
+    ap (λ roles. walk_instructions before ++ roles) (walk-handlers_of parts (for_all body)))
 
 -- whole instructions, a head, the body so far, and a role behind it
 behind : {A : Type 0} → Instructions A → Head A → Instructions A → Role A → List (Role A)
@@ -90,24 +94,44 @@ to_frames roles frames next e path = subst (OpenPathIn roles) (some_is e) path
 -- one more instruction in the open body
 longer_path : {A : Type 0} (before : Instructions A) (head : Head A) (body : Instructions A) (a : A) →
     OpenPathIn (behind before head body (plain a)) (kind_of_head head ∷ [])
-longer_path before head body a =
-    (before, head, walk_instructions (push body (single a)), refl, behind-is before head body (plain a) ∙ ap (λ roles. walk_instructions before ++ (walk_head head ++ roles)) (walk_instructions-push body (single a)), (push body (single a), refl))
+longer_path before head body a = (
+  before,
+  head,
+  walk_instructions (push body (single a)),
+  refl,
+  behind-is before head body (plain a) ∙
+      ap (λ roles. walk_instructions before ++ (walk_head head ++ roles)) (walk_instructions-push body (single a)),
+  (push body (single a), refl),
+)
 
 -- one more body open
 opened_path : {A : Type 0} (before : Instructions A) (head : Head A) (body : Instructions A) (role : Role A)
     (other : Head A) →
     walk_head other ≡ role ∷ [] →
     OpenPathIn (behind before head body role) (kind_of_head head ∷ kind_of_head other ∷ [])
-opened_path before head body role other e =
-    (before, head, walk_instructions body ++ (walk_head other ++ []), refl, behind-is before head body role ∙ ap (λ roles. walk_instructions before ++ (walk_head head ++ (walk_instructions body ++ roles))) (sym e ∙ sym (append-nil (walk_head other))), (body, other, [], refl, refl, (nil, refl)))
+opened_path before head body role other e = (
+  before,
+  head,
+  walk_instructions body ++ (walk_head other ++ []),
+  refl,
+  behind-is before head body role ∙
+      ap (λ roles. walk_instructions before ++ (walk_head head ++ (walk_instructions body ++ roles))) (sym e ∙ sym (append-nil (walk_head other))),
+  (body, other, [], refl, refl, (nil, refl)),
+)
 
 -- another body of the same construct open
 turned_path : {A : Type 0} (before : Instructions A) (head : Head A) (body : Instructions A) (role : Role A)
     (other : Head A) →
     walk_head head ++ (walk_instructions body ++ role ∷ []) ≡ walk_head other →
     OpenPathIn (behind before head body role) (kind_of_head other ∷ [])
-turned_path before head body role other e =
-    (before, other, [], refl, behind-is before head body role ∙ ap (λ roles. walk_instructions before ++ roles) (e ∙ sym (append-nil (walk_head other))), (nil, refl))
+turned_path before head body role other e = (
+  before,
+  other,
+  [],
+  refl,
+  behind-is before head body role ∙ ap (λ roles. walk_instructions before ++ roles) (e ∙ sym (append-nil (walk_head other))),
+  (nil, refl),
+)
 
 -- the construct whole
 closed_path : {A : Type 0} (before : Instructions A) (head : Head A) (body : Instructions A) (role : Role A)
@@ -120,10 +144,12 @@ closed_path before head body role instruction e =
 -- a handler becomes whole where the next begins
 catch_head : {A : Type 0} (a : A) (before : Instructions A) (parts : Parts A) (tag : ℕ) (body : Instructions A)
     (role : Role A) →
-    walk_head (of_catch a before parts tag) ++ (walk_instructions body ++ role ∷ []) ≡ opens_try a ∷ (walk_instructions before ++ (walk_parts (parts ++ (tag, body) ∷ []) ++ role ∷ []))
+    walk_head (of_catch a before parts tag) ++ (walk_instructions body ++ role ∷ []) ≡ opens_try
+    a ∷ (walk_instructions before ++ (walk_parts (parts ++ (tag, body) ∷ []) ++ role ∷ []))
 catch_head a before parts tag body role = ap (λ roles. opens_try a ∷ roles) (
     regroup (walk_instructions before) (walk_parts parts) (turns_catch tag) (walk_instructions body ++ role ∷ [])
-    ∙ ap (λ roles. walk_instructions before ++ roles) (sym (append_assoc (walk_parts parts) (turns_catch tag ∷ walk_instructions body) (role ∷ [])) ∙ ap (λ roles. roles ++ role ∷ []) (walk_parts-push parts tag body)))
+    ∙ ap (λ roles. walk_instructions before ++ roles) (sym (append_assoc (walk_parts parts) (turns_catch tag ∷ walk_instructions body) (role ∷ [])) ∙
+    ap (λ roles. roles ++ role ∷ []) (walk_parts-push parts tag body)))
 
 -- a role that the frame of the open body allows
 step_innermost : {A : Type 0} (role : Role A) (before : Instructions A) (head : Head A) (body : Instructions A)
@@ -132,25 +158,34 @@ step_innermost : {A : Type 0} (role : Role A) (before : Instructions A) (head : 
 step_innermost (plain a) before head body next e =
     to_frames (behind before head body (plain a)) (kind_of_head head ∷ []) next e (longer_path before head body a)
 step_innermost (opens n a) before head body next e =
-    to_frames (behind before head body (opens n a)) (kind_of_head head ∷ kind_of_nest n ∷ []) next e (opened_path before head body (opens n a) (of_nest n a) refl)
+    to_frames (behind before head body (opens n a)) (kind_of_head head ∷ kind_of_nest n ∷ []) next e
+    (opened_path before head body (opens n a) (of_nest n a) refl)
 step_innermost (opens_if a) before head body next e =
     to_frames (behind before head body (opens_if a)) (kind_of_head head ∷ frame.If ∷ []) next e (opened_path before head body (opens_if a) (of_if a) refl)
 step_innermost (opens_try a) before head body next e =
-    to_frames (behind before head body (opens_try a)) (kind_of_head head ∷ frame.LegacyTry ∷ []) next e (opened_path before head body (opens_try a) (of_try a) refl)
+    to_frames (behind before head body (opens_try a)) (kind_of_head head ∷ frame.LegacyTry ∷ []) next e
+    (opened_path before head body (opens_try a) (of_try a) refl)
 step_innermost ends before head body next e =
     to_frames (behind before head body ends) [] next e (closed_path before head body ends (closed head body) (walk-closed head body))
 step_innermost turns_else before (of_if a) body next e =
     to_frames (behind before (of_if a) body turns_else) (frame.Else ∷ []) next e (turned_path before (of_if a) body turns_else (of_else a body) refl)
 step_innermost (turns_catch tag) before (of_try a) body next e =
-    to_frames (behind before (of_try a) body (turns_catch tag)) (frame.LegacyCatch ∷ []) next e (turned_path before (of_try a) body (turns_catch tag) (of_catch a body [] tag) refl)
+    to_frames (behind before (of_try a) body (turns_catch tag)) (frame.LegacyCatch ∷ []) next e
+    (turned_path before (of_try a) body (turns_catch tag) (of_catch a body [] tag) refl)
 step_innermost (turns_catch tag) before (of_catch a first parts last) body next e =
-    to_frames (behind before (of_catch a first parts last) body (turns_catch tag)) (frame.LegacyCatch ∷ []) next e (turned_path before (of_catch a first parts last) body (turns_catch tag) (of_catch a first (parts ++ (last, body) ∷ []) tag) (catch_head a first parts last body (turns_catch tag)))
+    to_frames (behind before (of_catch a first parts last) body (turns_catch tag)) (frame.LegacyCatch ∷ []) next e
+    (turned_path before (of_catch a first parts last) body (turns_catch tag) (of_catch a first (parts ++ (last, body) ∷ []) tag)
+    (catch_head a first parts last body (turns_catch tag)))
 step_innermost turns_catch_all before (of_try a) body next e =
-    to_frames (behind before (of_try a) body turns_catch_all) (frame.LegacyCatchAll ∷ []) next e (turned_path before (of_try a) body turns_catch_all (of_catch_all a body []) refl)
+    to_frames (behind before (of_try a) body turns_catch_all) (frame.LegacyCatchAll ∷ []) next e
+    (turned_path before (of_try a) body turns_catch_all (of_catch_all a body []) refl)
 step_innermost turns_catch_all before (of_catch a first parts last) body next e =
-    to_frames (behind before (of_catch a first parts last) body turns_catch_all) (frame.LegacyCatchAll ∷ []) next e (turned_path before (of_catch a first parts last) body turns_catch_all (of_catch_all a first (parts ++ (last, body) ∷ [])) (catch_head a first parts last body turns_catch_all))
+    to_frames (behind before (of_catch a first parts last) body turns_catch_all) (frame.LegacyCatchAll ∷ []) next e
+    (turned_path before (of_catch a first parts last) body turns_catch_all (of_catch_all a first (parts ++ (last, body) ∷ []))
+    (catch_head a first parts last body turns_catch_all))
 step_innermost (delegates depth) before (of_try a) body next e =
-    to_frames (behind before (of_try a) body (delegates depth)) [] next e (closed_path before (of_try a) body (delegates depth) (try_delegate a body depth) refl)
+    to_frames (behind before (of_try a) body (delegates depth)) [] next e
+    (closed_path before (of_try a) body (delegates depth) (try_delegate a body depth) refl)
 step_innermost role before (of_nest block a) body next e = absurd (cc e)
 step_innermost role before (of_nest loop a) body next e = absurd (cc e)
 step_innermost role before (of_nest try_table a) body next e = absurd (cc e)
@@ -170,12 +205,15 @@ step_inside : {A : Type 0} (frames : List FrameKind) (kind : FrameKind) (roles :
 unfolding behind
 step_inside [] kind roles role next (before, head, inner, kind_is, roles_are, (body, inner_is)) e =
     let at_h : OpenPathIn (behind before head body role) next = step_innermost role before head body next (ap (λ x. replacement x role) kind_is ∙ e) in
-    let same : behind before head body role ≡ roles ++ role ∷ [] = ap (λ x. x ++ role ∷ []) (sym (roles_are ∙ ap (λ x. walk_instructions before ++ (walk_head head ++ x)) inner_is)) in
+    let same : behind before head body role ≡ roles ++ role ∷ [] =
+    ap (λ x. x ++ role ∷ []) (sym (roles_are ∙ ap (λ x. walk_instructions before ++ (walk_head head ++ x)) inner_is)) in
     subst (λ x. OpenPathIn x next) same at_h
 step_inside (inside ∷ frames) kind roles role next (before, head, inner, kind_is, roles_are, path) e =
     let m = mapped (λ (x : List FrameKind). kind ∷ x) (frames_after_in inside frames role) next e in
     let deeper : OpenPathIn (inner ++ role ∷ []) m.0 = step_inside frames inside inner role m.0 path m.1 in
-    let same : roles ++ role ∷ [] ≡ walk_instructions before ++ (walk_head head ++ (inner ++ role ∷ [])) = ap (λ x. x ++ role ∷ []) roles_are ∙ append_assoc (walk_instructions before) (walk_head head ++ inner) (role ∷ []) ∙ ap (λ x. walk_instructions before ++ x) (append_assoc (walk_head head) inner (role ∷ [])) in
+    let same : roles ++ role ∷ [] ≡ walk_instructions before ++ (walk_head head ++ (inner ++ role ∷ [])) = ap (λ x. x ++ role ∷ []) roles_are ∙
+    append_assoc (walk_instructions before) (walk_head head ++ inner) (role ∷ []) ∙
+    ap (λ x. walk_instructions before ++ x) (append_assoc (walk_head head) inner (role ∷ [])) in
     subst (OpenPathIn (roles ++ role ∷ [])) m.2 (before, head, inner ++ role ∷ [], kind_is, same, deeper)
 
 -- a role in the expression itself

@@ -48,33 +48,46 @@ mutual
       walk_instruction i ++ p ≡ walk_instruction j ++ q → (i ≡ j) × (p ≡ q)
   same_instruction (single a) (single b) p q e = (cc, cc)
   same_instruction (nest n a is) (nest m b js) p q e =
-      let h = same_instructions is js (ends ∷ p) (ends ∷ q) tt tt (regrouped (opens n a) (opens m b) (walk_instructions is) (walk_instructions js) (ends ∷ []) (ends ∷ []) p q e) in
+      let h = same_instructions is js (ends ∷ p) (ends ∷ q) tt tt
+      (regrouped (opens n a) (opens m b) (walk_instructions is) (walk_instructions js) (ends ∷ []) (ends ∷ []) p q e) in
       (cc (e, h.0), cc h.1)
   same_instruction (if_one a is) (if_one b js) p q e =
-      let h = same_instructions is js (ends ∷ p) (ends ∷ q) tt tt (regrouped (opens_if a) (opens_if b) (walk_instructions is) (walk_instructions js) (ends ∷ []) (ends ∷ []) p q e) in
+      let h = same_instructions is js (ends ∷ p) (ends ∷ q) tt tt
+      (regrouped (opens_if a) (opens_if b) (walk_instructions is) (walk_instructions js) (ends ∷ []) (ends ∷ []) p q e) in
       (cc (e, h.0), cc h.1)
   same_instruction (if_one a is) (if_two b js ks) p q e =
-      let h = same_instructions is js (ends ∷ p) (turns_else ∷ ((walk_instructions ks ++ ends ∷ []) ++ q)) tt tt (regrouped (opens_if a) (opens_if b) (walk_instructions is) (walk_instructions js) (ends ∷ []) (turns_else ∷ (walk_instructions ks ++ ends ∷ [])) p q e) in
+      let h = same_instructions is js (ends ∷ p) (turns_else ∷ ((walk_instructions ks ++ ends ∷ []) ++ q)) tt tt
+      (regrouped (opens_if a) (opens_if b) (walk_instructions is) (walk_instructions js) (ends ∷ []) (turns_else ∷ (walk_instructions ks ++ ends ∷ [])) p
+      q e) in
       absurd (cc h.1)
   same_instruction (if_two b js ks) (if_one a is) p q e =
-      let h = same_instructions js is (turns_else ∷ ((walk_instructions ks ++ ends ∷ []) ++ p)) (ends ∷ q) tt tt (regrouped (opens_if b) (opens_if a) (walk_instructions js) (walk_instructions is) (turns_else ∷ (walk_instructions ks ++ ends ∷ [])) (ends ∷ []) p q e) in
+      let h = same_instructions js is (turns_else ∷ ((walk_instructions ks ++ ends ∷ []) ++ p)) (ends ∷ q) tt tt
+      (regrouped (opens_if b) (opens_if a) (walk_instructions js) (walk_instructions is) (turns_else ∷ (walk_instructions ks ++ ends ∷ [])) (ends ∷ []) p
+      q e) in
       absurd (cc h.1)
   same_instruction (if_two a is ks) (if_two b js ls) p q e =
-      let h = same_instructions is js (turns_else ∷ ((walk_instructions ks ++ ends ∷ []) ++ p)) (turns_else ∷ ((walk_instructions ls ++ ends ∷ []) ++ q)) tt tt (regrouped (opens_if a) (opens_if b) (walk_instructions is) (walk_instructions js) (turns_else ∷ (walk_instructions ks ++ ends ∷ [])) (turns_else ∷ (walk_instructions ls ++ ends ∷ [])) p q e) in
-      let g = same_instructions ks ls (ends ∷ p) (ends ∷ q) tt tt (regrouped turns_else turns_else (walk_instructions ks) (walk_instructions ls) (ends ∷ []) (ends ∷ []) p q h.1) in
+      let h = same_instructions is js (turns_else ∷ ((walk_instructions ks ++ ends ∷ []) ++ p)) (turns_else ∷ ((walk_instructions ls ++ ends ∷ []) ++ q)) tt
+      tt (regrouped (opens_if a) (opens_if b) (walk_instructions is) (walk_instructions js) (turns_else ∷ (walk_instructions ks ++ ends ∷ []))
+      (turns_else ∷ (walk_instructions ls ++ ends ∷ [])) p q e) in
+      let g = same_instructions ks ls (ends ∷ p) (ends ∷ q) tt tt
+      (regrouped turns_else turns_else (walk_instructions ks) (walk_instructions ls) (ends ∷ []) (ends ∷ []) p q h.1) in
       (cc (e, h.0, g.0), cc g.1)
   same_instruction (try_handle a is h) (try_handle b js g) p q e =
-      let x = same_instructions is js (walk_handlers h ++ p) (walk_handlers g ++ q) (handlers_end_body h p) (handlers_end_body g q) (regrouped (opens_try a) (opens_try b) (walk_instructions is) (walk_instructions js) (walk_handlers h) (walk_handlers g) p q e) in
+      let x = same_instructions is js (walk_handlers h ++ p) (walk_handlers g ++ q) (handlers_end_body h p) (handlers_end_body g q)
+      (regrouped (opens_try a) (opens_try b) (walk_instructions is) (walk_instructions js) (walk_handlers h) (walk_handlers g) p q e) in
       let y = same_handlers h g p q x.1 in
       (cc (e, x.0, y.0), y.1)
   same_instruction (try_handle a is h) (try_delegate b js depth) p q e =
-      let x = same_instructions is js (walk_handlers h ++ p) (delegates depth ∷ q) (handlers_end_body h p) tt (regrouped (opens_try a) (opens_try b) (walk_instructions is) (walk_instructions js) (walk_handlers h) (delegates depth ∷ []) p q e) in
+      let x = same_instructions is js (walk_handlers h ++ p) (delegates depth ∷ q) (handlers_end_body h p) tt
+      (regrouped (opens_try a) (opens_try b) (walk_instructions is) (walk_instructions js) (walk_handlers h) (delegates depth ∷ []) p q e) in
       absurd (handlers_no_delegate h depth p q x.1)
   same_instruction (try_delegate b js depth) (try_handle a is h) p q e =
-      let x = same_instructions js is (delegates depth ∷ p) (walk_handlers h ++ q) tt (handlers_end_body h q) (regrouped (opens_try b) (opens_try a) (walk_instructions js) (walk_instructions is) (delegates depth ∷ []) (walk_handlers h) p q e) in
+      let x = same_instructions js is (delegates depth ∷ p) (walk_handlers h ++ q) tt (handlers_end_body h q)
+      (regrouped (opens_try b) (opens_try a) (walk_instructions js) (walk_instructions is) (delegates depth ∷ []) (walk_handlers h) p q e) in
       absurd (handlers_no_delegate h depth q p (sym x.1))
   same_instruction (try_delegate a is m) (try_delegate b js n) p q e =
-      let h = same_instructions is js (delegates m ∷ p) (delegates n ∷ q) tt tt (regrouped (opens_try a) (opens_try b) (walk_instructions is) (walk_instructions js) (delegates m ∷ []) (delegates n ∷ []) p q e) in
+      let h = same_instructions is js (delegates m ∷ p) (delegates n ∷ q) tt tt
+      (regrouped (opens_try a) (opens_try b) (walk_instructions is) (walk_instructions js) (delegates m ∷ []) (delegates n ∷ []) p q e) in
       (cc (e, h.0, h.1), cc h.1)
   same_instruction _ _ p q e = absurd (cc e)
 
@@ -86,7 +99,8 @@ mutual
   same_instructions (cons i is) nil p q end_p end_q e =
       absurd (no_instruction i q (walk_instructions is ++ p) end_q (sym e ∙ append_assoc (walk_instruction i) (walk_instructions is) p))
   same_instructions (cons i is) (cons j js) p q end_p end_q e =
-      let h = same_instruction i j (walk_instructions is ++ p) (walk_instructions js ++ q) (sym (append_assoc (walk_instruction i) (walk_instructions is) p) ∙ e ∙ append_assoc (walk_instruction j) (walk_instructions js) q) in
+      let h = same_instruction i j (walk_instructions is ++ p) (walk_instructions js ++ q) (sym (append_assoc (walk_instruction i) (walk_instructions is) p) ∙
+      e ∙ append_assoc (walk_instruction j) (walk_instructions js) q) in
       let g = same_instructions is js p q end_p end_q h.1 in
       (cc (h.0, g.0), g.1)
 
@@ -94,10 +108,12 @@ mutual
       walk_handlers h ++ p ≡ walk_handlers g ++ q → (h ≡ g) × (p ≡ q)
   same_handlers no_more no_more p q e = (refl, cc e)
   same_handlers (for_all is) (for_all js) p q e =
-      let h = same_instructions is js (ends ∷ p) (ends ∷ q) tt tt (regrouped turns_catch_all turns_catch_all (walk_instructions is) (walk_instructions js) (ends ∷ []) (ends ∷ []) p q e) in
+      let h = same_instructions is js (ends ∷ p) (ends ∷ q) tt tt
+      (regrouped turns_catch_all turns_catch_all (walk_instructions is) (walk_instructions js) (ends ∷ []) (ends ∷ []) p q e) in
       (cc h.0, cc h.1)
   same_handlers (for_tag m is h) (for_tag n js g) p q e =
-      let x = same_instructions is js (walk_handlers h ++ p) (walk_handlers g ++ q) (handlers_end_body h p) (handlers_end_body g q) (regrouped (turns_catch m) (turns_catch n) (walk_instructions is) (walk_instructions js) (walk_handlers h) (walk_handlers g) p q e) in
+      let x = same_instructions is js (walk_handlers h ++ p) (walk_handlers g ++ q) (handlers_end_body h p) (handlers_end_body g q)
+      (regrouped (turns_catch m) (turns_catch n) (walk_instructions is) (walk_instructions js) (walk_handlers h) (walk_handlers g) p q e) in
       let y = same_handlers h g p q x.1 in
       (cc (e, x.0, y.0), y.1)
   same_handlers _ _ p q e = absurd (cc e)
