@@ -14,7 +14,7 @@ use std::alloc::AllocError;
 use std::marker::Model;
 use std::ops::Range;
 
-mod leb128;
+mod numbers;
 
 /// The opcode of `end`.
 const END: u8 = 0x0b;
