@@ -4,9 +4,10 @@ use Rattle.std.proofs.lemmas.List.{take-append-drop, drop-drop, length-take-le, 
 use Rattle.wasm_below_bytes.specs.declared.error.Error.{Error}
 use Rattle.wasm_below_bytes.specs.declared.message.Message.{Message}
 use Rattle.wasm_below_bytes.specs.declared.message.Message.TheVariants as message
+use Rattle.wasm_below_bytes.specs.declared.message.SizeName.{SizeName}
 use Rattle.wasm_below_bytes.specs.Refusal.{IsReadFault}
 use Rattle.wasm_below_bytes.specs.Number.{EncodesUnsigned, EncodesSize}
-use Rattle.wasm_below_bytes.specs.Source.{Reader, rest, offset_of, at_position, Takes, NoPrefix, MayFollow, IsRefusal, Reads, IsShort, NumberFault, SizeFault}
+use Rattle.wasm_below_bytes.specs.Source.{Reader, rest, offset_of, at_position, Takes, NoPrefix, MayFollow, IsRefusal, Reads, IsShort, U32Fault, CountFault}
 use Rattle.wasm_below_bytes.proofs.TakesLemmas.{back}
 use Rattle.wasm_below_bytes.proofs.PrefixCode.{unsigned_prefix_code}
 
@@ -57,9 +58,10 @@ size_refused limit n e old mid new position (text, p, takes) over same le went o
     )
 
 -- where the number is refused, so is the count
-pub size_fault : (m : Message) (limit : ℕ) (r : Reader) (offset : ℕ) → NumberFault m 32 r offset → NoPrefix (EncodesUnsigned 32) (rest r) → SizeFault m limit r offset
-size_fault (message.SizeOutOfBounds _) limit r offset h none = absurd h
-size_fault m limit r offset h none = (h, none)
+pub count_fault : (m : Message) (name : SizeName) (limit : ℕ) (r : Reader) (offset : ℕ) → U32Fault m r offset →
+    NoPrefix (EncodesUnsigned 32) (rest r) → CountFault name limit m r offset
+count_fault (message.SizeOutOfBounds _) name limit r offset h none = absurd h.0
+count_fault m name limit r offset h none = ((h.0, none), tt, h.1)
 
 ends_here : (m : Message) → IsReadFault m → MayFollow m []
 ends_here message.EndOfData h = refl

@@ -9,7 +9,8 @@ use Rattle.wasm_below_bytes.specs.declared.message.Message.{Message}
 use Rattle.wasm_below_bytes.specs.declared.message.Message.TheVariants as message
 use Rattle.wasm_below_bytes.specs.declared.features.WasmFeatures.{WasmFeatures}
 use Rattle.wasm_below_bytes.specs.declared.message.NumberName.TheVariants as number_name
-use Rattle.wasm_below_bytes.specs.Refusal.{IsReadFault, NamesNumber}
+use Rattle.wasm_below_bytes.specs.declared.message.SizeName.{SizeName}
+use Rattle.wasm_below_bytes.specs.Refusal.{IsReadFault, NamesNumber, NamesSize}
 
 -- Features, the offset of the bytes, and the bytes.
 pub record Source : Type 0 where
@@ -127,12 +128,21 @@ TooLongFault message.EndOfData width r offset = (offset ≡ end_of r) × (end_of
 TooLongFault (message.IntegerTooLong _) width r offset = (offset ≡ last_offset width r) × (offset < end_of r)
 TooLongFault _ width r offset = ⊥
 
--- Of an unsigned number of 32 bits, and of a signed one of 33, with its name.
+-- The same of each kind of number, with its name.
 abbrev pub U32Fault : Message → Reader → ℕ → Type 0
 U32Fault m r offset = NumberFault m 32 r offset × NamesNumber number_name.VarU32 m
 
+abbrev pub U64Fault : Message → Reader → ℕ → Type 0
+U64Fault m r offset = NumberFault m 64 r offset × NamesNumber number_name.VarU64 m
+
+abbrev pub I32Fault : Message → Reader → ℕ → Type 0
+I32Fault m r offset = NumberFault m 32 r offset × NamesNumber number_name.VarI32 m
+
 abbrev pub S33Fault : Message → Reader → ℕ → Type 0
 S33Fault m r offset = TooLongFault m 33 r offset × NamesNumber number_name.VarS33 m
+
+abbrev pub I64Fault : Message → Reader → ℕ → Type 0
+I64Fault m r offset = NumberFault m 64 r offset × NamesNumber number_name.VarI64 m
 
 -- The message with that text.
 abbrev pub as_too_long : Message → Message
@@ -152,3 +162,7 @@ SizeFault m limit r offset = NumberFault m 32 r offset × NoPrefix (EncodesUnsig
 abbrev pub ReadsFrom : {X : Type 0} → ℕ → (List ℕ → X → Type 0) → Result X Error → Reader → Reader → Type 0
 ReadsFrom start Encodes (Ok x) old new = Reads Encodes (Ok x) old new
 ReadsFrom start Encodes (Err e) old new = (new ≡ old) × Refuses Encodes (rest old) e.message × IsReadFault e.message × (start ≤ e.offset) × (e.offset ≤ end_of old)
+
+-- The same with the names of the list and of the number.
+abbrev pub CountFault : SizeName → ℕ → Message → Reader → ℕ → Type 0
+CountFault name limit m r offset = SizeFault m limit r offset × NamesSize name m × NamesNumber number_name.VarU32 m

@@ -1,14 +1,13 @@
 //! A reader of bytes and numbers.
 ghost use Rattle.std.specs.Prelude.{◌≡◌, ◌≢◌, ◌+◌, ◌-◌, ◌≤◌, ◌<◌, ◌^◌, length, IsTrue, ◌↔◌, [], ◌∷◌, IfOk, IfErr};
 ghost use Rattle.std.specs.Int.{w32, w64};
-ghost use Rattle.wasm_below_bytes.specs.Source.{Reads, IsByte, IsBlock, IsEndHere, IsShort, BeginsWith, SizeFault, rest, offset_of, end_of, at_position, with_features, reader_of};
+ghost use Rattle.wasm_below_bytes.specs.Source.{Reads, IsByte, IsBlock, IsEndHere, IsShort, BeginsWith, CountFault, rest, offset_of, end_of, at_position, with_features, reader_of};
 ghost use Rattle.wasm_below_bytes.specs.Features.{all_features};
-ghost use Rattle.wasm_below_bytes.specs.Refusal.{NamesNumber, NamesSize};
 ghost use Rattle.wasm_below_bytes.specs.Number.{EncodesFixed, EncodesSize};
 
 use crate::error::{Error, Result};
 use crate::features::WasmFeatures;
-use crate::message::{Message, NumberName, SizeName};
+use crate::message::{Message, SizeName};
 use bitflags::Flags;
 use std::alloc::AllocError;
 use std::marker::Model;
@@ -297,9 +296,7 @@ impl<'a> BinaryReader<'a> {
     /// `SizeOutOfBounds` where the number begins, if it is above the limit.
     pub fn read_size(&mut self, limit: usize, desc: SizeName) -> Result<usize>
         ensures reads { Reads (EncodesSize limit) result self.old self.new }
-        ensures fault { IfErr result (λ e. SizeFault e.message limit self.old e.offset) }
-        ensures named { IfErr result (λ e. NamesSize desc e.message) }
-        ensures number { IfErr result (λ e. NamesNumber NumberName.VarU32 e.message) }
+        ensures fault { IfErr result (λ e. CountFault desc limit e.message self.old e.offset) }
     {
         let start = self.position;
         let size = self.read_var_u32()? as usize;

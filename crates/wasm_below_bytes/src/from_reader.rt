@@ -5,8 +5,7 @@ ghost use Rattle.wasm_below_bytes.specs.declared.message.Message.{Message};
 ghost use Rattle.wasm_below_bytes.specs.Fault.{HasFault, DeterminesRefusal};
 ghost use Rattle.wasm_below_bytes.specs.Items.{items_left, items_reader, items_name};
 ghost use Rattle.wasm_below_bytes.specs.FromReader.{ReadsValue, EncodesReader, ReaderFault, StepsItems, ReadsOn};
-ghost use Rattle.wasm_below_bytes.specs.Refusal.{NamesNumber, NamesSize};
-ghost use Rattle.wasm_below_bytes.specs.Source.{Reader, IsRefusal, U32Fault, SizeFault, Reads, end_of, offset_of};
+ghost use Rattle.wasm_below_bytes.specs.Source.{Reader, IsRefusal, U32Fault, CountFault, Reads, end_of, offset_of};
 ghost use Rattle.std.specs.Iterator.{at_most, UpTo};
 ghost use Rattle.std.specs.Iterator.SizeHint.{IsWithinCount};
 ghost use Rattle.wasm_below_bytes.specs.Number.{EncodesUnsigned, EncodesSize};
@@ -14,7 +13,7 @@ ghost use Rattle.wasm_below_bytes.specs.Sequence.{PrefixCodeUpTo};
 
 use crate::binary_reader::BinaryReader;
 use crate::error::Result;
-use crate::message::{NumberName, SizeName};
+use crate::message::SizeName;
 use std::alloc::Global;
 use std::marker::PhantomData;
 
@@ -112,9 +111,7 @@ impl<'a> BinaryReader<'a> {
         ensures same_reference { IfOk result (λ items. items_name items ≡ self.entry.ghost_name) }
         ensures count { IfOk result (λ items. Reads (EncodesSize limit) (Ok (items_left items)) self.old (items_reader items)) }
         ensures refused { IfErr result (λ e. IsRefusal (EncodesSize limit) e self.old) }
-        ensures fault { IfErr result (λ e. SizeFault e.message limit self.old e.offset) }
-        ensures named { IfErr result (λ e. NamesSize desc e.message) }
-        ensures number { IfErr result (λ e. NamesNumber NumberName.VarU32 e.message) }
+        ensures fault { IfErr result (λ e. CountFault desc limit e.message self.old e.offset) }
     {
         let remaining = self.read_size(limit, desc)?;
         Ok(BinaryReaderIter::new(alloc, self, remaining))

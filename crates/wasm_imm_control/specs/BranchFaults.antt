@@ -4,9 +4,8 @@ use Rattle.wasm_below.specs.bytes.message.Message.{Message}
 use Rattle.wasm_below.specs.bytes.message.SizeName.TheVariants as size_name
 use Rattle.wasm_below.specs.Fault.{ThenFault, ManyFault}
 use Rattle.wasm_below.specs.Number.{EncodesUnsigned, EncodesSize}
-use Rattle.wasm_below.specs.Source.{Reader, U32Fault}
+use Rattle.wasm_below.specs.Source.{Reader, U32Fault, CountFault}
 use Rattle.wasm_imm_control.specs.BranchTables.{max_targets}
-use Rattle.wasm_below.specs.PartFaults.{CountFault}
 
 -- That of its count, or that of one of its targets or of the default target behind them.
 abbrev pub BranchTableFault : Message → Reader → ℕ → Type 0

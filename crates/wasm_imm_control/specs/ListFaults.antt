@@ -5,14 +5,13 @@ use Rattle.wasm_below.specs.bytes.message.SizeName.{SizeName}
 use Rattle.wasm_below.specs.bytes.message.SizeName.TheVariants as size_name
 use Rattle.wasm_below.specs.Fault.{ThenFault, ManyFault}
 use Rattle.wasm_below.specs.Number.{EncodesSize}
-use Rattle.wasm_below.specs.Source.{Reader}
+use Rattle.wasm_below.specs.Source.{Reader, CountFault}
 use Rattle.wasm_below.specs.TypeEncoding.{EncodesValType, ValTypeFault}
 use Rattle.wasm_imm_control.specs.BlockTypes.{EncodesBlockType}
 use Rattle.wasm_imm_control.specs.BlockFaults.{BlockTypeFault}
 use Rattle.wasm_imm_control.specs.Handlers.{EncodesCatch, EncodesHandle}
 use Rattle.wasm_imm_control.specs.HandlerFaults.{CatchFault, HandleFault}
 use Rattle.wasm_imm_control.specs.HandlerTables.{max_catches, max_handlers, max_select_types}
-use Rattle.wasm_below.specs.PartFaults.{CountFault}
 
 -- A list of this name: that of its count, or that of a member behind it.
 abbrev pub ListFault : {X : Type 0} → SizeName → ℕ → (List ℕ → X → Type 0) → (Message → Reader → ℕ → Type 0) → Message → Reader → ℕ → Type 0

@@ -7,12 +7,12 @@ use Rattle.wasm_below.specs.bytes.message.Message.TheVariants as message
 use Rattle.wasm_below.specs.Fault.{ThenFault}
 use Rattle.wasm_below.specs.Features.{HasFeature, multi_memory, memory64, acquire_release_atomics, multibyte_array_access}
 use Rattle.wasm_below.specs.Number.{EncodesUnsigned}
-use Rattle.wasm_below.specs.Source.{Reader, offset_of, U32Fault}
+use Rattle.wasm_below.specs.Source.{Reader, offset_of, U32Fault, U64Fault}
 use Rattle.wasm_imm_memory.specs.declared.memory_argument.MemArgOrdering.{MemArgOrdering}
 use Rattle.wasm_imm_memory.specs.declared.memory_argument.MemArgKind.{MemArgKind}
 use Rattle.wasm_imm_memory.specs.MemoryArgument.{IsOrderingByte}
 use Rattle.wasm_imm_memory.specs.FlagsNumber.{Announces, NamesBoth, OrdersPlain, IsReserved, IsTarget, IsOrdering}
-use Rattle.wasm_below.specs.PartFaults.{U64Fault, CheckedByteFault}
+use Rattle.wasm_below.specs.PartFaults.{CheckedByteFault}
 
 -- A check before more is read: where it finds this wrong, the refusal is this one, at this place; where it does not, it is one of what is read then.
 abbrev pub CheckFault : Type 0 → Message → ℕ → (Message → Reader → ℕ → Type 0) → Message → Reader → ℕ → Type 0

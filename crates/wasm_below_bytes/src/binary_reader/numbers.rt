@@ -1,7 +1,6 @@
 //! The LEB128 numbers that a reader reads. Values, Integers.
 ghost use Rattle.std.specs.Prelude.{◌≡◌, ◌+◌, ◌-◌, ◌<◌, [], ◌∷◌, IfErr, IfSome, IfNone};
-ghost use Rattle.wasm_below_bytes.specs.Source.{Takes, Reads, NumberFault, TooLongFault, as_too_long, offset_of, end_of};
-ghost use Rattle.wasm_below_bytes.specs.Refusal.{NamesNumber};
+ghost use Rattle.wasm_below_bytes.specs.Source.{Takes, Reads, U32Fault, U64Fault, I32Fault, S33Fault, I64Fault, as_too_long, offset_of, end_of};
 ghost use Rattle.wasm_below_bytes.specs.Number.{EncodesUnsigned, EncodesSigned};
 ghost use Rattle.wasm_below_bytes.specs.Leb128.{HasPlace, refusal_message, refusal_offset};
 
@@ -19,8 +18,7 @@ impl<'a> BinaryReader<'a> {
     #[inline(always)]
     pub fn read_var_u32(&mut self) -> Result<u32>
         ensures reads { Reads (EncodesUnsigned 32) result self.old self.new }
-        ensures fault { IfErr result (λ e. NumberFault e.message 32 self.old e.offset) }
-        ensures named { IfErr result (λ e. NamesNumber NumberName.VarU32 e.message) }
+        ensures fault { IfErr result (λ e. U32Fault e.message self.old e.offset) }
     {
         if let Some(byte) = self.take_last_byte() {
             return Ok(u32::from(byte));
@@ -34,8 +32,7 @@ impl<'a> BinaryReader<'a> {
     #[inline(always)]
     pub fn read_var_u64(&mut self) -> Result<u64>
         ensures reads { Reads (EncodesUnsigned 64) result self.old self.new }
-        ensures fault { IfErr result (λ e. NumberFault e.message 64 self.old e.offset) }
-        ensures named { IfErr result (λ e. NamesNumber NumberName.VarU64 e.message) }
+        ensures fault { IfErr result (λ e. U64Fault e.message self.old e.offset) }
     {
         if let Some(byte) = self.take_last_byte() {
             return Ok(u64::from(byte));
@@ -49,8 +46,7 @@ impl<'a> BinaryReader<'a> {
     #[inline(always)]
     pub fn read_var_i32(&mut self) -> Result<i32>
         ensures reads { Reads (EncodesSigned 32) result self.old self.new }
-        ensures fault { IfErr result (λ e. NumberFault e.message 32 self.old e.offset) }
-        ensures named { IfErr result (λ e. NamesNumber NumberName.VarI32 e.message) }
+        ensures fault { IfErr result (λ e. I32Fault e.message self.old e.offset) }
     {
         if let Some(byte) = self.take_last_byte() {
             return Ok(last_value(byte) as i32);
@@ -64,8 +60,7 @@ impl<'a> BinaryReader<'a> {
     #[inline(always)]
     pub fn read_var_s33(&mut self) -> Result<i64>
         ensures reads { Reads (EncodesSigned 33) result self.old self.new }
-        ensures fault { IfErr result (λ e. TooLongFault e.message 33 self.old e.offset) }
-        ensures named { IfErr result (λ e. NamesNumber NumberName.VarS33 e.message) }
+        ensures fault { IfErr result (λ e. S33Fault e.message self.old e.offset) }
     {
         if let Some(byte) = self.take_last_byte() {
             return Ok(last_value(byte));
@@ -79,8 +74,7 @@ impl<'a> BinaryReader<'a> {
     #[inline(always)]
     pub fn read_var_i64(&mut self) -> Result<i64>
         ensures reads { Reads (EncodesSigned 64) result self.old self.new }
-        ensures fault { IfErr result (λ e. NumberFault e.message 64 self.old e.offset) }
-        ensures named { IfErr result (λ e. NamesNumber NumberName.VarI64 e.message) }
+        ensures fault { IfErr result (λ e. I64Fault e.message self.old e.offset) }
     {
         if let Some(byte) = self.take_last_byte() {
             return Ok(last_value(byte));
@@ -109,8 +103,7 @@ impl<'a> BinaryReader<'a> {
     #[inline(always)]
     fn read_long_u32(&mut self) -> Result<u32>
         ensures reads { Reads (EncodesUnsigned 32) result self.old self.new }
-        ensures fault { IfErr result (λ e. NumberFault e.message 32 self.old e.offset) }
-        ensures named { IfErr result (λ e. NamesNumber NumberName.VarU32 e.message) }
+        ensures fault { IfErr result (λ e. U32Fault e.message self.old e.offset) }
     {
         match long_u32(self.buffer, self.position) {
             Ok(number) => {
@@ -125,8 +118,7 @@ impl<'a> BinaryReader<'a> {
     #[inline(always)]
     fn read_long_u64(&mut self) -> Result<u64>
         ensures reads { Reads (EncodesUnsigned 64) result self.old self.new }
-        ensures fault { IfErr result (λ e. NumberFault e.message 64 self.old e.offset) }
-        ensures named { IfErr result (λ e. NamesNumber NumberName.VarU64 e.message) }
+        ensures fault { IfErr result (λ e. U64Fault e.message self.old e.offset) }
     {
         match long_u64(self.buffer, self.position) {
             Ok(number) => {
@@ -141,8 +133,7 @@ impl<'a> BinaryReader<'a> {
     #[inline(always)]
     fn read_long_i32(&mut self) -> Result<i32>
         ensures reads { Reads (EncodesSigned 32) result self.old self.new }
-        ensures fault { IfErr result (λ e. NumberFault e.message 32 self.old e.offset) }
-        ensures named { IfErr result (λ e. NamesNumber NumberName.VarI32 e.message) }
+        ensures fault { IfErr result (λ e. I32Fault e.message self.old e.offset) }
     {
         match long_i32(self.buffer, self.position) {
             Ok(number) => {
@@ -157,8 +148,7 @@ impl<'a> BinaryReader<'a> {
     #[inline(always)]
     fn read_long_s33(&mut self) -> Result<i64>
         ensures reads { Reads (EncodesSigned 33) result self.old self.new }
-        ensures fault { IfErr result (λ e. TooLongFault e.message 33 self.old e.offset) }
-        ensures named { IfErr result (λ e. NamesNumber NumberName.VarS33 e.message) }
+        ensures fault { IfErr result (λ e. S33Fault e.message self.old e.offset) }
     {
         match long_s33(self.buffer, self.position) {
             Ok(number) => {
@@ -173,8 +163,7 @@ impl<'a> BinaryReader<'a> {
     #[inline(always)]
     fn read_long_i64(&mut self) -> Result<i64>
         ensures reads { Reads (EncodesSigned 64) result self.old self.new }
-        ensures fault { IfErr result (λ e. NumberFault e.message 64 self.old e.offset) }
-        ensures named { IfErr result (λ e. NamesNumber NumberName.VarI64 e.message) }
+        ensures fault { IfErr result (λ e. I64Fault e.message self.old e.offset) }
     {
         match long_i64(self.buffer, self.position) {
             Ok(number) => {

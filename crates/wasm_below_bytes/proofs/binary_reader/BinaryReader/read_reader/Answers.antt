@@ -12,7 +12,7 @@ pub returns-in_err-size-clause-fault : goal.returns-in_err-size-clause-fault
 returns-in_err-size-clause-fault c =
     let p = err_from_is_err_and c.from_residual.result c.from_residual.ensures.1 in
     let h = c.in_err-size.ensures in
-    rw (p.1, p.2) (first_fault (EncodesUnsigned 32) U32Fault EndsWithin c.in_err-size.field-0.0 c.args.self.now h.reads.1 (h.fault, h.named))
+    rw (p.1, p.2) (first_fault (EncodesUnsigned 32) U32Fault EndsWithin c.in_err-size.field-0.0 c.args.self.now h.reads.1 h.fault)
 
 pub returns-in-Err-clause-fault : goal.returns-in-Err-clause-fault
 returns-in-Err-clause-fault c = inr (c.in_ok-size.field-0, c.read_var_u32.new.self, c.in_ok-size.ensures.reads, c.in-Err.ensures.end)

@@ -33,7 +33,7 @@ returns-in-Ok-read_offset-clause-reads c =
 
 pub returns-in-Err-clause-fault : goal.returns-in-Err-clause-fault
 returns-in-Err-clause-fault c =
-    inl (refused_now (EncodesUnsigned 32) c.in-Err.e c.args.reader.now c.in-Err.ensures.reads.1, (c.in-Err.ensures.fault, c.in-Err.ensures.named))
+    inl (refused_now (EncodesUnsigned 32) c.in-Err.e c.args.reader.now c.in-Err.ensures.reads.1, c.in-Err.ensures.fault)
 
 -- the answer behind the flags number, where the number began
 abbrev Announced : WasmFeatures → MemArgKind → ℕ → Reader → ℕ → Result MemArg Error → Type 0
