@@ -5,7 +5,7 @@ from pathlib import Path
 
 FOLDER = Path(__file__).resolve().parent / "original"
 
-# The words of the original's list for immediates, and those of the table. `types` goes by the operator.
+# The words of the original's list for immediates, and those of the table. `types` goes by the field.
 KINDS = {
     "none": "",
     "bt": "block_type",
@@ -37,10 +37,10 @@ def lines_of(name):
         return list(csv.DictReader(lines, delimiter="\t"))
 
 
-def kind_of(word, name):
-    """An immediate in the table's words."""
+def kind_of(word, fields):
+    """An immediate of an operator with these fields, in the table's words."""
     if word == "types":
-        return "types" if name == "TypedSelectMulti" else "one_type"
+        return "types" if "SelectTypes" in fields else "one_type"
     if word.startswith("mem "):
         return "memory " + word[len("mem "):]
     return KINDS[word]
@@ -57,7 +57,7 @@ class Original:
         self.code = int(row["code"], 16)
         fields = row["fields"].replace("$crate::", "").replace("Vec<ValType>", "SelectTypes")
         self.fields = [tuple(field.split(": ")) for field in fields.split(", ") if field]
-        kinds = [kind_of(word, self.name) for word in row["immediates"].split(", ")]
+        kinds = [kind_of(word, fields) for word in row["immediates"].split(", ")]
         self.immediates = [kind for kind in kinds if kind]
         self.is_by_rule = arity["takes"] == "variable"
         self.takes = "by rule" if self.is_by_rule else arity["takes"]
