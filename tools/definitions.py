@@ -61,12 +61,24 @@ def clauses_behind(lines, at, indent):
     return re.sub("//.*", "", "\n".join(out))
 
 
+def is_private(path):
+    """Whether a library hands nothing out of the module that a file of it belongs to."""
+    crate, _, rest = str(path.relative_to(TOP)).partition("/src/")
+    top = TOP / crate / "src" / "lib.rt"
+    module = rest.split("/")[0].removesuffix(".rt")
+    if module == "lib" or not top.exists():
+        return False
+    return not re.search(rf"^pub (?:use|mod) {module}\b", top.read_text(encoding="utf-8"), re.M)
+
+
 def used():
     """The words that public contracts use, each with where it is defined and a function that uses it."""
     found = {}
     for path in sorted(TOP.glob("crates/*/src/**/*.rt")):
         text = path.read_text(encoding="utf-8")
         if "tests" in path.parts or path.name == "tests.rt" or path.parts[-3].startswith("wasm_tests_"):
+            continue
+        if is_private(path) and "impl" not in text:
             continue
         words = imports_of(text)
         for name, clauses in contracts(text):
