@@ -32,7 +32,7 @@ returns-in_err-index-clause-fault c =
     let p = err_from_is_err_and c.from_residual.result c.from_residual.ensures.1 in
     let e = c.in_err-index.field-0.0 in
     let h = c.in_err-index.ensures in
-    rw (p.1, p.2) (inl (refused_now (EncodesSigned 33) e c.args.reader.now h.reads.1, (h.fault, h.named)))
+    rw (p.1, p.2) (inl (refused_now (EncodesSigned 33) e c.args.reader.now h.reads.1, h.fault))
 
 pub returns-then-index-lt0-clause-fault : goal.returns-then-index-lt0-clause-fault
 returns-then-index-lt0-clause-fault c =

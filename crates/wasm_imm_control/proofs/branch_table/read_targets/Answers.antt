@@ -28,4 +28,4 @@ returns-in-Err-clause-fault c =
     let e = c.in-Err.e in
     let h = c.in-Err.ensures in
     let few : length i.1 < c.args.count = omega (arith, i.2.0, c.loop-target-test.true) in
-    many_fault (EncodesUnsigned 32) U32Fault c.args.count i.1 i.0 c.args.reader.now c.loop-target.reader e.message e.offset few i.2.1 i.3 (refused_now (EncodesUnsigned 32) e c.loop-target.reader h.reads.1) (h.fault, h.named)
+    many_fault (EncodesUnsigned 32) U32Fault c.args.count i.1 i.0 c.args.reader.now c.loop-target.reader e.message e.offset few i.2.1 i.3 (refused_now (EncodesUnsigned 32) e c.loop-target.reader h.reads.1) h.fault

@@ -15,9 +15,9 @@ returns-in-Err-read_var_u32-clause-reads c =
 pub returns-in-Err-clause-fault : goal.returns-in-Err-clause-fault
 returns-in-Err-clause-fault c =
     let h = c.in-Err.ensures in
-    inl (refused_now (EncodesUnsigned 32) c.in-Err.e c.args.reader.now h.reads.1, (h.fault, h.named))
+    inl (refused_now (EncodesUnsigned 32) c.in-Err.e c.args.reader.now h.reads.1, h.fault)
 
 pub returns-in-Err-read_var_u32-clause-fault : goal.returns-in-Err-read_var_u32-clause-fault
 returns-in-Err-read_var_u32-clause-fault c =
     let h = c.in-Err-read_var_u32.ensures in
-    inr (c.in-Ok.first, c.read_var_u32.new.self, c.in-Ok.ensures.reads, (h.fault, h.named))
+    inr (c.in-Ok.first, c.read_var_u32.new.self, c.in-Ok.ensures.reads, h.fault)

@@ -36,7 +36,7 @@ returns-in-Ok-read_members-clause-reads g c =
 pub returns-in-Err-clause-fault : goal.returns-in-Err-clause-fault
 returns-in-Err-clause-fault g c =
     let h = c.in-Err.ensures in
-    λ some. inl (refused_now (EncodesSize c.args.limit) c.in-Err.e c.args.reader.now h.reads.1, (h.fault, h.named, h.number))
+    λ some. inl (refused_now (EncodesSize c.args.limit) c.in-Err.e c.args.reader.now h.reads.1, h.fault)
 
 pub returns-in-Err-read_members-clause-fault : goal.returns-in-Err-read_members-clause-fault
 returns-in-Err-read_members-clause-fault g c =

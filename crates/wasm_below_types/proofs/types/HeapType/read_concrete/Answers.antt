@@ -33,7 +33,7 @@ pub returns-in_err-index-clause-fault : goal.returns-in_err-index-clause-fault
 returns-in_err-index-clause-fault c =
     let p = err_from_is_err_and c.from_residual.result c.from_residual.ensures.1 in
     let h = c.in_err-index.ensures in
-    rw (p.1, p.2) (first_fault (EncodesSigned 33) S33Fault (λ n. NoIndex c.args.reader.now) c.in_err-index.field-0.0 c.args.reader.now h.reads.1 (h.fault, h.named))
+    rw (p.1, p.2) (first_fault (EncodesSigned 33) S33Fault (λ n. NoIndex c.args.reader.now) c.in_err-index.field-0.0 c.args.reader.now h.reads.1 h.fault)
 
 pub returns-then-index-lt0-clause-fault : goal.returns-then-index-lt0-clause-fault
 returns-then-index-lt0-clause-fault c =

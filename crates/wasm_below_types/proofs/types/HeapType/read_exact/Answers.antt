@@ -39,7 +39,7 @@ returns-in-Err-clause-fault c =
     let e = c.in-Err.e in
     let h = c.in-Err.ensures in
     let Behind = λ (n : ℕ). NoIndex c.args.reader.now in
-    subst (λ r. ThenFault (EncodesUnsigned 32) U32Fault Behind e.message r e.offset) c.advance.ensures (first_fault (EncodesUnsigned 32) U32Fault Behind e c.advance.new.self h.reads.1 (h.fault, h.named))
+    subst (λ r. ThenFault (EncodesUnsigned 32) U32Fault Behind e.message r e.offset) c.advance.ensures (first_fault (EncodesUnsigned 32) U32Fault Behind e c.advance.new.self h.reads.1 h.fault)
 
 pub returns-then-index-gt-MAX_TYPE_INDEX-clause-fault : goal.returns-then-index-gt-MAX_TYPE_INDEX-clause-fault
 returns-then-index-gt-MAX_TYPE_INDEX-clause-fault c =

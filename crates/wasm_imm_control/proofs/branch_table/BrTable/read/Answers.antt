@@ -25,7 +25,7 @@ returns-in_err-count-clause-fault c =
     let p = err_from_is_err_and c.from_residual.result c.from_residual.ensures.1 in
     let e = c.in_err-count.field-0.0 in
     let h = c.in_err-count.ensures in
-    rw (p.1, p.2) (inl (refused_now (EncodesSize max_targets) e c.args.reader.now h.reads.1, (h.fault, h.named, h.number)))
+    rw (p.1, p.2) (inl (refused_now (EncodesSize max_targets) e c.args.reader.now h.reads.1, h.fault))
 
 pub returns-in-Err-clause-fault : goal.returns-in-Err-clause-fault
 returns-in-Err-clause-fault c =
@@ -43,4 +43,4 @@ returns-in-Err-read_var_u32-clause-fault c =
     let t = c.in-Ok.ensures.reads in
     let numbers = t.1.1 in
     let few : length numbers.0 < suc count = omega (arith, numbers.1.0) in
-    inr (count, mid, c.in_ok-count.ensures.reads, many_fault (EncodesUnsigned 32) U32Fault (suc count) numbers.0 t.0 mid now e.message e.offset few numbers.1.1 t.2 (refused_now (EncodesUnsigned 32) e now h.reads.1) (h.fault, h.named))
+    inr (count, mid, c.in_ok-count.ensures.reads, many_fault (EncodesUnsigned 32) U32Fault (suc count) numbers.0 t.0 mid now e.message e.offset few numbers.1.1 t.2 (refused_now (EncodesUnsigned 32) e now h.reads.1) h.fault)

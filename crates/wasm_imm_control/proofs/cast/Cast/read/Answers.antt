@@ -24,7 +24,7 @@ returns-in-Err-read_var_u32-clause-fault c =
     let mid = c.read_u8.new.self in
     let e = c.in-Err-read_var_u32.e in
     let h = c.in-Err-read_var_u32.ensures in
-    inr (c.in-Ok.flags, mid, c.in-Ok.ensures.reads, inl (refused_now (EncodesUnsigned 32) e mid h.reads.1, (h.fault, h.named)))
+    inr (c.in-Ok.flags, mid, c.in-Ok.ensures.reads, inl (refused_now (EncodesUnsigned 32) e mid h.reads.1, h.fault))
 
 pub returns-in-Err-read_reference-clause-fault : goal.returns-in-Err-read_reference-clause-fault
 returns-in-Err-read_reference-clause-fault c =

@@ -34,7 +34,7 @@ returns-in-Err-read_members-clause-lone c = λ m. not_one c.args.reader.now c.re
 pub returns-in-Err-clause-fault : goal.returns-in-Err-clause-fault
 returns-in-Err-clause-fault c =
     let h = c.in-Err.ensures in
-    λ some. inl (refused_now (EncodesSize max_select_types) c.in-Err.e c.args.reader.now h.reads.1, (h.fault, h.named, h.number))
+    λ some. inl (refused_now (EncodesSize max_select_types) c.in-Err.e c.args.reader.now h.reads.1, h.fault)
 
 pub returns-in-Err-read-clause-fault : goal.returns-in-Err-read-clause-fault
 returns-in-Err-read-clause-fault c =
