@@ -15,9 +15,9 @@ use Rattle.wasm_below.proofs.PrefixCode.{signed_prefix_code, size_prefix_code, b
 use Rattle.wasm_below.proofs.DeterminedRefusals.{u32_determines, s33_determines, then_determines}
 use Rattle.wasm_below.proofs.DeterminedTypeRefusals.{heap_determines, value_determines}
 use Rattle.wasm_below.proofs.TypePrefixCodes.{heap_prefix_code, value_prefix_code}
-use Rattle.wasm_imm_control.specs.BlockFaults.{NegativeFault, FunctionTypeFault, BlockTypeFault}
+use Rattle.wasm_imm_control.specs.BlockTypeFaults.{NegativeFault, FunctionTypeFault, BlockTypeFault}
 use Rattle.wasm_imm_control.specs.BlockTypes.{EncodesBlockType}
-use Rattle.wasm_imm_control.specs.BranchFaults.{BranchTableFault}
+use Rattle.wasm_imm_control.specs.BranchTableFaults.{BranchTableFault}
 use Rattle.wasm_imm_control.specs.BranchTables.{max_targets}
 use Rattle.wasm_imm_control.specs.CastFaults.{CastTypesFault, CastFault}
 use Rattle.wasm_imm_control.specs.HandlerFaults.{IsLeading, LeadingFault, IndicesFault, CatchFault, HandleFault}
@@ -25,7 +25,7 @@ use Rattle.wasm_imm_control.specs.Handlers.{EncodesCatch, EncodesHandle}
 use Rattle.wasm_imm_control.specs.HandlerTables.{max_catches, max_handlers, max_select_types}
 use Rattle.wasm_imm_control.specs.ListFaults.{ListFault, TryTableFault, ResumeTableFault, SelectFault}
 use Rattle.wasm_below.specs.PartFaults.{EndFault}
-use Rattle.wasm_imm_control.proofs.Blocks.{block_prefix_code}
+use Rattle.wasm_imm_control.proofs.BlockTypes.{block_prefix_code}
 use Rattle.wasm_imm_control.proofs.HandlerLemmas.{catch_prefix_code, handle_prefix_code}
 use Rattle.wasm_below.proofs.Faults.{no_byte}
 use Rattle.wasm_below.proofs.Steps.{number_prefix_code}

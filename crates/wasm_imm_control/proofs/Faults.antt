@@ -15,7 +15,7 @@ use Rattle.wasm_below.proofs.Blocks.{refused_now}
 use Rattle.wasm_below.proofs.Prefixes.{end_refused}
 use Rattle.wasm_imm_control.specs.declared.block_type.BlockType.{BlockType}
 use Rattle.wasm_imm_control.specs.Lists.{EncodesEach}
-use Rattle.wasm_imm_control.specs.BlockFaults.{LeadsValType, FunctionTypeFault, BlockTypeFault}
+use Rattle.wasm_imm_control.specs.BlockTypeFaults.{LeadsValType, FunctionTypeFault, BlockTypeFault}
 use Rattle.wasm_imm_control.specs.Casts.{EncodesReference}
 use Rattle.wasm_imm_control.specs.HandlerFaults.{IsLeading, LeadingFault}
 use Rattle.wasm_imm_control.specs.OutOfMemory.{IsBegunAt}

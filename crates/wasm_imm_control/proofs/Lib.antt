@@ -1,9 +1,9 @@
-pub mod Blocks
-pub mod CastLemmas
+pub mod BlockTypes
+pub mod BranchTables
+pub mod Casts
 pub mod DeterminedRefusals
 pub mod Faults
+pub mod HandlerTables
 pub mod HandlerLemmas
-pub mod HandlerTableLemmas
-pub mod Many
-pub mod Refused
-pub mod Targets
+pub mod ListRefusals
+pub mod ListLemmas

@@ -1,6 +1,7 @@
-pub mod BlockFaults
+pub mod BlockTypeFaults
 pub mod BlockTypes
-pub mod BranchFaults
+pub mod BranchTableEquality
+pub mod BranchTableFaults
 pub mod BranchTables
 pub mod CastFaults
 pub mod Casts
@@ -10,4 +11,3 @@ pub mod Handlers
 pub mod ListFaults
 pub mod Lists
 pub mod OutOfMemory
-pub mod TableEquality

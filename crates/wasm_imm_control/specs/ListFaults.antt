@@ -8,7 +8,7 @@ use Rattle.wasm_below.specs.Number.{EncodesSize}
 use Rattle.wasm_below.specs.Source.{Reader, CountFault}
 use Rattle.wasm_below.specs.TypeEncoding.{EncodesValType, ValTypeFault}
 use Rattle.wasm_imm_control.specs.BlockTypes.{EncodesBlockType}
-use Rattle.wasm_imm_control.specs.BlockFaults.{BlockTypeFault}
+use Rattle.wasm_imm_control.specs.BlockTypeFaults.{BlockTypeFault}
 use Rattle.wasm_imm_control.specs.Handlers.{EncodesCatch, EncodesHandle}
 use Rattle.wasm_imm_control.specs.HandlerFaults.{CatchFault, HandleFault}
 use Rattle.wasm_imm_control.specs.HandlerTables.{max_catches, max_handlers, max_select_types}

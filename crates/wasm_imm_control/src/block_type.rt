@@ -1,7 +1,7 @@
 //! Block types.
 ghost use Rattle.std.specs.Prelude.{IfErr};
 ghost use Rattle.wasm_below.specs.Source.{Reads};
-ghost use Rattle.wasm_imm_control.specs.BlockFaults.{BlockTypeFault, FunctionTypeFault};
+ghost use Rattle.wasm_imm_control.specs.BlockTypeFaults.{BlockTypeFault, FunctionTypeFault};
 ghost use Rattle.wasm_imm_control.specs.BlockTypes.{EncodesBlockType, EncodesFunctionType};
 
 use wasm_below::{BinaryReader, Error, Message, Result, ValType};

@@ -6,7 +6,7 @@ ghost use Rattle.wasm_below.specs.Fault.{ManyFault};
 ghost use Rattle.wasm_below.specs.Source.{Reads};
 ghost use Rattle.wasm_below.specs.Number.{EncodesUnsigned};
 ghost use Rattle.wasm_imm_control.specs.Lists.{EncodesMany};
-ghost use Rattle.wasm_imm_control.specs.BranchFaults.{BranchTableFault};
+ghost use Rattle.wasm_imm_control.specs.BranchTableFaults.{BranchTableFault};
 ghost use Rattle.wasm_imm_control.specs.BranchTables.{EncodesBranchTable, EncodesTargets};
 ghost use Rattle.wasm_below.specs.Source.{U32Fault};
 
@@ -139,7 +139,7 @@ impl<'a> Clone for BrTable<'a> {
 }
 
 impl<'a> PartialEq for BrTable<'a> {
-    ghost use Rattle.wasm_imm_control.specs.TableEquality.{same_table, same_table_partial};
+    ghost use Rattle.wasm_imm_control.specs.BranchTableEquality.{same_table, same_table_partial};
 
     ghost eq = { same_table };
 
@@ -151,7 +151,7 @@ impl<'a> PartialEq for BrTable<'a> {
 }
 
 impl<'a> Eq for BrTable<'a> {
-    ghost use Rattle.wasm_imm_control.specs.TableEquality.{same_table_equiv};
+    ghost use Rattle.wasm_imm_control.specs.BranchTableEquality.{same_table_equiv};
 
     ghost laws = { same_table_equiv };
 }

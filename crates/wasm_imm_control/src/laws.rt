@@ -8,9 +8,9 @@ ghost use Rattle.wasm_below.specs.bytes.message.SizeName.{SizeName};
 ghost use Rattle.wasm_below.specs.Fault.{DeterminesRefusal};
 ghost use Rattle.wasm_below.specs.Number.{EncodesUnsigned};
 ghost use Rattle.wasm_below.specs.Sequence.{PrefixCode};
-ghost use Rattle.wasm_imm_control.specs.BlockFaults.{BlockTypeFault};
+ghost use Rattle.wasm_imm_control.specs.BlockTypeFaults.{BlockTypeFault};
 ghost use Rattle.wasm_imm_control.specs.BlockTypes.{EncodesBlockType};
-ghost use Rattle.wasm_imm_control.specs.BranchFaults.{BranchTableFault};
+ghost use Rattle.wasm_imm_control.specs.BranchTableFaults.{BranchTableFault};
 ghost use Rattle.wasm_imm_control.specs.BranchTables.{BranchTable, EncodesBranchTable};
 ghost use Rattle.wasm_imm_control.specs.CastFaults.{CastFault};
 ghost use Rattle.wasm_imm_control.specs.Casts.{EncodesCast};
@@ -19,7 +19,7 @@ ghost use Rattle.wasm_imm_control.specs.Handlers.{EncodesCatch, EncodesHandle};
 ghost use Rattle.wasm_imm_control.specs.HandlerTables.{EncodesSelect, EncodesTryTable, EncodesResumeTable};
 ghost use Rattle.wasm_imm_control.specs.ListFaults.{ListFault, TryTableFault, ResumeTableFault, SelectFault};
 ghost use Rattle.wasm_imm_control.specs.Lists.{EncodesMany};
-ghost use Rattle.wasm_imm_control.specs.TableEquality.{same_table};
+ghost use Rattle.wasm_imm_control.specs.BranchTableEquality.{same_table};
 
 use wasm_below::FromReader;
 

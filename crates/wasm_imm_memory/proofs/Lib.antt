@@ -1,5 +1,5 @@
-pub mod DeterminedMemArgRefusals
+pub mod DeterminedMemoryArgumentRefusals
 pub mod DeterminedRefusals
 pub mod FlagsNumber
-pub mod MemArgFaults
+pub mod MemoryArgumentFaults
 pub mod ShortPrefixCodes

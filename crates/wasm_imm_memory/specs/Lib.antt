@@ -1,5 +1,5 @@
 pub mod FlagsNumber
 pub mod Indices
-pub mod MemArgFaults
 pub mod MemoryArgument
+pub mod MemoryArgumentFaults
 pub mod Orderings

@@ -8,7 +8,7 @@ ghost use Rattle.wasm_below.specs.Fault.{DeterminesRefusal};
 ghost use Rattle.wasm_below.specs.Sequence.{PrefixCode};
 ghost use Rattle.wasm_imm_memory.specs.Indices.{EncodesMemoryIndex, EncodesTableIndex, MemoryIndexFault, TableIndexFault};
 ghost use Rattle.wasm_imm_memory.specs.Orderings.{EncodesOrderingByte, EncodesFence, OrderingByteFault, FenceFault};
-ghost use Rattle.wasm_imm_memory.specs.MemArgFaults.{MemArgFault};
+ghost use Rattle.wasm_imm_memory.specs.MemoryArgumentFaults.{MemArgFault};
 ghost use Rattle.wasm_imm_memory.specs.MemoryArgument.{EncodesMemArg};
 
 use crate::memory_argument::MemArgKind;

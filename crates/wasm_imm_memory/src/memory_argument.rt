@@ -4,7 +4,7 @@ ghost use Rattle.wasm_below.specs.Source.{Reads, at_position, offset_of};
 ghost use Rattle.wasm_below.specs.Number.{EncodesUnsigned};
 ghost use Rattle.wasm_imm_memory.specs.MemoryArgument.{EncodesMemArg, EncodesOffset, IsOrderingByte};
 ghost use Rattle.wasm_imm_memory.specs.FlagsNumber.{Announces, NamesBoth, OrdersPlain, IsReserved, IsTarget, IsOrdering};
-ghost use Rattle.wasm_imm_memory.specs.MemArgFaults.{TargetFault, OrderingFault, OffsetFault, FlagsFault, MemArgFault};
+ghost use Rattle.wasm_imm_memory.specs.MemoryArgumentFaults.{TargetFault, OrderingFault, OffsetFault, FlagsFault, MemArgFault};
 
 use crate::ordering::Ordering;
 use wasm_below::{BinaryReader, Error, Message, Result, WasmFeatures};

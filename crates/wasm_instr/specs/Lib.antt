@@ -18,7 +18,7 @@ pub use Rattle.wasm_imm.specs.Vectors
 pub use Rattle.wasm_imm.specs.BlockTypes
 pub use Rattle.wasm_imm.specs.Lists
 pub use Rattle.wasm_imm.specs.BranchTables
-pub use Rattle.wasm_imm.specs.TableEquality
+pub use Rattle.wasm_imm.specs.BranchTableEquality
 pub use Rattle.wasm_imm.specs.Casts
 pub use Rattle.wasm_imm.specs.OutOfMemory
 pub use Rattle.wasm_imm.specs.Handlers

@@ -7,14 +7,14 @@ use Rattle.wasm_below.proofs.TakesLemmas.{same_rest}
 use Rattle.wasm_below.proofs.TypePrefixCodes.{heap_prefix_code}
 use Rattle.wasm_below.proofs.PrefixCode.{fixed_prefix_code_32, fixed_prefix_code_64}
 use Rattle.wasm_imm.specs.MemoryArgument.{EncodesMemArg}
-use Rattle.wasm_imm.proofs.Blocks.{block_prefix_code}
-use Rattle.wasm_imm.proofs.CastLemmas.{cast_prefix_code}
+use Rattle.wasm_imm.proofs.BlockTypes.{block_prefix_code}
+use Rattle.wasm_imm.proofs.Casts.{cast_prefix_code}
 use Rattle.wasm_imm.proofs.FlagsNumber.{memarg_prefix_code}
-use Rattle.wasm_imm.proofs.HandlerTableLemmas.{select_prefix_code, try_prefix_code, resume_prefix_code}
+use Rattle.wasm_imm.proofs.HandlerTables.{select_prefix_code, try_prefix_code, resume_prefix_code}
 use Rattle.wasm_below.proofs.PrefixCode.{byte_prefix_code}
 use Rattle.wasm_imm.proofs.ShortPrefixCodes.{index_prefix_code, ordering_byte_prefix_code, fence_prefix_code}
 use Rattle.wasm_imm.proofs.VectorPrefixCodes.{sixteen_prefix_code, vector_prefix_code}
-use Rattle.wasm_imm.proofs.Targets.{table_prefix_code}
+use Rattle.wasm_imm.proofs.BranchTables.{table_prefix_code}
 use Rattle.wasm_instr_rows.specs.Immediate.{Immediate, unsigned_32, signed_32, signed_64, float_32, float_64, vector, one_lane, sixteen_lanes, memory_argument, memory_index, table_index_32, order, fence_order, heap_type, cast, block_type, branch_table, select_types, try_clauses, resume_clauses, kind_of, EncodesImmediate, EncodesImmediates}
 
 immediate_prefix_code : (f : WasmFeatures) (i j : Immediate) (a b x y : List ℕ) → kind_of i ≡ kind_of j → EncodesImmediate f i a → EncodesImmediate f j b → a ++ x ≡ b ++ y → (i ≡ j) × (a ≡ b)

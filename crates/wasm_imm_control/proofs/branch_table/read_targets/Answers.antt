@@ -3,8 +3,8 @@ use Rattle.wasm_below.specs.Number.{EncodesUnsigned}
 use Rattle.wasm_below.proofs.TakesLemmas.{takes_none, takes_then}
 use Rattle.wasm_below.proofs.Blocks.{refused_now}
 use Rattle.wasm_below.specs.Source.{U32Fault}
-use Rattle.wasm_imm_control.proofs.Many.{many_more}
-use Rattle.wasm_imm_control.proofs.Targets.{target_refused}
+use Rattle.wasm_imm_control.proofs.ListLemmas.{many_more}
+use Rattle.wasm_imm_control.proofs.BranchTables.{target_refused}
 use Rattle.wasm_imm_control.proofs.Faults.{many_fault}
 use Rattle.wasm_imm_control.proofs.branch_table.read_targets.Goals as goal
 

@@ -1,4 +1,4 @@
-use Rattle.wasm_imm_control.proofs.Blocks.{block_prefix_code}
+use Rattle.wasm_imm_control.proofs.BlockTypes.{block_prefix_code}
 use Rattle.wasm_imm_control.proofs.laws.block_types.Goals as goal
 
 pub returns : goal.returns

@@ -1,4 +1,4 @@
-use Rattle.wasm_imm_control.proofs.CastLemmas.{cast_prefix_code}
+use Rattle.wasm_imm_control.proofs.Casts.{cast_prefix_code}
 use Rattle.wasm_imm_control.proofs.laws.casts.Goals as goal
 
 pub returns : goal.returns

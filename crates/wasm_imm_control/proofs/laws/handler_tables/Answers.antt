@@ -1,4 +1,4 @@
-use Rattle.wasm_imm_control.proofs.HandlerTableLemmas.{try_prefix_code, resume_prefix_code}
+use Rattle.wasm_imm_control.proofs.HandlerTables.{try_prefix_code, resume_prefix_code}
 use Rattle.wasm_imm_control.proofs.laws.handler_tables.Goals as goal
 
 pub returns-clause-catches : goal.returns-clause-catches

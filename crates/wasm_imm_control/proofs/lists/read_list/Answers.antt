@@ -9,7 +9,7 @@ use Rattle.wasm_below.proofs.TakesLemmas.{takes_then}
 use Rattle.wasm_below.proofs.PrefixCode.{size_prefix_code}
 use Rattle.wasm_below.proofs.Blocks.{refused_now}
 use Rattle.wasm_imm_control.specs.Lists.{EncodesMany, EncodesEach}
-use Rattle.wasm_imm_control.proofs.Refused.{begun_refused}
+use Rattle.wasm_imm_control.proofs.ListRefusals.{begun_refused}
 use Rattle.wasm_below.proofs.Steps.{unsigned_some}
 use Rattle.wasm_imm_control.proofs.Faults.{kept_fault}
 use Rattle.wasm_imm_control.proofs.lists.read_list.Goals as goal

@@ -5,8 +5,8 @@ use Rattle.wasm_below.specs.FromReader.{IsRefused, ReadsValue}
 use Rattle.wasm_below.specs.Source.{Reader}
 use Rattle.wasm_below.proofs.TakesLemmas.{takes_then}
 use Rattle.wasm_imm_control.specs.Lists.{EncodesMany}
-use Rattle.wasm_imm_control.proofs.Many.{many_more}
-use Rattle.wasm_imm_control.proofs.Refused.{member_refused}
+use Rattle.wasm_imm_control.proofs.ListLemmas.{many_more}
+use Rattle.wasm_imm_control.proofs.ListRefusals.{member_refused}
 use Rattle.wasm_imm_control.proofs.Faults.{none_here, many_fault}
 use Rattle.wasm_imm_control.proofs.lists.read_members.Goals as goal
 

@@ -1,4 +1,4 @@
-use Rattle.wasm_imm_memory.proofs.DeterminedMemArgRefusals.{memarg_determines}
+use Rattle.wasm_imm_memory.proofs.DeterminedMemoryArgumentRefusals.{memarg_determines}
 use Rattle.wasm_imm_memory.proofs.laws.memory_argument_refusals.Goals as goal
 
 pub returns : goal.returns

@@ -3,8 +3,8 @@ use Rattle.wasm_below.specs.Source.{rest, BeginsWith}
 use Rattle.wasm_below.specs.TypeEncoding.{EncodesValType}
 use Rattle.wasm_below.proofs.Prefixes.{end_refused, led_refused, led_reads, advanced}
 use Rattle.wasm_imm_control.specs.BlockTypes.{EncodesBlockType, EncodesFunctionType}
-use Rattle.wasm_imm_control.specs.BlockFaults.{LeadsValType}
-use Rattle.wasm_imm_control.proofs.Blocks.{block_empty, value_block, function_block, block_function}
+use Rattle.wasm_imm_control.specs.BlockTypeFaults.{LeadsValType}
+use Rattle.wasm_imm_control.proofs.BlockTypes.{block_empty, value_block, function_block, block_function}
 use Rattle.wasm_imm_control.proofs.Faults.{block_ended, index_fault}
 use Rattle.wasm_imm_control.proofs.block_type.BlockType.read.Goals as goal
 use Rattle.wasm_imm_control.proofs.block_type.BlockType.read.Goals.{in_default-via-then-byte-lt64, in_default-via-else-byte-lt64+else-byte-lt128}

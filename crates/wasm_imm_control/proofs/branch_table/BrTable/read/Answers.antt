@@ -4,7 +4,7 @@ use Rattle.wasm_below.specs.Number.{EncodesUnsigned, EncodesSize}
 use Rattle.wasm_below.proofs.Blocks.{refused_now}
 use Rattle.wasm_imm_control.specs.BranchTables.{max_targets}
 use Rattle.wasm_below.specs.Source.{U32Fault}
-use Rattle.wasm_imm_control.proofs.Targets.{targets_refused, default_refused, table_read}
+use Rattle.wasm_imm_control.proofs.BranchTables.{targets_refused, default_refused, table_read}
 use Rattle.wasm_imm_control.proofs.Faults.{many_fault, many_wider}
 use Rattle.wasm_imm_control.proofs.branch_table.BrTable.read.Goals as goal
 

@@ -3,7 +3,7 @@ use Rattle.wasm_below.specs.Number.{EncodesUnsigned}
 use Rattle.wasm_below.specs.Source.{rest}
 use Rattle.wasm_imm_control.specs.Lists.{EncodesMany}
 use Rattle.wasm_imm_control.specs.BranchTables.{BranchTable, numbers_of}
-use Rattle.wasm_imm_control.proofs.Targets.{targets_encoded}
+use Rattle.wasm_imm_control.proofs.BranchTables.{targets_encoded}
 use Rattle.wasm_imm_control.proofs.branch_table.BrTable.targets.Goals as goal
 
 pub returns : goal.returns

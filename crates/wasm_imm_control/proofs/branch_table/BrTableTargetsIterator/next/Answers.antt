@@ -2,7 +2,7 @@ use Rattle.std.proofs.Common.{◌<◌, length, sym, ap, ◌∙◌, arith}
 use Rattle.std.specs.Prelude.{map, Ok}
 use Rattle.wasm_below.specs.Source.{rest}
 use Rattle.wasm_imm_control.specs.BranchTables.{numbers_of}
-use Rattle.wasm_imm_control.proofs.Targets.{next_target}
+use Rattle.wasm_imm_control.proofs.BranchTables.{next_target}
 use Rattle.wasm_imm_control.proofs.branch_table.BrTableTargetsIterator.next.Goals as goal
 
 pub invariant_of-self : goal.invariant_of-self

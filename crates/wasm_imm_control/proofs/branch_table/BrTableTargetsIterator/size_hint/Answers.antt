@@ -1,6 +1,6 @@
 use Rattle.std.proofs.Common.{◌≡◌, length, sym, ap, ◌∙◌, Some, arith}
 use Rattle.wasm_below.specs.Source.{rest}
-use Rattle.wasm_imm_control.proofs.Targets.{as_many}
+use Rattle.wasm_imm_control.proofs.BranchTables.{as_many}
 use Rattle.wasm_imm_control.proofs.branch_table.BrTableTargetsIterator.size_hint.Goals as goal
 
 pub returns-clause-lower : goal.returns-clause-lower

@@ -2,7 +2,7 @@ use Rattle.std.proofs.Common.{true}
 use Rattle.wasm_imm_control.specs.Handlers.{EncodesHandle}
 use Rattle.wasm_imm_control.specs.HandlerTables.{max_handlers, EncodesResumeTable}
 use Rattle.wasm_imm_control.specs.Lists.{EncodesList}
-use Rattle.wasm_imm_control.proofs.Refused.{refused_by}
+use Rattle.wasm_imm_control.proofs.ListRefusals.{refused_by}
 use Rattle.wasm_imm_control.proofs.handler_tables.ResumeTableFromReader.from_reader.Goals as goal
 
 pub returns-in-Err-clause-reads : goal.returns-in-Err-clause-reads

@@ -1,4 +1,4 @@
-use Rattle.wasm_imm_control.proofs.HandlerTableLemmas.{resume_prefix_code}
+use Rattle.wasm_imm_control.proofs.HandlerTables.{resume_prefix_code}
 use Rattle.wasm_imm_control.proofs.handler_tables.ResumeTableFromReader.is_prefix_code.Goals as goal
 
 pub returns : goal.returns

@@ -8,7 +8,7 @@ use Rattle.wasm_imm_control.specs.Handlers.{EncodesCatch}
 use Rattle.wasm_imm_control.specs.HandlerFaults.{CatchFault}
 use Rattle.wasm_imm_control.specs.HandlerTables.{max_catches}
 use Rattle.wasm_imm_control.specs.ListFaults.{ListFault}
-use Rattle.wasm_imm_control.proofs.HandlerTableLemmas.{catches_refused}
+use Rattle.wasm_imm_control.proofs.HandlerTables.{catches_refused}
 use Rattle.wasm_imm_control.proofs.Faults.{kept_fault}
 use Rattle.wasm_imm_control.proofs.handler_tables.TryTableFromReader.from_reader.Goals as goal
 

@@ -1,4 +1,4 @@
-use Rattle.wasm_imm_control.proofs.HandlerTableLemmas.{try_prefix_code}
+use Rattle.wasm_imm_control.proofs.HandlerTables.{try_prefix_code}
 use Rattle.wasm_imm_control.proofs.handler_tables.TryTableFromReader.is_prefix_code.Goals as goal
 
 pub returns : goal.returns

@@ -6,7 +6,7 @@ use Rattle.wasm_below.specs.TypeEncoding.{EncodesValType, ValTypeFault}
 use Rattle.wasm_below.proofs.TakesLemmas.{takes_then}
 use Rattle.wasm_below.proofs.Blocks.{refused_now}
 use Rattle.wasm_imm_control.specs.HandlerTables.{max_select_types}
-use Rattle.wasm_imm_control.proofs.HandlerTableLemmas.{one_read, type_refused, types_refused, not_one}
+use Rattle.wasm_imm_control.proofs.HandlerTables.{one_read, type_refused, types_refused, not_one}
 use Rattle.wasm_imm_control.proofs.Faults.{kept_fault}
 use Rattle.wasm_imm_control.proofs.select.Select.read.Goals as goal
 

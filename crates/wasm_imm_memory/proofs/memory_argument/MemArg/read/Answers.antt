@@ -8,9 +8,9 @@ use Rattle.wasm_below.proofs.Blocks.{refused_now}
 use Rattle.wasm_imm_memory.specs.declared.memory_argument.MemArg.{MemArg}
 use Rattle.wasm_imm_memory.specs.declared.memory_argument.MemArgKind.{MemArgKind}
 use Rattle.wasm_imm_memory.specs.MemoryArgument.{EncodesOffset}
-use Rattle.wasm_imm_memory.specs.MemArgFaults.{OffsetFault, FlagsFault, MemArgFault}
+use Rattle.wasm_imm_memory.specs.MemoryArgumentFaults.{OffsetFault, FlagsFault, MemArgFault}
 use Rattle.wasm_imm_memory.proofs.FlagsNumber.{short_refused, short_read}
-use Rattle.wasm_imm_memory.proofs.MemArgFaults.{short_fault, behind_fault}
+use Rattle.wasm_imm_memory.proofs.MemoryArgumentFaults.{short_fault, behind_fault}
 use Rattle.wasm_imm_memory.proofs.memory_argument.MemArg.read.Goals as goal
 
 pub returns-in-Err-read_offset-clause-reads : goal.returns-in-Err-read_offset-clause-reads

@@ -11,7 +11,7 @@ use Rattle.wasm_below.specs.Source.{Reader, offset_of, U32Fault, U64Fault}
 use Rattle.wasm_below.proofs.DeterminedRefusals.{number_determines, u32_determines, then_determines, either_determines, checked_determines}
 use Rattle.wasm_imm_memory.specs.declared.memory_argument.MemArgKind.{MemArgKind}
 use Rattle.wasm_imm_memory.specs.FlagsNumber.{NamesBoth, OrdersPlain, IsReserved, IsTarget, IsOrdering}
-use Rattle.wasm_imm_memory.specs.MemArgFaults.{CheckFault, TargetFault, IsNoOrdering, OrderingFault, OffsetFault, BehindOrderingFault, BehindTargetFault, FlagsFault, MemArgFault}
+use Rattle.wasm_imm_memory.specs.MemoryArgumentFaults.{CheckFault, TargetFault, IsNoOrdering, OrderingFault, OffsetFault, BehindOrderingFault, BehindTargetFault, FlagsFault, MemArgFault}
 use Rattle.wasm_imm_memory.proofs.FlagsNumber.{target_prefix_code, ordering_prefix_code}
 use Rattle.wasm_below.proofs.Steps.{number_prefix_code}
 

@@ -11,7 +11,7 @@ use Rattle.wasm_below.proofs.Sequences.{then_first}
 use Rattle.wasm_imm_control.specs.Lists.{EncodesMany}
 use Rattle.wasm_imm_control.specs.OutOfMemory.{IsOutOfMemoryAt, IsBegunAt}
 use Rattle.wasm_below.proofs.Steps.{began_within, no_second}
-use Rattle.wasm_imm_control.proofs.Many.{PrefixAlone, many_none}
+use Rattle.wasm_imm_control.proofs.ListLemmas.{PrefixAlone, many_none}
 
 -- a refusal that is not allocation failure
 pub as_refused : {X : Type 0} (P : List ℕ → X → Type 0) (takes : Bool) (e : Error) (old : Reader) → IsRefusal P e old → IsRefused P takes e old

@@ -12,7 +12,7 @@ use Rattle.wasm_imm_memory.specs.declared.memory_argument.MemArgTarget.TheVarian
 use Rattle.wasm_imm_memory.specs.declared.memory_argument.MemArgOrdering.{MemArgOrdering}
 use Rattle.wasm_imm_memory.specs.declared.memory_argument.MemArgKind.{MemArgKind}
 use Rattle.wasm_imm_memory.specs.FlagsNumber.{NamesBoth, OrdersPlain, IsReserved, IsTarget, IsOrdering}
-use Rattle.wasm_imm_memory.specs.MemArgFaults.{TargetFault, OrderingFault, OffsetFault, FlagsFault, MemArgFault}
+use Rattle.wasm_imm_memory.specs.MemoryArgumentFaults.{TargetFault, OrderingFault, OffsetFault, FlagsFault, MemArgFault}
 use Rattle.wasm_imm_memory.proofs.FlagsNumber.{memory_zero, no_ordering, none_reserved}
 
 module _ (f : WasmFeatures) (k : MemArgKind) (flags start : ℕ) (mid : Reader) (one : ¬ NamesBoth f flags) where

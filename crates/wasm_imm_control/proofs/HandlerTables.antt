@@ -22,10 +22,10 @@ use Rattle.wasm_imm_control.specs.Handlers.{EncodesCatch, EncodesHandle}
 use Rattle.wasm_imm_control.specs.HandlerTables.{max_catches, max_handlers, max_select_types, EncodesTryTable, EncodesResumeTable, EncodesSelect, EncodesOne}
 use Rattle.wasm_imm_control.specs.Lists.{EncodesEach, EncodesMany, EncodesList}
 use Rattle.wasm_imm_control.specs.OutOfMemory.{IsBegunAt}
-use Rattle.wasm_imm_control.proofs.Blocks.{block_prefix_code, block_empty}
+use Rattle.wasm_imm_control.proofs.BlockTypes.{block_prefix_code, block_empty}
 use Rattle.wasm_imm_control.proofs.HandlerLemmas.{catch_prefix_code, handle_prefix_code}
-use Rattle.wasm_imm_control.proofs.Many.{list_prefix_code}
-use Rattle.wasm_imm_control.proofs.Refused.{begun_refused, refused_by, as_refused}
+use Rattle.wasm_imm_control.proofs.ListLemmas.{list_prefix_code}
+use Rattle.wasm_imm_control.proofs.ListRefusals.{begun_refused, refused_by, as_refused}
 use Rattle.wasm_below.proofs.Steps.{unsigned_some, second_refused}
 
 resume_of : List Handle → ResumeTable

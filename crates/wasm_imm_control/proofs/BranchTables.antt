@@ -16,9 +16,9 @@ use Rattle.wasm_imm_control.specs.BranchTables.{BranchTable, AreTargets, Encodes
 use Rattle.std.proofs.lemmas.Bool.{eqb-true}
 use Rattle.std.specs.Cmp.{first_so, second_so}
 use Rattle.std.specs.Cmp.Lexicographic.{same_text}
-use Rattle.wasm_imm_control.specs.TableEquality.{same_table}
+use Rattle.wasm_imm_control.specs.BranchTableEquality.{same_table}
 use Rattle.wasm_below.proofs.Steps.{number_prefix_code}
-use Rattle.wasm_imm_control.proofs.Many.{many_prefix_code, many_refused}
+use Rattle.wasm_imm_control.proofs.ListLemmas.{many_prefix_code, many_refused}
 
 with_last : (byte : ℕ) (numbers : List ℕ) → byte < 128 → with_byte byte numbers ≡ byte ∷ numbers
 with_last byte [] lt = refl
