@@ -1,12 +1,15 @@
 pub mod Blocks
 pub mod DeterminedRefusals
 pub mod Faults
+pub mod Groups
 pub mod Numbers
+pub mod NumbersAt
 pub mod Parts
 pub mod PrefixCode
 pub mod Prefixes
 pub mod ReadOn
 pub mod Sequences
+pub mod SignedJoins
 pub mod SignedNumbers
 pub mod Steps
 pub mod TakesLemmas

@@ -39,6 +39,12 @@ fits_join width high low wide lt h =
     let s : 128 * 2 ^ (width - 7 - 1) ≡ 2 ^ (width - 1) = sym (pow-add 2 7 (width - 7 - 1)) ∙ ap (λ k. 2 ^ k) e in
     subst (λ x. (neg_ℤ (pos x) ≤ℤ ((pos 128 *ℤ high) +ℤ pos low)) × (((pos 128 *ℤ high) +ℤ pos low) <ℤ pos x)) s (joined high (2 ^ (width - 7 - 1)) low lt h)
 
+-- what is encoded keeps to its width
+pub signed_fits : (text : List ℕ) (width : ℕ) (n : ℤ) → EncodesSigned width text n → FitsWidth width n
+signed_fits [] width n p = absurd p
+signed_fits (c ∷ []) width n p = p.2
+signed_fits (c ∷ d ∷ text) width n (w, le, lt, high, e, p) = subst (FitsWidth width) (sym e) (fits_join width high (c - 128) w (omega arith) (signed_fits (d ∷ text) (width - 7) high p))
+
 pub signed_none : (bytes : List ℕ) (width : ℕ) → NoPrefix IsByte bytes → NoPrefix (EncodesSigned width) bytes
 signed_none bytes width none [] rest x p e = p
 signed_none bytes width none (c ∷ []) rest x p e = none (c ∷ []) rest c (refl, omega (arith, p.0)) e

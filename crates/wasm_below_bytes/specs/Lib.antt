@@ -2,6 +2,7 @@ pub mod Fault
 pub mod Features
 pub mod FromReader
 pub mod Items
+pub mod Leb128
 pub mod Number
 pub mod PartFaults
 pub mod Refusal

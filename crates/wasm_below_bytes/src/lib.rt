@@ -9,6 +9,7 @@ mod error;
 mod features;
 mod from_reader;
 pub mod laws;
+mod long_numbers;
 mod message;
 
 pub use binary_reader::BinaryReader;

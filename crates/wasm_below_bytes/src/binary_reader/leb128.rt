@@ -1,11 +1,16 @@
 //! LEB128 numbers: seven bits a byte, the lowest first. Values, Integers.
-ghost use Rattle.std.specs.Prelude.{◌≡◌, ◌+◌, ◌-◌, ◌≤◌, ◌<◌, ◌^◌, IsTrue, ◌↔◌, [], ◌∷◌, IfOk, IfErr, IfSome, IfNone, pos, ◌*ℤ◌, ◌+ℤ◌};
-ghost use Rattle.wasm_below_bytes.specs.Source.{Takes, Reads, NumberFault, TooLongFault, as_too_long};
+ghost use Rattle.std.specs.Prelude.{◌≡◌, ◌<◌, [], ◌∷◌, IfErr, IfSome, IfNone};
+ghost use Rattle.wasm_below_bytes.specs.Source.{Takes, Reads, NumberFault, TooLongFault, as_too_long, offset_of, end_of};
 ghost use Rattle.wasm_below_bytes.specs.Refusal.{NamesNumber};
-ghost use Rattle.wasm_below_bytes.specs.Number.{EncodesUnsigned, EncodesSigned, FitsWidth, last_value};
+ghost use Rattle.wasm_below_bytes.specs.Number.{EncodesUnsigned, EncodesSigned};
+ghost use Rattle.wasm_below_bytes.specs.Leb128.{HasPlace, refusal_message, refusal_offset};
 
 use super::BinaryReader;
 use crate::error::{Error, Result};
+use crate::long_numbers::{
+    NumberRefusal, last_value, long_i32, long_i64, long_s33, long_u32, long_u64, number_error,
+    two_bytes,
+};
 use crate::message::{Message, NumberName};
 
 impl<'a> BinaryReader<'a> {
@@ -102,121 +107,103 @@ impl<'a> BinaryReader<'a> {
     }
 
     /// The long form of `read_var_u32`.
-    #[inline(never)]
+    #[inline(always)]
     fn read_long_u32(&mut self) -> Result<u32>
         ensures reads { Reads (EncodesUnsigned 32) result self.old self.new }
         ensures fault { IfErr result (λ e. NumberFault e.message 32 self.old e.offset) }
         ensures named { IfErr result (λ e. NamesNumber NumberName.VarU32 e.message) }
     {
-        match self.read_unsigned(32, NumberName::VarU32) {
-            Ok(n) => Ok(n as u32),
-            Err(e) => Err(e),
+        if let Some(number) = two_bytes(self.buffer, self.position) {
+            self.position = number.behind;
+            return Ok(number.value as u32);
+        }
+        match long_u32(self.buffer, self.position) {
+            Ok(number) => {
+                self.position = number.behind;
+                Ok(number.value as u32)
+            }
+            Err(refusal) => Err(self.no_number(refusal, 32, NumberName::VarU32)),
         }
     }
 
     /// The long form of `read_var_u64`.
-    #[inline(never)]
+    #[inline(always)]
     fn read_long_u64(&mut self) -> Result<u64>
         ensures reads { Reads (EncodesUnsigned 64) result self.old self.new }
         ensures fault { IfErr result (λ e. NumberFault e.message 64 self.old e.offset) }
         ensures named { IfErr result (λ e. NamesNumber NumberName.VarU64 e.message) }
     {
-        self.read_unsigned(64, NumberName::VarU64)
+        if let Some(number) = two_bytes(self.buffer, self.position) {
+            self.position = number.behind;
+            return Ok(number.value);
+        }
+        match long_u64(self.buffer, self.position) {
+            Ok(number) => {
+                self.position = number.behind;
+                Ok(number.value)
+            }
+            Err(refusal) => Err(self.no_number(refusal, 64, NumberName::VarU64)),
+        }
     }
 
     /// The long form of `read_var_i32`.
-    #[inline(never)]
+    #[inline(always)]
     fn read_long_i32(&mut self) -> Result<i32>
         ensures reads { Reads (EncodesSigned 32) result self.old self.new }
         ensures fault { IfErr result (λ e. NumberFault e.message 32 self.old e.offset) }
         ensures named { IfErr result (λ e. NamesNumber NumberName.VarI32 e.message) }
     {
-        match self.read_signed(32, NumberName::VarI32) {
-            Ok(n) => Ok(n as i32),
-            Err(e) => Err(e),
+        match long_i32(self.buffer, self.position) {
+            Ok(number) => {
+                self.position = number.behind;
+                Ok(number.value as i32)
+            }
+            Err(refusal) => Err(self.no_number(refusal, 32, NumberName::VarI32)),
         }
     }
 
     /// The long form of `read_var_s33`.
-    #[inline(never)]
+    #[inline(always)]
     fn read_long_s33(&mut self) -> Result<i64>
         ensures reads { Reads (EncodesSigned 33) result self.old self.new }
         ensures fault { IfErr result (λ e. TooLongFault e.message 33 self.old e.offset) }
         ensures named { IfErr result (λ e. NamesNumber NumberName.VarS33 e.message) }
     {
-        match self.read_signed(33, NumberName::VarS33) {
-            Ok(n) => Ok(n),
-            Err(e) => Err(as_too_long(e)),
+        match long_s33(self.buffer, self.position) {
+            Ok(number) => {
+                self.position = number.behind;
+                Ok(number.value)
+            }
+            Err(refusal) => Err(as_too_long(self.no_number(refusal, 33, NumberName::VarS33))),
         }
     }
 
     /// The long form of `read_var_i64`.
-    #[inline(never)]
+    #[inline(always)]
     fn read_long_i64(&mut self) -> Result<i64>
         ensures reads { Reads (EncodesSigned 64) result self.old self.new }
         ensures fault { IfErr result (λ e. NumberFault e.message 64 self.old e.offset) }
         ensures named { IfErr result (λ e. NamesNumber NumberName.VarI64 e.message) }
     {
-        self.read_signed(64, NumberName::VarI64)
-    }
-
-    /// An unsigned LEB128 number of at most this many bits.
-    fn read_unsigned(&mut self, bits: u32, kind: NumberName) -> Result<u64>
-        requires low { 0 < bits }
-        requires high { bits ≤ 64 }
-        ensures reads { Reads (EncodesUnsigned bits) result self.old self.new }
-        ensures below { IfOk result (λ n. n < 2 ^ bits) }
-        ensures fault { IfErr result (λ e. NumberFault e.message bits self.old e.offset) }
-        ensures named { IfErr result (λ e. NamesNumber kind e.message) }
-    {
-        let start = self.position;
-        let byte = self.read_u8()?;
-        if byte < 128 {
-            if bits < 7 && byte >> bits != 0 {
-                return Err(self.refuse(start, Message::IntegerTooLarge(kind)));
+        match long_i64(self.buffer, self.position) {
+            Ok(number) => {
+                self.position = number.behind;
+                Ok(number.value)
             }
-            return Ok(u64::from(byte));
-        }
-        if bits <= 7 {
-            return Err(self.refuse(start, Message::IntegerTooLong(kind)));
-        }
-        match self.read_unsigned(bits - 7, kind) {
-            Ok(high) => Ok(128 * high + u64::from(byte - 128)),
-            Err(e) => {
-                self.rewind(start);
-                Err(e)
-            }
+            Err(refusal) => Err(self.no_number(refusal, 64, NumberName::VarI64)),
         }
     }
 
-    /// A signed LEB128 number of at most this many bits.
-    fn read_signed(&mut self, bits: u32, kind: NumberName) -> Result<i64>
-        requires low { 0 < bits }
-        requires high { bits ≤ 64 }
-        ensures reads { Reads (EncodesSigned bits) result self.old self.new }
-        ensures within { IfOk result (λ n. FitsWidth bits n) }
-        ensures fault { IfErr result (λ e. NumberFault e.message bits self.old e.offset) }
-        ensures named { IfErr result (λ e. NamesNumber kind e.message) }
+    /// The error of a number of at most this many bits that does not stand here.
+    #[inline(always)]
+    fn no_number(&self, refusal: NumberRefusal, bits: u32, name: NumberName) -> Error
+        requires some { 0 < bits }
+        requires place { HasPlace refusal bits (offset_of self.now) (end_of self.now) }
+        ensures message { result.message ≡ refusal_message refusal name }
+        ensures offset { result.offset ≡ refusal_offset refusal bits (offset_of self.now) (end_of self.now) }
     {
-        let start = self.position;
-        let byte = self.read_u8()?;
-        if byte < 128 {
-            let value = last_value(byte);
-            if !fits_width(value, bits) {
-                return Err(self.refuse(start, Message::IntegerTooLarge(kind)));
-            }
-            return Ok(value);
-        }
-        if bits <= 7 {
-            return Err(self.refuse(start, Message::IntegerTooLong(kind)));
-        }
-        match self.read_signed(bits - 7, kind) {
-            Ok(high) => Ok(join_signed(high, byte - 128)),
-            Err(e) => {
-                self.rewind(start);
-                Err(e)
-            }
-        }
+        let end = self.original_offset + self.buffer.len() as u64;
+        number_error(refusal, self.original_position(), end, bits, name)
     }
 }
 
@@ -229,39 +216,4 @@ fn as_too_long(e: Error) -> Error
         Message::IntegerTooLarge(kind) => Error::new(Message::IntegerTooLong(kind), e.offset),
         _ => e,
     }
-}
-
-/// The seven bits of a last byte, the highest of them the sign.
-fn last_value(byte: u8) -> i64
-    requires { byte < 128 }
-    ensures value { result ≡ last_value byte }
-    ensures small { FitsWidth 7 result }
-{
-    if byte < 64 {
-        i64::from(byte)
-    } else {
-        i64::from(byte) - 128
-    }
-}
-
-/// Whether a value of seven bits has no more than these.
-fn fits_width(value: i64, bits: u32) -> bool
-    requires low { 0 < bits }
-    requires small { FitsWidth 7 value }
-    ensures { IsTrue result ↔ FitsWidth bits value }
-{
-    if bits >= 7 {
-        return true;
-    }
-    let half = i64::from(1u8 << (bits - 1));
-    -half <= value && value < half
-}
-
-/// A number from its high bits and its seven low bits.
-fn join_signed(high: i64, low: u8) -> i64
-    requires fits { FitsWidth 57 high }
-    requires small { low < 128 }
-    ensures { result ≡ (pos 128 *ℤ high) +ℤ pos low }
-{
-    128 * high + i64::from(low)
 }

@@ -1,0 +1,138 @@
+//! The readers of numbers and immediates by themselves, as a static library that is timed
+//! (`tools/bench`). Each function reads its bytes from the first to the last, with all features,
+//! and answers a sum of what it read, so that no reading can be left out. Where a reading is
+//! refused it answers the sum so far.
+#![tactic(auto)]
+
+ghost use Rattle.std.specs.Prelude.{◌≡◌, ◌<◌, ◌^◌, length};
+ghost use Rattle.wasm_below.specs.Features.{all_features};
+ghost use Rattle.wasm_below.specs.Source.{reader_of};
+
+use std::alloc::Global;
+use wasm_below::BinaryReader;
+use wasm_imm::{BlockType, BrTable, MemArg, MemArgKind};
+
+/// The sum of the bytes.
+#[unsafe(no_mangle)]
+pub extern "C" fn wasm_bench_u8(_alloc: Global, bytes: &[u8]) -> u64 {
+    let mut reader = reader_of(bytes);
+    let mut sum: u64 = 0;
+    while !reader.eof() {
+        match reader.read_u8() {
+            Ok(byte) => sum = sum.wrapping_add(u64::from(byte)),
+            Err(_) => return sum,
+        }
+    }
+    sum
+}
+
+/// The sum of the unsigned numbers of 32 bits.
+#[unsafe(no_mangle)]
+pub extern "C" fn wasm_bench_u32(_alloc: Global, bytes: &[u8]) -> u64 {
+    let mut reader = reader_of(bytes);
+    let mut sum: u64 = 0;
+    while !reader.eof() {
+        match reader.read_var_u32() {
+            Ok(number) => sum = sum.wrapping_add(u64::from(number)),
+            Err(_) => return sum,
+        }
+    }
+    sum
+}
+
+/// The sum of the signed numbers of 32 bits, each as its bits.
+#[unsafe(no_mangle)]
+pub extern "C" fn wasm_bench_i32(_alloc: Global, bytes: &[u8]) -> u64 {
+    let mut reader = reader_of(bytes);
+    let mut sum: u64 = 0;
+    while !reader.eof() {
+        match reader.read_var_i32() {
+            Ok(number) => sum = sum.wrapping_add(u64::from(number.cast_unsigned())),
+            Err(_) => return sum,
+        }
+    }
+    sum
+}
+
+/// The sum of the signed numbers of 64 bits, each as its bits.
+#[unsafe(no_mangle)]
+pub extern "C" fn wasm_bench_i64(_alloc: Global, bytes: &[u8]) -> u64 {
+    let mut reader = reader_of(bytes);
+    let mut sum: u64 = 0;
+    while !reader.eof() {
+        match reader.read_var_i64() {
+            Ok(number) => sum = sum.wrapping_add(number.cast_unsigned()),
+            Err(_) => return sum,
+        }
+    }
+    sum
+}
+
+/// The sum of the offsets and alignments of memory arguments.
+#[unsafe(no_mangle)]
+pub extern "C" fn wasm_bench_memarg(_alloc: Global, bytes: &[u8]) -> u64 {
+    let mut reader = reader_of(bytes);
+    let mut sum: u64 = 0;
+    while !reader.eof() {
+        match MemArg::read(&mut reader, 2, MemArgKind::Plain) {
+            Ok(argument) => {
+                sum = sum
+                    .wrapping_add(argument.offset)
+                    .wrapping_add(u64::from(argument.align));
+            }
+            Err(_) => return sum,
+        }
+    }
+    sum
+}
+
+/// The sum over block types: 1 for none, 2 for a value type, else the index.
+#[unsafe(no_mangle)]
+pub extern "C" fn wasm_bench_block(_alloc: Global, bytes: &[u8]) -> u64 {
+    let mut reader = reader_of(bytes);
+    let mut sum: u64 = 0;
+    while !reader.eof() {
+        match BlockType::read(&mut reader) {
+            Ok(ty) => sum = sum.wrapping_add(block_number(ty)),
+            Err(_) => return sum,
+        }
+    }
+    sum
+}
+
+/// The sum of the counts and default targets of branch tables.
+#[unsafe(no_mangle)]
+pub extern "C" fn wasm_bench_br_table(_alloc: Global, bytes: &[u8]) -> u64 {
+    let mut reader = reader_of(bytes);
+    let mut sum: u64 = 0;
+    while !reader.eof() {
+        match BrTable::read(&mut reader) {
+            Ok(table) => {
+                sum = sum
+                    .wrapping_add(u64::from(table.len()))
+                    .wrapping_add(u64::from(table.default()));
+            }
+            Err(_) => return sum,
+        }
+    }
+    sum
+}
+
+/// What a block type adds to the sum.
+#[inline(always)]
+fn block_number(ty: BlockType) -> u64 {
+    match ty {
+        BlockType::Empty => 1,
+        BlockType::Value(_) => 2,
+        BlockType::FuncType(index) => u64::from(index),
+    }
+}
+
+/// A reader of these bytes; of none where there are more than offsets.
+#[inline(always)]
+fn reader_of<'a>(bytes: &'a [u8]) -> BinaryReader<'a> {
+    if bytes.len() > BinaryReader::max_data_len(0) {
+        return BinaryReader::new(&[], 0);
+    }
+    BinaryReader::new(bytes, 0)
+}
