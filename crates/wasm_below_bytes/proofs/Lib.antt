@@ -1,7 +1,7 @@
 pub mod Blocks
 pub mod DeterminedRefusals
 pub mod Faults
-pub mod LongNumbers
+pub mod Groups
 pub mod Numbers
 pub mod NumbersAt
 pub mod Parts

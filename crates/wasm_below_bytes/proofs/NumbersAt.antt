@@ -1,18 +1,18 @@
 -- From the groups that were read to the number that they encode, or to why there is none.
-use Rattle.std.proofs.Common.{◌≡◌, ℕ, ◌+◌, ◌-◌, ◌*◌, ◌/◌, ◌<◌, ◌≤◌, ◌^◌, List, [], ◌∷◌, ◌++◌, length, drop, refl, sym, subst, ap, ◌∙◌, append_assoc, length-append, length-drop, arith, inl, inr, ◌⊎◌, ℤ, pos, ◌+ℤ◌, ◌*ℤ◌}
+use Rattle.std.proofs.Common.{◌≡◌, ℕ, ◌+◌, ◌-◌, ◌*◌, ◌/◌, ◌<◌, ◌≤◌, ◌^◌, List, [], ◌∷◌, ◌++◌, length, drop, get_or, refl, sym, subst, ap, ◌∙◌, append_assoc, length-append, length-drop, arith, inl, inr, ◌⊎◌, ℤ, pos, ◌+ℤ◌, ◌*ℤ◌}
 use Rattle.std.specs.Prelude.{slice_index}
 use Rattle.std.proofs.lemmas.List.{get_or-drop, append-nil}
 use Rattle.std.proofs.Math.Nat.{pow-le-pow_right}
 use Rattle.std.proofs.lemmas.Bool.{cases_lt}
-use Rattle.wasm_below_bytes.specs.declared.leb128.Groups.{Groups}
-use Rattle.wasm_below_bytes.specs.declared.leb128.NumberRefusal.{NumberRefusal}
-use Rattle.wasm_below_bytes.specs.declared.leb128.NumberRefusal.TheVariants as refusal
-use Rattle.wasm_below_bytes.specs.Leb128.{AllGoOn, low_bits, signed_value, IsGroups, RefusesGroups, NumberAt, NeverBegins, NoNumber}
+use Rattle.wasm_below_bytes.specs.declared.long_numbers.Groups.{Groups}
+use Rattle.wasm_below_bytes.specs.declared.long_numbers.NumberRefusal.{NumberRefusal}
+use Rattle.wasm_below_bytes.specs.declared.long_numbers.NumberRefusal.TheVariants as refusal
+use Rattle.wasm_below_bytes.specs.Leb128.{AllGoOn, low_bits, signed_value, StandsAt, IsGroups, RefusesGroups, NumberAt, NeverBegins, NoNumber}
 use Rattle.wasm_below_bytes.specs.Number.{EncodesUnsigned, EncodesSigned, FitsWidth, last_value}
 use Rattle.wasm_below_bytes.specs.Source.{NoPrefix}
 use Rattle.wasm_below_bytes.proofs.Numbers.{wide_fits}
 use Rattle.wasm_below_bytes.proofs.SignedNumbers.{narrow, signed_large}
-use Rattle.wasm_below_bytes.proofs.LongNumbers.{IsLeb128, joined, continued, none_behind, unsigned_leb128, signed_leb128, unsigned_joined, signed_joined, low_below}
+use Rattle.wasm_below_bytes.proofs.Groups.{IsLeb128, joined, continued, none_behind, unsigned_leb128, signed_leb128, unsigned_joined, signed_joined, low_below, stands_more}
 
 -- the byte behind a text
 byte_behind : (bytes text after : List ℕ) (c : ℕ) → bytes ≡ text ++ c ∷ after → slice_index bytes (length text) ≡ c
@@ -95,3 +95,13 @@ unsigned_over width last small over = (within (cases_lt 7 width), λ more text a
 
 pub signed_over : (width last : ℕ) → last < 128 → FitsWidth 7 (last_value last) → (FitsWidth width (last_value last) → ⊥) → (width ≤ 7) × ((more : List ℕ) → NoPrefix (EncodesSigned width) (last ∷ more))
 signed_over width last small seven over = (narrow width (last_value last) seven over, λ more. signed_large (last ∷ more) more last width (last_value last) refl small refl over)
+
+-- two bytes, of which the first alone goes on
+pub two_bytes_at : (width : ℕ) (buffer : List ℕ) (start n : ℕ) → 14 ≤ width → start + 1 < length buffer → 128 ≤ get_or buffer start 0 → get_or buffer start 0 < 256 → get_or buffer (start + 1) 0 < 128 → n ≡ get_or buffer start 0 - 128 + 128 * get_or buffer (start + 1) 0 → NumberAt (EncodesUnsigned width) buffer start n (start + 2)
+two_bytes_at width buffer start n wide lt ge small last e =
+    let none : StandsAt buffer start start [] = record { parts = refl; ends = omega arith } in
+    let one = stands_more buffer [] start start (omega arith) none in
+    let two = stands_more buffer (get_or buffer start 0 ∷ []) start (start + 1) lt one in
+    let room : get_or buffer (start + 1) 0 < 2 ^ (width - 7) = wide_fits (get_or buffer (start + 1) 0) (width - 7) last (omega arith) in
+    let behind : start + 1 + 1 ≡ start + 2 = omega arith in
+    (get_or buffer start 0 ∷ get_or buffer (start + 1) 0 ∷ [], (omega arith, ge, small, get_or buffer (start + 1) 0, omega (arith, e), (last, refl, room)), subst (λ k. StandsAt buffer start k (get_or buffer start 0 ∷ get_or buffer (start + 1) 0 ∷ [])) behind two)

@@ -1,11 +1,10 @@
 -- Reading a number with a sign byte by byte.
-use Rattle.std.proofs.Common.{◌≡◌, ℕ, ◌+◌, ◌-◌, ◌*◌, ◌<◌, ◌≤◌, ◌^◌, List, [], ◌∷◌, ◌++◌, Ok, refl, sym, subst, ap, ◌∙◌, arith, ℤ, pos, ◌+ℤ◌, ◌*ℤ◌, neg_ℤ, ◌≤ℤ◌, ◌<ℤ◌, inl, inr}
+use Rattle.std.proofs.Common.{◌≡◌, ℕ, ◌+◌, ◌-◌, ◌*◌, ◌<◌, ◌≤◌, ◌^◌, List, [], ◌∷◌, sym, subst, ap, ◌∙◌, arith, ℤ, pos, ◌+ℤ◌, ◌*ℤ◌, neg_ℤ, ◌≤ℤ◌, ◌<ℤ◌, inl, inr}
 use Rattle.std.proofs.lemmas.Bool.{cases_lt}
 use Rattle.std.proofs.lemmas.Int.{ints}
 use Rattle.std.proofs.lemmas.Nat.{pow-add, pow_pos}
-use Rattle.wasm_below_bytes.specs.Source.{Reader, NoPrefix, Reads, IsByte}
+use Rattle.wasm_below_bytes.specs.Source.{NoPrefix}
 use Rattle.wasm_below_bytes.specs.Number.{EncodesSigned, FitsWidth, last_value}
-use Rattle.wasm_below_bytes.proofs.TakesLemmas.{takes_then, first_byte_read}
 
 between : (n : ℤ) (a b : ℕ) → a ≤ b → (neg_ℤ (pos a) ≤ℤ n) × (n <ℤ pos a) → (neg_ℤ (pos b) ≤ℤ n) × (n <ℤ pos b)
 between n a b le h = (omega (arith, ints, h.0), omega (arith, ints, h.1))
@@ -45,11 +44,6 @@ signed_fits [] width n p = absurd p
 signed_fits (c ∷ []) width n p = p.2
 signed_fits (c ∷ d ∷ text) width n (w, le, lt, high, e, p) = subst (FitsWidth width) (sym e) (fits_join width high (c - 128) w (omega arith) (signed_fits (d ∷ text) (width - 7) high p))
 
-pub signed_none : (bytes : List ℕ) (width : ℕ) → NoPrefix IsByte bytes → NoPrefix (EncodesSigned width) bytes
-signed_none bytes width none [] rest x p e = p
-signed_none bytes width none (c ∷ []) rest x p e = none (c ∷ []) rest c (refl, omega (arith, p.0)) e
-signed_none bytes width none (c ∷ d ∷ text) rest x p e = none (c ∷ []) (d ∷ text ++ rest) c (refl, p.2) e
-
 pub signed_empty : NoPrefix (EncodesSigned 33) []
 signed_empty [] rest x p e = p
 signed_empty (c ∷ text) rest x p e = cc e
@@ -61,9 +55,6 @@ signed_large bytes after b width v eb lt ev over (c ∷ []) rest x p e =
     over (subst (FitsWidth width) (p.1 ∙ ap last_value h ∙ sym ev) p.2)
 signed_large bytes after b width v eb lt ev over (c ∷ d ∷ text) rest x p e = let h : c ≡ b = cc (eb, e) in omega (arith, p.1)
 
-pub signed_last : (old mid : Reader) (b width : ℕ) (v : ℤ) → Reads IsByte (Ok b) old mid → b < 128 → v ≡ last_value b → FitsWidth width v → Reads (EncodesSigned width) (Ok v) old mid
-signed_last old mid b width v r lt ev fits = let f = first_byte_read old mid b r in (b ∷ [], (lt, ev, fits), f.2)
-
 pub signed_long : (bytes after : List ℕ) (b width : ℕ) → bytes ≡ b ∷ after → 128 ≤ b → width ≤ 7 → NoPrefix (EncodesSigned width) bytes
 signed_long bytes after b width eb ge narrow [] rest x p e = p
 signed_long bytes after b width eb ge narrow (c ∷ []) rest x p e = let h : c ≡ b = cc (eb, e) in omega (arith, p.0)
@@ -73,12 +64,3 @@ pub signed_rest : (bytes after : List ℕ) (b width : ℕ) → bytes ≡ b ∷ a
 signed_rest bytes after b width eb ge none [] rest x p e = p
 signed_rest bytes after b width eb ge none (c ∷ []) rest x p e = let h : c ≡ b = cc (eb, e) in omega (arith, p.0)
 signed_rest bytes after b width eb ge none (c ∷ d ∷ text) rest x (_, _, _, high, _, p) e = none (d ∷ text) rest high p (cc (eb, e))
-
-pub signed_more : (old mid new : Reader) (b width : ℕ) (high n : ℤ) → Reads IsByte (Ok b) old mid → 128 ≤ b → 7 < width → Reads (EncodesSigned (width - 7)) (Ok high) mid new → n ≡ (pos 128 *ℤ high) +ℤ pos (b - 128) → Reads (EncodesSigned width) (Ok n) old new
-signed_more old mid new b width high n r ge wide (text, p, takes) e =
-    let f = first_byte_read old mid b r in
-    (b ∷ text, with_first text p, takes_then old mid new (b ∷ []) text f.2 takes)
-  where
-    with_first : (text : List ℕ) → EncodesSigned (width - 7) text high → EncodesSigned width (b ∷ text) n
-    with_first [] p = absurd p
-    with_first (d ∷ text) p = (wide, ge, (first_byte_read old mid b r).1, high, e, p)

@@ -1,8 +1,8 @@
 -- LEB128 numbers as they are read: bytes that say that more follow, and a last one.
 use Rattle.std.specs.Prelude.{◌≡◌, ℕ, ◌+◌, ◌-◌, ◌*◌, ◌/◌, ◌<◌, ◌≤◌, List, [], ◌∷◌, ◌++◌, length, drop, slice_index, ℤ, pos, ◌-ℤ◌, cond, ltb}
-use Rattle.wasm_below_bytes.specs.declared.leb128.Groups.{Groups}
-use Rattle.wasm_below_bytes.specs.declared.leb128.NumberRefusal.{NumberRefusal}
-use Rattle.wasm_below_bytes.specs.declared.leb128.NumberRefusal.TheVariants as refusal
+use Rattle.wasm_below_bytes.specs.declared.long_numbers.Groups.{Groups}
+use Rattle.wasm_below_bytes.specs.declared.long_numbers.NumberRefusal.{NumberRefusal}
+use Rattle.wasm_below_bytes.specs.declared.long_numbers.NumberRefusal.TheVariants as refusal
 use Rattle.wasm_below_bytes.specs.declared.message.Message.{Message}
 use Rattle.wasm_below_bytes.specs.declared.message.Message.TheVariants as message
 use Rattle.wasm_below_bytes.specs.declared.message.NumberName.{NumberName}

@@ -13,7 +13,7 @@ use std::alloc::AllocError;
 use std::marker::Model;
 use std::ops::Range;
 
-mod numbers;
+mod leb128;
 
 /// The opcode of `end`.
 const END: u8 = 0x0b;

@@ -9,7 +9,7 @@ mod error;
 mod features;
 mod from_reader;
 pub mod laws;
-mod leb128;
+mod long_numbers;
 mod message;
 
 pub use binary_reader::BinaryReader;

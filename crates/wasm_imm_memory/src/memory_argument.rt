@@ -110,8 +110,53 @@ impl MemArg {
 }
 
 /// The rest of a memory argument that began at `start`, whose flags number announces something.
-#[inline(never)]
+///
+/// The rest is one function, which stands twice: where a memory's index alone is announced, the
+/// other checks are made before the code runs.
 fn read_announced(
+    reader: &mut BinaryReader<'_>,
+    start: usize,
+    flags: u32,
+    max_align: u8,
+    kind: MemArgKind,
+) -> Result<MemArg>
+    requires begun { start ≤ reader.old.position }
+    requires flagged { Reads (EncodesUnsigned 32) (Ok flags)
+        (at_position reader.old start) reader.old }
+    ensures reads { Reads (EncodesMemArg reader.old.features kind max_align)
+        result (at_position reader.old start) reader.new }
+    ensures fault { IfErr result (λ e. FlagsFault reader.old.features kind flags
+        (offset_of (at_position reader.old start)) e.message reader.old e.offset) }
+{
+    if names_memory_alone(reader.features(), flags) {
+        return read_rest(reader, start, flags, max_align, kind);
+    }
+    read_other(reader, start, flags, max_align, kind)
+}
+
+/// The rest of one that announces anything else.
+#[inline(never)]
+fn read_other(
+    reader: &mut BinaryReader<'_>,
+    start: usize,
+    flags: u32,
+    max_align: u8,
+    kind: MemArgKind,
+) -> Result<MemArg>
+    requires begun { start ≤ reader.old.position }
+    requires flagged { Reads (EncodesUnsigned 32) (Ok flags)
+        (at_position reader.old start) reader.old }
+    ensures reads { Reads (EncodesMemArg reader.old.features kind max_align)
+        result (at_position reader.old start) reader.new }
+    ensures fault { IfErr result (λ e. FlagsFault reader.old.features kind flags
+        (offset_of (at_position reader.old start)) e.message reader.old e.offset) }
+{
+    read_rest(reader, start, flags, max_align, kind)
+}
+
+/// The rest of a memory argument behind its flags number: the index, the ordering and the offset.
+#[inline(always)]
+fn read_rest(
     reader: &mut BinaryReader<'_>,
     start: usize,
     flags: u32,
@@ -174,7 +219,16 @@ fn announces(features: WasmFeatures, feature: WasmFeatures, flags: u32, bit: u32
     features.contains(feature) && flags / bit % 2 == 1
 }
 
+/// Whether the flags number announces a memory's index and nothing else.
+#[inline(always)]
+fn names_memory_alone(features: WasmFeatures, flags: u32) -> bool {
+    flags >= MEMORY_INDEX
+        && flags < MEMORY_INDEX + ORDERING
+        && features.contains(WasmFeatures::MULTI_MEMORY)
+}
+
 /// Whether a memory and an array are named at once.
+#[inline(always)]
 fn names_both(features: WasmFeatures, flags: u32) -> bool
     ensures { IsTrue result ↔ NamesBoth features flags }
 {
@@ -187,6 +241,7 @@ fn names_both(features: WasmFeatures, flags: u32) -> bool
 }
 
 /// Whether an ordering is announced where none may stand.
+#[inline(always)]
 fn orders_plain(features: WasmFeatures, kind: MemArgKind, flags: u32) -> bool
     ensures { IsTrue result ↔ OrdersPlain features kind flags }
 {
@@ -200,6 +255,7 @@ fn orders_plain(features: WasmFeatures, kind: MemArgKind, flags: u32) -> bool
 }
 
 /// Whether a bit is set that has no meaning under these features.
+#[inline(always)]
 fn is_reserved(features: WasmFeatures, flags: u32) -> bool
     ensures { IsTrue result ↔ IsReserved features flags }
 {
@@ -210,6 +266,7 @@ fn is_reserved(features: WasmFeatures, flags: u32) -> bool
 }
 
 /// What is reached, by the index that the flags number announces.
+#[inline(always)]
 fn read_target(
     reader: &mut BinaryReader<'_>,
     features: WasmFeatures,
@@ -242,6 +299,7 @@ fn read_target(
 /// The ordering, where the flags number announces one.
 ///
 /// `EndOfData` or `InvalidOrdering` at its byte.
+#[inline(always)]
 fn read_ordering(
     reader: &mut BinaryReader<'_>,
     features: WasmFeatures,

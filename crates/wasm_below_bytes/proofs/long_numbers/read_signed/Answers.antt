@@ -4,9 +4,9 @@ use Rattle.std.proofs.lemmas.Int.{to_z-of_z}
 use mir.Val.{SFits}
 use Rattle.wasm_below_bytes.specs.Number.{EncodesSigned, FitsWidth, last_value}
 use Rattle.wasm_below_bytes.proofs.SignedNumbers.{fits_more, signed_fits}
-use Rattle.wasm_below_bytes.proofs.LongNumbers.{signed_leb128}
+use Rattle.wasm_below_bytes.proofs.Groups.{signed_leb128}
 use Rattle.wasm_below_bytes.proofs.NumbersAt.{no_groups, too_large, signed_found, low_of_groups, signed_over}
-use Rattle.wasm_below_bytes.proofs.leb128.read_signed.Goals as goal
+use Rattle.wasm_below_bytes.proofs.long_numbers.read_signed.Goals as goal
 
 pub returns-in-Err-clause-refused : goal.returns-in-Err-clause-refused
 returns-in-Err-clause-refused c = no_groups EncodesSigned (λ low high. (pos 128 *ℤ high) +ℤ pos low) signed_leb128 c.in-Err.refusal c.args.bits c.args.buffer.now c.args.start c.requires.low c.in-Err.ensures.refused

@@ -1,6 +1,6 @@
 use Rattle.std.proofs.Common.{◌*◌, ◌^◌, ap, arith}
-use Rattle.wasm_below_bytes.proofs.LongNumbers.{unsigned_fits}
-use Rattle.wasm_below_bytes.proofs.leb128.join_unsigned.Goals as goal
+use Rattle.wasm_below_bytes.proofs.Groups.{unsigned_fits}
+use Rattle.wasm_below_bytes.proofs.long_numbers.join_unsigned.Goals as goal
 
 pub overflow_add-result : goal.overflow_add-result
 overflow_add-result c =

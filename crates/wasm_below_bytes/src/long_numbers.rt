@@ -1,5 +1,5 @@
 //! LEB128 numbers of several bytes: groups of seven bits, the lowest first.
-ghost use Rattle.std.specs.Prelude.{◌≡◌, ◌+◌, ◌-◌, ◌*◌, ◌≤◌, ◌<◌, ◌^◌, ◌↔◌, IsTrue, IfOk, IfErr, length};
+ghost use Rattle.std.specs.Prelude.{◌≡◌, ◌+◌, ◌-◌, ◌*◌, ◌≤◌, ◌<◌, ◌^◌, ◌↔◌, IsTrue, IfOk, IfErr, IfSome, length};
 ghost use Rattle.wasm_below_bytes.specs.Number.{EncodesUnsigned, EncodesSigned, FitsWidth, last_value};
 ghost use Rattle.wasm_below_bytes.specs.Leb128.{IsGroups, RefusesGroups, NumberAt, NoNumber, HasPlace, refusal_message, refusal_offset, signed_value};
 
@@ -68,6 +68,28 @@ pub fn number_error(
             start + u64::from((bits - 1) / 7),
         ),
     }
+}
+
+/// The unsigned number of two bytes at this position, if one stands there.
+#[inline(always)]
+pub fn two_bytes(buffer: &[u8], start: usize) -> Option<Unsigned>
+    requires { start ≤ length buffer.now }
+    ensures of_32 { IfSome result (λ n. NumberAt (EncodesUnsigned 32) buffer.now start n.value n.behind) }
+    ensures of_64 { IfSome result (λ n. NumberAt (EncodesUnsigned 64) buffer.now start n.value n.behind) }
+    ensures within { IfSome result (λ n. n.value < 2 ^ 14) }
+{
+    if buffer.len() - start < 2 {
+        return None;
+    }
+    let first = buffer[start];
+    let last = buffer[start + 1];
+    if first < 128 || last >= 128 {
+        return None;
+    }
+    Some(Unsigned {
+        value: u64::from(first - 128) + 128 * u64::from(last),
+        behind: start + 2,
+    })
 }
 
 /// The unsigned number of 32 bits at this position.
@@ -206,11 +228,7 @@ pub fn last_value(byte: u8) -> i64
     ensures value { result ≡ last_value byte }
     ensures small { FitsWidth 7 result }
 {
-    if byte < 64 {
-        i64::from(byte)
-    } else {
-        i64::from(byte) - 128
-    }
+    i64::from((byte + 64) % 128) - 64
 }
 
 /// Whether a value of seven bits has no more than these.

@@ -100,9 +100,6 @@ pub record SoFar (buffer : List ℕ) (start position low shift count : ℕ) : Ty
   pub many : length text ≡ count
   pub stands : StandsAt buffer start position text
 
-pub none_so_far : (buffer : List ℕ) (start : ℕ) → SoFar buffer start start 0 0 0
-none_so_far buffer start = record { text = []; go_on = tt; low_is = refl; shift_is = refl; many = refl; stands = record { parts = refl; ends = omega arith } }
-
 go_on_more : (text : List ℕ) (c : ℕ) → AllGoOn text → 128 ≤ c → c < 256 → AllGoOn (text ++ c ∷ [])
 go_on_more [] c go ge small = (ge, small, tt)
 go_on_more (d ∷ text) c (dge, dsmall, go) ge small = (dge, dsmall, go_on_more text c go ge small)

@@ -2,7 +2,7 @@ use Rattle.std.proofs.Common.{refl, eq-eqb}
 use Rattle.std.proofs.lemmas.Bool.{eqb-true}
 use Rattle.std.proofs.Math.Nat.{div-eq_of_lt}
 use Rattle.wasm_below_bytes.proofs.Numbers.{wide_fits, last_fits}
-use Rattle.wasm_below_bytes.proofs.leb128.fits_unsigned.Goals as goal
+use Rattle.wasm_below_bytes.proofs.long_numbers.fits_unsigned.Goals as goal
 
 pub returns-then-bits-ge7 : goal.returns-then-bits-ge7
 returns-then-bits-ge7 c = (λ _. wide_fits c.args.last c.args.bits c.requires c.if-bits-ge7.true, λ _. refl)

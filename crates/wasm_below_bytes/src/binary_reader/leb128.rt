@@ -1,13 +1,14 @@
-//! The LEB128 numbers that a reader reads. Values, Integers.
-ghost use Rattle.std.specs.Prelude.{◌≡◌, ◌+◌, ◌-◌, ◌<◌, [], ◌∷◌, IfErr, IfSome, IfNone};
+//! LEB128 numbers: seven bits a byte, the lowest first. Values, Integers.
+ghost use Rattle.std.specs.Prelude.{◌≡◌, ◌<◌, [], ◌∷◌, IfErr, IfSome, IfNone};
 ghost use Rattle.wasm_below_bytes.specs.Source.{Takes, Reads, U32Fault, U64Fault, I32Fault, S33Fault, I64Fault, as_too_long, offset_of, end_of};
 ghost use Rattle.wasm_below_bytes.specs.Number.{EncodesUnsigned, EncodesSigned};
 ghost use Rattle.wasm_below_bytes.specs.Leb128.{HasPlace, refusal_message, refusal_offset};
 
 use super::BinaryReader;
 use crate::error::{Error, Result};
-use crate::leb128::{
+use crate::long_numbers::{
     NumberRefusal, last_value, long_i32, long_i64, long_s33, long_u32, long_u64, number_error,
+    two_bytes,
 };
 use crate::message::{Message, NumberName};
 
@@ -105,6 +106,10 @@ impl<'a> BinaryReader<'a> {
         ensures reads { Reads (EncodesUnsigned 32) result self.old self.new }
         ensures fault { IfErr result (λ e. U32Fault e.message self.old e.offset) }
     {
+        if let Some(number) = two_bytes(self.buffer, self.position) {
+            self.position = number.behind;
+            return Ok(number.value as u32);
+        }
         match long_u32(self.buffer, self.position) {
             Ok(number) => {
                 self.position = number.behind;
@@ -120,6 +125,10 @@ impl<'a> BinaryReader<'a> {
         ensures reads { Reads (EncodesUnsigned 64) result self.old self.new }
         ensures fault { IfErr result (λ e. U64Fault e.message self.old e.offset) }
     {
+        if let Some(number) = two_bytes(self.buffer, self.position) {
+            self.position = number.behind;
+            return Ok(number.value);
+        }
         match long_u64(self.buffer, self.position) {
             Ok(number) => {
                 self.position = number.behind;

@@ -1,6 +1,6 @@
 use Rattle.std.proofs.Common.{◌*◌, ◌^◌, ap, arith}
-use Rattle.wasm_below_bytes.proofs.LongNumbers.{one_more, group_fits}
-use Rattle.wasm_below_bytes.proofs.leb128.read_groups.Goals as goal
+use Rattle.wasm_below_bytes.proofs.Groups.{one_more, group_fits}
+use Rattle.wasm_below_bytes.proofs.long_numbers.read_groups.Goals as goal
 
 pub overflow_add-low : goal.overflow_add-low
 overflow_add-low c =

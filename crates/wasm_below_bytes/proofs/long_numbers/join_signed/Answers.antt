@@ -3,7 +3,7 @@ use Rattle.std.proofs.lemmas.Int.{to_z-of_z}
 use mir.Val.{SFits}
 use Rattle.wasm_below_bytes.specs.Leb128.{signed_value}
 use Rattle.wasm_below_bytes.proofs.SignedJoins.{joined_bits}
-use Rattle.wasm_below_bytes.proofs.leb128.join_signed.Goals as goal
+use Rattle.wasm_below_bytes.proofs.long_numbers.join_signed.Goals as goal
 
 pub overflow_add-result : goal.overflow_add-result
 overflow_add-result c =

@@ -2,9 +2,9 @@ use Rattle.std.proofs.Common.{◌-◌, ◌*◌, ◌+◌}
 use Rattle.std.proofs.lemmas.Bool.{both_ways}
 use Rattle.wasm_below_bytes.specs.Number.{EncodesUnsigned}
 use Rattle.wasm_below_bytes.proofs.Numbers.{unsigned_below}
-use Rattle.wasm_below_bytes.proofs.LongNumbers.{unsigned_leb128}
+use Rattle.wasm_below_bytes.proofs.Groups.{unsigned_leb128}
 use Rattle.wasm_below_bytes.proofs.NumbersAt.{no_groups, too_large, unsigned_found, low_of_groups, last_within, unsigned_over}
-use Rattle.wasm_below_bytes.proofs.leb128.read_unsigned.Goals as goal
+use Rattle.wasm_below_bytes.proofs.long_numbers.read_unsigned.Goals as goal
 
 pub returns-in-Err-clause-refused : goal.returns-in-Err-clause-refused
 returns-in-Err-clause-refused c = no_groups EncodesUnsigned (λ low high. 128 * high + low) unsigned_leb128 c.in-Err.refusal c.args.bits c.args.buffer.now c.args.start c.requires.low c.in-Err.ensures.refused
