@@ -112,11 +112,11 @@ def enum_arity(enum, ops):
     """The pairs of an inner enum, in code."""
     ruled = [op for op in ops if op.is_by_rule]
     low, ty, title = enum.module, "(u32, u32)", enum.title
+    title = f"{title} takes and leaves"
     made = lambda pair: pair
     if ruled:
-        ty, title, made = f"Option<{ty}>", f"{title} takes and leaves, where that is fixed", lambda pair: f"Some({pair})"
-    else:
-        title = f"{title} takes and leaves"
+        ty, made = f"Option<{ty}>", lambda pair: f"Some({pair})"
+        title = f"{title}, where that is fixed"
     out = ["", f"/// What one of {title}.", f"pub fn {low}_fixed_arity(op: &{enum.type}) -> {ty}"]
     out += [f"ensures {{ result ≡ {low}_pair op.now }}", "{", "match op {"]
     *others, ((_, most), _) = by_pair(ops)
@@ -153,9 +153,13 @@ def fixed_arity_source(ops):
     ]
     for enum in held():
         out += enum_arity(enum, [op for op in ops if op.group == enum.group])
+    return "\n".join([*out, "", *operator_arity(ops), ""])
+
+
+def operator_arity(ops):
+    """The pairs of all operators, in code."""
     own = [op for op in ops if op.group == "Own"]
-    out += [
-        "",
+    out = [
         "impl<'a> Operator<'a> {",
         "/// What the operator takes and leaves, where that is fixed.",
         "pub(crate) fn fixed_arity(&self) -> Option<(u32, u32)>",
@@ -168,4 +172,4 @@ def fixed_arity_source(ops):
         call = f"{enum.module}_fixed_arity(op)"
         out.append(f"Operator::{enum.group}(op) => {call if is_ruled(enum, ops) else f'Some({call})'},")
     out.append(pair_arm("Operator", [op for op in own if op.is_by_rule], "None"))
-    return "\n".join([*out, "}", "}", "}", ""])
+    return [*out, "}", "}", "}"]

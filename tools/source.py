@@ -1,6 +1,6 @@
 """The enums in code, each with what it answers. `rt fmt` lays the text out."""
 
-from table import ENUMS, HEAD, Enum, grouped, held
+from table import ENUMS, HEAD, Enum, Operator, grouped, held
 
 # The layers in which the types of fields stand; the other types are Rust's own.
 LAYERS = {
@@ -164,7 +164,7 @@ def info_of(enum, ops):
 def opcode_column(enum, ops):
     """The function that answers the opcode or subopcode."""
     if any(op.fields for op in ops):
-        return column(enum, ops, "code", "The subopcode.", "u32", lambda op: op.hex())
+        return column(enum, ops, "code", "The subopcode.", "u32", Operator.hex)
     return [
         f"/// The {'subopcode' if ops[0].prefix else 'opcode'}.",
         "fn code(&self) -> u32",
@@ -299,7 +299,8 @@ def operator_enum(ops):
 
 def operator_info(ops):
     """The functions that answer the row of an operator."""
-    out = [
+    inner_arms = [f"Operator::{enum.group}(op) => op.info().proposal," for enum in held()]
+    return [
         "/// The row of the operator.",
         "pub fn info(&self) -> OperatorInfo",
         "ensures proposal { result.proposal.now ≡ proposal_of self.now }",
@@ -323,27 +324,30 @@ def operator_info(ops):
         "ensures { result.now ≡ proposal_of self.now }",
         "{",
         "match self {",
-        *proposal_arms(ops, "Operator", [f"Operator::{enum.group}(op) => op.info().proposal," for enum in held()]),
+        *proposal_arms(ops, "Operator", inner_arms),
+        "}",
+        "}",
+        "",
+        *operator_column(ops, "name", "name_of", "The name of the variant.", "&'static str", lambda op: f'"{op.name}"'),
+        "",
+        *operator_column(ops, "code", "opcode_of", "The opcode, or the subopcode behind the prefix byte.", "u32", Operator.hex),
+    ]
+
+
+def operator_column(ops, name, word, doc, ty, value):
+    """A private function for a column of all operators."""
+    now = ".now" if ty.startswith("&") else ""
+    return [
+        f"/// {doc}",
+        f"fn {name}(&self) -> {ty}",
+        f"ensures {{ result{now} ≡ {word} self.now }}",
+        "{",
+        "match self {",
+        *arms(ops, "Operator", value),
+        *[f"Operator::{enum.group}(op) => op.info().{name}," for enum in held()],
         "}",
         "}",
     ]
-    for name, word, doc, ty, now, value in [
-        ("name", "name_of", "The name of the variant.", "&'static str", ".now", lambda op: f'"{op.name}"'),
-        ("code", "opcode_of", "The opcode, or the subopcode behind the prefix byte.", "u32", "", lambda op: op.hex()),
-    ]:
-        out += [
-            "",
-            f"/// {doc}",
-            f"fn {name}(&self) -> {ty}",
-            f"ensures {{ result{now} ≡ {word} self.now }}",
-            "{",
-            "match self {",
-            *arms(ops, "Operator", value),
-            *[f"Operator::{enum.group}(op) => op.info().{name}," for enum in held()],
-            "}",
-            "}",
-        ]
-    return out
 
 
 def operator_source(ops, owning=()):
