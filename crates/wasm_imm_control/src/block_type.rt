@@ -1,6 +1,7 @@
 //! Block types.
-ghost use Rattle.std.specs.Prelude.{IfErr};
+ghost use Rattle.std.specs.Prelude.{◌≤◌, [], ◌∷◌, IfErr};
 ghost use Rattle.wasm_below.specs.Source.{Reads};
+ghost use Rattle.wasm_below.specs.TypeEncoding.{EncodesValType};
 ghost use Rattle.wasm_imm_control.specs.BlockTypeFaults.{BlockTypeFault, FunctionTypeFault};
 ghost use Rattle.wasm_imm_control.specs.BlockTypes.{EncodesBlockType, EncodesFunctionType};
 
@@ -22,26 +23,61 @@ impl BlockType {
     ///
     /// Where a byte from 41 to 7f leads, refused as `ValType::read`. Else as `read_var_s33`, or by
     /// `InvalidFunctionType` behind a negative number.
-    #[inline(never)]
+    #[inline(always)]
     pub fn read(reader: &mut BinaryReader<'_>) -> Result<BlockType>
         ensures reads { Reads EncodesBlockType result reader.old reader.new }
         ensures fault { IfErr result (λ e. BlockTypeFault e.message reader.old e.offset) }
     {
-        let byte = match reader.peek() {
-            Ok(byte) => byte,
-            Err(e) => return Err(e),
-        };
-        match byte {
-            0x40 => {
+        match reader.peek() {
+            Ok(0x40) => {
                 reader.advance();
                 Ok(BlockType::Empty)
             }
-            0x41..=0x7f => match ValType::read(reader) {
-                Ok(ty) => Ok(BlockType::Value(ty)),
-                Err(e) => Err(e),
-            },
-            _ => read_function_type(reader),
+            Ok(byte @ 0x7b..=0x7f) => {
+                reader.advance();
+                Ok(BlockType::Value(short_value_type(byte)))
+            }
+            _ => read_other(reader),
         }
+    }
+}
+
+/// The number or vector type of this byte.
+#[inline(always)]
+fn short_value_type(byte: u8) -> ValType
+    requires low { 0x7b ≤ byte }
+    requires high { byte ≤ 0x7f }
+    ensures { EncodesValType (byte ∷ []) result }
+{
+    match byte {
+        0x7f => ValType::I32,
+        0x7e => ValType::I64,
+        0x7d => ValType::F32,
+        0x7c => ValType::F64,
+        _ => ValType::V128,
+    }
+}
+
+/// A block type of any form.
+#[inline(never)]
+fn read_other(reader: &mut BinaryReader<'_>) -> Result<BlockType>
+    ensures reads { Reads EncodesBlockType result reader.old reader.new }
+    ensures fault { IfErr result (λ e. BlockTypeFault e.message reader.old e.offset) }
+{
+    let byte = match reader.peek() {
+        Ok(byte) => byte,
+        Err(e) => return Err(e),
+    };
+    match byte {
+        0x40 => {
+            reader.advance();
+            Ok(BlockType::Empty)
+        }
+        0x41..=0x7f => match ValType::read(reader) {
+            Ok(ty) => Ok(BlockType::Value(ty)),
+            Err(e) => Err(e),
+        },
+        _ => read_function_type(reader),
     }
 }
 

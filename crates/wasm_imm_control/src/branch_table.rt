@@ -43,7 +43,6 @@ impl<'a> BrTable<'a> {
     ///
     /// `SizeOutOfBounds` of `br_table` where a count above 7654321 begins; else as `read_size`, or
     /// as `read_var_u32` at the first target, or the default one, that is refused.
-    #[inline(never)]
     pub fn read(reader: &mut BinaryReader<'a>) -> Result<BrTable<'a>>
         ensures reads { Reads EncodesBranchTable result reader.old reader.new }
         ensures fault { IfErr result (λ e. BranchTableFault e.message reader.old e.offset) }
@@ -104,6 +103,7 @@ impl<'a> BrTable<'a> {
 }
 
 /// How many bytes this many targets take.
+#[inline(always)]
 fn read_targets(reader: &mut BinaryReader<'_>, count: usize) -> Result<usize>
     ensures reads { Reads (EncodesTargets count) result reader.old reader.new }
     ensures fault { IfErr result (λ e.

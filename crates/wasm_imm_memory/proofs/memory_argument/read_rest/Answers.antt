@@ -8,8 +8,8 @@ use Rattle.wasm_imm_memory.specs.declared.memory_argument.MemArgKind.{MemArgKind
 use Rattle.wasm_imm_memory.specs.MemoryArgument.{EncodesOffset, EncodesMemArg}
 use Rattle.wasm_imm_memory.specs.FlagsNumber.{NamesBoth, OrdersPlain, IsReserved}
 use Rattle.wasm_imm_memory.proofs.FlagsNumber.{both_ruled_out, plain_ruled_out, reserved_ruled_out, ruled_out, target_refused, ordering_refused, offset_refused, all_read, argument_of}
-use Rattle.wasm_imm_memory.specs.MemArgFaults.{OffsetFault, FlagsFault}
-use Rattle.wasm_imm_memory.proofs.MemArgFaults.{target_fault, ordering_fault, reserved_fault, offset_fault}
+use Rattle.wasm_imm_memory.specs.MemoryArgumentFaults.{OffsetFault, FlagsFault}
+use Rattle.wasm_imm_memory.proofs.MemoryArgumentFaults.{target_fault, ordering_fault, reserved_fault, offset_fault}
 use Rattle.wasm_imm_memory.proofs.memory_argument.read_rest.Goals as goal
 
 not_false : {b : Bool} → b ≡ true → b ≡ false → ⊥
