@@ -12,13 +12,15 @@ use Rattle.wasm_below_bytes.proofs.TakesLemmas.{back}
 use Rattle.wasm_below_bytes.proofs.PrefixCode.{unsigned_prefix_code}
 
 -- fewer bytes are left than each such text has
-pub short_refused : {X : Type 0} (Encodes : List ℕ → X → Type 0) (n : ℕ) (e : Error) (r : Reader) → ((text : List ℕ) (x : X) → Encodes text x → length text ≡ n) → r.position ≤ length r.buffer → IsShort n e r → IsRefusal Encodes e r
+pub short_refused : {X : Type 0} (Encodes : List ℕ → X → Type 0) (n : ℕ) (e : Error) (r : Reader) →
+    ((text : List ℕ) (x : X) → Encodes text x → length text ≡ n) → r.position ≤ length r.buffer → IsShort n e r → IsRefusal Encodes e r
 short_refused Encodes n e r sized le h =
     record {
       refuses = λ more follow text after x p eq. (
           let none : more ≡ [] = subst (λ m. MayFollow m more) h.0 follow in
           let left : length (rest r) ≡ length r.buffer - r.position = length-drop r.position r.buffer in
-          let whole : length (rest r) + length more ≡ length text + length after = sym (length-append (rest r) more) ∙ ap length eq ∙ length-append text after in
+          let whole : length (rest r) + length more ≡ length text + length after = sym (length-append (rest r) more) ∙ ap length eq ∙
+          length-append text after in
           let zero : length more ≡ 0 = ap length none in
           let size : length text ≡ n = sized text x p in
           let few : r.start + length r.buffer < r.start + r.position + n = h.2 in
@@ -29,13 +31,15 @@ short_refused Encodes n e r sized le h =
     }
 
 -- this many bytes are taken
-pub takes_block : (old new : Reader) (n m : ℕ) → m ≡ n → n ≤ length (rest old) → new ≡ at_position old (old.position + n) → (length (take m (rest old)) ≡ n) × Takes old new (take m (rest old))
+pub takes_block : (old new : Reader) (n m : ℕ) → m ≡ n → n ≤ length (rest old) → new ≡ at_position old (old.position + n) →
+    (length (take m (rest old)) ≡ n) × Takes old new (take m (rest old))
 takes_block old new n m same fits moved =
     let size : length (take m (rest old)) ≡ n = length-take-le m (rest old) (omega arith) ∙ same in (
       size,
       record {
         moved = moved ∙ ap (λ k. at_position old (old.position + k)) (sym size);
-        parts = sym (take-append-drop m (rest old)) ∙ ap (λ z. take m (rest old) ++ z) (drop-drop m old.position old.buffer ∙ ap (λ k. drop (old.position + k) old.buffer) same ∙ sym (ap rest moved));
+        parts = sym (take-append-drop m (rest old)) ∙
+            ap (λ z. take m (rest old) ++ z) (drop-drop m old.position old.buffer ∙ ap (λ k. drop (old.position + k) old.buffer) same ∙ sym (ap rest moved));
       },
     )
 
@@ -46,7 +50,9 @@ no_size text after more limit n p over t2 more2 k q e =
     omega (arith, q.1)
 
 -- back where a number was read that is above the limit
-pub size_refused : (limit n : ℕ) (e : Error) (old mid new : Reader) (position : ℕ) → Reads (EncodesUnsigned 32) (Ok n) old mid → limit < n → position ≡ old.position → position ≤ length old.buffer → new ≡ at_position mid position → e.offset ≡ mid.start + position → IsReadFault e.message → (new ≡ old) × IsRefusal (EncodesSize limit) e old
+pub size_refused : (limit n : ℕ) (e : Error) (old mid new : Reader) (position : ℕ) → Reads (EncodesUnsigned 32) (Ok n) old mid → limit < n →
+    position ≡ old.position → position ≤ length old.buffer → new ≡ at_position mid position → e.offset ≡ mid.start + position → IsReadFault e.message →
+    (new ≡ old) × IsRefusal (EncodesSize limit) e old
 size_refused limit n e old mid new position (text, p, takes) over same le went offset fault =
     let start : mid.start ≡ old.start = ap (λ (r : Reader). r.start) takes.moved in (
       back old mid new text position takes same went,

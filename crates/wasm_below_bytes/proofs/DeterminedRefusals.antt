@@ -27,7 +27,8 @@ number_determines width name (message.IntegerTooLong u) (message.IntegerTooLong 
 number_determines width name (message.IntegerTooLong u) (message.IntegerTooLarge v) r a b h k = absurd (same_byte r a b (h.0.0 ∙ sym k.0.0) h.0.1 k.0.1)
 number_determines width name (message.IntegerTooLarge u) message.EndOfData r a b h k = absurd (omega (arith, k.0.1, h.0.0, h.0.2))
 number_determines width name (message.IntegerTooLarge u) (message.IntegerTooLong v) r a b h k = absurd (same_byte r b a (k.0.0 ∙ sym h.0.0) k.0.1 h.0.1)
-number_determines width name (message.IntegerTooLarge u) (message.IntegerTooLarge v) r a b h k = (ap message.IntegerTooLarge (h.1 ∙ sym k.1), h.0.0 ∙ sym k.0.0)
+number_determines width name (message.IntegerTooLarge u) (message.IntegerTooLarge v) r a b h k =
+    (ap message.IntegerTooLarge (h.1 ∙ sym k.1), h.0.0 ∙ sym k.0.0)
 number_determines width name message.EndOfData _ r a b h k = absurd k.0
 number_determines width name (message.IntegerTooLong u) _ r a b h k = absurd k.0
 number_determines width name (message.IntegerTooLarge u) _ r a b h k = absurd k.0
@@ -49,19 +50,22 @@ s33_determines _ _ r a b h k = absurd h.0
 above_none : (limit : ℕ) (bytes : List ℕ) → BeginsAbove limit bytes → NoPrefix (EncodesUnsigned 32) bytes → ⊥
 above_none limit bytes (text, more, n, p, _, e) none = none text more n p e
 
-pub size_determines : (limit : ℕ) (name : SizeName) → DeterminesRefusal (λ m r offset. SizeFault m limit r offset × NamesSize name m × NamesNumber number_name.VarU32 m)
+pub size_determines : (limit : ℕ) (name : SizeName) →
+    DeterminesRefusal (λ m r offset. SizeFault m limit r offset × NamesSize name m × NamesNumber number_name.VarU32 m)
 size_determines limit name (message.SizeOutOfBounds u) (message.SizeOutOfBounds v) r a b h q = (ap message.SizeOutOfBounds (h.1 ∙ sym q.1), h.0.0 ∙ sym q.0.0)
 size_determines limit name (message.SizeOutOfBounds u) k r a b h q = absurd (above_none limit (rest r) h.0.1 q.0.1)
 size_determines limit name m (message.SizeOutOfBounds v) r a b h q = absurd (above_none limit (rest r) q.0.1 h.0.1)
 size_determines limit name m k r a b h q = number_determines 32 number_name.VarU32 m k r a b (h.0.0, h.2) (q.0.0, q.2)
 
 -- the reader behind a first part
-first_prefix_code : {X : Type 0} (First : List ℕ → X → Type 0) → PrefixCode First → (r s t : Reader) (x y : X) → Reads First (Ok x) r s → Reads First (Ok y) r t → (x ≡ y) × (s ≡ t)
+first_prefix_code : {X : Type 0} (First : List ℕ → X → Type 0) → PrefixCode First → (r s t : Reader) (x y : X) → Reads First (Ok x) r s →
+    Reads First (Ok y) r t → (x ≡ y) × (s ≡ t)
 first_prefix_code First prefix_code r s t x y (text, p, h) (other, q, k) =
     let o = prefix_code text other (rest s) (rest t) x y p q (sym h.parts ∙ k.parts) in
     (o.1, h.moved ∙ ap (λ (z : List ℕ). at_position r (r.position + length z)) o.0 ∙ sym k.moved)
 
-pub then_determines : {X : Type 0} (First : List ℕ → X → Type 0) (FirstFault : Message → Reader → ℕ → Type 0) (Behind : X → Message → Reader → ℕ → Type 0) → PrefixCode First → DeterminesRefusal FirstFault → ((x : X) → DeterminesRefusal (Behind x)) → DeterminesRefusal (ThenFault First FirstFault Behind)
+pub then_determines : {X : Type 0} (First : List ℕ → X → Type 0) (FirstFault : Message → Reader → ℕ → Type 0) (Behind : X → Message → Reader → ℕ → Type 0) →
+    PrefixCode First → DeterminesRefusal FirstFault → ((x : X) → DeterminesRefusal (Behind x)) → DeterminesRefusal (ThenFault First FirstFault Behind)
 then_determines First FirstFault Behind prefix_code f g m k r a b (inl h) (inl q) = f m k r a b h.1 q.1
 then_determines First FirstFault Behind prefix_code f g m k r a b (inl h) (inr (x, new, (text, p, t), _)) = absurd (h.0 text (rest new) x p t.parts)
 then_determines First FirstFault Behind prefix_code f g m k r a b (inr (x, new, (text, p, t), _)) (inl q) = absurd (q.0 text (rest new) x p t.parts)
@@ -70,10 +74,12 @@ then_determines First FirstFault Behind prefix_code f g m k r a b (inr (x, s, h,
     g x m k s a b u (subst (λ z. Behind z k s b) (sym o.0) (subst (λ z. Behind y k z b) (sym o.1) v))
 
 pub reader_determines : DeterminesRefusal ReaderFault
-reader_determines = then_determines (EncodesUnsigned 32) U32Fault EndsWithin (λ a b x y m n p q e. unsigned_prefix_code a b 32 x y m n p q e) u32_determines (λ n m k r a b h q. (h.0 ∙ sym q.0, h.1 ∙ sym q.1))
+reader_determines = then_determines (EncodesUnsigned 32) U32Fault EndsWithin (λ a b x y m n p q e. unsigned_prefix_code a b 32 x y m n p q e) u32_determines
+    (λ n m k r a b h q. (h.0 ∙ sym q.0, h.1 ∙ sym q.1))
 
 -- one of two faults, as a fact holds or not
-pub either_determines : (Holds : Type 0) (Then Else : Message → Reader → ℕ → Type 0) → DeterminesRefusal Then → DeterminesRefusal Else → DeterminesRefusal (λ m r offset. (Holds × Then m r offset) ⊎ (¬ Holds × Else m r offset))
+pub either_determines : (Holds : Type 0) (Then Else : Message → Reader → ℕ → Type 0) → DeterminesRefusal Then → DeterminesRefusal Else →
+    DeterminesRefusal (λ m r offset. (Holds × Then m r offset) ⊎ (¬ Holds × Else m r offset))
 either_determines Holds Then Else pt pe m k r a b (inl h) (inl q) = pt m k r a b h.1 q.1
 either_determines Holds Then Else pt pe m k r a b (inl h) (inr q) = absurd (q.0 h.0)
 either_determines Holds Then Else pt pe m k r a b (inr h) (inl q) = absurd (h.0 q.0)
@@ -95,7 +101,8 @@ pub checked_determines : (IsWrong : ℕ → Type 0) (refusal : ℕ → Message) 
 checked_determines IsWrong refusal place m k r a b (inl h) (inl q) = end_determines m k r a b h q
 checked_determines IsWrong refusal place m k r a b (inl h) (inr (c, prefix, _, _, _)) = absurd (no_byte r c h.2 prefix)
 checked_determines IsWrong refusal place m k r a b (inr (c, prefix, _, _, _)) (inl q) = absurd (no_byte r c q.2 prefix)
-checked_determines IsWrong refusal place m k r a b (inr (c, f, _, em, ea)) (inr (d, g, _, ek, eb)) = (em ∙ ap refusal (same_first_byte (rest r) c d f g) ∙ sym ek, ea ∙ sym eb)
+checked_determines IsWrong refusal place m k r a b (inr (c, f, _, em, ea)) (inr (d, g, _, ek, eb)) =
+    (em ∙ ap refusal (same_first_byte (rest r) c d f g) ∙ sym ek, ea ∙ sym eb)
 
 pub zero_determines : (refusal : Message) (place : ℕ) → DeterminesRefusal (ZeroFault refusal place)
 zero_determines refusal place = checked_determines (λ byte. byte ≢ 0) (λ byte. refusal) place

@@ -12,7 +12,8 @@ use Rattle.wasm_below_bytes.proofs.SignedNumbers.{signed_rest, signed_long}
 
 -- Numbers by groups of seven bits, whatever they are: how one more low group is joined to the number behind it, and what is no number.
 pub record IsLeb128 {X : Type 0} (Encodes : ℕ → List ℕ → X → Type 0) (join : ℕ → X → X) : Type 0 where
-  pub more : (width b : ℕ) (text : List ℕ) (high : X) → 7 < width → 128 ≤ b → b < 256 → Encodes (width - 7) text high → Encodes width (b ∷ text) (join (b - 128) high)
+  pub more : (width b : ℕ) (text : List ℕ) (high : X) → 7 < width → 128 ≤ b → b < 256 → Encodes (width - 7) text high →
+      Encodes width (b ∷ text) (join (b - 128) high)
   pub empty : (width : ℕ) → NoPrefix (Encodes width) []
   pub behind : (bytes after : List ℕ) (b width : ℕ) → bytes ≡ b ∷ after → 128 ≤ b → NoPrefix (Encodes (width - 7)) after → NoPrefix (Encodes width) bytes
   pub long : (bytes after : List ℕ) (b width : ℕ) → bytes ≡ b ∷ after → 128 ≤ b → width ≤ 7 → NoPrefix (Encodes width) bytes
@@ -24,18 +25,23 @@ joined join (c ∷ text) x = join (c - 128) (joined join text x)
 
 module _ {X : Type 0} (Encodes : ℕ → List ℕ → X → Type 0) (join : ℕ → X → X) (leb128 : IsLeb128 Encodes join) where
   -- a last byte behind groups that go on continues what began
-  pub continued : (text : List ℕ) (width last : ℕ) (x : X) → AllGoOn text → 7 * length text < width → Encodes (width - 7 * length text) (last ∷ []) x → Encodes width (text ++ last ∷ []) (joined join text x)
+  pub continued : (text : List ℕ) (width last : ℕ) (x : X) → AllGoOn text → 7 * length text < width → Encodes (width - 7 * length text) (last ∷ []) x →
+      Encodes width (text ++ last ∷ []) (joined join text x)
   continued [] width last x go lt p = subst (λ w. Encodes w (last ∷ []) x) (omega arith) p
   continued (c ∷ text) width last x (ge, small, go) lt p =
-      leb128.more width c (text ++ last ∷ []) (joined join text x) (omega arith) ge small (continued text (width - 7) last x go (omega arith) (subst (λ w. Encodes w (last ∷ []) x) (omega arith) p))
+      leb128.more width c (text ++ last ∷ []) (joined join text x) (omega arith) ge small
+      (continued text (width - 7) last x go (omega arith) (subst (λ w. Encodes w (last ∷ []) x) (omega arith) p))
 
   -- what is no rest of a number is none behind groups that go on
-  pub none_behind : (text after : List ℕ) (width : ℕ) → AllGoOn text → NoPrefix (Encodes (width - 7 * length text)) after → NoPrefix (Encodes width) (text ++ after)
+  pub none_behind : (text after : List ℕ) (width : ℕ) → AllGoOn text → NoPrefix (Encodes (width - 7 * length text)) after →
+      NoPrefix (Encodes width) (text ++ after)
   none_behind [] after width go none = subst (λ w. NoPrefix (Encodes w) after) (omega arith) none
   none_behind (c ∷ text) after width (ge, small, go) none =
-      leb128.behind (c ∷ (text ++ after)) (text ++ after) c width refl ge (none_behind text after (width - 7) go (subst (λ w. NoPrefix (Encodes w) after) (omega arith) none))
+      leb128.behind (c ∷ (text ++ after)) (text ++ after) c width refl ge
+      (none_behind text after (width - 7) go (subst (λ w. NoPrefix (Encodes w) after) (omega arith) none))
 
-unsigned_joins : (width b : ℕ) (text : List ℕ) (high : ℕ) → 7 < width → 128 ≤ b → b < 256 → EncodesUnsigned (width - 7) text high → EncodesUnsigned width (b ∷ text) (128 * high + (b - 128))
+unsigned_joins : (width b : ℕ) (text : List ℕ) (high : ℕ) → 7 < width → 128 ≤ b → b < 256 → EncodesUnsigned (width - 7) text high →
+    EncodesUnsigned width (b ∷ text) (128 * high + (b - 128))
 unsigned_joins width b [] high wide ge small p = absurd p
 unsigned_joins width b (c ∷ text) high wide ge small p = (wide, ge, small, high, omega arith, p)
 
@@ -46,7 +52,8 @@ unsigned_empty width (c ∷ text) after x p e = cc e
 pub unsigned_leb128 : IsLeb128 EncodesUnsigned (λ low high. 128 * high + low)
 unsigned_leb128 = record { more = unsigned_joins; empty = unsigned_empty; behind = unsigned_rest; long = unsigned_long }
 
-signed_joins : (width b : ℕ) (text : List ℕ) (high : ℤ) → 7 < width → 128 ≤ b → b < 256 → EncodesSigned (width - 7) text high → EncodesSigned width (b ∷ text) ((pos 128 *ℤ high) +ℤ pos (b - 128))
+signed_joins : (width b : ℕ) (text : List ℕ) (high : ℤ) → 7 < width → 128 ≤ b → b < 256 → EncodesSigned (width - 7) text high →
+    EncodesSigned width (b ∷ text) ((pos 128 *ℤ high) +ℤ pos (b - 128))
 signed_joins width b [] high wide ge small p = absurd p
 signed_joins width b (c ∷ text) high wide ge small p = (wide, ge, small, high, refl, p)
 
@@ -78,18 +85,22 @@ unsigned_joined (c ∷ text) x =
 step_value : (b low unit more d : ℕ) → more ≡ 128 * unit → (pos 128 *ℤ signed_value low unit b) +ℤ pos d ≡ signed_value (128 * low + d) more b
 step_value b low unit more d e = subst (λ m. (pos 128 *ℤ signed_value low unit b) +ℤ pos d ≡ signed_value (128 * low + d) m b) (sym e) (by_sign (ltb b 64))
   where
-    by_sign : (t : Bool) → (pos 128 *ℤ cond t (pos (low + b * unit)) (pos (low + b * unit) -ℤ pos (128 * unit))) +ℤ pos d ≡ cond t (pos (128 * low + d + b * (128 * unit))) (pos (128 * low + d + b * (128 * unit)) -ℤ pos (128 * (128 * unit)))
+    by_sign : (t : Bool) → (pos 128 *ℤ cond t (pos (low + b * unit)) (pos (low + b * unit) -ℤ pos (128 * unit))) +ℤ pos d ≡ cond t
+        (pos (128 * low + d + b * (128 * unit))) (pos (128 * low + d + b * (128 * unit)) -ℤ pos (128 * (128 * unit)))
     by_sign true = omega (arith, ints)
     by_sign false = omega (arith, ints)
 
-pub signed_joined : (text : List ℕ) (b : ℕ) → joined (λ low high. (pos 128 *ℤ high) +ℤ pos low) text (last_value b) ≡ signed_value (low_bits text) (2 ^ (7 * length text)) b
+pub signed_joined : (text : List ℕ) (b : ℕ) →
+    joined (λ low high. (pos 128 *ℤ high) +ℤ pos low) text (last_value b) ≡ signed_value (low_bits text) (2 ^ (7 * length text)) b
 signed_joined [] b = by_sign (ltb b 64)
   where
     by_sign : (t : Bool) → cond t (pos b) (pos b -ℤ pos 128) ≡ cond t (pos (0 + b * 1)) (pos (0 + b * 1) -ℤ pos (128 * 1))
     by_sign true = omega (arith, ints)
     by_sign false = omega (arith, ints)
 signed_joined (c ∷ text) b =
-    ap (λ z. (pos 128 *ℤ z) +ℤ pos (c - 128)) (signed_joined text b) ∙ step_value b (low_bits text) (2 ^ (7 * length text)) (2 ^ (7 * length (c ∷ text))) (c - 128) (suc_power (length text) (7 * length (c ∷ text)) (omega arith))
+    ap (λ z. (pos 128 *ℤ z) +ℤ pos (c - 128)) (signed_joined text b) ∙
+    step_value b (low_bits text) (2 ^ (7 * length text)) (2 ^ (7 * length (c ∷ text))) (c - 128)
+    (suc_power (length text) (7 * length (c ∷ text)) (omega arith))
 
 -- ---- groups that were read so far, from the position `start` up to `position`
 pub record SoFar (buffer : List ℕ) (start position low shift count : ℕ) : Type 0 where
@@ -111,16 +122,20 @@ low_more (d ∷ text) c =
     omega (arith, low_more text c, ap (λ m. (c - 128) * m) p)
 
 -- the byte at a position, behind a text that stands before it
-pub stands_more : (buffer text : List ℕ) (start position : ℕ) → position < length buffer → StandsAt buffer start position text → StandsAt buffer start (position + 1) (text ++ get_or buffer position 0 ∷ [])
+pub stands_more : (buffer text : List ℕ) (start position : ℕ) → position < length buffer → StandsAt buffer start position text →
+    StandsAt buffer start (position + 1) (text ++ get_or buffer position 0 ∷ [])
 stands_more buffer text start position lt s =
     let c = get_or buffer position 0 in
-    let next : drop position buffer ≡ c ∷ drop (position + 1) buffer = drop-cons buffer position 0 lt ∙ ap (λ k. c ∷ drop k buffer) (sym (add-one position)) in
+    let next : drop position buffer ≡ c ∷ drop (position + 1) buffer = drop-cons buffer position 0 lt ∙
+    ap (λ k. c ∷ drop k buffer) (sym (add-one position)) in
     record {
       parts = s.parts ∙ ap (λ z. text ++ z) next ∙ sym (append_assoc text (c ∷ []) (drop (position + 1) buffer));
       ends = omega (arith, s.ends, length-append text (c ∷ []));
     }
 
-pub one_more : (buffer : List ℕ) (start position low shift count low2 : ℕ) → SoFar buffer start position low shift count → position < length buffer → 128 ≤ get_or buffer position 0 → get_or buffer position 0 < 256 → low2 ≡ low + (get_or buffer position 0 - 128) * 2 ^ shift → SoFar buffer start (position + 1) low2 (shift + 7) (count + 1)
+pub one_more : (buffer : List ℕ) (start position low shift count low2 : ℕ) → SoFar buffer start position low shift count → position < length buffer →
+    128 ≤ get_or buffer position 0 → get_or buffer position 0 < 256 → low2 ≡ low + (get_or buffer position 0 - 128) * 2 ^ shift →
+    SoFar buffer start (position + 1) low2 (shift + 7) (count + 1)
 one_more buffer start position low shift count low2 s lt ge small e =
     let c = get_or buffer position 0 in
     let same : shift ≡ 7 * length s.text = omega (arith, s.shift_is, s.many) in
@@ -142,7 +157,8 @@ power_below : (shift : ℕ) → shift < 57 → 128 * 2 ^ shift < 2 ^ 64
 power_below shift lt = let b = pow_below (7 + shift) 64 (omega arith) in omega (arith, pow-add 2 7 shift, b)
 
 -- one more group fits 64 bits
-pub group_fits : (buffer : List ℕ) (start position low shift count width x : ℕ) → SoFar buffer start position low shift count → count < (width - 1) / 7 → width ≤ 64 → x < 128 → ((x * 2 ^ shift) % 2 ^ 64 ≡ x * 2 ^ shift) × (low + x * 2 ^ shift < 2 ^ 64)
+pub group_fits : (buffer : List ℕ) (start position low shift count width x : ℕ) → SoFar buffer start position low shift count → count < (width - 1) / 7 →
+    width ≤ 64 → x < 128 → ((x * 2 ^ shift) % 2 ^ 64 ≡ x * 2 ^ shift) × (low + x * 2 ^ shift < 2 ^ 64)
 group_fits buffer start position low shift count width x s few wide small =
     let lt : shift < 57 = omega (arith, s.shift_is) in
     let below = low_so_far buffer start position low shift count s in
@@ -150,9 +166,11 @@ group_fits buffer start position low shift count width x s few wide small =
     (shl_whole x 7 shift 64 small (omega arith), omega (arith, power_below shift lt))
 
 -- a last byte above the bits before it fits 64 bits
-pub unsigned_fits : (low shift last : ℕ) → shift < 64 → low < 2 ^ shift → last < 2 ^ (64 - shift) → ((last * 2 ^ shift) % 2 ^ 64 ≡ last * 2 ^ shift) × (low + last * 2 ^ shift < 2 ^ 64)
+pub unsigned_fits : (low shift last : ℕ) → shift < 64 → low < 2 ^ shift → last < 2 ^ (64 - shift) →
+    ((last * 2 ^ shift) % 2 ^ 64 ≡ last * 2 ^ shift) × (low + last * 2 ^ shift < 2 ^ 64)
 unsigned_fits low shift last few lt fits =
     let all : 64 - shift + shift ≡ 64 = omega arith in
     let room : 2 ^ (64 - shift) * 2 ^ shift ≡ 2 ^ 64 = sym (pow-add 2 (64 - shift) shift) ∙ ap (λ k. 2 ^ k) all in
-    let whole : (last + 1) * 2 ^ shift ≤ 2 ^ (64 - shift) * 2 ^ shift = mul-le (last + 1) (2 ^ shift) (2 ^ (64 - shift)) (2 ^ shift) (omega arith) (omega arith) in
+    let whole : (last + 1) * 2 ^ shift ≤ 2 ^ (64 - shift) * 2 ^ shift =
+    mul-le (last + 1) (2 ^ shift) (2 ^ (64 - shift)) (2 ^ shift) (omega arith) (omega arith) in
     (shl_whole last (64 - shift) shift 64 fits (omega arith), omega (arith, whole, room))

@@ -25,7 +25,8 @@ unsigned_long bytes after b width eb ge narrow (c ∷ []) rest x p e = let h : c
 unsigned_long bytes after b width eb ge narrow (c ∷ d ∷ text) rest x p e = omega (arith, p.0)
 
 -- what follows is no number
-pub unsigned_rest : (bytes after : List ℕ) (b width : ℕ) → bytes ≡ b ∷ after → 128 ≤ b → NoPrefix (EncodesUnsigned (width - 7)) after → NoPrefix (EncodesUnsigned width) bytes
+pub unsigned_rest : (bytes after : List ℕ) (b width : ℕ) → bytes ≡ b ∷ after → 128 ≤ b → NoPrefix (EncodesUnsigned (width - 7)) after →
+    NoPrefix (EncodesUnsigned width) bytes
 unsigned_rest bytes after b width eb ge none [] rest x p e = p
 unsigned_rest bytes after b width eb ge none (c ∷ []) rest x p e = let h : c ≡ b = cc (eb, e) in omega (arith, p.0)
 unsigned_rest bytes after b width eb ge none (c ∷ d ∷ text) rest x (_, _, _, high, _, p) e = none (d ∷ text) rest high p (cc (eb, e))

@@ -6,7 +6,8 @@ use Rattle.std.proofs.lemmas.Nat.{from_le_bytes-to_le_bytes_4, from_le_bytes-to_
 use Rattle.wasm_below_bytes.specs.Sequence.{PrefixCode}
 use Rattle.wasm_below_bytes.specs.Source.{IsByte}
 
-pub unsigned_prefix_code : (a b : List ℕ) (width : ℕ) (x y : List ℕ) (m n : ℕ) → EncodesUnsigned width a m → EncodesUnsigned width b n → a ++ x ≡ b ++ y → (a ≡ b) × (m ≡ n)
+pub unsigned_prefix_code : (a b : List ℕ) (width : ℕ) (x y : List ℕ) (m n : ℕ) → EncodesUnsigned width a m → EncodesUnsigned width b n → a ++ x ≡ b ++ y →
+    (a ≡ b) × (m ≡ n)
 unsigned_prefix_code [] b width x y m n p q e = absurd p
 unsigned_prefix_code (c ∷ a) [] width x y m n p q e = absurd q
 unsigned_prefix_code (c ∷ []) (d ∷ []) width x y m n p q e = (cc (e), p.1 ∙ cc e ∙ sym q.1)
@@ -18,7 +19,8 @@ unsigned_prefix_code (c ∷ c2 ∷ a) (d ∷ d2 ∷ b) width x y m n (_, _, _, h
     let same : high ≡ high2 = r.1 in
     (cc (h, r.0), omega arith)
 
-pub signed_prefix_code : (a b : List ℕ) (width : ℕ) (x y : List ℕ) (m n : ℤ) → EncodesSigned width a m → EncodesSigned width b n → a ++ x ≡ b ++ y → (a ≡ b) × (m ≡ n)
+pub signed_prefix_code : (a b : List ℕ) (width : ℕ) (x y : List ℕ) (m n : ℤ) → EncodesSigned width a m → EncodesSigned width b n → a ++ x ≡ b ++ y →
+    (a ≡ b) × (m ≡ n)
 signed_prefix_code [] b width x y m n p q e = absurd p
 signed_prefix_code (c ∷ a) [] width x y m n p q e = absurd q
 signed_prefix_code (c ∷ []) (d ∷ []) width x y m n p q e = let h : c ≡ d = cc e in (cc, cc (p.1, q.1, h))

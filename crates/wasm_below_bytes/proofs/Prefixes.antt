@@ -17,16 +17,24 @@ advanced old new b (more, prefix) moved =
 -- where a text was taken, what is left begins within the data
 pub ahead_here : (old mid : Reader) (text : List ℕ) (offset : ℕ) → Takes old mid text → 0 < length text → offset ≡ offset_of old → IsAhead old offset
 ahead_here old mid text offset t some at =
-    let left : length old.buffer - old.position ≡ length text + length (rest mid) = sym (length-drop old.position old.buffer) ∙ ap length t.parts ∙ length-append text (rest mid) in
+    let left : length old.buffer - old.position ≡ length text + length (rest mid) = sym (length-drop old.position old.buffer) ∙ ap length t.parts ∙
+    length-append text (rest mid) in
     (omega arith, omega arith)
 
 -- back where a text was read, a refusal of what stands there
-pub refused_at : {X : Type 0} (Encodes : List ℕ → X → Type 0) (e : Error) (old mid new : Reader) (text : List ℕ) (position : ℕ) → Takes old mid text → 0 < length text → position ≡ old.position → new ≡ at_position mid position → e.offset ≡ mid.start + position → IsReadFault e.message → ((more : List ℕ) → NoPrefix Encodes ((text ++ rest mid) ++ more)) → (new ≡ old) × IsRefusal Encodes e old
+pub refused_at : {X : Type 0} (Encodes : List ℕ → X → Type 0) (e : Error) (old mid new : Reader) (text : List ℕ) (position : ℕ) → Takes old mid text →
+    0 < length text → position ≡ old.position → new ≡ at_position mid position → e.offset ≡ mid.start + position → IsReadFault e.message →
+    ((more : List ℕ) → NoPrefix Encodes ((text ++ rest mid) ++ more)) → (new ≡ old) × IsRefusal Encodes e old
 refused_at Encodes e old mid new text position t some same went offset fault none =
     let start : mid.start ≡ old.start = ap (λ (r : Reader). r.start) t.moved in
     let at : e.offset ≡ offset_of old = omega (arith, offset, same, start) in (
       back old mid new text position t same went,
-      record { refuses = λ more _. subst (λ z. NoPrefix Encodes (z ++ more)) (sym t.parts) (none more); fault = fault; ahead = ahead_here old mid text e.offset t some at },
+      record {
+        refuses = λ more _. subst (λ z. NoPrefix Encodes (z ++ more)) (sym t.parts) (none more);
+        fault = fault;
+        ahead =
+            ahead_here old mid text e.offset t some at;
+      },
     )
 
 -- no text at the end of the data
@@ -37,7 +45,8 @@ end_refused Encodes e r empty h =
           let none : more ≡ [] = subst (λ m. MayFollow m more) h.0 follow in
           let left : length (rest r) ≡ length r.buffer - r.position = length-drop r.position r.buffer in
           let same : r.start + r.position ≡ r.start + length r.buffer = h.2 in
-          let whole : length (rest r) + length more ≡ length text + length after = sym (length-append (rest r) more) ∙ ap length eq ∙ length-append text after in
+          let whole : length (rest r) + length more ≡ length text + length after = sym (length-append (rest r) more) ∙ ap length eq ∙
+          length-append text after in
           let zero : length more ≡ 0 = ap length none in
           empty x (subst (λ z. Encodes z x) (no_elements text (omega arith)) p)
           );
@@ -50,7 +59,8 @@ end_refused Encodes e r empty h =
     no_elements (c ∷ text) e = absurd (omega arith)
 
 -- where each text that begins with this byte is a text of another kind, what refuses that kind refuses this one
-pub led_refused : {X Y : Type 0} (P : List ℕ → X → Type 0) (Q : List ℕ → Y → Type 0) (e : Error) (r : Reader) (b : ℕ) → BeginsWith b (rest r) → ((y : Y) → Q [] y → ⊥) → ((tail : List ℕ) (y : Y) → Q (b ∷ tail) y → (x : X) × P (b ∷ tail) x) → IsRefusal P e r → IsRefusal Q e r
+pub led_refused : {X Y : Type 0} (P : List ℕ → X → Type 0) (Q : List ℕ → Y → Type 0) (e : Error) (r : Reader) (b : ℕ) → BeginsWith b (rest r) →
+    ((y : Y) → Q [] y → ⊥) → ((tail : List ℕ) (y : Y) → Q (b ∷ tail) y → (x : X) × P (b ∷ tail) x) → IsRefusal P e r → IsRefusal Q e r
 led_refused {X} {Y} P Q e r b (after, prefix) empty strip h =
     record { refuses = λ more follow text behind y q eq. go text q more behind (h.refuses more follow) eq; fault = h.fault; ahead = h.ahead }
   where
@@ -62,14 +72,22 @@ led_refused {X} {Y} P Q e r b (after, prefix) empty strip h =
         none (b ∷ tail) behind p.0 p.1 (eq ∙ ap (λ z. z ∷ (tail ++ behind)) same)
 
 -- the same of a reading, where a text of the other kind is one of this
-pub led_reads : {X : Type 0} (P Q : List ℕ → X → Type 0) (result : Result X Error) (old new : Reader) (b : ℕ) → BeginsWith b (rest old) → ((text : List ℕ) (x : X) → P text x → Q text x) → ((x : X) → Q [] x → ⊥) → ((tail : List ℕ) (x : X) → Q (b ∷ tail) x → P (b ∷ tail) x) → Reads P result old new → Reads Q result old new
+pub led_reads : {X : Type 0} (P Q : List ℕ → X → Type 0) (result : Result X Error) (old new : Reader) (b : ℕ) → BeginsWith b (rest old) →
+    ((text : List ℕ) (x : X) → P text x → Q text x) → ((x : X) → Q [] x → ⊥) → ((tail : List ℕ) (x : X) → Q (b ∷ tail) x → P (b ∷ tail) x) →
+    Reads P result old new → Reads Q result old new
 led_reads P Q (Ok x) old new b prefix into empty strip (text, p, takes) = (text, into text x p, takes)
 led_reads P Q (Err e) old new b prefix into empty strip (same, h) = (same, led_refused P Q e old b prefix empty (λ tail x q. (x, strip tail x q)) h)
 
 -- where behind this byte each text is one of another kind, what refuses that kind behind it refuses the whole
-pub behind_refused : {X Y : Type 0} (P : List ℕ → X → Type 0) (Q : List ℕ → Y → Type 0) (e : Error) (old mid : Reader) (b : ℕ) → Takes old mid (b ∷ []) → ((y : Y) → Q [] y → ⊥) → ((tail : List ℕ) (y : Y) → Q (b ∷ tail) y → (x : X) × P tail x) → IsRefusal P e mid → IsRefusal Q e old
+pub behind_refused : {X Y : Type 0} (P : List ℕ → X → Type 0) (Q : List ℕ → Y → Type 0) (e : Error) (old mid : Reader) (b : ℕ) → Takes old mid (b ∷ []) →
+    ((y : Y) → Q [] y → ⊥) → ((tail : List ℕ) (y : Y) → Q (b ∷ tail) y → (x : X) × P tail x) → IsRefusal P e mid → IsRefusal Q e old
 behind_refused {X} {Y} P Q e old mid b takes empty strip h =
-    record { refuses = λ more follow text behind y q eq. go text q more behind (h.refuses more follow) (ap (λ z. z ++ more) (sym takes.parts) ∙ eq); fault = h.fault; ahead = ahead_before old mid (b ∷ []) e.offset takes h.ahead }
+    record {
+      refuses = λ more follow text behind y q eq. go text q more behind (h.refuses more follow) (ap (λ z. z ++ more) (sym takes.parts) ∙ eq);
+      fault =
+          h.fault;
+      ahead = ahead_before old mid (b ∷ []) e.offset takes h.ahead;
+    }
   where
     go : (text : List ℕ) {y : Y} → Q text y → (more behind : List ℕ) → NoPrefix P (rest mid ++ more) → b ∷ (rest mid ++ more) ≡ text ++ behind → ⊥
     go [] q more behind none eq = empty _ q

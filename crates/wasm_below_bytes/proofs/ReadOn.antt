@@ -6,7 +6,8 @@ use Rattle.wasm_below_bytes.specs.Source.{Reader}
 use Rattle.wasm_below_bytes.specs.FromReader.{ReadsValue, ReadsOn}
 
 -- a reading keeps the features
-pub kept_features : {X : Type 0} (Encodes : List ℕ → X → Type 0) (takes_memory : Bool) (result : Result X Error) (old new : Reader) → ReadsValue Encodes takes_memory result old new → new.features ≡ old.features
+pub kept_features : {X : Type 0} (Encodes : List ℕ → X → Type 0) (takes_memory : Bool) (result : Result X Error) (old new : Reader) →
+    ReadsValue Encodes takes_memory result old new → new.features ≡ old.features
 kept_features Encodes takes_memory (Ok x) old new h = ap (λ (r : Reader). r.features) h.2.moved
 kept_features Encodes takes_memory (Err e) old new h = ap (λ (r : Reader). r.features) h.0
 
@@ -15,14 +16,17 @@ pub none_left_to_read : {X : Type 0} (Encodes : List ℕ → X → Type 0) (take
 none_left_to_read Encodes takes_memory n r e = subst (λ k. ReadsOn Encodes takes_memory k r r) (sym e) refl
 
 -- one was read, and the others behind it
-pub one_read : {X : Type 0} (Encodes : List ℕ → X → Type 0) (takes_memory : Bool) (result : Result X Error) (n i : ℕ) (old mid last : Reader) → i < n → is_err result ≡ false → ReadsValue Encodes takes_memory result old mid → ReadsOn Encodes takes_memory (n - (i + 1)) mid last → ReadsOn Encodes takes_memory (n - i) old last
+pub one_read : {X : Type 0} (Encodes : List ℕ → X → Type 0) (takes_memory : Bool) (result : Result X Error) (n i : ℕ) (old mid last : Reader) → i < n →
+    is_err result ≡ false → ReadsValue Encodes takes_memory result old mid → ReadsOn Encodes takes_memory (n - (i + 1)) mid last →
+    ReadsOn Encodes takes_memory (n - i) old last
 one_read Encodes takes_memory (Ok x) n i old mid last lt is r h =
     let e : suc (n - (i + 1)) ≡ n - i = omega arith in
     subst (λ k. ReadsOn Encodes takes_memory k old last) e (inl (x, mid, r, h))
 one_read Encodes takes_memory (Err e) n i old mid last lt is r h = absurd (cc is)
 
 -- the next one was refused
-pub one_refused : {X : Type 0} (Encodes : List ℕ → X → Type 0) (takes_memory : Bool) (result : Result X Error) (n i : ℕ) (old new : Reader) → i < n → is_err result ≡ true → ReadsValue Encodes takes_memory result old new → ReadsOn Encodes takes_memory (n - i) old new
+pub one_refused : {X : Type 0} (Encodes : List ℕ → X → Type 0) (takes_memory : Bool) (result : Result X Error) (n i : ℕ) (old new : Reader) → i < n →
+    is_err result ≡ true → ReadsValue Encodes takes_memory result old new → ReadsOn Encodes takes_memory (n - i) old new
 one_refused Encodes takes_memory (Ok x) n i old new lt is r = absurd (cc is)
 one_refused Encodes takes_memory (Err e) n i old new lt is r =
     let s : suc (n - (i + 1)) ≡ n - i = omega arith in

@@ -29,7 +29,8 @@ narrow width n small over =
       | inr le ↦ le
     ]
 
-joined : (high : ℤ) (a low : ℕ) → low < 128 → (neg_ℤ (pos a) ≤ℤ high) × (high <ℤ pos a) → (neg_ℤ (pos (128 * a)) ≤ℤ ((pos 128 *ℤ high) +ℤ pos low)) × (((pos 128 *ℤ high) +ℤ pos low) <ℤ pos (128 * a))
+joined : (high : ℤ) (a low : ℕ) → low < 128 → (neg_ℤ (pos a) ≤ℤ high) × (high <ℤ pos a) →
+    (neg_ℤ (pos (128 * a)) ≤ℤ ((pos 128 *ℤ high) +ℤ pos low)) × (((pos 128 *ℤ high) +ℤ pos low) <ℤ pos (128 * a))
 joined high a low lt h = (omega (arith, ints, h.0), omega (arith, ints, h.1))
 
 pub fits_join : (width : ℕ) (high : ℤ) (low : ℕ) → 7 < width → low < 128 → FitsWidth (width - 7) high → FitsWidth width ((pos 128 *ℤ high) +ℤ pos low)
@@ -42,13 +43,15 @@ fits_join width high low wide lt h =
 pub signed_fits : (text : List ℕ) (width : ℕ) (n : ℤ) → EncodesSigned width text n → FitsWidth width n
 signed_fits [] width n p = absurd p
 signed_fits (c ∷ []) width n p = p.2
-signed_fits (c ∷ d ∷ text) width n (w, le, lt, high, e, p) = subst (FitsWidth width) (sym e) (fits_join width high (c - 128) w (omega arith) (signed_fits (d ∷ text) (width - 7) high p))
+signed_fits (c ∷ d ∷ text) width n (w, le, lt, high, e, p) =
+    subst (FitsWidth width) (sym e) (fits_join width high (c - 128) w (omega arith) (signed_fits (d ∷ text) (width - 7) high p))
 
 pub signed_empty : NoPrefix (EncodesSigned 33) []
 signed_empty [] rest x p e = p
 signed_empty (c ∷ text) rest x p e = cc e
 
-pub signed_large : (bytes after : List ℕ) (b width : ℕ) (v : ℤ) → bytes ≡ b ∷ after → b < 128 → v ≡ last_value b → (FitsWidth width v → ⊥) → NoPrefix (EncodesSigned width) bytes
+pub signed_large : (bytes after : List ℕ) (b width : ℕ) (v : ℤ) → bytes ≡ b ∷ after → b < 128 → v ≡ last_value b → (FitsWidth width v → ⊥) →
+    NoPrefix (EncodesSigned width) bytes
 signed_large bytes after b width v eb lt ev over [] rest x p e = p
 signed_large bytes after b width v eb lt ev over (c ∷ []) rest x p e =
     let h : c ≡ b = cc (eb, e) in
@@ -60,7 +63,8 @@ signed_long bytes after b width eb ge narrow [] rest x p e = p
 signed_long bytes after b width eb ge narrow (c ∷ []) rest x p e = let h : c ≡ b = cc (eb, e) in omega (arith, p.0)
 signed_long bytes after b width eb ge narrow (c ∷ d ∷ text) rest x p e = omega (arith, p.0)
 
-pub signed_rest : (bytes after : List ℕ) (b width : ℕ) → bytes ≡ b ∷ after → 128 ≤ b → NoPrefix (EncodesSigned (width - 7)) after → NoPrefix (EncodesSigned width) bytes
+pub signed_rest : (bytes after : List ℕ) (b width : ℕ) → bytes ≡ b ∷ after → 128 ≤ b → NoPrefix (EncodesSigned (width - 7)) after →
+    NoPrefix (EncodesSigned width) bytes
 signed_rest bytes after b width eb ge none [] rest x p e = p
 signed_rest bytes after b width eb ge none (c ∷ []) rest x p e = let h : c ≡ b = cc (eb, e) in omega (arith, p.0)
 signed_rest bytes after b width eb ge none (c ∷ d ∷ text) rest x (_, _, _, high, _, p) e = none (d ∷ text) rest high p (cc (eb, e))

@@ -14,7 +14,8 @@ rewound old new text t = ap (λ r. at_position r old.position) t.moved
 pub takes_then : (a b c : Reader) (x y : List ℕ) → Takes a b x → Takes b c y → Takes a c (x ++ y)
 takes_then a b c x y p q =
     record {
-      moved = q.moved ∙ ap (λ r. at_position r (r.position + length y)) p.moved ∙ ap (at_position a) (let n : length (x ++ y) ≡ length x + length y = length-append x y in omega arith);
+      moved = q.moved ∙ ap (λ r. at_position r (r.position + length y)) p.moved ∙
+          ap (at_position a) (let n : length (x ++ y) ≡ length x + length y = length-append x y in omega arith);
       parts = p.parts ∙ ap (λ z. x ++ z) q.parts ∙ sym (append_assoc x y (rest c));
     }
 
@@ -29,9 +30,11 @@ first_byte_read old mid b (text, is, takes) =
     (t.parts, is.1, t)
 
 -- a text that was taken lies in the buffer
-pub within_buffer : (old new : Reader) (text : List ℕ) → old.position ≤ length old.buffer → Takes old new text → old.position + length text + length (rest new) ≡ length old.buffer
+pub within_buffer : (old new : Reader) (text : List ℕ) → old.position ≤ length old.buffer → Takes old new text →
+    old.position + length text + length (rest new) ≡ length old.buffer
 within_buffer old new text le t =
-    let whole : length old.buffer - old.position ≡ length text + length (rest new) = sym (length-drop old.position old.buffer) ∙ ap length t.parts ∙ length-append text (rest new) in
+    let whole : length old.buffer - old.position ≡ length text + length (rest new) = sym (length-drop old.position old.buffer) ∙ ap length t.parts ∙
+    length-append text (rest new) in
     omega arith
 
 -- what lies ahead of a reader lies ahead of where it was
@@ -49,8 +52,10 @@ byte-prefix r b after e =
     ap (slice_index r.buffer) zero ∙ sym (get_or-drop r.position r.buffer 0 0) ∙ ap (λ z. slice_index z 0) e
 
 pub none_left : (n : ℕ) (xs left : List ℕ) → drop n xs ≡ left → n ≤ length xs → IsTrue (leb (length xs) n) ↔ (left ≡ [])
-none_left n xs left e le =
-    (λ t. sym e ∙ drop_all n xs (leb-true (length xs) n t), λ h. le-leb (length xs) n (let z : length xs - n ≡ 0 = sym (length-drop n xs) ∙ ap length (e ∙ h) in omega (arith, z)))
+none_left n xs left e le = (
+  λ t. sym e ∙ drop_all n xs (leb-true (length xs) n t),
+  λ h. le-leb (length xs) n (let z : length xs - n ≡ 0 = sym (length-drop n xs) ∙ ap length (e ∙ h) in omega (arith, z)),
+)
 
 -- behind equal prefixes of one list equal rests stand
 pub same_rest : {A : Type 0} (a b x y : List A) → a ≡ b → a ++ x ≡ b ++ y → x ≡ y
@@ -71,7 +76,9 @@ pub back : (old mid new : Reader) (text : List ℕ) (position : ℕ) → Takes o
 back old mid new text position t same e = e ∙ ap (at_position mid) same ∙ rewound old mid text t
 
 -- back at a byte that was read, a refusal of what begins with it
-pub refused_back : {X : Type 0} (Encodes : List ℕ → X → Type 0) (e : Error) (old mid new : Reader) (b position : ℕ) → Reads IsByte (Ok b) old mid → position ≡ old.position → new ≡ at_position mid position → e.offset ≡ mid.start + position → IsReadFault e.message → ((more : List ℕ) → NoPrefix Encodes (rest old ++ more)) → (new ≡ old) × IsRefusal Encodes e old
+pub refused_back : {X : Type 0} (Encodes : List ℕ → X → Type 0) (e : Error) (old mid new : Reader) (b position : ℕ) → Reads IsByte (Ok b) old mid →
+    position ≡ old.position → new ≡ at_position mid position → e.offset ≡ mid.start + position → IsReadFault e.message →
+    ((more : List ℕ) → NoPrefix Encodes (rest old ++ more)) → (new ≡ old) × IsRefusal Encodes e old
 refused_back Encodes e old mid new b position r same went offset fault none =
     let f = first_byte_read old mid b r in
     let start : mid.start ≡ old.start = ap (λ (r : Reader). r.start) f.2.moved in
@@ -81,6 +88,8 @@ refused_back Encodes e old mid new b position r same went offset fault none =
     )
 
 -- a refusal of what stands behind a text that was read
-pub refused_behind : {X Y : Type 0} (Behind : List ℕ → X → Type 0) (Encodes : List ℕ → Y → Type 0) (e : Error) (old mid : Reader) (text : List ℕ) → Takes old mid text → IsRefusal Behind e mid → ((more : List ℕ) → NoPrefix Behind (rest mid ++ more) → NoPrefix Encodes (rest old ++ more)) → IsRefusal Encodes e old
+pub refused_behind : {X Y : Type 0} (Behind : List ℕ → X → Type 0) (Encodes : List ℕ → Y → Type 0) (e : Error) (old mid : Reader) (text : List ℕ) →
+    Takes old mid text → IsRefusal Behind e mid → ((more : List ℕ) → NoPrefix Behind (rest mid ++ more) → NoPrefix Encodes (rest old ++ more)) →
+    IsRefusal Encodes e old
 refused_behind Behind Encodes e old mid text t h none =
     record { refuses = λ more follow. none more (h.refuses more follow); fault = h.fault; ahead = ahead_before old mid text e.offset t h.ahead }

@@ -38,7 +38,8 @@ no_short bytes f (b, l, g) = (let same : b ≡ 0x62 = cc (f.1, g.1) in omega (ar
 
 pub heap_determines : DeterminesRefusal HeapTypeFault
 heap_determines m k r a b (inl h) (inl q) =
-    then_determines (EncodesUnsigned 32) U32Fault (λ n. NoIndex r) (λ a b x y m n p q e. unsigned_prefix_code a b 32 x y m n p q e) u32_determines (λ n. index_determines r) m k (behind_byte r) a b h.1 q.1
+    then_determines (EncodesUnsigned 32) U32Fault (λ n. NoIndex r) (λ a b x y m n p q e. unsigned_prefix_code a b 32 x y m n p q e) u32_determines
+    (λ n. index_determines r) m k (behind_byte r) a b h.1 q.1
 heap_determines m k r a b (inl h) (inr (inl q)) = absurd (no_short (rest r) h.0 q.0)
 heap_determines m k r a b (inl h) (inr (inr q)) = absurd (q.0 h.0)
 heap_determines m k r a b (inr (inl h)) (inl q) = absurd (no_short (rest r) q.0 h.0)
@@ -47,7 +48,8 @@ heap_determines m k r a b (inr (inl h)) (inr (inr q)) = absurd (q.1 h.0)
 heap_determines m k r a b (inr (inr h)) (inl q) = absurd (h.0 q.0)
 heap_determines m k r a b (inr (inr h)) (inr (inl q)) = absurd (h.1 q.0)
 heap_determines m k r a b (inr (inr h)) (inr (inr q)) =
-    then_determines (EncodesSigned 33) S33Fault (λ n. NoIndex r) (λ a b x y m n p q e. signed_prefix_code a b 33 x y m n p q e) s33_determines (λ n. index_determines r) m k r a b h.2 q.2
+    then_determines (EncodesSigned 33) S33Fault (λ n. NoIndex r) (λ a b x y m n p q e. signed_prefix_code a b 33 x y m n p q e) s33_determines
+    (λ n. index_determines r) m k r a b h.2 q.2
 
 pub ref_determines : DeterminesRefusal RefTypeFault
 ref_determines m k r a b (inl h) (inl q) = heap_determines m k (behind_byte r) a b h.2 q.2

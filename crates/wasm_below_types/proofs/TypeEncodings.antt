@@ -89,7 +89,8 @@ concrete_heap text (heap.Concrete i) p = p
 concrete_heap text (heap.Exact i) p = absurd p
 
 -- a number that is no index
-pub no_concrete : (text after more : List ℕ) (n : ℤ) → EncodesSigned 33 text n → ((i : ℕ) → n ≡ pos i → i ≤ max_type_index → ⊥) → NoPrefix EncodesConcrete ((text ++ after) ++ more)
+pub no_concrete : (text after more : List ℕ) (n : ℤ) → EncodesSigned 33 text n → ((i : ℕ) → n ≡ pos i → i ≤ max_type_index → ⊥) →
+    NoPrefix EncodesConcrete ((text ++ after) ++ more)
 no_concrete text after more n p over t2 more2 (heap.Abstract shared t) q e = q
 no_concrete text after more n p over t2 more2 (heap.Concrete i) q e =
     over i (signed_prefix_code text t2 33 (after ++ more) more2 n (pos i) p q.0 (sym (append_assoc text after more) ∙ e)).1 q.1
@@ -99,7 +100,8 @@ pub no_exact : (text after more : List ℕ) (n : ℕ) → EncodesUnsigned 32 tex
 no_exact text after more n p over t2 more2 (heap.Abstract shared t) q e = q
 no_exact text after more n p over t2 more2 (heap.Concrete i) q e = q
 no_exact text after more n p over t2 more2 (heap.Exact i) (behind, prefix, q, within) e =
-    let same : n ≡ i = (unsigned_prefix_code text behind 32 (after ++ more) more2 n i p q (sym (append_assoc text after more) ∙ cc (e, ap (λ z. z ++ more2) prefix))).1 in
+    let same : n ≡ i = (unsigned_prefix_code text behind 32 (after ++ more) more2 n i p q (sym (append_assoc text after more) ∙
+    cc (e, ap (λ z. z ++ more2) prefix))).1 in
     omega (arith, within)
 
 -- behind the byte 98
@@ -183,7 +185,8 @@ value_number b l tail value.F64 e = e
 value_number b l tail value.V128 e = e
 value_number b l tail (value.Ref r) p = absurd (l (ref_leads b tail r p))
 
-pub value_is_ref : (b : ℕ) → LeadsRefType b → (tail : List ℕ) (v : ValType) → EncodesValType (b ∷ tail) v → (r : Reference) × (v ≡ value.Ref r) × EncodesRefType (b ∷ tail) r
+pub value_is_ref : (b : ℕ) → LeadsRefType b → (tail : List ℕ) (v : ValType) → EncodesValType (b ∷ tail) v →
+    (r : Reference) × (v ≡ value.Ref r) × EncodesRefType (b ∷ tail) r
 value_is_ref b l tail value.I32 e = (let low = number_leads b tail value.I32 e in absurd (omega (arith, l.1)))
 value_is_ref b l tail value.I64 e = (let low = number_leads b tail value.I64 e in absurd (omega (arith, l.1)))
 value_is_ref b l tail value.F32 e = (let low = number_leads b tail value.F32 e in absurd (omega (arith, l.1)))
@@ -195,6 +198,7 @@ pub value_ref : (b : ℕ) → LeadsRefType b → (tail : List ℕ) (v : ValType)
 value_ref b l tail v p = (let s = value_is_ref b l tail v p in (s.0, s.2))
 
 -- what is wrong behind the byte 99 or 100 is wrong with the reference type
-pub long_fault : (result : Result Reference Error) (n : Bool) (r : Reader) → BeginsWith (ref_byte n) (rest r) → IfErr result (λ e. HeapTypeFault e.message (behind_byte r) e.offset) → IfErr result (λ e. RefTypeFault e.message r e.offset)
+pub long_fault : (result : Result Reference Error) (n : Bool) (r : Reader) → BeginsWith (ref_byte n) (rest r) →
+    IfErr result (λ e. HeapTypeFault e.message (behind_byte r) e.offset) → IfErr result (λ e. RefTypeFault e.message r e.offset)
 long_fault (Ok x) n r prefix h = tt
 long_fault (Err e) n r prefix h = inl (n, prefix, h)

@@ -54,13 +54,15 @@ end_value e r h =
     inr (λ b l f. (let g : rest r ≡ b ∷ f.0 = f.1 in cc), end_byte type_name.ValueType e r h)
 
 -- a heap type is refused as the form that its first byte begins
-pub short_fault : (b : ℕ) (e : Error) (r : Reader) → BeginsWith b (rest r) → LeadsShort b → ShortFault type_name.HeapType e.message r e.offset → HeapTypeFault e.message r e.offset
+pub short_fault : (b : ℕ) (e : Error) (r : Reader) → BeginsWith b (rest r) → LeadsShort b → ShortFault type_name.HeapType e.message r e.offset →
+    HeapTypeFault e.message r e.offset
 short_fault b e r prefix l h = inr (inl ((b, l, prefix), h))
 
 pub exact_fault : (b : ℕ) (e : Error) (r : Reader) → BeginsWith b (rest r) → b ≡ 0x62 → ExactFault e.message r e.offset → HeapTypeFault e.message r e.offset
 exact_fault b e r prefix same h = inl (subst (λ z. BeginsWith z (rest r)) same prefix, h)
 
-pub concrete_fault : (b : ℕ) (e : Error) (r : Reader) → BeginsWith b (rest r) → (LeadsShort b → ⊥) → b ≢ 0x62 → ConcreteFault e.message r e.offset → HeapTypeFault e.message r e.offset
+pub concrete_fault : (b : ℕ) (e : Error) (r : Reader) → BeginsWith b (rest r) → (LeadsShort b → ⊥) → b ≢ 0x62 → ConcreteFault e.message r e.offset →
+    HeapTypeFault e.message r e.offset
 concrete_fault b e r prefix l x h =
     inr (inr (
       λ f. x (let g : b ≡ 0x62 = cc (prefix.1, f.1) in g),
@@ -69,7 +71,8 @@ concrete_fault b e r prefix l x h =
     ))
 
 -- back where a number was read that is no index
-pub no_index : (m : Message) (offset position : ℕ) (begin old mid : Reader) (text : List ℕ) → Takes old mid text → old.start ≡ begin.start → position ≡ begin.position → m ≡ message.InvalidType type_name.HeapType → offset ≡ mid.start + position → NoIndex begin m mid offset
+pub no_index : (m : Message) (offset position : ℕ) (begin old mid : Reader) (text : List ℕ) → Takes old mid text → old.start ≡ begin.start →
+    position ≡ begin.position → m ≡ message.InvalidType type_name.HeapType → offset ≡ mid.start + position → NoIndex begin m mid offset
 no_index m offset position begin old mid text t same at is e =
     let start : mid.start ≡ old.start = ap (λ (r : Reader). r.start) t.moved in
     (is, omega (arith, start, same, at, e))

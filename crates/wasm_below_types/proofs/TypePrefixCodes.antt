@@ -13,7 +13,9 @@ use Rattle.wasm_below_types.proofs.TypeEncodings.{heap_byte_within, ref_byte_lea
 
 abstract_at : ℕ → AbstractHeapType
 abstract_at n =
-    if n == 117 then ty.NoCont else if n == 116 then ty.NoExn else if n == 115 then ty.NoFunc else if n == 114 then ty.NoExtern else if n == 113 then ty.None else if n == 112 then ty.Func else if n == 111 then ty.Extern else if n == 110 then ty.Any else if n == 109 then ty.Eq else if n == 108 then ty.I31 else if n == 107 then ty.Struct else if n == 106 then ty.Array else if n == 105 then ty.Exn else ty.Cont
+    if n == 117 then ty.NoCont else if n == 116 then ty.NoExn else if n == 115 then ty.NoFunc else if n == 114 then ty.NoExtern else if n == 113 then ty.None
+    else if n == 112 then ty.Func else if n == 111 then ty.Extern else if n == 110 then ty.Any else if n == 109 then ty.Eq else if n == 108 then ty.I31
+    else if n == 107 then ty.Struct else if n == 106 then ty.Array else if n == 105 then ty.Exn else ty.Cont
 
 abstract_at-heap_type_byte : (t : AbstractHeapType) → abstract_at (heap_type_byte t) ≡ t
 unfolding abstract_at
@@ -81,7 +83,8 @@ heap_prefix_code (c ∷ a) (d ∷ b) x y (heap.Abstract shared t) n p q e =
 heap_prefix_code (c ∷ a) (d ∷ b) x y (heap.Concrete i) n p q e =
     let same : c ≡ d = cc e in
     let far : 64 ≤ d → d < 128 → ⊥ = subst (λ z. 64 ≤ z → z < 128 → ⊥) same (index_leads 33 c a i p.0) in
-    concrete_prefix_code (c ∷ a) (d ∷ b) x y (heap.Concrete i) n p (heap_concrete d (λ l. far (omega (arith, l.0)) (omega (arith, l.1))) (λ w. far (omega (arith, w)) (omega (arith, w))) b n q) e
+    concrete_prefix_code (c ∷ a) (d ∷ b) x y (heap.Concrete i) n p
+    (heap_concrete d (λ l. far (omega (arith, l.0)) (omega (arith, l.1))) (λ w. far (omega (arith, w)) (omega (arith, w))) b n q) e
 heap_prefix_code (c ∷ a) (d ∷ b) x y (heap.Exact i) n p q e =
     let same : d ≡ 98 = cc (e, p.1) in
     exact_prefix_code (c ∷ a) (d ∷ b) x y (heap.Exact i) n p (heap_exact d same b n q) e
@@ -144,7 +147,8 @@ number_prefix_code a b x y v w p q e =
 number_far : (c : ℕ) (a : List ℕ) (v : ValType) → EncodesNumberType (c ∷ a) v → LeadsRefType c → ⊥
 number_far c a v p l = (let low = number_leads c a v p in omega (arith, l.1))
 
-plain_prefix_code : (c d : ℕ) (a b x y : List ℕ) (v w : ValType) → EncodesNumberType (c ∷ a) v → EncodesValType (d ∷ b) w → (c ∷ a) ++ x ≡ (d ∷ b) ++ y → (c ∷ a ≡ d ∷ b) × (v ≡ w)
+plain_prefix_code : (c d : ℕ) (a b x y : List ℕ) (v w : ValType) → EncodesNumberType (c ∷ a) v → EncodesValType (d ∷ b) w → (c ∷ a) ++ x ≡ (d ∷ b) ++ y →
+    (c ∷ a ≡ d ∷ b) × (v ≡ w)
 plain_prefix_code c d a b x y v w p q e =
     let same : c ≡ d = cc e in
     number_prefix_code (c ∷ a) (d ∷ b) x y v w p (value_number d (subst (λ z. LeadsRefType z → ⊥) same (number_far c a v p)) b w q) e

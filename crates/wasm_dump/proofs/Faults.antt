@@ -10,14 +10,16 @@ use Rattle.wasm_dump.specs.declared.fault.DumpFault.{DumpFault}
 use Rattle.wasm_dump.specs.declared.fault.DumpFault.TheVariants as fault
 use Rattle.wasm_dump.specs.Dump.{input_of, Dumps, IsNotRefused, WritesNothing}
 
-dumps_one : (f : WasmFeatures) (bytes : List ℕ) (e : DumpFault) (old new : Option (List ℕ)) → WritesNothing e → Dumps {X = Unit {0}} (input_of f bytes) (Err e) old new
+dumps_one : (f : WasmFeatures) (bytes : List ℕ) (e : DumpFault) (old new : Option (List ℕ)) → WritesNothing e →
+    Dumps {X = Unit {0}} (input_of f bytes) (Err e) old new
 dumps_one f bytes (fault.Refused e) old new h = absurd h
 dumps_one f bytes fault.Reading old new h = tt
 dumps_one f bytes fault.Writing old new h = absurd h
 dumps_one f bytes fault.Memory old new h = tt
 
 -- of a fault before anything is written no lines are claimed
-pub dumps_fault : (known : Option (List ℕ)) (f : WasmFeatures) (e : DumpFault) (old new : Option (List ℕ)) → WritesNothing e → IfSome known (λ bytes. Dumps {X = Unit {0}} (input_of f bytes) (Err e) old new)
+pub dumps_fault : (known : Option (List ℕ)) (f : WasmFeatures) (e : DumpFault) (old new : Option (List ℕ)) → WritesNothing e →
+    IfSome known (λ bytes. Dumps {X = Unit {0}} (input_of f bytes) (Err e) old new)
 dumps_fault None f e old new h = tt
 dumps_fault (Some bytes) f e old new h = dumps_one f bytes e old new h
 
@@ -27,7 +29,8 @@ not_refused fault.Reading h = tt
 not_refused fault.Writing h = tt
 not_refused fault.Memory h = tt
 
-pub whole_fault : (known : Option (List ℕ)) (f : WasmFeatures) (e : DumpFault) → WritesNothing e → IfSome known (λ bytes. (placed : Placed) → EncodesBody (input_of f bytes) placed → IsNotRefused {X = Unit {0}} (Err e))
+pub whole_fault : (known : Option (List ℕ)) (f : WasmFeatures) (e : DumpFault) → WritesNothing e →
+    IfSome known (λ bytes. (placed : Placed) → EncodesBody (input_of f bytes) placed → IsNotRefused {X = Unit {0}} (Err e))
 whole_fault None f e h = tt
 whole_fault (Some bytes) f e h = λ placed encodes. not_refused e h
 
@@ -36,12 +39,16 @@ err_not_ok (Ok x) e is ok = cc is
 err_not_ok (Err d) e is ok = cc ok
 
 -- a body that the input encodes is not refused
-pub whole_refused : (known : Option (List ℕ)) (f : WasmFeatures) (input slice : List ℕ) (end : Result (Unit {0}) Error) (e : Error) → IfSome known (λ bytes. input ≡ bytes) → slice ≡ input → end ≡ Err e → ((placed : Placed) → EncodesBody (input_of f slice) placed → IsOk end) → IfSome known (λ bytes. (placed : Placed) → EncodesBody (input_of f bytes) placed → ⊥)
+pub whole_refused : (known : Option (List ℕ)) (f : WasmFeatures) (input slice : List ℕ) (end : Result (Unit {0}) Error) (e : Error) →
+    IfSome known (λ bytes. input ≡ bytes) → slice ≡ input → end ≡ Err e → ((placed : Placed) → EncodesBody (input_of f slice) placed → IsOk end) →
+    IfSome known (λ bytes. (placed : Placed) → EncodesBody (input_of f bytes) placed → ⊥)
 whole_refused None f input slice end e told same is whole = tt
 whole_refused (Some bytes) f input slice end e told same is whole = λ placed encodes.
-    err_not_ok end e is (whole placed (subst (λ b. EncodesBody (input_of f b) placed) (sym same) (subst (λ b. EncodesBody (input_of f b) placed) (sym told) encodes)))
+    err_not_ok end e is (whole placed (subst (λ b. EncodesBody (input_of f b) placed) (sym same)
+    (subst (λ b. EncodesBody (input_of f b) placed) (sym told) encodes)))
 
 -- without allocation failure it ended well
-pub ok_unless : (r : Result (Unit {0}) Error) (b : Bool) → b ≡ false → (IsErrAnd r (λ e. e.message ≡ message.OutOfMemory) → IsTrue b) → IfErr r (λ e. e.message ≡ message.OutOfMemory) → IsOk r
+pub ok_unless : (r : Result (Unit {0}) Error) (b : Bool) → b ≡ false → (IsErrAnd r (λ e. e.message ≡ message.OutOfMemory) → IsTrue b) →
+    IfErr r (λ e. e.message ≡ message.OutOfMemory) → IsOk r
 ok_unless (Ok x) b isnt tells h = refl
 ok_unless (Err e) b isnt tells h = let t : IsTrue false = subst IsTrue isnt (tells h) in absurd (cc t)

@@ -16,10 +16,13 @@ use Rattle.wasm_below.proofs.DeterminedRefusals.{checked_determines}
 use Rattle.wasm_below.proofs.DeterminedRefusals.{zero_determines}
 
 pub index_determines : (feature f : WasmFeatures) → DeterminesRefusal (IndexFault feature f)
-index_determines feature f m k r a b = either_determines (HasFeature feature f) U32Fault (ZeroFault message.ZeroByteExpected (offset_of r)) u32_determines (zero_determines message.ZeroByteExpected (offset_of r)) m k r a b
+index_determines feature f m k r a b = either_determines (HasFeature feature f) U32Fault (ZeroFault message.ZeroByteExpected (offset_of r)) u32_determines
+    (zero_determines message.ZeroByteExpected (offset_of r)) m k r a b
 
 pub ordering_byte_determines : DeterminesRefusal OrderingByteFault
-ordering_byte_determines m k r a b = checked_determines (λ byte. (o : Ordering) → byte ≢ ordering_byte o) (λ byte. message.InvalidOrdering byte false) (offset_of r) m k r a b
+ordering_byte_determines m k r a b = checked_determines (λ byte. (o : Ordering) →
+    byte ≢ ordering_byte o) (λ byte. message.InvalidOrdering byte false) (offset_of r) m k r a b
 
 pub fence_determines : (f : WasmFeatures) (start : ℕ) → DeterminesRefusal (FenceFault f start)
-fence_determines f start = either_determines (HasFeature acquire_release_atomics f) OrderingByteFault (ZeroFault message.NonzeroAfterFence start) ordering_byte_determines (zero_determines message.NonzeroAfterFence start)
+fence_determines f start = either_determines (HasFeature acquire_release_atomics f) OrderingByteFault (ZeroFault message.NonzeroAfterFence start)
+    ordering_byte_determines (zero_determines message.NonzeroAfterFence start)

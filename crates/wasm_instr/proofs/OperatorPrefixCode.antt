@@ -28,7 +28,8 @@ operator_at (Some prefix) code is =
     (operator.Atomic (atomic_at code is))))
 
 again : (op : Operator) → operator_at (prefix_of op) (opcode_of op) (immediates_of op) ≡ op
-again (operator.Numeric op) = ap (λ b. cond b (operator.Numeric (numeric_at (numeric_opcode op) (numeric_immediates op))) (own_at (numeric_opcode op) (numeric_immediates op))) (numeric_range op) ∙ ap operator.Numeric (numeric_by_opcode op)
+again (operator.Numeric op) = ap (λ b. cond b (operator.Numeric (numeric_at (numeric_opcode op) (numeric_immediates op)))
+    (own_at (numeric_opcode op) (numeric_immediates op))) (numeric_range op) ∙ ap operator.Numeric (numeric_by_opcode op)
 again (operator.Gc op) = ap operator.Gc (gc_by_opcode op)
 again (operator.Misc op) = ap operator.Misc (misc_by_opcode op)
 again (operator.Simd op) = ap operator.Simd (simd_by_opcode op)
@@ -40,7 +41,9 @@ abbrev kinds_at : Option ℕ → ℕ → List Kind
 kinds_at prefix code = map kind_of (immediates_of (operator_at prefix code []))
 
 kinds_by_opcode : (op : Operator) → map kind_of (immediates_of op) ≡ kinds_at (prefix_of op) (opcode_of op)
-kinds_by_opcode (operator.Numeric op) = numeric_kinds op ∙ sym (ap (λ b. map kind_of (immediates_of (cond b (operator.Numeric (numeric_at (numeric_opcode op) [])) (own_at (numeric_opcode op) [])))) (numeric_range op))
+kinds_by_opcode (operator.Numeric op) = numeric_kinds op ∙
+    sym (ap (λ b. map kind_of (immediates_of (cond b (operator.Numeric (numeric_at (numeric_opcode op) [])) (own_at (numeric_opcode op) []))))
+    (numeric_range op))
 kinds_by_opcode (operator.Gc op) = gc_kinds op
 kinds_by_opcode (operator.Misc op) = misc_kinds op
 kinds_by_opcode (operator.Simd op) = simd_kinds op
@@ -56,7 +59,8 @@ told : (op : Operator) → IsTold (prefix_of op) (opcode_of op)
 told (operator.Numeric op) = numeric_short op
 told op = refl
 
-opcode_prefix_code : (p q : Option ℕ) (c d : ℕ) (a b x y : List ℕ) → IsTold p c → IsTold q d → EncodesOpcode p c a → EncodesOpcode q d b → a ++ x ≡ b ++ y → (p ≡ q) × (c ≡ d) × (a ≡ b)
+opcode_prefix_code : (p q : Option ℕ) (c d : ℕ) (a b x y : List ℕ) → IsTold p c → IsTold q d → EncodesOpcode p c a → EncodesOpcode q d b → a ++ x ≡ b ++ y →
+    (p ≡ q) × (c ≡ d) × (a ≡ b)
 opcode_prefix_code None None c d a b x y s t h k e =
     let whole : c ∷ x ≡ d ∷ y = ap (λ z. z ++ x) (sym h) ∙ e ∙ ap (λ z. z ++ y) k in
     let same : c ≡ d = cc whole in
@@ -75,11 +79,17 @@ opcode_prefix_code (Some p) (Some q) c d a b x y s t (number, h, u) (other, k, v
     let n = unsigned_prefix_code number other 32 x y c d u v (cc whole) in
     (ap Some same, n.1, h ∙ cc (same, n.0) ∙ sym k)
 
-pub operator_prefix_code : (f : WasmFeatures) (op po : Operator) (a b x y : List ℕ) → EncodesOperator f op a → EncodesOperator f po b → a ++ x ≡ b ++ y → (op ≡ po) × (a ≡ b)
+pub operator_prefix_code : (f : WasmFeatures) (op po : Operator) (a b x y : List ℕ) → EncodesOperator f op a → EncodesOperator f po b → a ++ x ≡ b ++ y →
+    (op ≡ po) × (a ≡ b)
 operator_prefix_code f op po a b x y p q e =
-    let whole : p.head ++ (p.behind ++ x) ≡ q.head ++ (q.behind ++ y) = sym (append_assoc p.head p.behind x) ∙ ap (λ z. z ++ x) (sym p.parts) ∙ e ∙ ap (λ z. z ++ y) q.parts ∙ append_assoc q.head q.behind y in
-    let h = opcode_prefix_code (prefix_of op) (prefix_of po) (opcode_of op) (opcode_of po) p.head q.head (p.behind ++ x) (q.behind ++ y) (told op) (told po) p.code q.code whole in
-    let kinds : map kind_of (immediates_of op) ≡ map kind_of (immediates_of po) = kinds_by_opcode op ∙ ap (λ z. kinds_at z (opcode_of op)) h.0 ∙ ap (kinds_at (prefix_of po)) h.1 ∙ sym (kinds_by_opcode po) in
-    let is = immediates_prefix_code f (immediates_of op) (immediates_of po) p.behind q.behind x y kinds p.immediates q.immediates (same_rest p.head q.head (p.behind ++ x) (q.behind ++ y) h.2 whole) in
-    let same : op ≡ po = sym (again op) ∙ ap (λ z. operator_at z (opcode_of op) (immediates_of op)) h.0 ∙ ap (λ z. operator_at (prefix_of po) z (immediates_of op)) h.1 ∙ ap (operator_at (prefix_of po) (opcode_of po)) is.0 ∙ again po in
+    let whole : p.head ++ (p.behind ++ x) ≡ q.head ++ (q.behind ++ y) = sym (append_assoc p.head p.behind x) ∙ ap (λ z. z ++ x) (sym p.parts) ∙ e ∙
+    ap (λ z. z ++ y) q.parts ∙ append_assoc q.head q.behind y in
+    let h = opcode_prefix_code (prefix_of op) (prefix_of po) (opcode_of op) (opcode_of po) p.head q.head (p.behind ++ x) (q.behind ++ y) (told op) (told po)
+    p.code q.code whole in
+    let kinds : map kind_of (immediates_of op) ≡ map kind_of (immediates_of po) = kinds_by_opcode op ∙ ap (λ z. kinds_at z (opcode_of op)) h.0 ∙
+    ap (kinds_at (prefix_of po)) h.1 ∙ sym (kinds_by_opcode po) in
+    let is = immediates_prefix_code f (immediates_of op) (immediates_of po) p.behind q.behind x y kinds p.immediates q.immediates
+    (same_rest p.head q.head (p.behind ++ x) (q.behind ++ y) h.2 whole) in
+    let same : op ≡ po = sym (again op) ∙ ap (λ z. operator_at z (opcode_of op) (immediates_of op)) h.0 ∙
+    ap (λ z. operator_at (prefix_of po) z (immediates_of op)) h.1 ∙ ap (operator_at (prefix_of po) (opcode_of po)) is.0 ∙ again po in
     (same, p.parts ∙ cc (h.2, is.1) ∙ sym q.parts)

@@ -19,11 +19,13 @@ is_select (operator.TypedSelectMulti _) = true
 is_select _ = false
 
 select_by_opcode : (op : Operator) → is_select op ≡ is_select (operator_at (prefix_of op) (opcode_of op) [])
-select_by_opcode (operator.Numeric op) = sym (ap (λ b. is_select (cond b (operator.Numeric (numeric_at (numeric_opcode op) [])) (own_at (numeric_opcode op) []))) (numeric_range op))
+select_by_opcode (operator.Numeric op) = sym
+    (ap (λ b. is_select (cond b (operator.Numeric (numeric_at (numeric_opcode op) [])) (own_at (numeric_opcode op) []))) (numeric_range op))
 select_by_opcode op = refl
 
 named : (op : Operator) → is_select op ≡ false → name_of op ≡ name_of (operator_at (prefix_of op) (opcode_of op) [])
-named (operator.Numeric op) e = numeric_named op ∙ sym (ap (λ b. name_of (cond b (operator.Numeric (numeric_at (numeric_opcode op) [])) (own_at (numeric_opcode op) []))) (numeric_range op))
+named (operator.Numeric op) e = numeric_named op ∙
+    sym (ap (λ b. name_of (cond b (operator.Numeric (numeric_at (numeric_opcode op) [])) (own_at (numeric_opcode op) []))) (numeric_range op))
 named (operator.Gc op) e = gc_named op
 named (operator.Misc op) e = misc_named op
 named (operator.Simd op) e = simd_named op
@@ -37,7 +39,8 @@ typed (operator.TypedSelect ty) e = tt
 typed (operator.TypedSelectMulti tys) e = tt
 typed op e = absurd (cc e)
 
-pub shared : (op po : Operator) → prefix_of op ≡ prefix_of po → opcode_of op ≡ opcode_of po → (name_of op ≡ name_of po) ⊎ (IsTypedSelect op × IsTypedSelect po)
+pub shared : (op po : Operator) → prefix_of op ≡ prefix_of po → opcode_of op ≡ opcode_of po →
+    (name_of op ≡ name_of po) ⊎ (IsTypedSelect op × IsTypedSelect po)
 shared op po p c = go (is_select op) refl
   where
     same : operator_at (prefix_of op) (opcode_of op) [] ≡ operator_at (prefix_of po) (opcode_of po) []

@@ -20,5 +20,5 @@ pub use wasm_imm::{
     read_table_index,
 };
 pub use wasm_instr_ops::{AtomicOperator, GcOperator, MiscOperator, NumericOperator};
-pub use wasm_instr_simd::SimdOperator;
 pub use wasm_instr_rows::OperatorInfo;
+pub use wasm_instr_simd::SimdOperator;

@@ -17,7 +17,8 @@ use Rattle.wasm_imm.proofs.VectorPrefixCodes.{sixteen_prefix_code, vector_prefix
 use Rattle.wasm_imm.proofs.BranchTables.{table_prefix_code}
 use Rattle.wasm_instr_rows.specs.Immediate.{Immediate, unsigned_32, signed_32, signed_64, float_32, float_64, vector, one_lane, sixteen_lanes, memory_argument, memory_index, table_index_32, order, fence_order, heap_type, cast, block_type, branch_table, select_types, try_clauses, resume_clauses, kind_of, EncodesImmediate, EncodesImmediates}
 
-immediate_prefix_code : (f : WasmFeatures) (i j : Immediate) (a b x y : List ℕ) → kind_of i ≡ kind_of j → EncodesImmediate f i a → EncodesImmediate f j b → a ++ x ≡ b ++ y → (i ≡ j) × (a ≡ b)
+immediate_prefix_code : (f : WasmFeatures) (i j : Immediate) (a b x y : List ℕ) → kind_of i ≡ kind_of j → EncodesImmediate f i a → EncodesImmediate f j b →
+    a ++ x ≡ b ++ y → (i ≡ j) × (a ≡ b)
 immediate_prefix_code f (unsigned_32 m) (unsigned_32 n) a b x y k p q e = let u = unsigned_prefix_code a b 32 x y m n p q e in (ap unsigned_32 u.1, u.0)
 immediate_prefix_code f (signed_32 m) (signed_32 n) a b x y k p q e = let u = signed_prefix_code a b 32 x y m n p q e in (ap signed_32 u.1, u.0)
 immediate_prefix_code f (signed_64 m) (signed_64 n) a b x y k p q e = let u = signed_prefix_code a b 64 x y m n p q e in (ap signed_64 u.1, u.0)
@@ -31,8 +32,10 @@ immediate_prefix_code f (memory_argument kind max m) (memory_argument sort least
     let at : EncodesMemArg f kind max b n = subst (λ z. EncodesMemArg f kind z b n) (sym same.1) (subst (λ z. EncodesMemArg f z least b n) (sym same.0) q) in
     let u = memarg_prefix_code f kind max a b x y m n p at e in
     (cc (same.0, same.1, u.1), u.0)
-immediate_prefix_code f (memory_index m) (memory_index n) a b x y k p q e = let u = index_prefix_code multi_memory f a b x y m n p q e in (ap memory_index u.1, u.0)
-immediate_prefix_code f (table_index_32 m) (table_index_32 n) a b x y k p q e = let u = index_prefix_code call_indirect_overlong f a b x y m n p q e in (ap table_index_32 u.1, u.0)
+immediate_prefix_code f (memory_index m) (memory_index n) a b x y k p q e = let u = index_prefix_code multi_memory f a b x y m n p q e in
+    (ap memory_index u.1, u.0)
+immediate_prefix_code f (table_index_32 m) (table_index_32 n) a b x y k p q e = let u = index_prefix_code call_indirect_overlong f a b x y m n p q e in
+    (ap table_index_32 u.1, u.0)
 immediate_prefix_code f (order m) (order n) a b x y k p q e = let u = ordering_byte_prefix_code a b x y m n p q e in (ap order u.1, u.0)
 immediate_prefix_code f (fence_order m) (fence_order n) a b x y k p q e = let u = fence_prefix_code f a b x y m n p q e in (ap fence_order u.1, u.0)
 immediate_prefix_code f (heap_type m) (heap_type n) a b x y k p q e = let u = heap_prefix_code a b x y m n p q e in (ap heap_type u.1, u.0)
@@ -44,7 +47,8 @@ immediate_prefix_code f (try_clauses m) (try_clauses n) a b x y k p q e = let u 
 immediate_prefix_code f (resume_clauses m) (resume_clauses n) a b x y k p q e = let u = resume_prefix_code a b x y m n p q e in (ap resume_clauses u.1, u.0)
 immediate_prefix_code f _ _ a b x y k p q e = absurd (cc k)
 
-pub immediates_prefix_code : (f : WasmFeatures) (is js : List Immediate) (a b x y : List ℕ) → map kind_of is ≡ map kind_of js → EncodesImmediates f is a → EncodesImmediates f js b → a ++ x ≡ b ++ y → (is ≡ js) × (a ≡ b)
+pub immediates_prefix_code : (f : WasmFeatures) (is js : List Immediate) (a b x y : List ℕ) → map kind_of is ≡ map kind_of js → EncodesImmediates f is a →
+    EncodesImmediates f js b → a ++ x ≡ b ++ y → (is ≡ js) × (a ≡ b)
 immediates_prefix_code f [] [] a b x y k p q e = (refl, p ∙ sym q)
 immediates_prefix_code f [] (j ∷ js) a b x y k p q e = absurd (cc k)
 immediates_prefix_code f (i ∷ is) [] a b x y k p q e = absurd (cc k)

@@ -25,13 +25,20 @@ roles_of-append (x ∷ xs) ys = ap (λ r. role_of x ∷ r) (roles_of-append xs y
 pub operators-append : (ps qs : Placed) → operators (ps ++ qs) ≡ operators ps ++ operators qs
 operators-append ps qs = map-append (λ (p : Operator × ℕ). p.0) ps qs
 
-pub laid_push : (f : WasmFeatures) (offset : ℕ) (ps : Placed) (bytes : List ℕ) (op : Operator) (at : ℕ) (text : List ℕ) → LaidOut f offset ps bytes → at ≡ offset + length bytes → EncodesOperator f op text → LaidOut f offset (ps ++ (op, at) ∷ []) (bytes ++ text)
+pub laid_push : (f : WasmFeatures) (offset : ℕ) (ps : Placed) (bytes : List ℕ) (op : Operator) (at : ℕ) (text : List ℕ) → LaidOut f offset ps bytes →
+    at ≡ offset + length bytes → EncodesOperator f op text → LaidOut f offset (ps ++ (op, at) ∷ []) (bytes ++ text)
 laid_push f offset [] bytes op at text l e s =
     let n : length bytes ≡ 0 = ap length l in
     (omega (arith, n), text, [], ap (λ b. b ++ text) l ∙ sym (append-nil text), s, refl)
 laid_push f offset (p ∷ ps) bytes op at text (eo, beginning, more, eb, s0, l) e s =
-    let n : length bytes ≡ length beginning + length more = ap length eb ∙ length-append beginning more in
-    (eo, beginning, more ++ text, ap (λ b. b ++ text) eb ∙ append_assoc beginning more text, s0, laid_push f (offset + length beginning) ps more op at text l (omega arith) s)
+    let n : length bytes ≡ length beginning + length more = ap length eb ∙ length-append beginning more in (
+      eo,
+      beginning,
+      more ++ text,
+      ap (λ b. b ++ text) eb ∙ append_assoc beginning more text,
+      s0,
+      laid_push f (offset + length beginning) ps more op at text l (omega arith) s,
+    )
 
 pub laid_encoded : (f : WasmFeatures) (offset : ℕ) (ps : Placed) (bytes : List ℕ) → LaidOut f offset ps bytes → AreEncoded f (operators ps)
 laid_encoded f offset [] bytes l = tt
@@ -54,7 +61,8 @@ pub path_begins : (f : WasmFeatures) (ops : List Operator) (frames : List FrameK
 path_begins f ops frames path encodes =
     let n = length frames in
     let whole : IsWalk (roles_of ops ++ replicate n ends) = ends_complete (roles_of ops) frames (run_path frames (roles_of ops) path) in
-    let same : roles_of ops ++ replicate n ends ≡ roles_of (ops ++ replicate n operator.End) = ap (λ r. roles_of ops ++ r) (sym (roles_of-ends n)) ∙ sym (roles_of-append ops (replicate n operator.End)) in
+    let same : roles_of ops ++ replicate n ends ≡ roles_of (ops ++ replicate n operator.End) = ap (λ r. roles_of ops ++ r) (sym (roles_of-ends n)) ∙
+    sym (roles_of-append ops (replicate n operator.End)) in
     (replicate n operator.End, subst IsWalk same whole, both_encoded f ops (replicate n operator.End) encodes (ends_encoded f n))
 
 begins_walk : (f : WasmFeatures) (ops : List Operator) → Begins f ops → BeginsWalk (roles_of ops)
@@ -73,10 +81,20 @@ record GoesOn (f : WasmFeatures) (ps qs : Placed) (behind : List ℕ) : Type 0 w
 pub same_place : (p q : Operator × ℕ) → p.0 ≡ q.0 → p.1 ≡ q.1 → p ≡ q
 same_place p q e d = ap (λ (o : Operator). let r : Operator × ℕ = (o, p.1) in r) e ∙ ap (λ (n : ℕ). let r : Operator × ℕ = (q.0, n) in r) d
 
-laid_goes_on : (f : WasmFeatures) (offset : ℕ) (ps qs : Placed) (a b x y : List ℕ) → LaidOut f offset ps a → LaidOut f offset qs b → a ++ x ≡ b ++ y → length ps < length qs → GoesOn f ps qs x
+laid_goes_on : (f : WasmFeatures) (offset : ℕ) (ps qs : Placed) (a b x y : List ℕ) → LaidOut f offset ps a → LaidOut f offset qs b → a ++ x ≡ b ++ y →
+    length ps < length qs → GoesOn f ps qs x
 laid_goes_on f offset [] [] a b x y l m e lt = absurd (omega arith)
 laid_goes_on f offset [] (q ∷ qs) a b x y l (eo, text, more, eb, s, m) e lt =
-    record { next = q; others = qs; text = text; more = more ++ y; parts = refl; bytes = ap (λ z. z ++ x) (sym l) ∙ e ∙ ap (λ z. z ++ y) eb ∙ append_assoc text more y; encodes = s }
+    record {
+      next = q;
+      others = qs;
+      text = text;
+      more = more ++ y;
+      parts = refl;
+      bytes = ap (λ z. z ++ x) (sym l) ∙ e ∙ ap (λ z. z ++ y) eb ∙
+          append_assoc text more y;
+      encodes = s;
+    }
 laid_goes_on f offset (p ∷ ps) [] a b x y l m e lt = absurd (omega arith)
 laid_goes_on f offset (p ∷ ps) (q ∷ qs) a b x y (eo, t, r, ea, s, l) (eo2, t2, r2, eb, s2, m) e lt =
     let whole : t ++ (r ++ x) ≡ t2 ++ (r2 ++ y) = sym (append_assoc t r x) ∙ ap (λ z. z ++ x) (sym ea) ∙ e ∙ ap (λ z. z ++ y) eb ∙ append_assoc t2 r2 y in
@@ -89,21 +107,33 @@ laid_goes_on f offset (p ∷ ps) (q ∷ qs) a b x y (eo, t, r, ea, s, l) (eo2, t
 
 -- The operators so far have an open path to these frames, and no operator that is encoded behind them may follow: then no longer list begins an expression.
 pub longest : (before : List Operator) (s : Source) (beginning more : List ℕ) (ps : Placed) (frames : List FrameKind)
-    → s.bytes ≡ beginning ++ more → LaidOut s.features s.offset ps beginning → AreEncoded s.features before → OpenPath (roles_of (before ++ operators ps)) frames
+    → s.bytes ≡ beginning ++ more → LaidOut s.features s.offset ps beginning → AreEncoded s.features before →
+    OpenPath (roles_of (before ++ operators ps)) frames
     → ((text after : List ℕ) (op : Operator) → EncodesOperator s.features op text → more ≡ text ++ after → frames_after frames (role_of op) ≡ None)
     → IsLongestBehind before s ps
 longest before s beginning more ps frames eb l encodes path stuck =
     record {
-      beginning = record { beginning = beginning; more = more; parts = eb; laid = l; begins = path_begins s.features (before ++ operators ps) frames path (both_encoded s.features before (operators ps) encodes (laid_encoded s.features s.offset ps beginning l)) };
+      beginning = record {
+        beginning = beginning;
+        more = more;
+        parts = eb;
+        laid = l;
+        begins =
+            path_begins s.features (before ++ operators ps) frames path
+            (both_encoded s.features before (operators ps) encodes (laid_encoded s.features s.offset ps beginning l));
+      };
       longest = not_longer;
     }
   where
     go_on : (qs : Placed) → Begins s.features (before ++ operators qs) → GoesOn s.features ps qs more → ⊥
     go_on qs begins g =
         let next = role_of g.next.0 ∷ roles_of (operators g.others) in
-        let split : before ++ operators qs ≡ (before ++ operators ps) ++ g.next.0 ∷ operators g.others = ap (λ z. before ++ operators z) g.parts ∙ ap (λ z. before ++ z) (operators-append ps (g.next ∷ g.others)) ∙ sym (append_assoc before (operators ps) (g.next.0 ∷ operators g.others)) in
-        let roles : roles_of (before ++ operators qs) ≡ roles_of (before ++ operators ps) ++ next = ap roles_of split ∙ roles_of-append (before ++ operators ps) (g.next.0 ∷ operators g.others) in
-        let on = path_runs_on frames (roles_of (before ++ operators ps)) next path (subst BeginsWalk roles (begins_walk s.features (before ++ operators qs) begins)) in
+        let split : before ++ operators qs ≡ (before ++ operators ps) ++ g.next.0 ∷ operators g.others = ap (λ z. before ++ operators z) g.parts ∙
+        ap (λ z. before ++ z) (operators-append ps (g.next ∷ g.others)) ∙ sym (append_assoc before (operators ps) (g.next.0 ∷ operators g.others)) in
+        let roles : roles_of (before ++ operators qs) ≡ roles_of (before ++ operators ps) ++ next = ap roles_of split ∙
+        roles_of-append (before ++ operators ps) (g.next.0 ∷ operators g.others) in
+        let on = path_runs_on frames (roles_of (before ++ operators ps)) next path
+        (subst BeginsWalk roles (begins_walk s.features (before ++ operators qs) begins)) in
         let b = bound (λ frames. frames_along frames (roles_of (operators g.others))) (frames_after frames (role_of g.next.0)) on.0 on.1 in
         let none : frames_after frames (role_of g.next.0) ≡ None = stuck g.text g.more g.next.0 g.encodes g.bytes in
         cc (none, b.1)
@@ -111,7 +141,8 @@ longest before s beginning more ps frames eb l encodes path stuck =
     not_longer : (qs : Placed) → IsBeginningBehind before s qs → length qs ≤ length ps
     not_longer qs other =
         elim (cases_lt (length ps) (length qs)) [
-          | inl lt ↦ absurd (go_on qs other.begins (laid_goes_on s.features s.offset ps qs beginning other.beginning more other.more l other.laid (sym eb ∙ other.parts) lt))
+          | inl lt ↦ absurd (go_on qs other.begins (laid_goes_on s.features s.offset ps qs beginning other.beginning more other.more l other.laid (sym eb ∙
+              other.parts) lt))
           | inr le ↦ le
         ]
 
@@ -119,7 +150,8 @@ pub not_empty : (f : WasmFeatures) (op : Operator) (text more : List ℕ) → En
 not_empty f op text more s e = absurd (cc (e ∙ ap (λ x. x ++ more) s.parts))
 
 -- behind what takes all of the bytes no operator is laid out
-pub laid_no_longer : (f : WasmFeatures) (offset : ℕ) (ps qs : Placed) (a b y : List ℕ) → LaidOut f offset ps a → LaidOut f offset qs b → a ++ [] ≡ b ++ y → length qs ≤ length ps
+pub laid_no_longer : (f : WasmFeatures) (offset : ℕ) (ps qs : Placed) (a b y : List ℕ) → LaidOut f offset ps a → LaidOut f offset qs b → a ++ [] ≡ b ++ y →
+    length qs ≤ length ps
 laid_no_longer f offset ps qs a b y l m e =
     elim (cases_lt (length ps) (length qs)) [
       | inl lt ↦ (let g = laid_goes_on f offset ps qs a b [] y l m e lt in absurd (not_empty f g.next.0 g.text g.more g.encodes g.bytes))
@@ -127,7 +159,8 @@ laid_no_longer f offset ps qs a b y l m e =
     ]
 
 -- two lists of one length are laid out alike
-pub laid_same : (f : WasmFeatures) (offset : ℕ) (ps qs : Placed) (a b x y : List ℕ) → LaidOut f offset ps a → LaidOut f offset qs b → a ++ x ≡ b ++ y → length ps ≡ length qs → (ps ≡ qs) × (a ≡ b) × (x ≡ y)
+pub laid_same : (f : WasmFeatures) (offset : ℕ) (ps qs : Placed) (a b x y : List ℕ) → LaidOut f offset ps a → LaidOut f offset qs b → a ++ x ≡ b ++ y →
+    length ps ≡ length qs → (ps ≡ qs) × (a ≡ b) × (x ≡ y)
 laid_same f offset [] [] a b x y l m e n = (refl, l ∙ sym m, ap (λ z. z ++ x) (sym l) ∙ e ∙ ap (λ z. z ++ y) m)
 laid_same f offset [] (q ∷ qs) a b x y l m e n = absurd (cc n)
 laid_same f offset (p ∷ ps) [] a b x y l m e n = absurd (cc n)

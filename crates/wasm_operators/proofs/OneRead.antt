@@ -18,12 +18,14 @@ use Rattle.wasm_operators.specs.Reading.{State, StopsRead}
 use Rattle.wasm_operators.proofs.LayoutLemmas.{roles_of-append}
 
 -- behind an operator other than `end` the frames are as they were
-pub stays : (frames : List FrameKind) (op : Operator) → (op ≡ operator.End → ⊥) → IsSome (frames_after frames (role_of op)) → frames_after frames (role_of op) ≡ Some frames
+pub stays : (frames : List FrameKind) (op : Operator) → (op ≡ operator.End → ⊥) → IsSome (frames_after frames (role_of op)) →
+    frames_after frames (role_of op) ≡ Some frames
 stays frames operator.End not_end allowed = absurd (not_end refl)
 stays frames op not_end allowed = steps_stay frames (role_of op) op refl allowed
 
 -- a refusal of what stands at the start stops a read
-pub stops_read : (m : Message) (e : Error) (s : State) (kind : FrameKind) → e.message ≡ m → innermost s.frames ≡ Some kind → IsRefusal (EncodesAllowed s.reader.features kind) e s.reader → StopsRead m e s
+pub stops_read : (m : Message) (e : Error) (s : State) (kind : FrameKind) → e.message ≡ m → innermost s.frames ≡ Some kind →
+    IsRefusal (EncodesAllowed s.reader.features kind) e s.reader → StopsRead m e s
 stops_read message.OutOfMemory e s kind is at h = absurd (subst IsReadFault is h.fault)
 stops_read message.OperatorsRemaining e s kind is at h = absurd (subst IsReadFault is h.fault)
 stops_read message.FramesRemain e s kind is at h = absurd (subst IsReadFault is h.fault)
@@ -34,6 +36,7 @@ stops_read message.DataAfterSection e s kind is at h = absurd (subst IsReadFault
 stops_read _ e s kind is at h = (kind, at, h)
 
 -- a step leads the open path on
-pub path_on : (before : List Operator) (op : Operator) (frames next : List FrameKind) → OpenPath (roles_of before) frames → frames_after frames (role_of op) ≡ Some next → OpenPath (roles_of (before ++ op ∷ [])) next
+pub path_on : (before : List Operator) (op : Operator) (frames next : List FrameKind) → OpenPath (roles_of before) frames →
+    frames_after frames (role_of op) ≡ Some next → OpenPath (roles_of (before ++ op ∷ [])) next
 path_on before op frames next path step =
     subst (λ roles. OpenPath roles next) (sym (roles_of-append before (op ∷ []))) (path_step frames (roles_of before) (role_of op) next path step)

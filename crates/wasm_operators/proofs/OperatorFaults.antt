@@ -43,27 +43,40 @@ no_code f kind bytes none text more op (s, _) e =
     none (opcode_of op ∷ []) (s.behind ++ more) (opcode_of op) (refl, opcode_small op) (e ∙ ap (λ x. x ++ more) s.parts)
 
 -- the opcode and what stands behind it make the operator
-pub with_code : (old mid new : Reader) (kind : FrameKind) (code : ℕ) (op : Operator) → Reads IsByte (Ok code) old mid → (text : List ℕ) → EncodesBehind mid.features code text op → Takes mid new text → Reads (EncodesAllowed old.features kind) (Ok op) old new
+pub with_code : (old mid new : Reader) (kind : FrameKind) (code : ℕ) (op : Operator) → Reads IsByte (Ok code) old mid → (text : List ℕ) →
+    EncodesBehind mid.features code text op → Takes mid new text → Reads (EncodesAllowed old.features kind) (Ok op) old new
 with_code old mid new kind code op r text is takes =
-    let f = first_byte_read old mid code r in
-    (code ∷ text, (record { behind = text; parts = ap (λ (c : ℕ). c ∷ text) (sym is.opcode_is); immediates = is.immediates }, allowed kind op), takes_then old mid new (code ∷ []) text f.2 takes)
+    let f = first_byte_read old mid code r in (
+      code ∷ text,
+      (record { behind = text; parts = ap (λ (c : ℕ). c ∷ text) (sym is.opcode_is); immediates = is.immediates }, allowed kind op),
+      takes_then old mid new (code ∷ []) text f.2 takes,
+    )
 
 -- where nothing fitting stands behind the opcode, there is no operator
-without_code : (old mid : Reader) (kind : FrameKind) (code : ℕ) (more : List ℕ) → rest old ≡ code ∷ rest mid → NoPrefix (EncodesBehind mid.features code) (rest mid ++ more) → NoPrefix (EncodesAllowed old.features kind) (rest old ++ more)
+without_code : (old mid : Reader) (kind : FrameKind) (code : ℕ) (more : List ℕ) → rest old ≡ code ∷ rest mid →
+    NoPrefix (EncodesBehind mid.features code) (rest mid ++ more) → NoPrefix (EncodesAllowed old.features kind) (rest old ++ more)
 without_code old mid kind code more beginning none text after op (s, _) e =
     let whole : code ∷ (rest mid ++ more) ≡ opcode_of op ∷ (s.behind ++ after) = ap (λ x. x ++ more) (sym beginning) ∙ e ∙ ap (λ x. x ++ after) s.parts in
     none s.behind after op (record { opcode_is = cc whole; immediates = s.immediates }) (cc whole)
 
-pub refused_code : (e : Error) (old mid new : Reader) (kind : FrameKind) (code position start : ℕ) → Reads IsByte (Ok code) old mid → position ≡ old.position → start ≡ offset_of old → new ≡ at_position mid position → IsRefusalFrom start (EncodesBehind mid.features code) e mid → (new ≡ old) × IsRefusal (EncodesAllowed old.features kind) e old
+pub refused_code : (e : Error) (old mid new : Reader) (kind : FrameKind) (code position start : ℕ) → Reads IsByte (Ok code) old mid →
+    position ≡ old.position → start ≡ offset_of old → new ≡ at_position mid position → IsRefusalFrom start (EncodesBehind mid.features code) e mid →
+    (new ≡ old) × IsRefusal (EncodesAllowed old.features kind) e old
 refused_code e old mid new kind code position start r same starts went h =
     let f = first_byte_read old mid code r in
     let buffer : end_of mid ≡ end_of old = ap (λ (r : Reader). r.start + length r.buffer) f.2.moved in (
       back old mid new (code ∷ []) position f.2 same went,
-      record { refuses = λ more follow. without_code old mid kind code more f.0 (h.refuses more follow); fault = h.fault; ahead = (omega (arith, h.from, starts), omega (arith, h.to, buffer)) },
+      record {
+        refuses = λ more follow. without_code old mid kind code more f.0 (h.refuses more follow);
+        fault = h.fault;
+        ahead =
+            (omega (arith, h.from, starts), omega (arith, h.to, buffer));
+      },
     )
 
 -- the start of an operator, behind its opcode
-pub start_behind : (old mid : Reader) (code start : ℕ) → Reads IsByte (Ok code) old mid → start ≡ offset_of old → (start ≤ offset_of mid) × (start ≤ end_of mid)
+pub start_behind : (old mid : Reader) (code start : ℕ) → Reads IsByte (Ok code) old mid → start ≡ offset_of old →
+    (start ≤ offset_of mid) × (start ≤ end_of mid)
 start_behind old mid code start r same =
     let f = first_byte_read old mid code r in
     let left : length old.buffer - old.position ≡ length (rest mid) + 1 = sym (length-drop old.position old.buffer) ∙ ap length f.0 ∙ omega arith in
@@ -72,7 +85,9 @@ start_behind old mid code start r same =
     (omega (arith, same, offset), omega (arith, same, end, left))
 
 -- a byte that is no operator's code
-pub no_operator : (f : WasmFeatures) (code : ℕ) (bytes : List ℕ) → (code ≡ 0x00 → ⊥) → (code ≡ 0x01 → ⊥) → (code ≡ 0x0b → ⊥) → (code ≡ 0x0f → ⊥) → (code ≡ 0x1a → ⊥) → (code ≡ 0x1b → ⊥) → (code ≡ 0x20 → ⊥) → (code ≡ 0x41 → ⊥) → (code ≡ 0x45 → ⊥) → (code ≡ 0x6a → ⊥) → NoPrefix (EncodesBehind f code) bytes
+pub no_operator : (f : WasmFeatures) (code : ℕ) (bytes : List ℕ) → (code ≡ 0x00 → ⊥) → (code ≡ 0x01 → ⊥) → (code ≡ 0x0b → ⊥) → (code ≡ 0x0f → ⊥) →
+    (code ≡ 0x1a → ⊥) → (code ≡ 0x1b → ⊥) → (code ≡ 0x20 → ⊥) → (code ≡ 0x41 → ⊥) → (code ≡ 0x45 → ⊥) → (code ≡ 0x6a → ⊥) →
+    NoPrefix (EncodesBehind f code) bytes
 no_operator f code bytes n0 n1 n2 n3 n4 n5 n6 n7 n8 n9 text more operator.Unreachable is e = n0 (sym is.opcode_is)
 no_operator f code bytes n0 n1 n2 n3 n4 n5 n6 n7 n8 n9 text more operator.Nop is e = n1 (sym is.opcode_is)
 no_operator f code bytes n0 n1 n2 n3 n4 n5 n6 n7 n8 n9 text more operator.End is e = n2 (sym is.opcode_is)

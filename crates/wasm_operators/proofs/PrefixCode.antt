@@ -16,12 +16,14 @@ abbrev pub kind_of_immediate : Immediate → Kind
 kind_of_immediate (unsigned_32 n) = is_unsigned
 kind_of_immediate (signed_32 n) = is_signed
 
-immediate_prefix_code : (i j : Immediate) (a b x y : List ℕ) → kind_of_immediate i ≡ kind_of_immediate j → EncodesImmediate i a → EncodesImmediate j b → a ++ x ≡ b ++ y → (i ≡ j) × (a ≡ b)
+immediate_prefix_code : (i j : Immediate) (a b x y : List ℕ) → kind_of_immediate i ≡ kind_of_immediate j → EncodesImmediate i a → EncodesImmediate j b →
+    a ++ x ≡ b ++ y → (i ≡ j) × (a ≡ b)
 immediate_prefix_code (unsigned_32 m) (unsigned_32 n) a b x y k p q e = let u = unsigned_prefix_code a b 32 x y m n p q e in (ap unsigned_32 u.1, u.0)
 immediate_prefix_code (signed_32 m) (signed_32 n) a b x y k p q e = let u = signed_prefix_code a b 32 x y m n p q e in (ap signed_32 u.1, u.0)
 immediate_prefix_code _ _ a b x y k p q e = absurd (cc k)
 
-immediates_prefix_code : (is js : List Immediate) (a b x y : List ℕ) → map kind_of_immediate is ≡ map kind_of_immediate js → EncodesImmediates is a → EncodesImmediates js b → a ++ x ≡ b ++ y → (is ≡ js) × (a ≡ b)
+immediates_prefix_code : (is js : List Immediate) (a b x y : List ℕ) → map kind_of_immediate is ≡ map kind_of_immediate js → EncodesImmediates is a →
+    EncodesImmediates js b → a ++ x ≡ b ++ y → (is ≡ js) × (a ≡ b)
 immediates_prefix_code [] [] a b x y k p q e = (refl, p ∙ sym q)
 immediates_prefix_code [] (j ∷ js) a b x y k p q e = absurd (cc k)
 immediates_prefix_code (i ∷ is) [] a b x y k p q e = absurd (cc k)
@@ -81,10 +83,15 @@ operator_at-row (operator.I32Const v) = refl
 operator_at-row (operator.Numeric numeric.I32Eqz) = refl
 operator_at-row (operator.Numeric numeric.I32Add) = refl
 
-pub operator_prefix_code : (f : WasmFeatures) (op po : Operator) (a b x y : List ℕ) → EncodesOperator f op a → EncodesOperator f po b → a ++ x ≡ b ++ y → (op ≡ po) × (a ≡ b)
+pub operator_prefix_code : (f : WasmFeatures) (op po : Operator) (a b x y : List ℕ) → EncodesOperator f op a → EncodesOperator f po b → a ++ x ≡ b ++ y →
+    (op ≡ po) × (a ≡ b)
 operator_prefix_code f op po a b x y p q e =
     let whole : opcode_of op ∷ (p.behind ++ x) ≡ opcode_of po ∷ (q.behind ++ y) = ap (λ z. z ++ x) (sym p.parts) ∙ e ∙ ap (λ z. z ++ y) q.parts in
     let codes : opcode_of op ≡ opcode_of po = cc whole in
-    let kinds : map kind_of_immediate (immediates_of op) ≡ map kind_of_immediate (immediates_of po) = kinds_by_opcode op ∙ ap kinds_at codes ∙ sym (kinds_by_opcode po) in
-    let is = immediates_prefix_code (immediates_of op) (immediates_of po) p.behind q.behind x y kinds p.immediates q.immediates (cc whole) in
-    (sym (operator_at-row op) ∙ ap (λ c. operator_at c (immediates_of op)) codes ∙ ap (operator_at (opcode_of po)) is.0 ∙ operator_at-row po, p.parts ∙ cc (codes, is.1) ∙ sym q.parts)
+    let kinds : map kind_of_immediate (immediates_of op) ≡ map kind_of_immediate (immediates_of po) = kinds_by_opcode op ∙ ap kinds_at codes ∙
+    sym (kinds_by_opcode po) in
+    let is = immediates_prefix_code (immediates_of op) (immediates_of po) p.behind q.behind x y kinds p.immediates q.immediates (cc whole) in (
+      sym (operator_at-row op) ∙ ap (λ c. operator_at c (immediates_of op)) codes ∙ ap (operator_at (opcode_of po)) is.0 ∙ operator_at-row po,
+      p.parts ∙
+          cc (codes, is.1) ∙ sym q.parts,
+    )

@@ -9,12 +9,14 @@ returns-then-is_err g c =
     let Encodes = g.T.FromReader.encodes in
     let memory = g.T.FromReader.TAKES_MEMORY in
     let r = subst (λ f. ReadsValue (Encodes f) memory c.read.result c.loop.reader c.read.new.self) h.features c.read.ensures.reads in
-    h.reads_on c.read.new.self (one_refused (Encodes c.args.reader.now.features) memory c.read.result c.args.count c.loop.counter c.loop.reader c.read.new.self c.loop-test.true (sym c.is_err.ensures.value ∙ c.if-is_err.true) r)
+    h.reads_on c.read.new.self (one_refused (Encodes c.args.reader.now.features) memory c.read.result c.args.count c.loop.counter c.loop.reader
+    c.read.new.self c.loop-test.true (sym c.is_err.ensures.value ∙ c.if-is_err.true) r)
 
 pub returns : goal.returns
 returns g c =
     let h = c.loop.invariant in
-    h.reads_on c.loop.reader (none_left_to_read (g.T.FromReader.encodes c.args.reader.now.features) g.T.FromReader.TAKES_MEMORY (c.args.count - c.loop.counter) c.loop.reader (omega arith))
+    h.reads_on c.loop.reader (none_left_to_read (g.T.FromReader.encodes c.args.reader.now.features) g.T.FromReader.TAKES_MEMORY
+    (c.args.count - c.loop.counter) c.loop.reader (omega arith))
 
 pub loop-preserved : goal.loop-preserved
 loop-preserved g c =
@@ -25,5 +27,7 @@ loop-preserved g c =
     record {
       within = omega arith;
       features = kept_features (Encodes c.loop.reader.features) memory c.read.result c.loop.reader c.read.new.self c.read.ensures.reads ∙ h.features;
-      reads_on = λ last after. h.reads_on last (one_read (Encodes c.args.reader.now.features) memory c.read.result c.args.count c.loop.counter c.loop.reader c.read.new.self last c.loop-test.true (sym c.is_err.ensures.value ∙ c.if-is_err.false) r after);
+      reads_on = λ last after. h.reads_on last
+          (one_read (Encodes c.args.reader.now.features) memory c.read.result c.args.count c.loop.counter c.loop.reader c.read.new.self last c.loop-test.true
+          (sym c.is_err.ensures.value ∙ c.if-is_err.false) r after);
     }

@@ -9,7 +9,8 @@ use Rattle.wasm_below_bytes.proofs.NumbersAt.{no_groups, too_large, signed_found
 use Rattle.wasm_below_bytes.proofs.long_numbers.read_signed.Goals as goal
 
 pub returns-in-Err-clause-refused : goal.returns-in-Err-clause-refused
-returns-in-Err-clause-refused c = no_groups EncodesSigned (λ low high. (pos 128 *ℤ high) +ℤ pos low) signed_leb128 c.in-Err.refusal c.args.bits c.args.buffer.now c.args.start c.requires.low c.in-Err.ensures.refused
+returns-in-Err-clause-refused c = no_groups EncodesSigned (λ low high. (pos 128 *ℤ high) +ℤ pos low) signed_leb128 c.in-Err.refusal c.args.bits
+    c.args.buffer.now c.args.start c.requires.low c.in-Err.ensures.refused
 
 pub returns-then-not-fits_signed-clause-refused : goal.returns-then-not-fits_signed-clause-refused
 returns-then-not-fits_signed-clause-refused c =
@@ -17,8 +18,10 @@ returns-then-not-fits_signed-clause-refused c =
     let fits : SFits w64 c.last_value.result = search rules in
     let same = to_z-of_z w64 c.last_value.result fits ∙ c.last_value.ensures.value in
     let seven = subst (FitsWidth 7) c.last_value.ensures.value c.last_value.ensures.small in
-    let over = signed_over (c.args.bits - g.shift) g.last c.in-Ok.ensures.groups.small seven (λ w. both_ways _ c.if-not-fits_signed.true (c.fits_signed.ensures.1 (subst (FitsWidth (c.args.bits - g.shift)) (sym same) w))) in
-    too_large EncodesSigned (λ low high. (pos 128 *ℤ high) +ℤ pos low) signed_leb128 c.args.bits c.args.buffer.now c.args.start g c.in-Ok.ensures.groups over.0 over.1
+    let over = signed_over (c.args.bits - g.shift) g.last c.in-Ok.ensures.groups.small seven
+    (λ w. both_ways _ c.if-not-fits_signed.true (c.fits_signed.ensures.1 (subst (FitsWidth (c.args.bits - g.shift)) (sym same) w))) in
+    too_large EncodesSigned (λ low high. (pos 128 *ℤ high) +ℤ pos low) signed_leb128 c.args.bits c.args.buffer.now c.args.start g c.in-Ok.ensures.groups
+    over.0 over.1
 
 pub join_signed-requires-clause-low : goal.join_signed-requires-clause-low
 join_signed-requires-clause-low c = low_of_groups c.args.bits c.args.buffer.now c.args.start c.in-Ok.groups c.in-Ok.ensures.groups

@@ -8,7 +8,8 @@ pub returns-in_err-operators-clause-reads : goal.returns-in_err-operators-clause
 returns-in_err-operators-clause-reads c =
     let p = err_from_is_err_and c.from_residual.result c.from_residual.ensures.1 in
     let same = c.new.ensures ∙ c.new_features-reader.ensures in
-    rw (p.1, p.2) (refused_body c.in_err-operators.field-0.0 (reader_of c.args.features 0 c.args.bytes.now) c.args.out.now.items (rw same at c.in_err-operators.ensures))
+    rw (p.1, p.2) (refused_body c.in_err-operators.field-0.0 (reader_of c.args.features 0 c.args.bytes.now) c.args.out.now.items
+    (rw same at c.in_err-operators.ensures))
 
 pub returns-in_err-operators-clause-whole : goal.returns-in_err-operators-clause-whole
 returns-in_err-operators-clause-whole c = λ placed encodes.
@@ -19,7 +20,8 @@ pub returns-clause-reads : goal.returns-clause-reads
 returns-clause-reads c =
     let same = c.new.ensures ∙ c.new_features-reader.ensures in
     let opens = rw same at c.in_ok-operators.ensures in
-    opened_body c.read_all.result (reader_of c.args.features 0 c.args.bytes.now) c.in_ok-operators.operators c.read_all.new.self c.args.out.now.items c.read_all.new.out.items opens (c.read_all.ensures.tree opens.3) (c.read_all.ensures.beginning opens.3)
+    opened_body c.read_all.result (reader_of c.args.features 0 c.args.bytes.now) c.in_ok-operators.operators c.read_all.new.self c.args.out.now.items
+    c.read_all.new.out.items opens (c.read_all.ensures.tree opens.3) (c.read_all.ensures.beginning opens.3)
 
 pub returns-clause-whole : goal.returns-clause-whole
 returns-clause-whole c = λ placed encodes.

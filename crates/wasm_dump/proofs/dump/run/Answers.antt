@@ -14,4 +14,5 @@ returns-in_err-input-clause-whole g c =
 
 pub returns-clause-whole : goal.returns-clause-whole
 returns-clause-whole g c =
-    whole_refused (g.R.Read.remaining c.args.reader.now) c.args.features c.in_ok-input.input.items c.as_slice.result.now c.in_ok-listing.listing.end c.in-Err.error c.in_ok-input.ensures.bytes c.as_slice.ensures.value c.in-Err.is c.in_ok-listing.ensures.whole
+    whole_refused (g.R.Read.remaining c.args.reader.now) c.args.features c.in_ok-input.input.items c.as_slice.result.now c.in_ok-listing.listing.end
+    c.in-Err.error c.in_ok-input.ensures.bytes c.as_slice.ensures.value c.in-Err.is c.in_ok-listing.ensures.whole

@@ -21,7 +21,9 @@ pub returns-in-Ok-clause-reads : goal.returns-in-Ok-clause-reads
 returns-in-Ok-clause-reads c =
     let old = c.args.self.now in
     let new = c.read_bytes.new.self in
-    subst (λ r. Reads (EncodesReader old.features) (Ok r) old new) (sym c.part.ensures) (part_read old c.read_var_u32.new.self new c.in_ok-size.field-0 c.in-Ok.bytes c.original_position-offset.result c.in_ok-size.ensures.reads c.in-Ok.ensures.reads)
+    subst (λ r. Reads (EncodesReader old.features) (Ok r) old new) (sym c.part.ensures)
+    (part_read old c.read_var_u32.new.self new c.in_ok-size.field-0 c.in-Ok.bytes c.original_position-offset.result c.in_ok-size.ensures.reads
+    c.in-Ok.ensures.reads)
 
 pub returns-in-Err-clause-reads : goal.returns-in-Err-clause-reads
 returns-in-Err-clause-reads c =
@@ -29,5 +31,6 @@ returns-in-Err-clause-reads c =
     let mid = c.read_var_u32.new.self in
     let h = c.in-Err.ensures.reads in
     let le : mid.position ≤ length mid.buffer = omega (arith, h.1.ahead) in
-    part_refused old mid c.rewind.new.self c.in_ok-size.field-0 c.current_position-start.result c.in-Err.e c.in_ok-size.ensures.reads c.current_position-start.ensures (c.rewind.ensures ∙ ap (λ r. at_position r c.current_position-start.result) h.0)
+    part_refused old mid c.rewind.new.self c.in_ok-size.field-0 c.current_position-start.result c.in-Err.e c.in_ok-size.ensures.reads
+    c.current_position-start.ensures (c.rewind.ensures ∙ ap (λ r. at_position r c.current_position-start.result) h.0)
     (short_refused (IsReaderOf old.features c.in_ok-size.field-0) c.in_ok-size.field-0 c.in-Err.e mid (λ text x p. p.3) le c.in-Err.ensures.end)

@@ -15,15 +15,20 @@ returns-in_err-byte-clause-reads c =
 
 pub returns-then-leads_short-clause-reads : goal.returns-then-leads_short-clause-reads
 returns-then-leads_short-clause-reads c =
-    led_reads EncodesShort EncodesHeapType c.read_short.result c.args.reader.now c.read_short.new.reader c.in_ok-byte.byte c.in_ok-byte.ensures.prefix short_heap heap_empty (heap_short c.in_ok-byte.byte (c.leads_short.ensures.0 c.if-leads_short.true)) c.read_short.ensures.reads
+    led_reads EncodesShort EncodesHeapType c.read_short.result c.args.reader.now c.read_short.new.reader c.in_ok-byte.byte c.in_ok-byte.ensures.prefix
+    short_heap heap_empty (heap_short c.in_ok-byte.byte (c.leads_short.ensures.0 c.if-leads_short.true)) c.read_short.ensures.reads
 
 pub returns-then-byte-eq-EXACT-clause-reads : goal.returns-then-byte-eq-EXACT-clause-reads
 returns-then-byte-eq-EXACT-clause-reads c =
-    led_reads EncodesExact EncodesHeapType c.read_exact.result c.args.reader.now c.read_exact.new.reader c.in_ok-byte.byte c.in_ok-byte.ensures.prefix exact_heap heap_empty (heap_exact c.in_ok-byte.byte c.if-byte-eq-EXACT.true) c.read_exact.ensures.reads
+    led_reads EncodesExact EncodesHeapType c.read_exact.result c.args.reader.now c.read_exact.new.reader c.in_ok-byte.byte c.in_ok-byte.ensures.prefix
+    exact_heap heap_empty (heap_exact c.in_ok-byte.byte c.if-byte-eq-EXACT.true) c.read_exact.ensures.reads
 
 pub returns-clause-reads : goal.returns-clause-reads
 returns-clause-reads c =
-    led_reads EncodesConcrete EncodesHeapType c.read_concrete.result c.args.reader.now c.read_concrete.new.reader c.in_ok-byte.byte c.in_ok-byte.ensures.prefix concrete_heap heap_empty (heap_concrete c.in_ok-byte.byte (λ l. both_ways _ c.if-leads_short.false (c.leads_short.ensures.1 l)) c.if-byte-eq-EXACT.false) c.read_concrete.ensures.reads
+    led_reads EncodesConcrete EncodesHeapType c.read_concrete.result c.args.reader.now c.read_concrete.new.reader c.in_ok-byte.byte
+    c.in_ok-byte.ensures.prefix concrete_heap heap_empty
+    (heap_concrete c.in_ok-byte.byte (λ l. both_ways _ c.if-leads_short.false (c.leads_short.ensures.1 l)) c.if-byte-eq-EXACT.false)
+    c.read_concrete.ensures.reads
 
 pub returns-in_err-byte-clause-fault : goal.returns-in_err-byte-clause-fault
 returns-in_err-byte-clause-fault c =
@@ -32,12 +37,15 @@ returns-in_err-byte-clause-fault c =
 
 pub returns-then-leads_short-clause-fault : goal.returns-then-leads_short-clause-fault
 returns-then-leads_short-clause-fault c =
-    if_err _ _ c.read_short.result (λ e h. short_fault c.in_ok-byte.byte e c.args.reader.now c.in_ok-byte.ensures.prefix (c.leads_short.ensures.0 c.if-leads_short.true) h) c.read_short.ensures.fault
+    if_err _ _ c.read_short.result (λ e h. short_fault c.in_ok-byte.byte e c.args.reader.now c.in_ok-byte.ensures.prefix
+    (c.leads_short.ensures.0 c.if-leads_short.true) h) c.read_short.ensures.fault
 
 pub returns-then-byte-eq-EXACT-clause-fault : goal.returns-then-byte-eq-EXACT-clause-fault
 returns-then-byte-eq-EXACT-clause-fault c =
-    if_err _ _ c.read_exact.result (λ e h. exact_fault c.in_ok-byte.byte e c.args.reader.now c.in_ok-byte.ensures.prefix c.if-byte-eq-EXACT.true h) c.read_exact.ensures.fault
+    if_err _ _ c.read_exact.result (λ e h. exact_fault c.in_ok-byte.byte e c.args.reader.now c.in_ok-byte.ensures.prefix c.if-byte-eq-EXACT.true h)
+    c.read_exact.ensures.fault
 
 pub returns-clause-fault : goal.returns-clause-fault
 returns-clause-fault c =
-    if_err _ _ c.read_concrete.result (λ e h. concrete_fault c.in_ok-byte.byte e c.args.reader.now c.in_ok-byte.ensures.prefix (λ l. both_ways _ c.if-leads_short.false (c.leads_short.ensures.1 l)) c.if-byte-eq-EXACT.false h) c.read_concrete.ensures.fault
+    if_err _ _ c.read_concrete.result (λ e h. concrete_fault c.in_ok-byte.byte e c.args.reader.now c.in_ok-byte.ensures.prefix
+    (λ l. both_ways _ c.if-leads_short.false (c.leads_short.ensures.1 l)) c.if-byte-eq-EXACT.false h) c.read_concrete.ensures.fault

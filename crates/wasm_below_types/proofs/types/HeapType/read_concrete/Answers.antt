@@ -26,7 +26,8 @@ returns-then-index-lt0-clause-reads c =
       | then-index-lt0-via-then-index-lt0 w ↦ omega (arith, ints, w.if-index-lt0.true, same, e, le)
       | then-index-lt0-via-else-index-lt0+then-index-from w ↦ omega (arith, ints, w.if-index-from.true, w.from.ensures, same, e, le)
     ] in
-    refused_at EncodesConcrete c.refuse.result c.args.reader.now c.read_var_s33.new.self c.refuse.new.self r.0 c.current_position-start.result r.2 (signed_some r.0 33 c.in_ok-index.index r.1) c.current_position-start.ensures h.rewound h.offset (subst IsReadFault (sym h.message) tt)
+    refused_at EncodesConcrete c.refuse.result c.args.reader.now c.read_var_s33.new.self c.refuse.new.self r.0 c.current_position-start.result r.2
+    (signed_some r.0 33 c.in_ok-index.index r.1) c.current_position-start.ensures h.rewound h.offset (subst IsReadFault (sym h.message) tt)
     (λ more. no_concrete r.0 _ more c.in_ok-index.index r.1 over)
 
 pub returns-in_err-index-clause-fault : goal.returns-in_err-index-clause-fault
@@ -40,4 +41,10 @@ returns-then-index-lt0-clause-fault c =
     let r = c.in_ok-index.ensures.reads in
     let h = c.refuse.ensures in
     let old = c.args.reader.now in
-    inr (c.in_ok-index.index, c.read_var_s33.new.self, r, no_index c.refuse.result.message c.refuse.result.offset c.current_position-start.result old old c.read_var_s33.new.self r.0 r.2 refl c.current_position-start.ensures h.message h.offset)
+    inr (
+      c.in_ok-index.index,
+      c.read_var_s33.new.self,
+      r,
+      no_index c.refuse.result.message c.refuse.result.offset c.current_position-start.result old old c.read_var_s33.new.self r.0 r.2 refl
+          c.current_position-start.ensures h.message h.offset,
+    )

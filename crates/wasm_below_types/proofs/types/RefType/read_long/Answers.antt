@@ -18,7 +18,8 @@ returns-in-Err-clause-reads c =
     let h = c.in-Err.ensures.reads in
     let code = ref_byte c.args.nullable in
     let first = advanced c.args.reader.now c.advance.new.self code c.requires c.advance.ensures in (
-      back c.args.reader.now c.advance.new.self c.rewind.new.self (code ∷ []) c.current_position-start.result first c.current_position-start.ensures (c.rewind.ensures ∙ ap (λ r. at_position r c.current_position-start.result) h.0),
+      back c.args.reader.now c.advance.new.self c.rewind.new.self (code ∷ []) c.current_position-start.result first c.current_position-start.ensures
+          (c.rewind.ensures ∙ ap (λ r. at_position r c.current_position-start.result) h.0),
       behind_refused EncodesHeapType EncodesLongRef c.in-Err.e c.args.reader.now c.advance.new.self code first long_empty (long_behind c.args.nullable) h.1,
     )
 

@@ -14,5 +14,9 @@ operators-preserved c =
     let now = c.try_reserve.new.self.items in
     let placed : Operator × ℕ = (op, c.original_position-offset.result) in
     let wanted : Operator × ℕ = (op, offset_of c.operators.self.reader) in
-    let same : placed ≡ wanted = same_place placed wanted refl offset in
-    (i.0 ++ wanted ∷ [], pushed (is_ok c.push.result) c.push.new.self.items now c.args.out.now.items i.0 placed wanted c.push.ensures.items ok (c.try_reserve.ensures.items ∙ i.1) same, ran_push c.args.self.now c.operators.self c.read.new.self i.0 op i.2 c.in_ok-operator.ensures.reads)
+    let same : placed ≡ wanted = same_place placed wanted refl offset in (
+      i.0 ++ wanted ∷ [],
+      pushed (is_ok c.push.result) c.push.new.self.items now c.args.out.now.items i.0 placed wanted c.push.ensures.items ok
+          (c.try_reserve.ensures.items ∙ i.1) same,
+      ran_push c.args.self.now c.operators.self c.read.new.self i.0 op i.2 c.in_ok-operator.ensures.reads,
+    )
