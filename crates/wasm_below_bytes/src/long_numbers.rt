@@ -93,6 +93,7 @@ pub fn two_bytes(buffer: &[u8], start: usize) -> Option<Unsigned>
 }
 
 /// The unsigned number of 32 bits at this position.
+#[inline(never)]
 pub fn long_u32(buffer: &[u8], start: usize) -> Result<Unsigned, NumberRefusal>
     ensures number { IfOk result (λ n. NumberAt (EncodesUnsigned 32) buffer.now start n.value n.behind) }
     ensures within { IfOk result (λ n. n.value < 2 ^ 32) }
@@ -102,6 +103,7 @@ pub fn long_u32(buffer: &[u8], start: usize) -> Result<Unsigned, NumberRefusal>
 }
 
 /// The unsigned number of 64 bits at this position.
+#[inline(never)]
 pub fn long_u64(buffer: &[u8], start: usize) -> Result<Unsigned, NumberRefusal>
     ensures number { IfOk result (λ n. NumberAt (EncodesUnsigned 64) buffer.now start n.value n.behind) }
     ensures refused { IfErr result (λ r. NoNumber (EncodesUnsigned 64) r 64 buffer.now start) }

@@ -1,5 +1,7 @@
 -- Block types.
-use Rattle.std.proofs.Common.{◌≡◌, ℕ, ◌+◌, ◌-◌, ◌≤◌, List, [], ◌∷◌, ◌++◌, length, ℤ, pos, Ok, refl, sym, subst, ap, ◌∙◌, append_assoc, length-append, length-drop, arith, negsuc, Fits, w32, false}
+use Rattle.std.proofs.Common.{◌≡◌, ℕ, ◌+◌, ◌-◌, ◌≤◌, List, [], ◌∷◌, ◌++◌, length, ℤ, pos, Ok, refl, sym, subst, ap, ◌∙◌, append_assoc, length-append, length-drop, arith, negsuc, Fits, w32, false, ◌<◌}
+use Rattle.std.specs.Prelude.{cond, ◌-ℤ◌}
+use Rattle.std.proofs.lemmas.Bool.{lt-ltb}
 use Rattle.std.proofs.lemmas.Int.{ints}
 use Rattle.std.proofs.Math.Dec.{T}
 use lib.Signed.{non_neg, lt_z}
@@ -13,7 +15,6 @@ use Rattle.wasm_below.specs.Sequence.{PrefixCode}
 use Rattle.wasm_below.specs.Source.{Reader, rest, offset_of, at_position, NoPrefix, IsRefusal, Reads}
 use Rattle.wasm_below.specs.TypeEncoding.{EncodesValType}
 use Rattle.wasm_below.proofs.PrefixCode.{signed_prefix_code, signed_some}
-use Rattle.wasm_below.proofs.SignedNumbers.{fits_join}
 use Rattle.wasm_below.proofs.TakesLemmas.{back}
 use Rattle.wasm_below.proofs.TypeEncodings.{index_leads, ref_leads, value_empty}
 use Rattle.wasm_below.proofs.TypePrefixCodes.{value_prefix_code}
@@ -21,11 +22,9 @@ use Rattle.wasm_imm_control.specs.declared.block_type.BlockType.{BlockType}
 use Rattle.wasm_imm_control.specs.declared.block_type.BlockType.TheVariants as block
 use Rattle.wasm_imm_control.specs.BlockTypes.{EncodesBlockType, EncodesFunctionType}
 
--- what is encoded keeps to its width
-pub signed_fits : (text : List ℕ) (width : ℕ) (n : ℤ) → EncodesSigned width text n → FitsWidth width n
-signed_fits [] width n p = absurd p
-signed_fits (c ∷ []) width n p = p.2
-signed_fits (c ∷ d ∷ text) width n (w, le, lt, high, e, p) = subst (FitsWidth width) (sym e) (fits_join width high (c - 128) w (omega arith) (signed_fits (d ∷ text) (width - 7) high p))
+-- a byte that is an index by itself
+pub short_index : (byte : ℕ) → byte < 64 → EncodesSigned 33 (byte ∷ []) (pos byte)
+short_index byte lt = (omega arith, ap (λ t. cond t (pos byte) (pos byte -ℤ pos 128)) (sym (lt-ltb byte 64 lt)), (omega (arith, ints), omega (arith, ints)))
 
 pub block_empty : (t : BlockType) → EncodesBlockType [] t → ⊥
 block_empty block.Empty p = absurd (cc p)

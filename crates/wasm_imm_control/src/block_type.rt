@@ -37,6 +37,10 @@ impl BlockType {
                 reader.advance();
                 Ok(BlockType::Value(short_value_type(byte)))
             }
+            Ok(byte @ 0x00..=0x3f) => {
+                reader.advance();
+                Ok(BlockType::FuncType(u32::from(byte)))
+            }
             _ => read_other(reader),
         }
     }

@@ -111,8 +111,8 @@ impl MemArg {
 
 /// The rest of a memory argument that began at `start`, whose flags number announces something.
 ///
-/// The rest is one function, which stands twice: where a memory's index alone is announced, the
-/// other checks are made before the code runs.
+/// What reads it stands twice in the built code: where a memory's index alone is announced, the
+/// compiler drops the checks of all else.
 fn read_announced(
     reader: &mut BinaryReader<'_>,
     start: usize,
@@ -131,7 +131,10 @@ fn read_announced(
     if names_memory_alone(reader.features(), flags) {
         return read_rest(reader, start, flags, max_align, kind);
     }
-    read_other(reader, start, flags, max_align, kind)
+    match read_other(reader, start, flags, max_align, kind) {
+        Ok(argument) => Ok(argument),
+        Err(e) => Err(e),
+    }
 }
 
 /// The rest of one that announces anything else.

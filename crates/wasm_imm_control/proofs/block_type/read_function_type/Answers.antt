@@ -8,7 +8,8 @@ use mir.Val.{SFits}
 use Rattle.wasm_below.specs.Refusal.{IsReadFault}
 use Rattle.wasm_below.specs.Number.{EncodesSigned}
 use Rattle.wasm_below.proofs.Blocks.{refused_now}
-use Rattle.wasm_imm_control.proofs.BlockTypes.{signed_fits, cast_fits, negative_refused}
+use Rattle.wasm_below.proofs.SignedNumbers.{signed_fits}
+use Rattle.wasm_imm_control.proofs.BlockTypes.{cast_fits, negative_refused}
 use Rattle.wasm_imm_control.proofs.block_type.read_function_type.Goals as goal
 
 pub overflow_cast-result : goal.overflow_cast-result
