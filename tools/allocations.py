@@ -18,6 +18,7 @@ The allocations are counted in the C library's `malloc` and `realloc`, which is 
 """
 
 import os
+import resource
 import signal
 import subprocess
 import sys
@@ -125,6 +126,8 @@ def main():
         sys.exit(sys.argv[1:] not in (["--help"], ["-h"]))
     names = sys.argv[1:] or sorted(path.name for path in (TOP / "crates").iterdir())
     wrong, runs = [], 0
+    # a test that ends by an assertion leaves no core file
+    resource.setrlimit(resource.RLIMIT_CORE, (0, 0))
     with tempfile.TemporaryDirectory() as folder:
         library = built_library(folder)
         for name in names:
