@@ -94,7 +94,7 @@ def follow_tests(program, library):
     for test in tests_of(program):
         of_memory = "memory" in test.split("::")[-1].split("_")
         allowed = (lambda ran: ran.status == 0) if of_memory else (lambda ran: is_own_end(ran.status))
-        yield test, followed(test, [program, test], b"", library, allowed)
+        yield test, followed(f"{program.name} {test}", [program, test], b"", library, allowed)
 
 
 def refused_shapes(crate):
@@ -120,6 +120,27 @@ def follow_program(program, crate, library):
     return followed(program.name, words, read("stdin"), library, allowed)
 
 
+def has_tests(crate):
+    """Whether the crate's sources have a test."""
+    return any("#[test]" in path.read_text(encoding="utf-8") for path in crate.glob("src/**/*.rt"))
+
+
+def follow_crate(crate, library):
+    """What a crate has, each with the number of its refusals and what was wrong."""
+    name = crate.name
+    built = [program for program in (crate / "out" / name, crate / "out" / f"{name}.by-rattle") if program.exists()]
+    for program in built:
+        yield program.name, follow_program(program, crate, library)
+    if refused_shapes(crate) and not built:
+        yield name, (0, [f"{name}: the program is not built"])
+    tests = crate / "out" / f"{name}_tests"
+    if tests.exists():
+        for test, found in follow_tests(tests, library):
+            yield f"{name} {test}", found
+    elif has_tests(crate):
+        yield name, (0, [f"{name}: its tests are not built"])
+
+
 def main():
     if any(word.startswith("-") for word in sys.argv[1:]):
         print(__doc__)
@@ -131,25 +152,14 @@ def main():
     with tempfile.TemporaryDirectory() as folder:
         library = built_library(folder)
         for name in names:
-            crate = TOP / "crates" / name
-            for program in (crate / "out" / name, crate / "out" / f"{name}.by-rattle"):
-                if program.exists():
-                    count, faults = follow_program(program, crate, library)
-                    print(f"{program.name}: {count} allocations refused in turn")
-                    wrong, runs = wrong + faults, runs + count
-            tests = crate / "out" / f"{name}_tests"
-            if tests.exists():
-                for test, (count, faults) in follow_tests(tests, library):
-                    if count:
-                        print(f"{name} {test}: {count} allocations refused in turn")
-                    wrong, runs = wrong + [f"{name} {fault}" for fault in faults], runs + count
+            for what, (count, faults) in follow_crate(TOP / "crates" / name, library):
+                if count:
+                    print(f"{what}: {count} allocations refused in turn", flush=True)
+                wrong, runs = wrong + faults, runs + count
     for fault in wrong:
         print(f"NOT AS IT SHOULD: {fault}")
-    if not runs:
-        wrong.append("nothing was run")
-        print("no program and no test was found: build them with rt ci first")
     print(f"allocations: {runs} refused, {len(wrong)} ends not as they should be")
-    sys.exit(1 if wrong else 0)
+    sys.exit(1 if wrong or not runs else 0)
 
 
 if __name__ == "__main__":
