@@ -75,16 +75,17 @@ def used():
     """The words that public contracts use, each with where it is defined and a function that uses it."""
     found = {}
     for path in sorted(TOP.glob("crates/*/src/**/*.rt")):
-        text = path.read_text(encoding="utf-8")
-        if "tests" in path.parts or path.name == "tests.rt" or path.parts[-3].startswith("wasm_tests_"):
+        inside = path.relative_to(TOP)
+        if "tests" in inside.parts or path.name == "tests.rt" or inside.parts[1].startswith("wasm_tests_"):
             continue
+        text = path.read_text(encoding="utf-8")
         if is_private(path) and "impl" not in text:
             continue
         words = imports_of(text)
         for name, clauses in contracts(text):
             for word in set(re.findall(WORD, clauses)) & words.keys():
                 place, own = words[word]
-                found.setdefault(own, (place, f"{path.relative_to(TOP)}, {name}"))
+                found.setdefault(own, (place, f"{inside}, {name}"))
     return found
 
 
@@ -138,12 +139,14 @@ def main():
         sys.exit(sys.argv[1:] not in (["--help"], ["-h"]))
     rows = listed()
     words = {word for row in rows for word in row.words}
-    wanting = {word: where for word, where in used().items() if word not in words}
+    found = used()
+    wanting = {word: where for word, where in found.items() if word not in words}
     for word, (place, function) in sorted(wanting.items()):
         print(f"not in docs/DEFINITIONS.md: {word} ({place}), used by {function}")
     wrong = list(misplaced(rows))
-    print("\n".join([*wrong, f"definitions: {len(words)} listed, {len(wanting)} wanting, {len(wrong)} misplaced"]))
-    sys.exit(1 if wanting or wrong else 0)
+    print("\n".join(wrong), end="\n" if wrong else "")
+    print(f"definitions: {len(words)} listed, {len(found)} used, {len(wanting)} wanting, {len(wrong)} misplaced")
+    sys.exit(1 if wanting or wrong or not found else 0)
 
 
 if __name__ == "__main__":
