@@ -16,8 +16,11 @@ def counts(ops):
     each = {group: len(those) for group, those in groups.items()}
     not_vector = len(ops) - each["Simd"]
     of_one_byte = each["Own"] + each["Numeric"]
-    operators = {len(ops), not_vector, not_vector - 1, of_one_byte, *each.values()}
-    return {"operators": operators, "visits": operators, "proposals": {len({op.proposal for op in ops})}}
+    operators = {len(ops), not_vector, of_one_byte, *each.values()}
+    # (the visit of the branch table stands by itself, and those of vector operators in two halves)
+    low = sum(op.code < 0x80 for op in groups["Simd"])
+    visits = operators | {not_vector - 1, each["Own"] - 1, low, each["Simd"] - low}
+    return {"operators": operators | visits, "visits": visits, "proposals": {len({op.proposal for op in ops})}}
 
 
 def wrong_counts(ops, top=TOP):
