@@ -56,16 +56,21 @@ block_function text block.Empty p = absurd p
 block_function text (block.Value v) p = absurd p
 block_function text (block.FuncType i) p = p
 
-no_function : (text after more : List ℕ) (n : ℤ) → EncodesSigned 33 text n → ((i : ℕ) → n ≡ pos i → ⊥) → NoPrefix EncodesFunctionType ((text ++ after) ++ more)
+no_function : (text after more : List ℕ) (n : ℤ) → EncodesSigned 33 text n → ((i : ℕ) → n ≡ pos i → ⊥) →
+    NoPrefix EncodesFunctionType ((text ++ after) ++ more)
 no_function text after more n p over t2 more2 block.Empty q e = q
 no_function text after more n p over t2 more2 (block.Value v) q e = q
-no_function text after more n p over t2 more2 (block.FuncType i) q e = over i (signed_prefix_code text t2 33 (after ++ more) more2 n (pos i) p q (sym (append_assoc text after more) ∙ e)).1
+no_function text after more n p over t2 more2 (block.FuncType i) q e =
+    over i (signed_prefix_code text t2 33 (after ++ more) more2 n (pos i) p q (sym (append_assoc text after more) ∙ e)).1
 
 -- back where a negative number was read, which is refused behind it
-pub negative_refused : (e : Error) (old mid new : Reader) (n : ℤ) (position : ℕ) → Reads (EncodesSigned 33) (Ok n) old mid → ((i : ℕ) → n ≡ pos i → ⊥) → position ≡ old.position → new ≡ at_position mid position → e.offset ≡ offset_of mid → IsReadFault e.message → (new ≡ old) × IsRefusal EncodesFunctionType e old
+pub negative_refused : (e : Error) (old mid new : Reader) (n : ℤ) (position : ℕ) → Reads (EncodesSigned 33) (Ok n) old mid → ((i : ℕ) → n ≡ pos i → ⊥) →
+    position ≡ old.position → new ≡ at_position mid position → e.offset ≡ offset_of mid → IsReadFault e.message →
+    (new ≡ old) × IsRefusal EncodesFunctionType e old
 negative_refused e old mid new n position (text, p, t) over at went offset fault =
     let some = signed_some text 33 n p in
-    let left : length old.buffer - old.position ≡ length text + length (rest mid) = sym (length-drop old.position old.buffer) ∙ ap length t.parts ∙ length-append text (rest mid) in
+    let left : length old.buffer - old.position ≡ length text + length (rest mid) = sym (length-drop old.position old.buffer) ∙ ap length t.parts ∙
+    length-append text (rest mid) in
     let starts : mid.start ≡ old.start = ap (λ (r : Reader). r.start) t.moved in
     let position_is : mid.position ≡ old.position + length text = ap (λ (r : Reader). r.position) t.moved in (
       back old mid new text position t at went,
@@ -81,14 +86,22 @@ pub block_prefix_code : PrefixCode EncodesBlockType
 block_prefix_code [] b x y m n p q e = absurd (block_empty m p)
 block_prefix_code (c ∷ a) [] x y m n p q e = absurd (block_empty n q)
 block_prefix_code (c ∷ a) (d ∷ b) x y block.Empty block.Empty p q e = (p ∙ sym q, refl)
-block_prefix_code (c ∷ a) (d ∷ b) x y block.Empty (block.Value w) p q e = let h = value_within d b w q in let same : d ≡ 64 = cc (p, e) in absurd (omega (arith, h.0))
-block_prefix_code (c ∷ a) (d ∷ b) x y block.Empty (block.FuncType j) p q e = let same : d ≡ 64 = cc (p, e) in absurd (index_leads 33 d b j q (omega arith) (omega arith))
-block_prefix_code (c ∷ a) (d ∷ b) x y (block.Value v) block.Empty p q e = let h = value_within c a v p in let same : c ≡ 64 = cc (q, e) in absurd (omega (arith, h.0))
-block_prefix_code (c ∷ a) (d ∷ b) x y (block.Value v) (block.Value w) p q e = let o = value_prefix_code (c ∷ a) (d ∷ b) x y v w p q e in (o.0, ap block.Value o.1)
-block_prefix_code (c ∷ a) (d ∷ b) x y (block.Value v) (block.FuncType j) p q e = let h = value_within c a v p in let same : d ≡ c = cc e in absurd (index_leads 33 d b j q (omega (arith, h.0)) (omega (arith, h.1)))
-block_prefix_code (c ∷ a) (d ∷ b) x y (block.FuncType i) block.Empty p q e = let same : c ≡ 64 = cc (q, e) in absurd (index_leads 33 c a i p (omega arith) (omega arith))
-block_prefix_code (c ∷ a) (d ∷ b) x y (block.FuncType i) (block.Value w) p q e = let h = value_within d b w q in let same : c ≡ d = cc e in absurd (index_leads 33 c a i p (omega (arith, h.0)) (omega (arith, h.1)))
-block_prefix_code (c ∷ a) (d ∷ b) x y (block.FuncType i) (block.FuncType j) p q e = let o = signed_prefix_code (c ∷ a) (d ∷ b) 33 x y (pos i) (pos j) p q e in (o.0, ap block.FuncType (cc (o.1)))
+block_prefix_code (c ∷ a) (d ∷ b) x y block.Empty (block.Value w) p q e = let h = value_within d b w q in let same : d ≡ 64 = cc (p, e) in
+    absurd (omega (arith, h.0))
+block_prefix_code (c ∷ a) (d ∷ b) x y block.Empty (block.FuncType j) p q e = let same : d ≡ 64 = cc (p, e) in
+    absurd (index_leads 33 d b j q (omega arith) (omega arith))
+block_prefix_code (c ∷ a) (d ∷ b) x y (block.Value v) block.Empty p q e = let h = value_within c a v p in let same : c ≡ 64 = cc (q, e) in
+    absurd (omega (arith, h.0))
+block_prefix_code (c ∷ a) (d ∷ b) x y (block.Value v) (block.Value w) p q e = let o = value_prefix_code (c ∷ a) (d ∷ b) x y v w p q e in
+    (o.0, ap block.Value o.1)
+block_prefix_code (c ∷ a) (d ∷ b) x y (block.Value v) (block.FuncType j) p q e = let h = value_within c a v p in let same : d ≡ c = cc e in
+    absurd (index_leads 33 d b j q (omega (arith, h.0)) (omega (arith, h.1)))
+block_prefix_code (c ∷ a) (d ∷ b) x y (block.FuncType i) block.Empty p q e = let same : c ≡ 64 = cc (q, e) in
+    absurd (index_leads 33 c a i p (omega arith) (omega arith))
+block_prefix_code (c ∷ a) (d ∷ b) x y (block.FuncType i) (block.Value w) p q e = let h = value_within d b w q in let same : c ≡ d = cc e in
+    absurd (index_leads 33 c a i p (omega (arith, h.0)) (omega (arith, h.1)))
+block_prefix_code (c ∷ a) (d ∷ b) x y (block.FuncType i) (block.FuncType j) p q e = let o = signed_prefix_code (c ∷ a) (d ∷ b) 33 x y (pos i) (pos j) p q e in
+    (o.0, ap block.FuncType (cc (o.1)))
 
 -- a number of 33 bits that is not negative has 32
 pub cast_fits : (z : ℤ) → lt_z z (pos 0) ≡ false → FitsWidth 33 z → T (non_neg z) × Fits w32 (nat_abs z)

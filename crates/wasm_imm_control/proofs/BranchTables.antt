@@ -44,7 +44,9 @@ pub targets_encoded : (count : ℕ) (bytes : List ℕ) → AreTargets count byte
 targets_encoded count bytes (numbers, h) = subst (EncodesMany (EncodesUnsigned 32) count bytes) (sym (numbers_are bytes numbers h.1)) h
 
 -- one target is read: it is `Ok`, and the others are left
-pub next_target : (old new : Reader) (result : Result ℕ Error) (count : ℕ) → Reads (EncodesUnsigned 32) result old new → AreTargets count (rest old) → 0 < count → AreTargets (count - 1) (rest new) × (map Ok (numbers_of (rest old)) ≡ result ∷ map Ok (numbers_of (rest new))) × (length (numbers_of (rest old)) ≡ suc (length (numbers_of (rest new))))
+pub next_target : (old new : Reader) (result : Result ℕ Error) (count : ℕ) → Reads (EncodesUnsigned 32) result old new → AreTargets count (rest old) →
+    0 < count → AreTargets (count - 1) (rest new) × (map Ok (numbers_of (rest old)) ≡ result ∷ map Ok (numbers_of (rest new))) ×
+    (length (numbers_of (rest old)) ≡ suc (length (numbers_of (rest new))))
 next_target old new (Ok n) count (text, p, takes) ([], (l, e)) some = absurd (omega (arith, l))
 next_target old new (Ok n) count (text, p, takes) (m ∷ ms, (l, (first, behind, e, q, qs))) some =
     let o = unsigned_prefix_code text first 32 (rest new) behind n m p q (sym takes.parts ∙ e) in
@@ -81,23 +83,38 @@ to_chain : (text : List ℕ) (t : BranchTable) → EncodesBranchTable text t →
 to_chain text t (count, default, e, pc, pt, pd) = (count, t.targets ++ default, t.count, e, pc, (t.targets, default, length t.targets, refl, (refl, pt), pd))
 
 module _ (old mid : Reader) (count : ℕ) (counted : Reads (EncodesSize max_targets) (Ok count) old mid) where
-  chain_refused : (e : Error) (now new : Reader) (text : List ℕ) (position : ℕ) → Takes old now text → position ≡ old.position → new ≡ at_position now position → IsRefusal (behind_count count) e mid → (new ≡ old) × IsRefusal EncodesBranchTable e old
-  chain_refused e now new text position t at went h =
-      (back old now new text position t at went, refuses_by Chain EncodesBranchTable e old (λ text t s. (t, to_chain text t s)) (then_second (EncodesSize max_targets) behind_count e old mid count (size_prefix_code max_targets) counted h))
+  chain_refused : (e : Error) (now new : Reader) (text : List ℕ) (position : ℕ) → Takes old now text → position ≡ old.position →
+      new ≡ at_position now position → IsRefusal (behind_count count) e mid → (new ≡ old) × IsRefusal EncodesBranchTable e old
+  chain_refused e now new text position t at went h = (
+    back old now new text position t at went,
+    refuses_by Chain EncodesBranchTable e old (λ text t s. (
+      t,
+      to_chain text t s,
+    )) (then_second (EncodesSize max_targets) behind_count e old mid count (size_prefix_code max_targets) counted h),
+  )
 
-  pub targets_refused : (e : Error) (mid2 new : Reader) (position : ℕ) → (mid2 ≡ mid) × IsRefusal (EncodesTargets count) e mid → position ≡ old.position → new ≡ at_position mid2 position → (new ≡ old) × IsRefusal EncodesBranchTable e old
+  pub targets_refused : (e : Error) (mid2 new : Reader) (position : ℕ) → (mid2 ≡ mid) × IsRefusal (EncodesTargets count) e mid → position ≡ old.position →
+      new ≡ at_position mid2 position → (new ≡ old) × IsRefusal EncodesBranchTable e old
   targets_refused e mid2 new position h at went =
-      chain_refused e mid new counted.0 position counted.2 at (went ∙ ap (λ (r : Reader). at_position r position) h.0) (then_first (EncodesTargets count) (default_of count) e mid h.1)
+      chain_refused e mid new counted.0 position counted.2 at (went ∙
+      ap (λ (r : Reader). at_position r position) h.0) (then_first (EncodesTargets count) (default_of count) e mid h.1)
 
-  pub default_refused : (e : Error) (now now2 new : Reader) (size position : ℕ) → Reads (EncodesTargets count) (Ok size) mid now → (now2 ≡ now) × IsRefusal (EncodesUnsigned 32) e now → position ≡ old.position → new ≡ at_position now2 position → (new ≡ old) × IsRefusal EncodesBranchTable e old
+  pub default_refused : (e : Error) (now now2 new : Reader) (size position : ℕ) → Reads (EncodesTargets count) (Ok size) mid now →
+      (now2 ≡ now) × IsRefusal (EncodesUnsigned 32) e now → position ≡ old.position → new ≡ at_position now2 position →
+      (new ≡ old) × IsRefusal EncodesBranchTable e old
   default_refused e now now2 new size position rt h at went =
       let third = refuses_by (EncodesUnsigned 32) (default_of count size) e now (λ text t s. (t.default, s)) h.1 in
-      chain_refused e now new (counted.0 ++ rt.0) position (takes_then old mid now counted.0 rt.0 counted.2 rt.2) at (went ∙ ap (λ (r : Reader). at_position r position) h.0) (then_second (EncodesTargets count) (default_of count) e mid now size (targets_prefix_code count) rt third)
+      chain_refused e now new (counted.0 ++ rt.0) position (takes_then old mid now counted.0 rt.0 counted.2 rt.2) at (went ∙
+      ap (λ (r : Reader). at_position r position) h.0)
+      (then_second (EncodesTargets count) (default_of count) e mid now size (targets_prefix_code count) rt third)
 
-  pub targets_taken : (now : Reader) (size : ℕ) (bytes : List ℕ) → bytes ≡ rest mid → (rt : Reads (EncodesTargets count) (Ok size) mid now) → take size bytes ≡ rt.0
+  pub targets_taken : (now : Reader) (size : ℕ) (bytes : List ℕ) → bytes ≡ rest mid → (rt : Reads (EncodesTargets count) (Ok size) mid now) →
+      take size bytes ≡ rt.0
   targets_taken now size bytes same rt = ap (take size) (same ∙ rt.2.parts) ∙ ap (λ n. take n (rt.0 ++ rest now)) rt.1.0 ∙ take-append_seam rt.0 (rest now)
 
-  pub table_read : (now new : Reader) (size default : ℕ) (bytes : List ℕ) → bytes ≡ rest mid → Reads (EncodesTargets count) (Ok size) mid now → Reads (EncodesUnsigned 32) (Ok default) now new → Reads EncodesBranchTable (Ok (record { count = count; targets = take size bytes; default = default })) old new
+  pub table_read : (now new : Reader) (size default : ℕ) (bytes : List ℕ) → bytes ≡ rest mid → Reads (EncodesTargets count) (Ok size) mid now →
+      Reads (EncodesUnsigned 32) (Ok default) now new →
+      Reads EncodesBranchTable (Ok (record { count = count; targets = take size bytes; default = default })) old new
   table_read now new size default bytes same rt rd =
       let taken : take size bytes ≡ rt.0 = targets_taken now size bytes same rt in (
         counted.0 ++ (rt.0 ++ rd.0),
@@ -115,10 +132,12 @@ same_parts s t c d ts = ap (λ z. table_of z s.default s.targets) c ∙ ap (λ z
 -- an encoding of a table begins no other, and is that of one
 pub table_prefix_code : PrefixCode EncodesBranchTable
 table_prefix_code a b x y s t (c1, d1, ea, pc, (m, pm), pd) (c2, d2, eb, qc, (n, qm), qd) e =
-    let whole : c1 ++ (s.targets ++ (d1 ++ x)) ≡ c2 ++ (t.targets ++ (d2 ++ y)) = sym (three c1 s.targets d1 x) ∙ ap (λ z. z ++ x) (sym ea) ∙ e ∙ ap (λ z. z ++ y) eb ∙ three c2 t.targets d2 y in
+    let whole : c1 ++ (s.targets ++ (d1 ++ x)) ≡ c2 ++ (t.targets ++ (d2 ++ y)) = sym (three c1 s.targets d1 x) ∙ ap (λ z. z ++ x) (sym ea) ∙ e ∙
+    ap (λ z. z ++ y) eb ∙ three c2 t.targets d2 y in
     let counts = size_prefix_code max_targets c1 c2 (s.targets ++ (d1 ++ x)) (t.targets ++ (d2 ++ y)) s.count t.count pc qc whole in
     let behind = same_rest c1 c2 (s.targets ++ (d1 ++ x)) (t.targets ++ (d2 ++ y)) counts.0 whole in
-    let targets = many_prefix_code (EncodesUnsigned 32) (number_prefix_code 32) s.count s.targets t.targets (d1 ++ x) (d2 ++ y) m n pm (subst (λ z. EncodesMany (EncodesUnsigned 32) z t.targets n) (sym counts.1) qm) behind in
+    let targets = many_prefix_code (EncodesUnsigned 32) (number_prefix_code 32) s.count s.targets t.targets (d1 ++ x) (d2 ++ y) m n pm
+    (subst (λ z. EncodesMany (EncodesUnsigned 32) z t.targets n) (sym counts.1) qm) behind in
     let defaults = unsigned_prefix_code d1 d2 32 x y s.default t.default pd qd (same_rest s.targets t.targets (d1 ++ x) (d2 ++ y) targets.0 behind) in
     (ea ∙ cc (counts.0, targets.0, defaults.0) ∙ sym eb, same_parts s t counts.1 defaults.1 targets.0)
   where
@@ -126,14 +145,18 @@ table_prefix_code a b x y s t (c1, d1, ea, pc, (m, pm), pd) (c2, d2, eb, qc, (n,
     three p q r z = append_assoc p (q ++ r) z ∙ ap (λ w. p ++ w) (append_assoc q r z)
 
 -- a target is refused, and so are all of them
-pub target_refused : (e : Error) (old now now2 new : Reader) (text : List ℕ) (done : List ℕ) (read count position : ℕ) → EncodesMany (EncodesUnsigned 32) read text done → read < count → Takes old now text → (now2 ≡ now) × IsRefusal (EncodesUnsigned 32) e now → position ≡ old.position → new ≡ at_position now2 position → (new ≡ old) × IsRefusal (EncodesTargets count) e old
+pub target_refused : (e : Error) (old now now2 new : Reader) (text : List ℕ) (done : List ℕ) (read count position : ℕ) →
+    EncodesMany (EncodesUnsigned 32) read text done → read < count → Takes old now text → (now2 ≡ now) × IsRefusal (EncodesUnsigned 32) e now →
+    position ≡ old.position → new ≡ at_position now2 position → (new ≡ old) × IsRefusal (EncodesTargets count) e old
 target_refused e old now now2 new text done read count position d l t h at went = (
   back old now new text position t at (went ∙ ap (λ (r : Reader). at_position r position) h.0),
-  refuses_by (EncodesMany (EncodesUnsigned 32) count) (EncodesTargets count) e old (λ text n s. s.1) (many_refused (EncodesUnsigned 32) e old now text done read count (λ a b x y m n p q e. (number_prefix_code 32 a b x y m n p q e).0) d l t h.1),
+  refuses_by (EncodesMany (EncodesUnsigned 32) count) (EncodesTargets count) e old (λ text n s. s.1)
+      (many_refused (EncodesUnsigned 32) e old now text done read count (λ a b x y m n p q e. (number_prefix_code 32 a b x y m n p q e).0) d l t h.1),
 )
 
 -- equal tables have the same targets
-pub equal_targets : (s t : BranchTable) (m n : List ℕ) → same_table s t ≡ true → EncodesMany (EncodesUnsigned 32) s.count s.targets m → EncodesMany (EncodesUnsigned 32) t.count t.targets n → (m ≡ n) × (s.default ≡ t.default)
+pub equal_targets : (s t : BranchTable) (m n : List ℕ) → same_table s t ≡ true → EncodesMany (EncodesUnsigned 32) s.count s.targets m →
+    EncodesMany (EncodesUnsigned 32) t.count t.targets n → (m ≡ n) × (s.default ≡ t.default)
 equal_targets s t m n e p q =
     let counts : s.count ≡ t.count = eqb-true s.count t.count (first_so (nat_eq s.count t.count) _ e) in
     let others = second_so (nat_eq s.count t.count) _ e in

@@ -22,7 +22,8 @@ unfolding reference_of
 same_reference r s n h = ap (λ z. reference_of z r.heap_type) n ∙ ap (reference_of s.nullable) h
 
 pub reference_prefix_code : (nullable : Bool) → PrefixCode (EncodesReference nullable)
-reference_prefix_code nullable a b x y r s p q e = let o = heap_prefix_code a b x y r.heap_type s.heap_type p.1 q.1 e in (o.0, same_reference r s (p.0 ∙ sym q.0) o.1)
+reference_prefix_code nullable a b x y r s p q e = let o = heap_prefix_code a b x y r.heap_type s.heap_type p.1 q.1 e in
+    (o.0, same_reference r s (p.0 ∙ sym q.0) o.1)
 
 first_of_flags : (a b : Bool) → first_null (cast_flags a b) ≡ a
 first_of_flags false false = refl
@@ -74,7 +75,24 @@ to_parts text c (label, first, second, e, pl, pf, ps) =
       n,
       e,
       (refl, omega (arith, le)),
-      (le, (label, first ++ second, c.relative_depth, refl, pl, (first, second, c.from, refl, (sym (first_of_flags c.from.nullable c.to.nullable), pf), ((sym (second_of_flags c.from.nullable c.to.nullable), ps), refl)))),
+      (
+        le,
+        (
+          label,
+          first ++ second,
+          c.relative_depth,
+          refl,
+          pl,
+          (
+            first,
+            second,
+            c.from,
+            refl,
+            (sym (first_of_flags c.from.nullable c.to.nullable), pf),
+            ((sym (second_of_flags c.from.nullable c.to.nullable), ps), refl),
+          ),
+        ),
+      ),
     )
 
 third_prefix_code : (flags depth : ℕ) (from : Reference) → PrefixCode (Third flags depth from)
@@ -87,32 +105,54 @@ pub cast_prefix_code : PrefixCode EncodesCast
 cast_prefix_code a b x y c d p q e = parts a b x y c d (to_parts a c p) (to_parts b d q) e
   where
     first : (flags : ℕ) → PrefixCode (First flags)
-    first flags a b x y c d p q e = then_prefix_code (EncodesUnsigned 32) (Second flags) (number_prefix_code 32) (λ depth. then_prefix_code (EncodesReference (first_null flags)) (Third flags depth) (reference_prefix_code (first_null flags)) (third_prefix_code flags depth)) a b x y c d p.1 q.1 e
+    first flags a b x y c d p q e = then_prefix_code (EncodesUnsigned 32) (Second flags) (number_prefix_code 32)
+        (λ depth. then_prefix_code (EncodesReference (first_null flags)) (Third flags depth) (reference_prefix_code (first_null flags))
+        (third_prefix_code flags depth)) a b x y c d p.1 q.1 e
 
     parts : PrefixCode Parts
     parts = then_prefix_code IsByte First byte_prefix_code first
 
 module _ (old mid : Reader) (flags : ℕ) (flagged : Reads IsByte (Ok flags) old mid) where
-  parts_refused : (e : Error) (now new : Reader) (text : List ℕ) (position : ℕ) → Takes old now text → position ≡ old.position → new ≡ at_position now position → IsRefusal (Then (EncodesUnsigned 32) (Second flags)) e mid → (new ≡ old) × IsRefusal EncodesCast e old
+  parts_refused : (e : Error) (now new : Reader) (text : List ℕ) (position : ℕ) → Takes old now text → position ≡ old.position →
+      new ≡ at_position now position → IsRefusal (Then (EncodesUnsigned 32) (Second flags)) e mid → (new ≡ old) × IsRefusal EncodesCast e old
   parts_refused e now new text position t at went h = (
     back old now new text position t at went,
-    refuses_by Parts EncodesCast e old (λ text c s. (c, to_parts text c s)) (then_second IsByte First e old mid flags byte_prefix_code flagged (refuses_by (Then (EncodesUnsigned 32) (Second flags)) (First flags) e mid (λ text c s. (c, s.1)) h)),
+    refuses_by Parts EncodesCast e old (λ text c s. (
+      c,
+      to_parts text c s,
+    )) (then_second IsByte First e old mid flags byte_prefix_code flagged
+        (refuses_by (Then (EncodesUnsigned 32) (Second flags)) (First flags) e mid (λ text c s. (c, s.1)) h)),
   )
 
-  pub first_refused : (e : Error) (now now2 new : Reader) (depth position : ℕ) → Reads (EncodesUnsigned 32) (Ok depth) mid now → (now2 ≡ now) × IsRefusal (EncodesReference (first_null flags)) e now → position ≡ old.position → new ≡ at_position now2 position → (new ≡ old) × IsRefusal EncodesCast e old
+  pub first_refused : (e : Error) (now now2 new : Reader) (depth position : ℕ) → Reads (EncodesUnsigned 32) (Ok depth) mid now →
+      (now2 ≡ now) × IsRefusal (EncodesReference (first_null flags)) e now → position ≡ old.position → new ≡ at_position now2 position →
+      (new ≡ old) × IsRefusal EncodesCast e old
   first_refused e now now2 new depth position rd h at went =
-      parts_refused e now new (flagged.0 ++ rd.0) position (takes_then old mid now flagged.0 rd.0 flagged.2 rd.2) at (went ∙ ap (λ (r : Reader). at_position r position) h.0) (then_second (EncodesUnsigned 32) (Second flags) e mid now depth (number_prefix_code 32) rd (then_first (EncodesReference (first_null flags)) (Third flags depth) e now h.1))
+      parts_refused e now new (flagged.0 ++ rd.0) position (takes_then old mid now flagged.0 rd.0 flagged.2 rd.2) at (went ∙
+      ap (λ (r : Reader). at_position r position) h.0)
+      (then_second (EncodesUnsigned 32) (Second flags) e mid now depth (number_prefix_code 32) rd
+      (then_first (EncodesReference (first_null flags)) (Third flags depth) e now h.1))
 
-  pub second_refused : (e : Error) (now last last2 new : Reader) (depth : ℕ) (from : Reference) (position : ℕ) → Reads (EncodesUnsigned 32) (Ok depth) mid now → Reads (EncodesReference (first_null flags)) (Ok from) now last → (last2 ≡ last) × IsRefusal (EncodesReference (second_null flags)) e last → position ≡ old.position → new ≡ at_position last2 position → (new ≡ old) × IsRefusal EncodesCast e old
+  pub second_refused : (e : Error) (now last last2 new : Reader) (depth : ℕ) (from : Reference) (position : ℕ) →
+      Reads (EncodesUnsigned 32) (Ok depth) mid now → Reads (EncodesReference (first_null flags)) (Ok from) now last →
+      (last2 ≡ last) × IsRefusal (EncodesReference (second_null flags)) e last → position ≡ old.position → new ≡ at_position last2 position →
+      (new ≡ old) × IsRefusal EncodesCast e old
   second_refused e now last last2 new depth from position rd rf h at went =
       let taken = takes_then old now last (flagged.0 ++ rd.0) rf.0 (takes_then old mid now flagged.0 rd.0 flagged.2 rd.2) rf.2 in
       let third = refuses_by (EncodesReference (second_null flags)) (Third flags depth from) e last (λ text c s. (c.to, s.0)) h.1 in
-      parts_refused e last new ((flagged.0 ++ rd.0) ++ rf.0) position taken at (went ∙ ap (λ (r : Reader). at_position r position) h.0) (then_second (EncodesUnsigned 32) (Second flags) e mid now depth (number_prefix_code 32) rd (then_second (EncodesReference (first_null flags)) (Third flags depth) e now last from (reference_prefix_code (first_null flags)) rf third))
+      parts_refused e last new ((flagged.0 ++ rd.0) ++ rf.0) position taken at (went ∙
+      ap (λ (r : Reader). at_position r position) h.0)
+      (then_second (EncodesUnsigned 32) (Second flags) e mid now depth (number_prefix_code 32) rd
+      (then_second (EncodesReference (first_null flags)) (Third flags depth) e now last from (reference_prefix_code (first_null flags)) rf third))
 
-  pub cast_read : (now last new : Reader) (depth : ℕ) (from to : Reference) → flags ≤ 3 → Reads (EncodesUnsigned 32) (Ok depth) mid now → Reads (EncodesReference (first_null flags)) (Ok from) now last → Reads (EncodesReference (second_null flags)) (Ok to) last new → Reads EncodesCast (Ok (cast_of depth from to)) old new
+  pub cast_read : (now last new : Reader) (depth : ℕ) (from to : Reference) → flags ≤ 3 → Reads (EncodesUnsigned 32) (Ok depth) mid now →
+      Reads (EncodesReference (first_null flags)) (Ok from) now last → Reads (EncodesReference (second_null flags)) (Ok to) last new →
+      Reads EncodesCast (Ok (cast_of depth from to)) old new
   cast_read now last new depth from to le rd rf rt =
-      let byte : cast_flags from.nullable to.nullable ≡ flags = ap (λ z. cast_flags z to.nullable) rf.1.0 ∙ ap (cast_flags (first_null flags)) rt.1.0 ∙ flags_restored flags le in (
+      let byte : cast_flags from.nullable to.nullable ≡ flags = ap (λ z. cast_flags z to.nullable) rf.1.0 ∙ ap (cast_flags (first_null flags)) rt.1.0 ∙
+      flags_restored flags le in (
         flagged.0 ++ (rd.0 ++ (rf.0 ++ rt.0)),
         (rd.0, rf.0, rt.0, ap (λ z. z ++ (rd.0 ++ (rf.0 ++ rt.0))) flagged.1.0 ∙ ap (λ z. z ∷ (rd.0 ++ (rf.0 ++ rt.0))) (sym byte), rd.1, rf.1.1, rt.1.1),
-        takes_then old mid new flagged.0 (rd.0 ++ (rf.0 ++ rt.0)) flagged.2 (takes_then mid now new rd.0 (rf.0 ++ rt.0) rd.2 (takes_then now last new rf.0 rt.0 rf.2 rt.2)),
+        takes_then old mid new flagged.0 (rd.0 ++ (rf.0 ++ rt.0)) flagged.2
+            (takes_then mid now new rd.0 (rf.0 ++ rt.0) rd.2 (takes_then now last new rf.0 rt.0 rf.2 rt.2)),
       )

@@ -35,12 +35,16 @@ split_takes : (old now : Reader) (a b : List ℕ) → Takes old now (a ++ b) →
 split_takes old now a b t =
     let mid = at_position old (old.position + length a) in
     let whole : rest old ≡ a ++ (b ++ rest now) = t.parts ∙ append_assoc a b (rest now) in
-    let left : rest mid ≡ b ++ rest now = sym (drop-drop (length a) old.position old.buffer) ∙ ap (drop (length a)) whole ∙ drop-append_seam a (b ++ rest now) in
-    let goes : now ≡ at_position mid (mid.position + length b) = t.moved ∙ ap (at_position old) (let n : length (a ++ b) ≡ length a + length b = length-append a b in omega arith) in
+    let left : rest mid ≡ b ++ rest now = sym (drop-drop (length a) old.position old.buffer) ∙ ap (drop (length a)) whole ∙
+    drop-append_seam a (b ++ rest now) in
+    let goes : now ≡ at_position mid (mid.position + length b) = t.moved ∙
+    ap (at_position old) (let n : length (a ++ b) ≡ length a + length b = length-append a b in omega arith) in
     (mid, record { moved = refl; parts = whole ∙ ap (λ z. a ++ z) (sym left) }, record { moved = goes; parts = left })
 
 -- behind the members that were read one is refused
-pub many_fault : {X : Type 0} (P : List ℕ → X → Type 0) (F : Message → Reader → ℕ → Type 0) (count : ℕ) (done : List X) (text : List ℕ) (old now : Reader) (m : Message) (offset : ℕ) → length done < count → EncodesEach P text done → Takes old now text → NoPrefix P (rest now) → F m now offset → ManyFault P F count m old offset
+pub many_fault : {X : Type 0} (P : List ℕ → X → Type 0) (F : Message → Reader → ℕ →
+    Type 0) (count : ℕ) (done : List X) (text : List ℕ) (old now : Reader) (m : Message) (offset : ℕ) → length done < count → EncodesEach P text done →
+    Takes old now text → NoPrefix P (rest now) → F m now offset → ManyFault P F count m old offset
 many_fault P F zero done text old now m offset l p t none f = absurd (omega (arith, l))
 many_fault P F (suc n) [] text old now m offset l p t none f =
     let same : now ≡ old = t.moved ∙ ap (λ z. at_position old (old.position + length z)) p ∙ ap (at_position old) (omega arith) in
@@ -50,30 +54,35 @@ many_fault P F (suc n) (x ∷ done) text old now m offset l (first, behind, e, p
     inr (x, s.0, (first, p, s.1), many_fault P F n done behind s.0 now m offset (omega (arith, l)) ps s.2 none f)
 
 -- of more members one that is refused still is
-pub many_wider : {X : Type 0} (P : List ℕ → X → Type 0) (F : Message → Reader → ℕ → Type 0) (count : ℕ) (m : Message) (old : Reader) (offset : ℕ) → ManyFault P F count m old offset → ManyFault P F (suc count) m old offset
+pub many_wider : {X : Type 0} (P : List ℕ → X → Type 0) (F : Message → Reader → ℕ → Type 0) (count : ℕ) (m : Message) (old : Reader) (offset : ℕ) →
+    ManyFault P F count m old offset → ManyFault P F (suc count) m old offset
 many_wider P F zero m old offset h = absurd h
 many_wider P F (suc n) m old offset (inl h) = inl h
 many_wider P F (suc n) m old offset (inr (x, new, r, b)) = inr (x, new, r, many_wider P F n m new offset b)
 
 -- a refusal that is not allocation failure stays as it was
-pub kept_fault : (F : Message → ℕ → Type 0) (e f : Error) (offset : ℕ) → IsBegunAt offset e f → (e.message ≢ message.OutOfMemory → F e.message e.offset) → f.message ≢ message.OutOfMemory → F f.message f.offset
+pub kept_fault : (F : Message → ℕ → Type 0) (e f : Error) (offset : ℕ) → IsBegunAt offset e f → (e.message ≢ message.OutOfMemory → F e.message e.offset) →
+    f.message ≢ message.OutOfMemory → F f.message f.offset
 kept_fault F e f offset (kept, inl s) h some = absurd (some s.0)
 kept_fault F e f offset (kept, inr s) h some = subst (λ o. F f.message o) (sym s.1) (subst (λ m. F m e.offset) (sym kept) (h s.0))
 
 -- ---- leading bytes
 
 -- the data ends where one is wanted
-pub leading_ended : (name : LeadingByteName) (highest : ℕ) (e : Error) (r : Reader) → IsRefusal IsByte e r → IsEndHere e r → NoPrefix (IsLeading highest) (rest r) × LeadingFault name highest e.message r e.offset
+pub leading_ended : (name : LeadingByteName) (highest : ℕ) (e : Error) (r : Reader) → IsRefusal IsByte e r → IsEndHere e r →
+    NoPrefix (IsLeading highest) (rest r) × LeadingFault name highest e.message r e.offset
 leading_ended name highest e r h end = let none = refused_now IsByte e r h in (λ text more byte p eq. none text more byte p.0 eq, inl end)
 
 -- ---- casts
 
 -- where no reference of this kind stands, no heap type does
 pub no_heap_type : (nullable : Bool) (e : Error) (r : Reader) → IsRefusal (EncodesReference nullable) e r → NoPrefix EncodesHeapType (rest r)
-no_heap_type nullable e r h text more ty p eq = refused_now (EncodesReference nullable) e r h text more (record { nullable = nullable; heap_type = ty }) (refl, p) eq
+no_heap_type nullable e r h text more ty p eq =
+    refused_now (EncodesReference nullable) e r h text more (record { nullable = nullable; heap_type = ty }) (refl, p) eq
 
 -- of a reference that was read the heap type was
-pub heap_type_read : (nullable : Bool) (reference : Reference) (old new : Reader) → Reads (EncodesReference nullable) (Ok reference) old new → Reads EncodesHeapType (Ok reference.heap_type) old new
+pub heap_type_read : (nullable : Bool) (reference : Reference) (old new : Reader) → Reads (EncodesReference nullable) (Ok reference) old new →
+    Reads EncodesHeapType (Ok reference.heap_type) old new
 heap_type_read nullable reference old new (text, p, takes) = (text, p.1, takes)
 
 -- the data ends where a block type is wanted
@@ -85,6 +94,7 @@ block_ended e r h =
     inr (λ byte lead prefix. no_byte r byte h.2 prefix, inl (refused_now (EncodesSigned 33) e r (end_refused (EncodesSigned 33) e r (λ x p. p) h), fault))
 
 -- where no value type begins, the index is refused
-pub index_fault : (result : Result BlockType Error) (r : Reader) (b : ℕ) → BeginsWith b (rest r) → (LeadsValType b → ⊥) → IfErr result (λ e. FunctionTypeFault e.message r e.offset) → IfErr result (λ e. BlockTypeFault e.message r e.offset)
+pub index_fault : (result : Result BlockType Error) (r : Reader) (b : ℕ) → BeginsWith b (rest r) → (LeadsValType b → ⊥) →
+    IfErr result (λ e. FunctionTypeFault e.message r e.offset) → IfErr result (λ e. BlockTypeFault e.message r e.offset)
 index_fault (Ok t) r b prefix far h = tt
 index_fault (Err e) r b (after, prefix) far h = inr (λ byte lead (more, same). far (let is : byte ≡ b = cc (same, prefix) in subst LeadsValType is lead), h)

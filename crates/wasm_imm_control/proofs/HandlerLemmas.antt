@@ -24,23 +24,32 @@ pair_prefix_code a b x y m n (a1, a2, ea, pa, qa) (b1, b2, eb, pb, qb) e =
 abbrev second_of : ℕ → List ℕ → ℕ × ℕ → Type 0
 second_of first text p = EncodesUnsigned 32 text p.1
 
-pub pair_refused : (e : Error) (old mid mid2 new : Reader) (first position : ℕ) → Reads (EncodesUnsigned 32) (Ok first) old mid → (mid2 ≡ mid) × IsRefusal (EncodesUnsigned 32) e mid → position ≡ old.position → new ≡ at_position mid2 position → (new ≡ old) × IsRefusal EncodesPair e old
+pub pair_refused : (e : Error) (old mid mid2 new : Reader) (first position : ℕ) → Reads (EncodesUnsigned 32) (Ok first) old mid →
+    (mid2 ≡ mid) × IsRefusal (EncodesUnsigned 32) e mid → position ≡ old.position → new ≡ at_position mid2 position →
+    (new ≡ old) × IsRefusal EncodesPair e old
 pair_refused e old mid mid2 new first position r h at went =
-    let s = second_refused (EncodesUnsigned 32) second_of e old mid mid2 new first position (number_prefix_code 32) r (h.0, refuses_by (EncodesUnsigned 32) (second_of first) e mid (λ text p q. (p.1, q)) h.1) at went in
+    let s = second_refused (EncodesUnsigned 32) second_of e old mid mid2 new first position (number_prefix_code 32) r (
+      h.0,
+      refuses_by (EncodesUnsigned 32) (second_of first) e mid (λ text p q. (p.1, q)) h.1,
+    ) at went in
     (s.0, refuses_by (Then (EncodesUnsigned 32) second_of) EncodesPair e old (λ text p (a, b, ab, pa, pb). (p, (a, b, p.0, ab, pa, pb))) s.1)
 
-pub pair_read : (old mid new : Reader) (first second : ℕ) → Reads (EncodesUnsigned 32) (Ok first) old mid → Reads (EncodesUnsigned 32) (Ok second) mid new → Reads EncodesPair (Ok (first, second)) old new
+pub pair_read : (old mid new : Reader) (first second : ℕ) → Reads (EncodesUnsigned 32) (Ok first) old mid → Reads (EncodesUnsigned 32) (Ok second) mid new →
+    Reads EncodesPair (Ok (first, second)) old new
 pair_read old mid new first second (a, p, s) (b, q, t) = (a ++ b, (a, b, refl, p, q), takes_then old mid new a b s t)
 
 -- ---- catches
 
-catch_indices_prefix_code : (a b x y : List ℕ) (m n : Catch) → EncodesCatchIndices a m → EncodesCatchIndices b n → catch_byte m ≡ catch_byte n → a ++ x ≡ b ++ y → (a ≡ b) × (m ≡ n)
-catch_indices_prefix_code a b x y (clause.One m1 m2) (clause.One n1 n2) p q same e = let o = pair_prefix_code a b x y (m1, m2) (n1, n2) p q e in (o.0, λ i. clause.One ((o.1 i).0) ((o.1 i).1))
+catch_indices_prefix_code : (a b x y : List ℕ) (m n : Catch) → EncodesCatchIndices a m → EncodesCatchIndices b n → catch_byte m ≡ catch_byte n →
+    a ++ x ≡ b ++ y → (a ≡ b) × (m ≡ n)
+catch_indices_prefix_code a b x y (clause.One m1 m2) (clause.One n1 n2) p q same e = let o = pair_prefix_code a b x y (m1, m2) (n1, n2) p q e in
+    (o.0, λ i. clause.One ((o.1 i).0) ((o.1 i).1))
 catch_indices_prefix_code a b x y (clause.One m1 m2) (clause.OneRef n1 n2) p q same e = absurd (omega arith)
 catch_indices_prefix_code a b x y (clause.One m1 m2) (clause.All n1) p q same e = absurd (omega arith)
 catch_indices_prefix_code a b x y (clause.One m1 m2) (clause.AllRef n1) p q same e = absurd (omega arith)
 catch_indices_prefix_code a b x y (clause.OneRef m1 m2) (clause.One n1 n2) p q same e = absurd (omega arith)
-catch_indices_prefix_code a b x y (clause.OneRef m1 m2) (clause.OneRef n1 n2) p q same e = let o = pair_prefix_code a b x y (m1, m2) (n1, n2) p q e in (o.0, λ i. clause.OneRef ((o.1 i).0) ((o.1 i).1))
+catch_indices_prefix_code a b x y (clause.OneRef m1 m2) (clause.OneRef n1 n2) p q same e = let o = pair_prefix_code a b x y (m1, m2) (n1, n2) p q e in
+    (o.0, λ i. clause.OneRef ((o.1 i).0) ((o.1 i).1))
 catch_indices_prefix_code a b x y (clause.OneRef m1 m2) (clause.All n1) p q same e = absurd (omega arith)
 catch_indices_prefix_code a b x y (clause.OneRef m1 m2) (clause.AllRef n1) p q same e = absurd (omega arith)
 catch_indices_prefix_code a b x y (clause.All m1) (clause.One n1 n2) p q same e = absurd (omega arith)
@@ -50,7 +59,8 @@ catch_indices_prefix_code a b x y (clause.All m1) (clause.AllRef n1) p q same e 
 catch_indices_prefix_code a b x y (clause.AllRef m1) (clause.One n1 n2) p q same e = absurd (omega arith)
 catch_indices_prefix_code a b x y (clause.AllRef m1) (clause.OneRef n1 n2) p q same e = absurd (omega arith)
 catch_indices_prefix_code a b x y (clause.AllRef m1) (clause.All n1) p q same e = absurd (omega arith)
-catch_indices_prefix_code a b x y (clause.AllRef m1) (clause.AllRef n1) p q same e = let o = unsigned_prefix_code a b 32 x y m1 n1 p q e in (o.0, ap clause.AllRef o.1)
+catch_indices_prefix_code a b x y (clause.AllRef m1) (clause.AllRef n1) p q same e = let o = unsigned_prefix_code a b 32 x y m1 n1 p q e in
+    (o.0, ap clause.AllRef o.1)
 
 pub catch_prefix_code : PrefixCode EncodesCatch
 catch_prefix_code a b x y m n (a2, ea, p) (b2, eb, q) e =
@@ -68,11 +78,14 @@ catch_pair byte le text (clause.AllRef label) h = absurd (omega (arith, h.0))
 
 -- ---- clauses
 
-handle_indices_prefix_code : (a b x y : List ℕ) (m n : Handle) → EncodesHandleIndices a m → EncodesHandleIndices b n → handle_byte m ≡ handle_byte n → a ++ x ≡ b ++ y → (a ≡ b) × (m ≡ n)
-handle_indices_prefix_code a b x y (handle.OnLabel m1 m2) (handle.OnLabel n1 n2) p q same e = let o = pair_prefix_code a b x y (m1, m2) (n1, n2) p q e in (o.0, λ i. handle.OnLabel ((o.1 i).0) ((o.1 i).1))
+handle_indices_prefix_code : (a b x y : List ℕ) (m n : Handle) → EncodesHandleIndices a m → EncodesHandleIndices b n → handle_byte m ≡ handle_byte n →
+    a ++ x ≡ b ++ y → (a ≡ b) × (m ≡ n)
+handle_indices_prefix_code a b x y (handle.OnLabel m1 m2) (handle.OnLabel n1 n2) p q same e = let o = pair_prefix_code a b x y (m1, m2) (n1, n2) p q e in
+    (o.0, λ i. handle.OnLabel ((o.1 i).0) ((o.1 i).1))
 handle_indices_prefix_code a b x y (handle.OnLabel m1 m2) (handle.OnSwitch n1) p q same e = absurd (omega arith)
 handle_indices_prefix_code a b x y (handle.OnSwitch m1) (handle.OnLabel n1 n2) p q same e = absurd (omega arith)
-handle_indices_prefix_code a b x y (handle.OnSwitch m1) (handle.OnSwitch n1) p q same e = let o = unsigned_prefix_code a b 32 x y m1 n1 p q e in (o.0, ap handle.OnSwitch o.1)
+handle_indices_prefix_code a b x y (handle.OnSwitch m1) (handle.OnSwitch n1) p q same e = let o = unsigned_prefix_code a b 32 x y m1 n1 p q e in
+    (o.0, ap handle.OnSwitch o.1)
 
 pub handle_prefix_code : PrefixCode EncodesHandle
 handle_prefix_code a b x y m n (a2, ea, p) (b2, eb, q) e =

@@ -33,7 +33,8 @@ resume_of handlers = record { handlers = handlers }
 
 pub resume_prefix_code : PrefixCode EncodesResumeTable
 unfolding resume_of
-resume_prefix_code a b x y m n p q e = let o = list_prefix_code max_handlers EncodesHandle handle_prefix_code a b x y m.handlers n.handlers p q e in (o.0, ap resume_of o.1)
+resume_prefix_code a b x y m n p q e = let o = list_prefix_code max_handlers EncodesHandle handle_prefix_code a b x y m.handlers n.handlers p q e in
+    (o.0, ap resume_of o.1)
 
 try_of : BlockType → List Catch → TryTable
 try_of ty catches = record { ty = ty; catches = catches }
@@ -54,9 +55,14 @@ abbrev behind_type : BlockType → List ℕ → TryTable → Type 0
 behind_type ty text t = EncodesList max_catches EncodesCatch text t.catches
 
 -- the catches are refused, and so is the table
-pub catches_refused : (e f : Error) (old mid mid2 new : Reader) (ty : BlockType) (position : ℕ) → Reads EncodesBlockType (Ok ty) old mid → (mid2 ≡ mid) × IsRefused (EncodesList max_catches EncodesCatch) true e mid → position ≡ old.position → new ≡ at_position mid2 position → IsBegunAt (mid2.start + position) e f → (new ≡ old) × IsRefused EncodesTryTable true f old
+pub catches_refused : (e f : Error) (old mid mid2 new : Reader) (ty : BlockType) (position : ℕ) → Reads EncodesBlockType (Ok ty) old mid →
+    (mid2 ≡ mid) × IsRefused (EncodesList max_catches EncodesCatch) true e mid → position ≡ old.position → new ≡ at_position mid2 position →
+    IsBegunAt (mid2.start + position) e f → (new ≡ old) × IsRefused EncodesTryTable true f old
 catches_refused e f old mid mid2 new ty position r h at went begun =
-    let s = begun_refused EncodesBlockType behind_type e f old mid mid2 new ty position block_prefix_code (λ text p. block_some text ty p) r (h.0, refused_by (EncodesList max_catches EncodesCatch) (behind_type ty) true e mid (λ text t q. (t.catches, q)) h.1) at went begun in
+    let s = begun_refused EncodesBlockType behind_type e f old mid mid2 new ty position block_prefix_code (λ text p. block_some text ty p) r (
+      h.0,
+      refused_by (EncodesList max_catches EncodesCatch) (behind_type ty) true e mid (λ text t q. (t.catches, q)) h.1,
+    ) at went begun in
     (s.0, refused_by (Then EncodesBlockType behind_type) EncodesTryTable true f old (λ text t (a, b, ab, pa, pb). (t, (a, b, t.ty, ab, pa, pb))) s.1)
 
 -- ---- the types of a select
@@ -72,38 +78,58 @@ select_types text (select.Multi tys) p = p.0
 
 pub select_prefix_code : PrefixCode EncodesSelect
 unfolding types_of
-select_prefix_code a b x y (select.One t) (select.One u) p q e = let o = list_prefix_code max_select_types EncodesValType value_prefix_code a b x y (t ∷ []) (u ∷ []) p q e in (o.0, ap select.One (cc (o.1)))
-select_prefix_code a b x y (select.One t) (select.Multi us) p q e = let o = list_prefix_code max_select_types EncodesValType value_prefix_code a b x y (t ∷ []) us p q.0 e in absurd (q.1 (sym (ap length o.1)))
-select_prefix_code a b x y (select.Multi ts) (select.One u) p q e = let o = list_prefix_code max_select_types EncodesValType value_prefix_code a b x y ts (u ∷ []) p.0 q e in absurd (p.1 (ap length o.1))
-select_prefix_code a b x y (select.Multi ts) (select.Multi us) p q e = let o = list_prefix_code max_select_types EncodesValType value_prefix_code a b x y ts us p.0 q.0 e in (o.0, ap select.Multi o.1)
+select_prefix_code a b x y (select.One t) (select.One u) p q e = let o =
+    list_prefix_code max_select_types EncodesValType value_prefix_code a b x y (t ∷ []) (u ∷ []) p q e in (o.0, ap select.One (cc (o.1)))
+select_prefix_code a b x y (select.One t) (select.Multi us) p q e = let o =
+    list_prefix_code max_select_types EncodesValType value_prefix_code a b x y (t ∷ []) us p q.0 e in absurd (q.1 (sym (ap length o.1)))
+select_prefix_code a b x y (select.Multi ts) (select.One u) p q e = let o =
+    list_prefix_code max_select_types EncodesValType value_prefix_code a b x y ts (u ∷ []) p.0 q e in absurd (p.1 (ap length o.1))
+select_prefix_code a b x y (select.Multi ts) (select.Multi us) p q e = let o =
+    list_prefix_code max_select_types EncodesValType value_prefix_code a b x y ts us p.0 q.0 e in (o.0, ap select.Multi o.1)
 
 -- the types are refused, and so is the select
-pub types_refused : (e f : Error) (old mid mid2 new : Reader) (count position : ℕ) → Reads (EncodesSize max_select_types) (Ok count) old mid → (mid2 ≡ mid) × IsRefused (EncodesMany EncodesValType count) true e mid → position ≡ old.position → new ≡ at_position mid2 position → IsBegunAt (mid2.start + position) e f → (new ≡ old) × IsRefused EncodesSelect true f old
+pub types_refused : (e f : Error) (old mid mid2 new : Reader) (count position : ℕ) → Reads (EncodesSize max_select_types) (Ok count) old mid →
+    (mid2 ≡ mid) × IsRefused (EncodesMany EncodesValType count) true e mid → position ≡ old.position → new ≡ at_position mid2 position →
+    IsBegunAt (mid2.start + position) e f → (new ≡ old) × IsRefused EncodesSelect true f old
 types_refused e f old mid mid2 new count position r h at went begun =
-    let s = begun_refused (EncodesSize max_select_types) (EncodesMany EncodesValType) e f old mid mid2 new count position (size_prefix_code max_select_types) (λ text p. unsigned_some 32 text count p.0) r h at went begun in
+    let s = begun_refused (EncodesSize max_select_types) (EncodesMany EncodesValType) e f old mid mid2 new count position (size_prefix_code max_select_types)
+    (λ text p. unsigned_some 32 text count p.0) r h at went begun in
     (s.0, refused_by (EncodesList max_select_types EncodesValType) EncodesSelect true f old (λ text t p. (types_of t, select_types text t p)) s.1)
 
 -- one type is refused
-pub type_refused : (e : Error) (old mid mid2 new : Reader) (count position : ℕ) → count ≡ 1 → Reads (EncodesSize max_select_types) (Ok count) old mid → (mid2 ≡ mid) × IsRefusal EncodesValType e mid → position ≡ old.position → new ≡ at_position mid2 position → (new ≡ old) × IsRefused EncodesSelect true e old
+pub type_refused : (e : Error) (old mid mid2 new : Reader) (count position : ℕ) → count ≡ 1 → Reads (EncodesSize max_select_types) (Ok count) old mid →
+    (mid2 ≡ mid) × IsRefusal EncodesValType e mid → position ≡ old.position → new ≡ at_position mid2 position →
+    (new ≡ old) × IsRefused EncodesSelect true e old
 type_refused e old mid mid2 new count position one r h at went =
     let behind : IsRefusal (EncodesMany EncodesValType count) e mid = record {
       refuses = λ more follow text after tys p eq. lone (rest mid ++ more) text after tys p.0 p.1 (h.1.refuses more follow) eq;
       fault = h.1.fault;
       ahead = h.1.ahead;
     } in
-    let s = second_refused (EncodesSize max_select_types) (EncodesMany EncodesValType) e old mid mid2 new count position (size_prefix_code max_select_types) r (h.0, behind) at went in
-    (s.0, refused_by (EncodesList max_select_types EncodesValType) EncodesSelect true e old (λ text t p. (types_of t, select_types text t p)) (as_refused (EncodesList max_select_types EncodesValType) true e old s.1))
+    let s = second_refused (EncodesSize max_select_types) (EncodesMany EncodesValType) e old mid mid2 new count position (size_prefix_code max_select_types) r
+    (h.0, behind) at went in (
+      s.0,
+      refused_by (EncodesList max_select_types EncodesValType) EncodesSelect true e old (λ text t p. (
+        types_of t,
+        select_types text t p,
+      )) (as_refused (EncodesList max_select_types EncodesValType) true e old s.1),
+    )
   where
-    lone : (bytes text after : List ℕ) (tys : List ValType) → length tys ≡ count → EncodesEach EncodesValType text tys → NoPrefix EncodesValType bytes → bytes ≡ text ++ after → ⊥
+    lone : (bytes text after : List ℕ) (tys : List ValType) → length tys ≡ count → EncodesEach EncodesValType text tys → NoPrefix EncodesValType bytes →
+        bytes ≡ text ++ after → ⊥
     lone bytes text after [] l p none eq = absurd (omega (arith, l))
-    lone bytes text after (ty ∷ tys) l (first, behind, e, p, ps) none eq = none first (behind ++ after) ty p (eq ∙ ap (λ z. z ++ after) e ∙ append_assoc first behind after)
+    lone bytes text after (ty ∷ tys) l (first, behind, e, p, ps) none eq =
+        none first (behind ++ after) ty p (eq ∙ ap (λ z. z ++ after) e ∙ append_assoc first behind after)
 
 -- another number than 1 stands first
 pub not_one : (old mid : Reader) (count : ℕ) → Reads (EncodesSize max_select_types) (Ok count) old mid → count ≢ 1 → NoPrefix EncodesOne (rest old)
-not_one old mid count (text, p, t) other first after n q eq = other ((unsigned_prefix_code text first 32 (rest mid) after count n p.0 q.0 (sym t.parts ∙ eq)).1 ∙ q.1)
+not_one old mid count (text, p, t) other first after n q eq =
+    other ((unsigned_prefix_code text first 32 (rest mid) after count n p.0 q.0 (sym t.parts ∙ eq)).1 ∙ q.1)
 
-pub one_read : (old mid new : Reader) (count : ℕ) (ty : ValType) → count ≡ 1 → Reads (EncodesSize max_select_types) (Ok count) old mid → Reads EncodesValType (Ok ty) mid new → Reads EncodesSelect (Ok (select.One ty)) old new
-one_read old mid new count ty one (a, p, s) (b, q, t) = (a ++ b, (a, b, count, refl, p, (sym one, (b, [], nil_right b, q, refl))), takes_then old mid new a b s t)
+pub one_read : (old mid new : Reader) (count : ℕ) (ty : ValType) → count ≡ 1 → Reads (EncodesSize max_select_types) (Ok count) old mid →
+    Reads EncodesValType (Ok ty) mid new → Reads EncodesSelect (Ok (select.One ty)) old new
+one_read old mid new count ty one (a, p, s) (b, q, t) =
+    (a ++ b, (a, b, count, refl, p, (sym one, (b, [], nil_right b, q, refl))), takes_then old mid new a b s t)
   where
     nil_right : (zs : List ℕ) → zs ≡ zs ++ []
     nil_right [] = refl

@@ -9,7 +9,8 @@ use Rattle.wasm_below.proofs.Sequences.{then_prefix_code}
 use Rattle.wasm_below.proofs.PrefixCode.{size_prefix_code}
 use Rattle.wasm_imm_control.specs.Lists.{EncodesEach, EncodesMany, EncodesList}
 
-pub each_prefix_code : {X : Type 0} (P : List ℕ → X → Type 0) → PrefixCode P → (a b x y : List ℕ) (m n : List X) → length m ≡ length n → EncodesEach P a m → EncodesEach P b n → a ++ x ≡ b ++ y → (a ≡ b) × (m ≡ n)
+pub each_prefix_code : {X : Type 0} (P : List ℕ → X → Type 0) → PrefixCode P → (a b x y : List ℕ) (m n : List X) → length m ≡ length n → EncodesEach P a m →
+    EncodesEach P b n → a ++ x ≡ b ++ y → (a ≡ b) × (m ≡ n)
 each_prefix_code P prefix_code a b x y [] [] l p q e = (p ∙ sym q, refl)
 each_prefix_code P prefix_code a b x y [] (v ∷ n) l p q e = absurd (omega (arith, l))
 each_prefix_code P prefix_code a b x y (u ∷ m) [] l p q e = absurd (omega (arith, l))
@@ -28,7 +29,8 @@ pub list_prefix_code : {X : Type 0} (limit : ℕ) (P : List ℕ → X → Type 0
 list_prefix_code limit P prefix_code = then_prefix_code (EncodesSize limit) (EncodesMany P) (size_prefix_code limit) (many_prefix_code P prefix_code)
 
 -- one member more
-pub each_more : {X : Type 0} (P : List ℕ → X → Type 0) (text more : List ℕ) (xs : List X) (x : X) → EncodesEach P text xs → P more x → EncodesEach P (text ++ more) (xs ++ x ∷ [])
+pub each_more : {X : Type 0} (P : List ℕ → X → Type 0) (text more : List ℕ) (xs : List X) (x : X) → EncodesEach P text xs → P more x →
+    EncodesEach P (text ++ more) (xs ++ x ∷ [])
 each_more P text more [] x p q = (more, [], cc_nil text more p, q, refl)
   where
     nil_right : (zs : List ℕ) → zs ≡ zs ++ []
@@ -40,7 +42,8 @@ each_more P text more [] x p q = (more, [], cc_nil text more p, q, refl)
 each_more P text more (y ∷ xs) x (first, behind, e, p, ps) q =
     (first, behind ++ more, ap (λ z. z ++ more) e ∙ append_assoc first behind more, p, each_more P behind more xs x ps q)
 
-pub many_more : {X : Type 0} (P : List ℕ → X → Type 0) (count : ℕ) (text more : List ℕ) (xs : List X) (x : X) → EncodesMany P count text xs → P more x → EncodesMany P (count + 1) (text ++ more) (xs ++ x ∷ [])
+pub many_more : {X : Type 0} (P : List ℕ → X → Type 0) (count : ℕ) (text more : List ℕ) (xs : List X) (x : X) → EncodesMany P count text xs → P more x →
+    EncodesMany P (count + 1) (text ++ more) (xs ++ x ∷ [])
 many_more P count text more xs x h q = (length-append xs (x ∷ []) ∙ ap (λ n. n + 1) h.0, each_more P text more xs x h.1 q)
 
 -- no encoding is a proper prefix of another
@@ -48,24 +51,29 @@ abbrev pub PrefixAlone : {X : Type 0} → (List ℕ → X → Type 0) → Type 0
 PrefixAlone {X} P = (a b x y : List ℕ) (m n : X) → P a m → P b n → a ++ x ≡ b ++ y → a ≡ b
 
 -- behind the members that were read no other stands
-each_no_prefix : {X : Type 0} (P : List ℕ → X → Type 0) → PrefixAlone P → (done xs : List X) (text after t2 more : List ℕ) → EncodesEach P text done → EncodesEach P t2 xs → length done < length xs → text ++ after ≡ t2 ++ more → NoPrefix P after → ⊥
+each_no_prefix : {X : Type 0} (P : List ℕ → X → Type 0) → PrefixAlone P → (done xs : List X) (text after t2 more : List ℕ) → EncodesEach P text done →
+    EncodesEach P t2 xs → length done < length xs → text ++ after ≡ t2 ++ more → NoPrefix P after → ⊥
 each_no_prefix P prefix_code [] [] text after t2 more p q l e none = absurd (omega (arith, l))
 each_no_prefix P prefix_code [] (v ∷ xs) text after t2 more p (first, behind, eb, pb, qb) l e none =
     none first (behind ++ more) v pb (ap (λ z. z ++ after) (sym p) ∙ e ∙ ap (λ z. z ++ more) eb ∙ append_assoc first behind more)
 each_no_prefix P prefix_code (u ∷ done) [] text after t2 more p q l e none = absurd (omega (arith, l))
 each_no_prefix P prefix_code (u ∷ done) (v ∷ xs) text after t2 more (a1, a2, ea, pa, qa) (b1, b2, eb, pb, qb) l e none =
-    let whole : a1 ++ (a2 ++ after) ≡ b1 ++ (b2 ++ more) = sym (append_assoc a1 a2 after) ∙ ap (λ z. z ++ after) (sym ea) ∙ e ∙ ap (λ z. z ++ more) eb ∙ append_assoc b1 b2 more in
+    let whole : a1 ++ (a2 ++ after) ≡ b1 ++ (b2 ++ more) = sym (append_assoc a1 a2 after) ∙ ap (λ z. z ++ after) (sym ea) ∙ e ∙ ap (λ z. z ++ more) eb ∙
+    append_assoc b1 b2 more in
     let o = prefix_code a1 b1 (a2 ++ after) (b2 ++ more) u v pa pb whole in
     each_no_prefix P prefix_code done xs a2 after b2 more qa qb (omega (arith, l)) (same_rest a1 b1 (a2 ++ after) (b2 ++ more) o whole) none
 
 -- where a further member stands at no prefix, nor do all of them
-pub many_none : {X : Type 0} (P : List ℕ → X → Type 0) (old now : Reader) (text : List ℕ) (done : List X) (read count : ℕ) → PrefixAlone P → EncodesMany P read text done → read < count → Takes old now text → (more : List ℕ) → NoPrefix P (rest now ++ more) → NoPrefix (EncodesMany P count) (rest old ++ more)
+pub many_none : {X : Type 0} (P : List ℕ → X → Type 0) (old now : Reader) (text : List ℕ) (done : List X) (read count : ℕ) → PrefixAlone P →
+    EncodesMany P read text done → read < count → Takes old now text → (more : List ℕ) → NoPrefix P (rest now ++ more) →
+    NoPrefix (EncodesMany P count) (rest old ++ more)
 many_none P old now text done read count prefix_code d l t more none t2 more2 xs q eq =
     let whole : text ++ (rest now ++ more) ≡ t2 ++ more2 = sym (append_assoc text (rest now) more) ∙ ap (λ z. z ++ more) (sym t.parts) ∙ eq in
     each_no_prefix P prefix_code done xs text (rest now ++ more) t2 more2 d.1 q.1 (omega (arith, d.0, q.0, l)) whole none
 
 -- a member is refused, and so are all of them
-pub many_refused : {X : Type 0} (P : List ℕ → X → Type 0) (e : Error) (old now : Reader) (text : List ℕ) (done : List X) (read count : ℕ) → PrefixAlone P → EncodesMany P read text done → read < count → Takes old now text → IsRefusal P e now → IsRefusal (EncodesMany P count) e old
+pub many_refused : {X : Type 0} (P : List ℕ → X → Type 0) (e : Error) (old now : Reader) (text : List ℕ) (done : List X) (read count : ℕ) → PrefixAlone P →
+    EncodesMany P read text done → read < count → Takes old now text → IsRefusal P e now → IsRefusal (EncodesMany P count) e old
 many_refused P e old now text done read count prefix_code d l t h =
     record {
       refuses = λ more follow. many_none P old now text done read count prefix_code d l t more (h.refuses more follow);

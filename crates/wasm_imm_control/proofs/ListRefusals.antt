@@ -18,16 +18,20 @@ pub as_refused : {X : Type 0} (P : List ℕ → X → Type 0) (takes : Bool) (e 
 as_refused P takes e old h = record { refuses = h.refuses; ahead = h.ahead; memory = λ m. absurd (subst IsReadFault m h.fault) }
 
 -- where each text of one property is a text of another, what refuses the other refuses the one
-pub refused_by : {X Y : Type 0} (P : List ℕ → X → Type 0) (Q : List ℕ → Y → Type 0) (takes : Bool) (e : Error) (old : Reader) → ((text : List ℕ) (y : Y) → Q text y → (x : X) × P text x) → IsRefused P takes e old → IsRefused Q takes e old
+pub refused_by : {X Y : Type 0} (P : List ℕ → X → Type 0) (Q : List ℕ → Y → Type 0) (takes : Bool) (e : Error) (old : Reader) →
+    ((text : List ℕ) (y : Y) → Q text y → (x : X) × P text x) → IsRefused P takes e old → IsRefused Q takes e old
 refused_by P Q takes e old f h =
     record { refuses = λ more follow text rest y q eq. let p = f text y q in h.refuses more follow text rest p.0 p.1 eq; ahead = h.ahead; memory = h.memory }
 
 -- the first part is refused
-pub first_refused : {X Y : Type 0} (P : List ℕ → X → Type 0) (Q : X → List ℕ → Y → Type 0) (takes : Bool) (e : Error) (old : Reader) → IsRefusal P e old → IsRefused (Then P Q) takes e old
+pub first_refused : {X Y : Type 0} (P : List ℕ → X → Type 0) (Q : X → List ℕ → Y → Type 0) (takes : Bool) (e : Error) (old : Reader) → IsRefusal P e old →
+    IsRefused (Then P Q) takes e old
 first_refused P Q takes e old h = as_refused (Then P Q) takes e old (then_first P Q e old h)
 
 -- the second part is refused, the call went back, and allocation failure is said where it began
-pub begun_refused : {X Y : Type 0} (P : List ℕ → X → Type 0) (Q : X → List ℕ → Y → Type 0) (e f : Error) (old mid mid2 new : Reader) (x : X) (position : ℕ) → PrefixCode P → ((text : List ℕ) → P text x → 0 < length text) → Reads P (Ok x) old mid → (mid2 ≡ mid) × IsRefused (Q x) true e mid → position ≡ old.position → new ≡ at_position mid2 position → IsBegunAt (mid2.start + position) e f → (new ≡ old) × IsRefused (Then P Q) true f old
+pub begun_refused : {X Y : Type 0} (P : List ℕ → X → Type 0) (Q : X → List ℕ → Y → Type 0) (e f : Error) (old mid mid2 new : Reader) (x : X) (position : ℕ) →
+    PrefixCode P → ((text : List ℕ) → P text x → 0 < length text) → Reads P (Ok x) old mid → (mid2 ≡ mid) × IsRefused (Q x) true e mid →
+    position ≡ old.position → new ≡ at_position mid2 position → IsBegunAt (mid2.start + position) e f → (new ≡ old) × IsRefused (Then P Q) true f old
 begun_refused P Q e f old mid mid2 new x position prefix_code some (text, p, t) (same, h) at went (kept, place) =
     let starts : mid2.start ≡ old.start = ap (λ (r : Reader). r.start) same ∙ ap (λ (r : Reader). r.start) t.moved in
     let here : mid2.start + position ≡ offset_of old = omega arith in
@@ -35,22 +39,28 @@ begun_refused P Q e f old mid mid2 new x position prefix_code some (text, p, t) 
     let ahead = ahead_before old mid text e.offset t h.ahead in (
       back old mid new text position t at (went ∙ ap (λ (r : Reader). at_position r position) same),
       record {
-        refuses = λ more follow. subst (λ z. NoPrefix (Then P Q) (z ++ more)) (sym t.parts) (no_second P Q text (rest mid) more x prefix_code p (h.refuses more (subst (λ m. MayFollow m more) kept follow)));
+        refuses = λ more follow. subst (λ z. NoPrefix (Then P Q) (z ++ more)) (sym t.parts)
+            (no_second P Q text (rest mid) more x prefix_code p (h.refuses more (subst (λ m. MayFollow m more) kept follow)));
         ahead = placed place ahead here within;
         memory = λ m. (refl, begun place m here);
       },
     )
   where
-    placed : IsOutOfMemoryAt (mid2.start + position) f ⊎ ((e.message ≢ message.OutOfMemory) × (f.offset ≡ e.offset)) → IsAhead old e.offset → mid2.start + position ≡ offset_of old → offset_of old ≤ end_of old → IsAhead old f.offset
+    placed : IsOutOfMemoryAt (mid2.start + position) f ⊎ ((e.message ≢ message.OutOfMemory) × (f.offset ≡ e.offset)) → IsAhead old e.offset →
+        mid2.start + position ≡ offset_of old → offset_of old ≤ end_of old → IsAhead old f.offset
     placed (inl s) a here within = (omega (arith, s.1, here), omega (arith, s.1, here, within))
     placed (inr s) a here within = (omega (arith, s.1, a.0), omega (arith, s.1, a.1))
 
-    begun : IsOutOfMemoryAt (mid2.start + position) f ⊎ ((e.message ≢ message.OutOfMemory) × (f.offset ≡ e.offset)) → f.message ≡ message.OutOfMemory → mid2.start + position ≡ offset_of old → f.offset ≡ offset_of old
+    begun : IsOutOfMemoryAt (mid2.start + position) f ⊎ ((e.message ≢ message.OutOfMemory) × (f.offset ≡ e.offset)) → f.message ≡ message.OutOfMemory →
+        mid2.start + position ≡ offset_of old → f.offset ≡ offset_of old
     begun (inl s) m here = s.1 ∙ here
     begun (inr s) m here = absurd (s.0 (sym kept ∙ m))
 
 -- a member is refused, and the call went back
-pub member_refused : {X : Type 0} (P : List ℕ → X → Type 0) (takes : Bool) (e : Error) (old now now2 new : Reader) (text : List ℕ) (done : List X) (read count position : ℕ) → takes ≡ false → PrefixAlone P → EncodesMany P read text done → read < count → Takes old now text → (now2 ≡ now) × IsRefused P takes e now → position ≡ old.position → new ≡ at_position now2 position → (new ≡ old) × IsRefused (EncodesMany P count) true e old
+pub member_refused : {X : Type 0} (P : List ℕ → X →
+    Type 0) (takes : Bool) (e : Error) (old now now2 new : Reader) (text : List ℕ) (done : List X) (read count position : ℕ) → takes ≡ false → PrefixAlone P →
+    EncodesMany P read text done → read < count → Takes old now text → (now2 ≡ now) × IsRefused P takes e now → position ≡ old.position →
+    new ≡ at_position now2 position → (new ≡ old) × IsRefused (EncodesMany P count) true e old
 member_refused P takes e old now now2 new text done read count position lean prefix_code d l t (same, h) at went = (
   back old now new text position t at (went ∙ ap (λ (r : Reader). at_position r position) same),
   record {

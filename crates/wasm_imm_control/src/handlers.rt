@@ -5,7 +5,7 @@ ghost use Rattle.wasm_imm_control.specs.HandlerFaults.{PairFault, IndicesFault, 
 ghost use Rattle.wasm_imm_control.specs.Handlers.{EncodesPair, EncodesCatch, EncodesHandle, IsCatchBehind, IsHandleBehind};
 
 use std::alloc::Global;
-use wasm_below::{BinaryReader, FromReader, Message, Result, LeadingByteName};
+use wasm_below::{BinaryReader, FromReader, LeadingByteName, Message, Result};
 
 /// One catch of a try table.
 #[derive(Clone, Copy, Debug, PartialEq, Eq)]
@@ -36,7 +36,10 @@ impl Catch {
             Err(e) => return Err(e),
         };
         if byte > 3 {
-            return Err(reader.refuse(start, Message::InvalidLeadingByte(byte, LeadingByteName::Catch)));
+            return Err(reader.refuse(
+                start,
+                Message::InvalidLeadingByte(byte, LeadingByteName::Catch),
+            ));
         }
         match Catch::read_behind(reader, byte) {
             Ok(catch) => Ok(catch),
@@ -117,7 +120,10 @@ impl Handle {
             Err(e) => return Err(e),
         };
         if byte > 1 {
-            return Err(reader.refuse(start, Message::InvalidLeadingByte(byte, LeadingByteName::OnClause)));
+            return Err(reader.refuse(
+                start,
+                Message::InvalidLeadingByte(byte, LeadingByteName::OnClause),
+            ));
         }
         match Handle::read_behind(reader, byte) {
             Ok(handle) => Ok(handle),

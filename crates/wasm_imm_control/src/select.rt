@@ -9,7 +9,7 @@ ghost use Rattle.wasm_imm_control.specs.ListFaults.{SelectFault};
 use crate::lists::{begun_at, read_members};
 use crate::members::SelectTypes;
 use std::alloc::Global;
-use wasm_below::{BinaryReader, Message, Result, ValType, SizeName};
+use wasm_below::{BinaryReader, Message, Result, SizeName, ValType};
 
 /// How many types a `select` may have.
 const MAX_SELECT_TYPES: usize = 10;

@@ -26,7 +26,9 @@ returns-then-index-lt0-clause-reads c =
     let fits : SFits w64 c.in_ok-index.index = search rules in
     let same = to_z-of_z w64 c.in_ok-index.index fits in
     let over : (i : ℕ) → c.in_ok-index.index ≡ pos i → ⊥ = λ i e. absurd (omega (arith, ints, c.if-index-lt0.true, same, e)) in
-    negative_refused c.new.result c.args.reader.now c.read_var_s33.new.self c.rewind.new.self c.in_ok-index.index c.current_position-start.result c.in_ok-index.ensures.reads over c.current_position-start.ensures c.rewind.ensures (c.new.ensures.offset ∙ c.original_position-behind.ensures) (subst IsReadFault (sym c.new.ensures.message) tt)
+    negative_refused c.new.result c.args.reader.now c.read_var_s33.new.self c.rewind.new.self c.in_ok-index.index c.current_position-start.result
+    c.in_ok-index.ensures.reads over c.current_position-start.ensures c.rewind.ensures (c.new.ensures.offset ∙
+    c.original_position-behind.ensures) (subst IsReadFault (sym c.new.ensures.message) tt)
 
 pub returns-in_err-index-clause-fault : goal.returns-in_err-index-clause-fault
 returns-in_err-index-clause-fault c =
@@ -40,4 +42,9 @@ returns-then-index-lt0-clause-fault c =
     let fits : SFits w64 c.in_ok-index.index = search rules in
     let same = to_z-of_z w64 c.in_ok-index.index fits in
     let under : c.in_ok-index.index <ℤ pos 0 = omega (arith, ints, c.if-index-lt0.true, same) in
-    inr (c.in_ok-index.index, c.read_var_s33.new.self, c.in_ok-index.ensures.reads, (under, c.new.ensures.message, c.new.ensures.offset ∙ c.original_position-behind.ensures))
+    inr (
+      c.in_ok-index.index,
+      c.read_var_s33.new.self,
+      c.in_ok-index.ensures.reads,
+      (under, c.new.ensures.message, c.new.ensures.offset ∙ c.original_position-behind.ensures),
+    )

@@ -21,14 +21,25 @@ pub returns-in-Err-read-clause-reads : goal.returns-in-Err-read-clause-reads
 returns-in-Err-read-clause-reads c =
     let h = c.in-Err-read.ensures.reads in
     let low : 65 ≤ c.in-Ok.byte = omega arith in
-    let high : c.in-Ok.byte ≤ 127 = omega arith in
-    (h.0, led_refused EncodesValType EncodesBlockType c.in-Err-read.e c.args.reader.now c.in-Ok.byte c.in-Ok.ensures.prefix block_empty (value_block c.in-Ok.byte low high) h.1)
+    let high : c.in-Ok.byte ≤ 127 = omega arith in (
+      h.0,
+      led_refused EncodesValType EncodesBlockType c.in-Err-read.e c.args.reader.now c.in-Ok.byte c.in-Ok.ensures.prefix block_empty
+          (value_block c.in-Ok.byte low high) h.1,
+    )
 
 pub returns-in_default-clause-reads : goal.returns-in_default-clause-reads
 returns-in_default-clause-reads c =
     let far : (64 ≤ c.in-Ok.byte) × (c.in-Ok.byte ≤ 127) → ⊥ = λ h.
-    elim c.in_default.branch [ in_default-via-then-byte-lt64 w ↦ absurd (omega (arith, h.0, h.1)) | in_default-via-else-byte-lt64+else-byte-lt128 w ↦ absurd (omega (arith, h.0, h.1)) ] in
-    led_reads EncodesFunctionType EncodesBlockType c.read_function_type.result c.args.reader.now c.read_function_type.new.reader c.in-Ok.byte c.in-Ok.ensures.prefix block_function block_empty (function_block c.in-Ok.byte far) c.read_function_type.ensures.reads
+    elim c.in_default.branch [
+      | in_default-via-then-byte-lt64 w ↦ absurd (omega (
+        arith,
+        h.0,
+        h.1,
+      ))
+      | in_default-via-else-byte-lt64+else-byte-lt128 w ↦ absurd (omega (arith, h.0, h.1))
+    ] in
+    led_reads EncodesFunctionType EncodesBlockType c.read_function_type.result c.args.reader.now c.read_function_type.new.reader c.in-Ok.byte
+    c.in-Ok.ensures.prefix block_function block_empty (function_block c.in-Ok.byte far) c.read_function_type.ensures.reads
 
 pub returns-in-Err-clause-fault : goal.returns-in-Err-clause-fault
 returns-in-Err-clause-fault c = block_ended c.in-Err.e c.args.reader.now c.in-Err.ensures.end
@@ -42,5 +53,12 @@ returns-in-Err-read-clause-fault c =
 pub returns-in_default-clause-fault : goal.returns-in_default-clause-fault
 returns-in_default-clause-fault c =
     let far : LeadsValType c.in-Ok.byte → ⊥ = λ h.
-    elim c.in_default.branch [ in_default-via-then-byte-lt64 w ↦ absurd (omega (arith, h.0, h.1)) | in_default-via-else-byte-lt64+else-byte-lt128 w ↦ absurd (omega (arith, h.0, h.1)) ] in
+    elim c.in_default.branch [
+      | in_default-via-then-byte-lt64 w ↦ absurd (omega (
+        arith,
+        h.0,
+        h.1,
+      ))
+      | in_default-via-else-byte-lt64+else-byte-lt128 w ↦ absurd (omega (arith, h.0, h.1))
+    ] in
     index_fault c.read_function_type.result c.args.reader.now c.in-Ok.byte c.in-Ok.ensures.prefix far c.read_function_type.ensures.fault

@@ -6,11 +6,13 @@ use Rattle.wasm_imm_control.proofs.handlers.read_pair.Goals as goal
 
 pub returns-in-Ok-read_var_u32-clause-reads : goal.returns-in-Ok-read_var_u32-clause-reads
 returns-in-Ok-read_var_u32-clause-reads c =
-    pair_read c.args.reader.now c.read_var_u32.new.self c.read_var_u32-2.new.self c.in-Ok.first c.in-Ok-read_var_u32.second c.in-Ok.ensures.reads c.in-Ok-read_var_u32.ensures.reads
+    pair_read c.args.reader.now c.read_var_u32.new.self c.read_var_u32-2.new.self c.in-Ok.first c.in-Ok-read_var_u32.second c.in-Ok.ensures.reads
+    c.in-Ok-read_var_u32.ensures.reads
 
 pub returns-in-Err-read_var_u32-clause-reads : goal.returns-in-Err-read_var_u32-clause-reads
 returns-in-Err-read_var_u32-clause-reads c =
-    pair_refused c.in-Err-read_var_u32.e c.args.reader.now c.read_var_u32.new.self c.read_var_u32-2.new.self c.rewind.new.self c.in-Ok.first c.current_position-start.result c.in-Ok.ensures.reads c.in-Err-read_var_u32.ensures.reads c.current_position-start.ensures c.rewind.ensures
+    pair_refused c.in-Err-read_var_u32.e c.args.reader.now c.read_var_u32.new.self c.read_var_u32-2.new.self c.rewind.new.self c.in-Ok.first
+    c.current_position-start.result c.in-Ok.ensures.reads c.in-Err-read_var_u32.ensures.reads c.current_position-start.ensures c.rewind.ensures
 
 pub returns-in-Err-clause-fault : goal.returns-in-Err-clause-fault
 returns-in-Err-clause-fault c =

@@ -11,5 +11,6 @@ returns c =
     let t = c.self.inside in
     let encodes = targets_encoded t.count t.targets.now c.self.invariant in
     let left : rest c.new.result ≡ t.targets.now = ap rest c.new.ensures in
-    let whole : EncodesMany (EncodesUnsigned 32) t.count t.targets.now (numbers_of (rest c.new.result)) = subst (λ (z : List ℕ). EncodesMany (EncodesUnsigned 32) t.count t.targets.now (numbers_of z)) (sym left) encodes in
+    let whole : EncodesMany (EncodesUnsigned 32) t.count t.targets.now (numbers_of (rest c.new.result)) =
+    subst (λ (z : List ℕ). EncodesMany (EncodesUnsigned 32) t.count t.targets.now (numbers_of z)) (sym left) encodes in
     subst (λ (v : BranchTable). EncodesMany (EncodesUnsigned 32) v.count v.targets (numbers_of (rest c.new.result))) c.self.view_is whole

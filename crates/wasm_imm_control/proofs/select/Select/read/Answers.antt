@@ -12,21 +12,28 @@ use Rattle.wasm_imm_control.proofs.select.Select.read.Goals as goal
 
 pub returns-in-Ok-read-clause-reads : goal.returns-in-Ok-read-clause-reads
 returns-in-Ok-read-clause-reads c =
-    one_read c.args.reader.now c.read_size.new.self c.read.new.reader c.in-Ok.count c.in-Ok-read.ty c.if-count-eq1.true c.in-Ok.ensures.reads c.in-Ok-read.ensures.reads
+    one_read c.args.reader.now c.read_size.new.self c.read.new.reader c.in-Ok.count c.in-Ok-read.ty c.if-count-eq1.true c.in-Ok.ensures.reads
+    c.in-Ok-read.ensures.reads
 
 pub returns-in-Err-read-clause-reads : goal.returns-in-Err-read-clause-reads
 returns-in-Err-read-clause-reads c =
-    type_refused c.in-Err-read.e c.args.reader.now c.read_size.new.self c.read.new.reader c.rewind.new.self c.in-Ok.count c.current_position-start.result c.if-count-eq1.true c.in-Ok.ensures.reads c.in-Err-read.ensures.reads c.current_position-start.ensures c.rewind.ensures
+    type_refused c.in-Err-read.e c.args.reader.now c.read_size.new.self c.read.new.reader c.rewind.new.self c.in-Ok.count c.current_position-start.result
+    c.if-count-eq1.true c.in-Ok.ensures.reads c.in-Err-read.ensures.reads c.current_position-start.ensures c.rewind.ensures
 
 pub returns-in-Ok-read_members-clause-reads : goal.returns-in-Ok-read_members-clause-reads
 returns-in-Ok-read_members-clause-reads c =
     let s = c.in-Ok.ensures.reads in
-    let m = c.in-Ok-read_members.ensures.reads in
-    (s.0 ++ m.0, ((s.0, m.0, c.in-Ok.count, refl, s.1, m.1), λ one. c.if-count-eq1.false (sym m.1.0 ∙ one)), takes_then c.args.reader.now c.read_size.new.self c.read_members.new.reader s.0 m.0 s.2 m.2)
+    let m = c.in-Ok-read_members.ensures.reads in (
+      s.0 ++ m.0,
+      ((s.0, m.0, c.in-Ok.count, refl, s.1, m.1), λ one. c.if-count-eq1.false (sym m.1.0 ∙ one)),
+      takes_then c.args.reader.now c.read_size.new.self c.read_members.new.reader s.0 m.0 s.2 m.2,
+    )
 
 pub returns-in-Err-read_members-clause-reads : goal.returns-in-Err-read_members-clause-reads
 returns-in-Err-read_members-clause-reads c =
-    types_refused c.in-Err-read_members.e c.begun_at.result c.args.reader.now c.read_size.new.self c.read_members.new.reader c.begun_at.new.reader c.in-Ok.count c.current_position-start.result c.in-Ok.ensures.reads c.in-Err-read_members.ensures.reads c.current_position-start.ensures c.begun_at.ensures.rewound c.begun_at.ensures.begun
+    types_refused c.in-Err-read_members.e c.begun_at.result c.args.reader.now c.read_size.new.self c.read_members.new.reader c.begun_at.new.reader
+    c.in-Ok.count c.current_position-start.result c.in-Ok.ensures.reads c.in-Err-read_members.ensures.reads c.current_position-start.ensures
+    c.begun_at.ensures.rewound c.begun_at.ensures.begun
 
 pub returns-in-Err-read_members-clause-lone : goal.returns-in-Err-read_members-clause-lone
 returns-in-Err-read_members-clause-lone c = λ m. not_one c.args.reader.now c.read_size.new.self c.in-Ok.count c.in-Ok.ensures.reads c.if-count-eq1.false
@@ -41,10 +48,21 @@ returns-in-Err-read-clause-fault c =
     let mid = c.read_size.new.self in
     let e = c.in-Err-read.e in
     let h = c.in-Err-read.ensures in
-    λ some. inr (c.in-Ok.count, mid, c.in-Ok.ensures.reads, subst (λ n. ManyFault EncodesValType ValTypeFault n e.message mid e.offset) (sym c.if-count-eq1.true) (inl (refused_now EncodesValType e mid h.reads.1, h.fault)))
+    λ some. inr (
+      c.in-Ok.count,
+      mid,
+      c.in-Ok.ensures.reads,
+      subst (λ n. ManyFault EncodesValType ValTypeFault n e.message mid e.offset) (sym c.if-count-eq1.true)
+          (inl (refused_now EncodesValType e mid h.reads.1, h.fault)),
+    )
 
 pub returns-in-Err-read_members-clause-fault : goal.returns-in-Err-read_members-clause-fault
 returns-in-Err-read_members-clause-fault c =
     let mid = c.read_size.new.self in
     let F = λ (m : Message) (offset : ℕ). ManyFault EncodesValType ValTypeFault c.in-Ok.count m mid offset in
-    λ some. inr (c.in-Ok.count, mid, c.in-Ok.ensures.reads, kept_fault F c.in-Err-read_members.e c.begun_at.result _ c.begun_at.ensures.begun c.in-Err-read_members.ensures.fault some)
+    λ some. inr (
+      c.in-Ok.count,
+      mid,
+      c.in-Ok.ensures.reads,
+      kept_fault F c.in-Err-read_members.e c.begun_at.result _ c.begun_at.ensures.begun c.in-Err-read_members.ensures.fault some,
+    )
