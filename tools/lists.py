@@ -17,7 +17,7 @@ from printed import values_printed, values_source
 from rows import enum_by_opcode, enum_rows, operators_by_opcode, operator_rows
 from source import enum_source, operator_source
 from table import ENUMS, TOP, table
-from visits import dispatch, fixed_trait, passed, simd_trait
+from visits import visit_files
 
 
 def files():
@@ -36,12 +36,7 @@ def files():
     out["crates/wasm_instr/specs/FixedArity.antt"] = fixed_arity_specs(ops)
     out["crates/wasm_instr/src/fixed_arity.rt"] = fixed_arity_source(ops)
     out["crates/wasm_instr/proofs/ByOpcode.antt"] = operators_by_opcode(own)
-    out["crates/wasm_visit_fixed/src/visit_fixed.rt"] = fixed_trait(ops)
-    out["crates/wasm_visit_simd/src/visit_simd.rt"] = simd_trait(ops)
-    for module, what in (("by_reference", "&mut V"), ("by_box", "Box<V>")):
-        out[f"crates/wasm_visit_fixed/src/{module}.rt"] = passed(ops, "VisitFixed", what)
-        out[f"crates/wasm_visit_simd/src/{module}.rt"] = passed(ops, "VisitSimdOperator", what)
-    out["crates/wasm_visit_dispatch/src/dispatch.rt"] = dispatch(ops)
+    out |= visit_files(ops)
     out["crates/wasm_tests_lists/src/values.rt"] = values_source(ops)
     out["crates/wasm_tests_lists/stdout"] = values_printed(ops)
     return out
