@@ -1,11 +1,11 @@
 //! From a borrowed operator to the visit of a copy.
 ghost use Rattle.std.specs.Prelude.{◌≡◌, IsOk, IfOk, IfErr};
-ghost use Rattle.wasm_imm.specs.Memory.{IsOutOfMemoryAt};
+ghost use Rattle.wasm_imm.specs.OutOfMemory.{IsOutOfMemoryAt};
 ghost use Rattle.wasm_instr.specs.Kinds.{IsVector, HoldsList};
 
+use crate::operator::VisitOperator;
 use crate::owned::{visit_owned, visit_owned_simd};
-use crate::visit_operator::VisitOperator;
-use crate::visit_simd::VisitSimdOperator;
+use crate::vectors::VisitSimdOperator;
 use std::alloc::Global;
 use wasm_below::Result;
 use wasm_instr::Operator;

@@ -1,7 +1,7 @@
 //! A box of a visitor is one: each call is that call of the visitor.
-use crate::visit_fixed::VisitFixed;
-use crate::visit_operator::VisitOperator;
-use crate::visit_simd::VisitSimdOperator;
+use crate::fixed::VisitFixed;
+use crate::operator::VisitOperator;
+use crate::vectors::VisitSimdOperator;
 use wasm_instr::{
     AtomicOperator, BrTable, GcOperator, MiscOperator, NumericOperator, Operator, SimdOperator,
 };

@@ -2,9 +2,9 @@
 ghost use Rattle.std.specs.Prelude.{◌≡◌, ◌↔◌, IsTrue};
 ghost use Rattle.wasm_instr.specs.declared.operator.Operator.{Operator};
 
-use crate::visit_fixed::VisitFixed;
-use crate::visit_operator::VisitOperator;
-use crate::visit_simd::VisitSimdOperator;
+use crate::fixed::VisitFixed;
+use crate::operator::VisitOperator;
+use crate::vectors::VisitSimdOperator;
 use wasm_instr::{BrTable, Operator};
 use wasm_visit_groups::Visitor;
 

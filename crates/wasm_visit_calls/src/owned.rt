@@ -2,8 +2,8 @@
 ghost use Rattle.wasm_instr.specs.declared.operator.Operator.{Operator};
 ghost use Rattle.wasm_instr.specs.Kinds.{IsVector};
 
-use crate::visit_operator::VisitOperator;
-use crate::visit_simd::VisitSimdOperator;
+use crate::operator::VisitOperator;
+use crate::vectors::VisitSimdOperator;
 use wasm_instr::{Operator, SimdOperator};
 
 /// Visits an operator that is no vector operator. It takes no memory.

@@ -1,7 +1,7 @@
 //! Visitors of the operators that are no vector operators.
 ghost use Rattle.wasm_instr.specs.declared.operator.Operator.{Operator};
 
-use crate::visit_fixed::VisitFixed;
+use crate::fixed::VisitFixed;
 use wasm_instr::BrTable;
 
 /// A visitor of the operators that are no vector operators.
