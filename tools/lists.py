@@ -21,7 +21,7 @@ from rows import enum_by_opcode, enum_rows, operator_rows, operators_by_opcode
 from rules import faults
 from source import enum_source, operator_source
 from table import ENUMS, HEAD, TOP, table
-from visits import dispatch, fixed_trait, passed, simd_trait
+from visits import visit_files
 
 
 def files(ops):
@@ -39,12 +39,7 @@ def files(ops):
     out["crates/wasm_instr/specs/FixedArity.antt"] = fixed_arity_specs(ops)
     out["crates/wasm_instr/src/fixed_arity.rt"] = fixed_arity_source(ops)
     out["crates/wasm_instr/proofs/ByOpcode.antt"] = operators_by_opcode(own)
-    out["crates/wasm_visit_fixed/src/visit_fixed.rt"] = fixed_trait(ops)
-    out["crates/wasm_visit_simd/src/visit_simd.rt"] = simd_trait(ops)
-    for module, what in (("by_reference", "&mut V"), ("by_box", "Box<V>")):
-        out[f"crates/wasm_visit_fixed/src/{module}.rt"] = passed(ops, "VisitFixed", what)
-        out[f"crates/wasm_visit_simd/src/{module}.rt"] = passed(ops, "VisitSimdOperator", what)
-    out["crates/wasm_visit_dispatch/src/dispatch.rt"] = dispatch(ops)
+    out |= visit_files(ops)
     out["crates/wasm_tests_lists/src/values.rt"] = values_source(ops)
     out["crates/wasm_tests_lists/src/made.rt"] = made_source(ops)
     return laid_out(out)

@@ -1,35 +1,64 @@
-"""The visitors' traits over the operators, how references and boxes pass visits on, and dispatch."""
+"""The visitors' groups of visits, the dispatch of each group, and the factory, over the operators."""
 
 from source import uses
-from table import HEAD, WIDTH, enum_uses, held
+from table import HEAD, WIDTH, held
 
 
-def is_fixed(op):
-    """Neither a vector operator nor a branch table."""
-    return op.group != "Simd" and op.name != "BrTable"
+class Group:
+    """A group of visits: a trait, whose operators are variants of one enum."""
+
+    def __init__(self, module, trait, enum, short, title, section):
+        self.module = module
+        self.trait = trait
+        self.enum = enum
+        self.short = short
+        self.title = title
+        self.section = section
+
+    @property
+    def bound(self):
+        """The trait of the call by which the group is reached."""
+        return "VisitSimdOperator" if self.enum == "Simd" else "VisitFixed"
+
+    def has(self, op):
+        if op.group != self.enum or op.name == "BrTable":
+            return False
+        if self.enum == "Simd":
+            return (op.code < 0x80) == (self.module == "simd_low")
+        return True
+
+    def of(self, ops):
+        return [op for op in ops if self.has(op)]
 
 
-def is_vector(op):
-    return op.group == "Simd"
+GROUPS = [
+    Group("one_byte", "VisitOneByte", "Own", "the operators of one byte", "the operators of one byte that are not numeric, but for the branch table", "Instructions."),
+    Group("numeric", "VisitNumeric", "Numeric", "the numeric operators", "the numeric operators of one byte, 45 to c4", "Numeric Instructions."),
+    Group("gc", "VisitGc", "Gc", "the operators behind fb", "the operators behind the byte fb", "Aggregate Instructions."),
+    Group("misc", "VisitMisc", "Misc", "the operators behind fc", "the operators behind the byte fc", "Numeric, Memory and Table Instructions."),
+    Group("atomic", "VisitAtomic", "Atomic", "the operators behind fe", "the operators behind the byte fe", "Proposal threads."),
+    Group("simd_low", "VisitSimdLow", "Simd", "the vector operators below 80", "the vector operators of a subopcode below 80", "Vector Instructions."),
+    Group("simd_high", "VisitSimdHigh", "Simd", "the vector operators from 80 on", "the vector operators of a subopcode from 80 on", "Vector Instructions."),
+]
+# The operators whose visits stand in groups of `VisitFixed`, and in those of `VisitSimdOperator`.
+FIXED = [group for group in GROUPS if group.enum != "Simd"]
+VECTORS = [group for group in GROUPS if group.enum == "Simd"]
 
 
-def signature(op, indent="    "):
-    """The head of a visit, broken as the layout wants it."""
+def signature(op, answer):
+    """The head of a visit, broken as the layout wants it, with the brace where a body follows at once."""
     fields = [f"{name}: {ty}" for name, ty in op.fields]
-    one = f"{indent}fn {op.visit}({', '.join(['&mut self'] + fields)}) -> Self::Output"
-    if len(one) <= WIDTH:
-        return [one]
-    lines = [f"{indent}fn {op.visit}("] + [f"{indent}    {part}," for part in ["&mut self"] + fields]
-    return lines + [f"{indent}) -> Self::Output"]
+    brace = "" if answer == "Self::Output" else " {"
+    one = f"    fn {op.visit}({', '.join(['&mut self'] + fields)}) -> {answer}"
+    if len(one + brace) <= WIDTH:
+        return [one + brace]
+    lines = [f"    fn {op.visit}("] + [f"        {part}," for part in ["&mut self"] + fields]
+    return lines + [f"    ) -> {answer}{brace}"]
 
 
-def with_brace(lines):
-    """A head with the brace behind it on its line, if it has room."""
-    if len(lines) == 1 and len(lines[0]) + 2 > WIDTH:
-        head, rest = lines[0].split("(", 1)
-        params, answer = rest.split(") -> ")
-        lines = [head + "("] + [f"        {part}," for part in params.split(", ")] + [f"    ) -> {answer}"]
-    return lines[:-1] + [lines[-1] + " {"]
+def type_name(group):
+    """The enum of which the operators are variants."""
+    return "Operator" if group.enum == "Own" else f"{group.enum}Operator"
 
 
 def term(op):
@@ -40,10 +69,12 @@ def term(op):
     return f"(Operator.{op.group} ({inner}))" if op.fields else f"(Operator.{op.group} {inner})"
 
 
-def handed(op, call, indent="        "):
-    """A call that is handed the operator."""
+def made(op, opened="", closed=""):
+    """The operator made of its fields, between an opening and a closing text."""
+    indent = "        "
     path = f"Operator::{op.name}" if op.group == "Own" else f"{op.group}Operator::{op.name}"
-    opened, closed = (f"{call}(", ")") if op.group == "Own" else (f"{call}(Operator::{op.group}(", "))")
+    if op.group != "Own":
+        opened, closed = f"{opened}Operator::{op.group}(", f"){closed}"
     names = [name for name, _ in op.fields]
     inner = ", ".join(names)
     if not names:
@@ -53,142 +84,50 @@ def handed(op, call, indent="        "):
     return [f"{indent}{opened}{path} {{", *[f"{indent}    {name}," for name in names], f"{indent}}}{closed}"]
 
 
-def visits(ops, call):
-    """The visits of a trait, each of which hands its operator on."""
-    out = []
-    for op in ops:
-        out += [
-            "",
-            f"    /// Visits `{op.name}`.",
-            *signature(op),
-            f"        ensures {{ Self.visits self.old {term(op)} result self.new }}",
-            "    {",
-            *handed(op, f"self.{call}"),
-            "    }",
-        ]
-    return out
-
-
-def passed_on(ops):
-    """The visits of a reference or a box, each of which is that of what it refers to."""
-    out = []
-    for op in ops:
-        names = ", ".join(name for name, _ in op.fields)
-        out += ["", *with_brace(signature(op)), f"        (**self).{op.visit}({names})", "    }"]
-    return out
-
-
-def ghost_uses(ops):
+def ghost_uses(group):
     """The lines that bring in the operators for clauses."""
     lines = ["ghost use Rattle.wasm_instr.specs.declared.operator.Operator.{Operator};"]
-    groups = {op.group for op in ops}
     for enum in held():
-        if enum.group in groups:
-            lines.append(f"ghost use {enum_uses(enum)[0][4:]};")
+        if enum.group == group.enum:
+            part = enum.crate.removeprefix("wasm_instr_")
+            lines.append(f"ghost use Rattle.wasm_instr.specs.{part}.{enum.module}.{enum.type}.{{{enum.type}}};")
     return lines
 
 
-def operator_uses(ops):
-    """The lines that bring in the operators for code."""
-    groups = {op.group for op in ops}
-    names = sorted([enum.type for enum in held() if enum.group in groups] + ["Operator"])
-    line = f"use wasm_instr::{{{', '.join(names)}}};" if len(names) > 1 else f"use wasm_instr::{names[0]};"
-    return [line]
+def braced(names):
+    """Names of a `use`, as many as there are."""
+    return names[0] if len(names) == 1 else f"{{{', '.join(sorted(names))}}}"
 
 
-def fixed_trait(ops):
-    """The trait of the visits of operators that are neither vector operators nor branch tables."""
-    those = [op for op in ops if is_fixed(op)]
+def group_trait(ops, group):
+    """The trait of a group's visits, each of which hands its operator to `visit_any`."""
+    those = group.of(ops)
     out = [
-        f"// {HEAD}",
-        *ghost_uses(those),
-        "ghost use Rattle.wasm_instr.specs.Kinds.{IsFixed};",
+        f"//! Visits of {group.short}. {HEAD}",
+        *ghost_uses(group),
         "",
+        "use crate::visitor::Visitor;",
         *uses(those),
-        *operator_uses(those),
-        "use wasm_visitor::Visitor;",
+        f"use wasm_instr::{braced(sorted({'Operator', type_name(group)}))};",
         "",
-        "/// A visitor of the operators that are neither vector operators nor branch tables.",
+        f"/// Visits of {group.title}. {group.section}",
         "///",
-        "/// Each visit hands its operator to `visit_any` unless a visitor has its own.",
-        "pub trait VisitFixed: Visitor {",
-        "    /// Visits an operator that has no visit of its own.",
-        "    fn visit_any(&mut self, op: Operator<'static>) -> Self::Output",
-        "        requires { IsFixed op }",
-        "        ensures { Self.visits self.old op.entry result self.new };",
-        *visits(those, "visit_any"),
-        "}",
-        "",
+        "/// Each hands its operator to `visit_any` unless a visitor has its own. They are called only where",
+        f"/// the visitor's `{group.bound}` names them, by the line `dispatch::{group.module}(self, op)`.",
+        f"pub trait {group.trait}: Visitor {{",
     ]
-    return "\n".join(out)
-
-
-# The traits that a reference and a box pass on: the module, the required call, and whose visits they are.
-PASSED = {
-    "VisitFixed": ("visit_fixed", "visit_any", is_fixed),
-    "VisitSimdOperator": ("visit_simd", "visit_simd_any", is_vector),
-}
-
-
-def table_passed(what):
-    """The impl for a reference or a box of the trait that visits branch tables."""
-    return [
-        "",
-        f"impl<'a, V: VisitOperator<'a>> VisitOperator<'a> for {what} {{",
-        "    fn visit_br_table(&mut self, targets: BrTable<'a>) -> Self::Output {",
-        "        (**self).visit_br_table(targets)",
-        "    }",
-        "}",
-    ]
-
-
-def passed(ops, trait, what):
-    """The impl of a trait for a reference or a box."""
-    module, call, has = PASSED[trait]
-    those = [op for op in ops if has(op)]
-    lists = trait == "VisitFixed"
-    return "\n".join([
-        f"// {HEAD}",
-        f"use crate::{module}::{trait};",
-        *(["use crate::visit_operator::VisitOperator;"] if lists else []),
-        *uses(those, [("wasm_imm", "BrTable")] if lists else []),
-        "use wasm_instr::Operator;",
-        "",
-        f"impl<V: {trait}> {trait} for {what} {{",
-        f"    fn {call}(&mut self, op: Operator<'static>) -> Self::Output {{",
-        f"        (**self).{call}(op)",
-        "    }",
-        *passed_on(those),
-        "}",
-        *(table_passed(what) if lists else []),
-        "",
-    ])
-
-
-def simd_trait(ops):
-    """The trait of the vector operators' visits."""
-    those = [op for op in ops if is_vector(op)]
-    return "\n".join([
-        f"// {HEAD}",
-        *ghost_uses(those),
-        "ghost use Rattle.wasm_instr.specs.Kinds.{IsVector};",
-        "",
-        *uses(those),
-        *operator_uses(those),
-        "use wasm_visitor::Visitor;",
-        "",
-        "/// A visitor of the vector operators. Vector Instructions.",
-        "///",
-        "/// Each visit hands its operator to `visit_simd_any` unless a visitor has its own.",
-        "pub trait VisitSimdOperator: Visitor {",
-        "    /// Visits a vector operator that has no visit of its own.",
-        "    fn visit_simd_any(&mut self, op: Operator<'static>) -> Self::Output",
-        "        requires { IsVector op }",
-        "        ensures { Self.visits self.old op.entry result self.new };",
-        *visits(those, "visit_simd_any"),
-        "}",
-        "",
-    ])
+    for number, op in enumerate(those):
+        out += [] if number == 0 else [""]
+        out += [
+            f"    /// Visits `{op.name}`.",
+            "    #[inline(always)]",
+            *signature(op, "Self::Output"),
+            f"        ensures {{ Self.visits self.old {term(op)} result self.new }}",
+            "    {",
+            *made(op, "self.visit_any(", ")"),
+            "    }",
+        ]
+    return "\n".join(out + ["}", ""])
 
 
 def arm(op):
@@ -207,51 +146,84 @@ def arm(op):
     return [f"{indent}{pat} => {{", f"{indent}    {call}", f"{indent}}}"]
 
 
-def group_dispatch(enum, ops):
-    """The visit of an operator of one enum."""
-    trait = "VisitSimdOperator" if enum.group == "Simd" else "VisitFixed"
-    shown = "pub " if enum.group == "Simd" else ""
+def group_dispatch(ops, group):
+    """The call that finds the visit of an operator of a group."""
+    param = "Operator<'_>" if group.enum == "Own" else type_name(group)
+    told = "op.entry" if group.enum == "Own" else f"(Operator.{group.enum} op)"
+    wanted = {"one_byte": "IsOneByte", "simd_low": "IsSimdLow", "simd_high": "IsSimdHigh"}.get(group.module)
+    rest = {
+        "one_byte": ["        " + line for line in ONE_BYTE_REST],
+        "simd_low": ["        _ => unreachable!(),"],
+        "simd_high": ["        _ => unreachable!(),"],
+    }.get(group.module, [])
     return [
-        f"/// Visits one of {enum.title}. It takes no memory.",
-        f"{shown}fn visit_{enum.module}<V: {trait}>(v: &mut V, op: {enum.type}) -> V::Output",
-        f"    ensures {{ V.visits v.old (Operator.{enum.group} op) result v.new }}",
+        "",
+        f"/// Visits one of {group.short}. It takes no memory.",
+        f"pub fn {group.module}<V: {group.trait}>(v: &mut V, op: {param}) -> V::Output",
+        *([f"    requires {{ {wanted} op }}"] if wanted else []),
+        f"    ensures {{ V.visits v.old {told} result v.new }}",
         "{",
         "    match op {",
-        *[line for op in ops if op.group == enum.group for line in arm(op)],
+        *[line for op in group.of(ops) for line in arm(op)],
+        *rest,
         "    }",
         "}",
-        "",
     ]
 
 
-def dispatch(ops):
-    """The calls that find the visit of an operator."""
-    own = [op for op in ops if op.group == "Own"]
-    inner = [enum for enum in held() if enum.group != "Simd"]
+# The operators that are not of one byte, or of another group.
+ONE_BYTE_REST = [
+    "Operator::BrTable { targets: _ }",
+    "| Operator::Numeric(_)",
+    "| Operator::Gc(_)",
+    "| Operator::Misc(_)",
+    "| Operator::Simd(_)",
+    "| Operator::Atomic(_) => unreachable!(),",
+]
+
+
+def dispatch(ops, groups):
+    """The calls that find the visit of an operator, for some of the groups."""
+    wanted = ["IsOneByte"] if groups is FIXED else ["IsSimdHigh", "IsSimdLow"]
+    types = sorted({"Operator"} | {type_name(group) for group in groups}) if groups is FIXED else ["SimdOperator"]
+    what = "a vector operator" if groups is VECTORS else "an operator that is no vector operator"
     out = [
-        f"// {HEAD}",
-        *ghost_uses(own),
-        "ghost use Rattle.wasm_instr.specs.Kinds.{IsFixed};",
+        f"//! From {what} to its visit. {HEAD}",
+        "ghost use Rattle.wasm_instr.specs.declared.operator.Operator.{Operator};",
+        f"ghost use Rattle.wasm_visit_groups.specs.Groups.{{{', '.join(wanted)}}};",
         "",
-        "use wasm_instr::{",
-        "    AtomicOperator, GcOperator, MiscOperator, NumericOperator, Operator, SimdOperator,",
-        "};",
-        "use wasm_visit_fixed::VisitFixed;",
-        "use wasm_visit_simd::VisitSimdOperator;",
-        "",
-        "/// Visits an operator that is neither a vector operator nor a branch table. It takes no memory.",
-        "pub fn visit_fixed<V: VisitFixed>(v: &mut V, op: Operator<'_>) -> V::Output",
-        "    requires { IsFixed op }",
-        "    ensures { V.visits v.old op.entry result v.new }",
-        "{",
-        "    match op {",
-        *[line for op in own if is_fixed(op) for line in arm(op)],
-        *[f"        Operator::{enum.group}(op) => visit_{enum.module}(v, op)," for enum in inner],
-        "        Operator::BrTable { targets: _ } | Operator::Simd(_) => unreachable!(),",
-        "    }",
-        "}",
-        "",
+        f"use wasm_instr::{braced(types)};",
+        f"use wasm_visit_groups::{braced([group.trait for group in groups])};",
     ]
-    for enum in held():
-        out += group_dispatch(enum, ops)
-    return "\n".join(out)
+    for group in groups:
+        out += group_dispatch(ops, group)
+    return "\n".join(out + [""])
+
+
+def group_factory(ops, group):
+    """The factory's visits of a group, each of which makes its operator in place."""
+    those = group.of(ops)
+    out = [
+        f"//! Makes {group.short}. {HEAD}",
+        "use crate::factory::Factory;",
+        *uses(those),
+        f"use wasm_instr::{braced(sorted({'Operator', type_name(group)}))};",
+        f"use wasm_visit_groups::{group.trait};",
+        "",
+        f"impl {group.trait} for Factory {{",
+    ]
+    for number, op in enumerate(those):
+        out += [] if number == 0 else [""]
+        out += ["    #[inline(always)]", *signature(op, "Operator<'static>"), *made(op), "    }"]
+    return "\n".join(out + ["}", ""])
+
+
+def visit_files(ops):
+    """Each file over the visits with its text."""
+    out = {}
+    for group in GROUPS:
+        out[f"crates/wasm_visit_groups/src/{group.module}.rt"] = group_trait(ops, group)
+        out[f"crates/wasm_visit_factory/src/{group.module}.rt"] = group_factory(ops, group)
+    out["crates/wasm_visit_dispatch/src/fixed.rt"] = dispatch(ops, FIXED)
+    out["crates/wasm_visit_dispatch/src/vectors.rt"] = dispatch(ops, VECTORS)
+    return out

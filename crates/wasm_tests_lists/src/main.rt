@@ -20,7 +20,9 @@ use crate::values::{
 use std::alloc::Global;
 use std::io::{self, Print};
 use wasm_instr::Operator;
-use wasm_visit::{IsEndOperatorVisitor, OperatorFactory, visit_by_maker, visit_operator_with_simd};
+use wasm_visit::{
+    IsEndOperatorVisitor, OperatorFactory, visit_operator_with_simd, visit_owned_simd,
+};
 
 fn main(rt: HostRuntime) -> io::Result<()> {
     for op in &first_own() {
@@ -95,7 +97,7 @@ fn ends(alloc: Global, op: &Operator<'_>) -> bool {
 fn returned(alloc: Global, op: &Operator<'_>) -> bool {
     let mut factory = OperatorFactory::new();
     match op.clone(alloc) {
-        Ok(copy) => visit_by_maker(&mut factory, copy) == *op,
+        Ok(copy) => visit_owned_simd(&mut factory, copy) == *op,
         Err(_) => false,
     }
 }

@@ -1,17 +1,28 @@
-use wasm_instr::{BrTable, Operator};
-use wasm_visit::{VisitFixed, VisitOperator, Visitor};
+//! A visitor with five fields.
+use std::alloc::Global;
+use wasm_instr::{BrTable, MiscOperator, Operator};
+use wasm_visit::{VisitFixed, VisitMisc, VisitOperator, VisitSimdOperator, Visitor, dispatch};
 
-/// Counts its visits, with a call of its own for `Nop`.
+/// Counts its visits, with a visit of its own for `DataDrop` that keeps the index.
 #[derive(Debug, Drop)]
 pub struct Counter {
-    pub nops: u32,
-    pub others: u32,
+    pub dropped: Vec<u32>,
+    pub own: u32,
+    pub any: u32,
+    pub tables: u32,
+    pub full: bool,
 }
 
 impl Counter {
     /// One that has visited nothing.
-    pub fn new() -> Counter {
-        Counter { nops: 0, others: 0 }
+    pub fn new(alloc: Global) -> Counter {
+        Counter {
+            dropped: Vec::new(alloc),
+            own: 0,
+            any: 0,
+            tables: 0,
+            full: false,
+        }
     }
 }
 
@@ -20,22 +31,31 @@ impl Visitor for Counter {
 
     type Output = ();
 
-    // A visit lowers neither count.
-    ghost visits = { λ before op answer after. (before.nops ≤ after.nops) × (before.others ≤ after.others) };
+    // A visit lowers no count.
+    ghost visits = { λ before op answer after. (before.own ≤ after.own) × (before.any ≤ after.any) × (before.tables ≤ after.tables) };
+
+    fn visit_any(&mut self, _op: Operator<'static>) {
+        self.any = self.any.saturating_add(1);
+    }
+}
+
+impl VisitMisc for Counter {
+    fn visit_data_drop(&mut self, data_index: u32) {
+        self.full = self.dropped.push(data_index).is_err();
+        self.own = self.own.saturating_add(1);
+    }
 }
 
 impl VisitFixed for Counter {
-    fn visit_any(&mut self, _op: Operator<'static>) {
-        self.others = self.others.saturating_add(1);
-    }
-
-    fn visit_nop(&mut self) {
-        self.nops = self.nops.saturating_add(1);
+    fn dispatch_misc(&mut self, op: MiscOperator) {
+        dispatch::misc(self, op)
     }
 }
 
 impl<'a> VisitOperator<'a> for Counter {
     fn visit_br_table(&mut self, _targets: BrTable<'a>) {
-        self.others = self.others.saturating_add(1);
+        self.tables = self.tables.saturating_add(1);
     }
 }
+
+impl VisitSimdOperator for Counter {}

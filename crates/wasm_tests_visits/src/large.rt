@@ -1,3 +1,4 @@
+//! An answer that is large.
 use wasm_instr::{BrTable, Operator};
 use wasm_visit::{HoldFixed, HoldTable};
 

@@ -1,11 +1,8 @@
-//! The calls that find the visit of an operator.
+//! The calls that find the visit of an operator within its group.
 #![tactic(auto)]
 
-mod borrowed;
-mod bounds;
-mod dispatch;
-mod owned;
+mod fixed;
+mod vectors;
 
-pub use borrowed::{visit_operator, visit_operator_with_simd};
-pub use bounds::{DispatchFixed, DispatchSimd};
-pub use owned::{visit_fixed, visit_owned, visit_owned_simd, visit_simd};
+pub use fixed::{atomic, gc, misc, numeric, one_byte};
+pub use vectors::{simd_high, simd_low};

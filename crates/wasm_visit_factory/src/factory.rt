@@ -1,79 +1,24 @@
+//! A visitor that answers the operator itself, made in its visit.
 ghost use Rattle.std.specs.Prelude.{◌≡◌};
 ghost use Rattle.wasm_instr.specs.declared.operator.Operator.{Operator};
 
-use wasm_instr::{BrTable, Operator};
-use wasm_visit_fixed::{VisitFixed, VisitOperator};
-use wasm_visit_simd::VisitSimdOperator;
-use wasm_visitor::Visitor;
+use wasm_instr::Operator;
+use wasm_visit_groups::Visitor;
 
-/// What can be made of an operator that borrows nothing.
-pub trait HoldFixed {
-    // This is made of the operator.
-    ghost holds: { Operator → Self → Type 0 };
-
-    /// Makes it.
-    fn hold_fixed(op: Operator<'static>) -> Self
-        ensures { holds op.entry result };
-}
-
-/// What can be made of a branch table, too.
-pub trait HoldTable<'a>: HoldFixed {
-    /// Makes it.
-    fn hold_table(targets: BrTable<'a>) -> Self
-        ensures { Self.holds (Operator.BrTable targets.entry) result };
-}
-
-impl<'a> HoldFixed for Operator<'a> {
-    ghost holds = { λ op made. made ≡ op };
-
-    fn hold_fixed(op: Operator<'static>) -> Operator<'a> {
-        op
-    }
-}
-
-impl<'a> HoldTable<'a> for Operator<'a> {
-    fn hold_table(targets: BrTable<'a>) -> Operator<'a> {
-        Operator::BrTable { targets }
-    }
-}
-
-/// A visitor that answers what is made of the operator.
+/// Answers the operator itself: each of its visits makes that operator, and hands it to no other
+/// call.
+///
+/// It visits no branch table, whose operator borrows: who reads one makes that operator by itself.
 #[derive(Drop)]
-pub struct OperatorMaker<T> {
-    // None: it shows the lifetimes of what is made.
-    made: [T; 0],
-}
+pub struct Factory;
 
-/// A visitor that answers the operator itself.
-pub type OperatorFactory<'a> = OperatorMaker<Operator<'a>>;
+impl Visitor for Factory {
+    type Output = Operator<'static>;
 
-impl<T> OperatorMaker<T> {
-    /// One that has visited nothing; it remembers nothing either.
-    pub fn new() -> OperatorMaker<T> {
-        OperatorMaker { made: [] }
-    }
-}
+    ghost visits = { λ before op answer after. answer ≡ op };
 
-impl<T: HoldFixed> Visitor for OperatorMaker<T> {
-    type Output = T;
-
-    ghost visits = { λ before op answer after. T.holds op answer };
-}
-
-impl<T: HoldFixed> VisitFixed for OperatorMaker<T> {
-    fn visit_any(&mut self, op: Operator<'static>) -> T {
-        T::hold_fixed(op)
-    }
-}
-
-impl<'a, T: HoldTable<'a>> VisitOperator<'a> for OperatorMaker<T> {
-    fn visit_br_table(&mut self, targets: BrTable<'a>) -> T {
-        T::hold_table(targets)
-    }
-}
-
-impl<T: HoldFixed> VisitSimdOperator for OperatorMaker<T> {
-    fn visit_simd_any(&mut self, op: Operator<'static>) -> T {
-        T::hold_fixed(op)
+    #[inline(always)]
+    fn visit_any(&mut self, op: Operator<'static>) -> Operator<'static> {
+        op
     }
 }

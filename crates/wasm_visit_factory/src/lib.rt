@@ -1,8 +1,13 @@
-//! Visitors that are ready to use: one that answers the operator itself, and one that finds the end.
+//! The visitor that makes each operator in place, of which the layers above make theirs.
 #![tactic(auto)]
 
+mod atomic;
 mod factory;
-mod is_end;
+mod gc;
+mod misc;
+mod numeric;
+mod one_byte;
+mod simd_high;
+mod simd_low;
 
-pub use factory::{HoldFixed, HoldTable, OperatorFactory, OperatorMaker};
-pub use is_end::IsEndOperatorVisitor;
+pub use factory::Factory;

@@ -1,0 +1,124 @@
+//! Makes the operators behind fc. Written by tools/lists.py from tools/operators.tsv.
+use crate::factory::Factory;
+use wasm_instr::{MiscOperator, Operator};
+use wasm_visit_groups::VisitMisc;
+
+impl VisitMisc for Factory {
+    #[inline(always)]
+    fn visit_i32_trunc_sat_f32_s(&mut self) -> Operator<'static> {
+        Operator::Misc(MiscOperator::I32TruncSatF32S)
+    }
+
+    #[inline(always)]
+    fn visit_i32_trunc_sat_f32_u(&mut self) -> Operator<'static> {
+        Operator::Misc(MiscOperator::I32TruncSatF32U)
+    }
+
+    #[inline(always)]
+    fn visit_i32_trunc_sat_f64_s(&mut self) -> Operator<'static> {
+        Operator::Misc(MiscOperator::I32TruncSatF64S)
+    }
+
+    #[inline(always)]
+    fn visit_i32_trunc_sat_f64_u(&mut self) -> Operator<'static> {
+        Operator::Misc(MiscOperator::I32TruncSatF64U)
+    }
+
+    #[inline(always)]
+    fn visit_i64_trunc_sat_f32_s(&mut self) -> Operator<'static> {
+        Operator::Misc(MiscOperator::I64TruncSatF32S)
+    }
+
+    #[inline(always)]
+    fn visit_i64_trunc_sat_f32_u(&mut self) -> Operator<'static> {
+        Operator::Misc(MiscOperator::I64TruncSatF32U)
+    }
+
+    #[inline(always)]
+    fn visit_i64_trunc_sat_f64_s(&mut self) -> Operator<'static> {
+        Operator::Misc(MiscOperator::I64TruncSatF64S)
+    }
+
+    #[inline(always)]
+    fn visit_i64_trunc_sat_f64_u(&mut self) -> Operator<'static> {
+        Operator::Misc(MiscOperator::I64TruncSatF64U)
+    }
+
+    #[inline(always)]
+    fn visit_memory_init(&mut self, data_index: u32, mem: u32) -> Operator<'static> {
+        Operator::Misc(MiscOperator::MemoryInit { data_index, mem })
+    }
+
+    #[inline(always)]
+    fn visit_data_drop(&mut self, data_index: u32) -> Operator<'static> {
+        Operator::Misc(MiscOperator::DataDrop { data_index })
+    }
+
+    #[inline(always)]
+    fn visit_memory_copy(&mut self, dst_mem: u32, src_mem: u32) -> Operator<'static> {
+        Operator::Misc(MiscOperator::MemoryCopy { dst_mem, src_mem })
+    }
+
+    #[inline(always)]
+    fn visit_memory_fill(&mut self, mem: u32) -> Operator<'static> {
+        Operator::Misc(MiscOperator::MemoryFill { mem })
+    }
+
+    #[inline(always)]
+    fn visit_table_init(&mut self, elem_index: u32, table: u32) -> Operator<'static> {
+        Operator::Misc(MiscOperator::TableInit { elem_index, table })
+    }
+
+    #[inline(always)]
+    fn visit_elem_drop(&mut self, elem_index: u32) -> Operator<'static> {
+        Operator::Misc(MiscOperator::ElemDrop { elem_index })
+    }
+
+    #[inline(always)]
+    fn visit_table_copy(&mut self, dst_table: u32, src_table: u32) -> Operator<'static> {
+        Operator::Misc(MiscOperator::TableCopy {
+            dst_table,
+            src_table,
+        })
+    }
+
+    #[inline(always)]
+    fn visit_table_fill(&mut self, table: u32) -> Operator<'static> {
+        Operator::Misc(MiscOperator::TableFill { table })
+    }
+
+    #[inline(always)]
+    fn visit_table_grow(&mut self, table: u32) -> Operator<'static> {
+        Operator::Misc(MiscOperator::TableGrow { table })
+    }
+
+    #[inline(always)]
+    fn visit_table_size(&mut self, table: u32) -> Operator<'static> {
+        Operator::Misc(MiscOperator::TableSize { table })
+    }
+
+    #[inline(always)]
+    fn visit_memory_discard(&mut self, mem: u32) -> Operator<'static> {
+        Operator::Misc(MiscOperator::MemoryDiscard { mem })
+    }
+
+    #[inline(always)]
+    fn visit_i64_add128(&mut self) -> Operator<'static> {
+        Operator::Misc(MiscOperator::I64Add128)
+    }
+
+    #[inline(always)]
+    fn visit_i64_sub128(&mut self) -> Operator<'static> {
+        Operator::Misc(MiscOperator::I64Sub128)
+    }
+
+    #[inline(always)]
+    fn visit_i64_mul_wide_s(&mut self) -> Operator<'static> {
+        Operator::Misc(MiscOperator::I64MulWideS)
+    }
+
+    #[inline(always)]
+    fn visit_i64_mul_wide_u(&mut self) -> Operator<'static> {
+        Operator::Misc(MiscOperator::I64MulWideU)
+    }
+}

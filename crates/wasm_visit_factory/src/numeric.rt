@@ -1,0 +1,646 @@
+//! Makes the numeric operators. Written by tools/lists.py from tools/operators.tsv.
+use crate::factory::Factory;
+use wasm_instr::{NumericOperator, Operator};
+use wasm_visit_groups::VisitNumeric;
+
+impl VisitNumeric for Factory {
+    #[inline(always)]
+    fn visit_i32_eqz(&mut self) -> Operator<'static> {
+        Operator::Numeric(NumericOperator::I32Eqz)
+    }
+
+    #[inline(always)]
+    fn visit_i32_eq(&mut self) -> Operator<'static> {
+        Operator::Numeric(NumericOperator::I32Eq)
+    }
+
+    #[inline(always)]
+    fn visit_i32_ne(&mut self) -> Operator<'static> {
+        Operator::Numeric(NumericOperator::I32Ne)
+    }
+
+    #[inline(always)]
+    fn visit_i32_lt_s(&mut self) -> Operator<'static> {
+        Operator::Numeric(NumericOperator::I32LtS)
+    }
+
+    #[inline(always)]
+    fn visit_i32_lt_u(&mut self) -> Operator<'static> {
+        Operator::Numeric(NumericOperator::I32LtU)
+    }
+
+    #[inline(always)]
+    fn visit_i32_gt_s(&mut self) -> Operator<'static> {
+        Operator::Numeric(NumericOperator::I32GtS)
+    }
+
+    #[inline(always)]
+    fn visit_i32_gt_u(&mut self) -> Operator<'static> {
+        Operator::Numeric(NumericOperator::I32GtU)
+    }
+
+    #[inline(always)]
+    fn visit_i32_le_s(&mut self) -> Operator<'static> {
+        Operator::Numeric(NumericOperator::I32LeS)
+    }
+
+    #[inline(always)]
+    fn visit_i32_le_u(&mut self) -> Operator<'static> {
+        Operator::Numeric(NumericOperator::I32LeU)
+    }
+
+    #[inline(always)]
+    fn visit_i32_ge_s(&mut self) -> Operator<'static> {
+        Operator::Numeric(NumericOperator::I32GeS)
+    }
+
+    #[inline(always)]
+    fn visit_i32_ge_u(&mut self) -> Operator<'static> {
+        Operator::Numeric(NumericOperator::I32GeU)
+    }
+
+    #[inline(always)]
+    fn visit_i64_eqz(&mut self) -> Operator<'static> {
+        Operator::Numeric(NumericOperator::I64Eqz)
+    }
+
+    #[inline(always)]
+    fn visit_i64_eq(&mut self) -> Operator<'static> {
+        Operator::Numeric(NumericOperator::I64Eq)
+    }
+
+    #[inline(always)]
+    fn visit_i64_ne(&mut self) -> Operator<'static> {
+        Operator::Numeric(NumericOperator::I64Ne)
+    }
+
+    #[inline(always)]
+    fn visit_i64_lt_s(&mut self) -> Operator<'static> {
+        Operator::Numeric(NumericOperator::I64LtS)
+    }
+
+    #[inline(always)]
+    fn visit_i64_lt_u(&mut self) -> Operator<'static> {
+        Operator::Numeric(NumericOperator::I64LtU)
+    }
+
+    #[inline(always)]
+    fn visit_i64_gt_s(&mut self) -> Operator<'static> {
+        Operator::Numeric(NumericOperator::I64GtS)
+    }
+
+    #[inline(always)]
+    fn visit_i64_gt_u(&mut self) -> Operator<'static> {
+        Operator::Numeric(NumericOperator::I64GtU)
+    }
+
+    #[inline(always)]
+    fn visit_i64_le_s(&mut self) -> Operator<'static> {
+        Operator::Numeric(NumericOperator::I64LeS)
+    }
+
+    #[inline(always)]
+    fn visit_i64_le_u(&mut self) -> Operator<'static> {
+        Operator::Numeric(NumericOperator::I64LeU)
+    }
+
+    #[inline(always)]
+    fn visit_i64_ge_s(&mut self) -> Operator<'static> {
+        Operator::Numeric(NumericOperator::I64GeS)
+    }
+
+    #[inline(always)]
+    fn visit_i64_ge_u(&mut self) -> Operator<'static> {
+        Operator::Numeric(NumericOperator::I64GeU)
+    }
+
+    #[inline(always)]
+    fn visit_f32_eq(&mut self) -> Operator<'static> {
+        Operator::Numeric(NumericOperator::F32Eq)
+    }
+
+    #[inline(always)]
+    fn visit_f32_ne(&mut self) -> Operator<'static> {
+        Operator::Numeric(NumericOperator::F32Ne)
+    }
+
+    #[inline(always)]
+    fn visit_f32_lt(&mut self) -> Operator<'static> {
+        Operator::Numeric(NumericOperator::F32Lt)
+    }
+
+    #[inline(always)]
+    fn visit_f32_gt(&mut self) -> Operator<'static> {
+        Operator::Numeric(NumericOperator::F32Gt)
+    }
+
+    #[inline(always)]
+    fn visit_f32_le(&mut self) -> Operator<'static> {
+        Operator::Numeric(NumericOperator::F32Le)
+    }
+
+    #[inline(always)]
+    fn visit_f32_ge(&mut self) -> Operator<'static> {
+        Operator::Numeric(NumericOperator::F32Ge)
+    }
+
+    #[inline(always)]
+    fn visit_f64_eq(&mut self) -> Operator<'static> {
+        Operator::Numeric(NumericOperator::F64Eq)
+    }
+
+    #[inline(always)]
+    fn visit_f64_ne(&mut self) -> Operator<'static> {
+        Operator::Numeric(NumericOperator::F64Ne)
+    }
+
+    #[inline(always)]
+    fn visit_f64_lt(&mut self) -> Operator<'static> {
+        Operator::Numeric(NumericOperator::F64Lt)
+    }
+
+    #[inline(always)]
+    fn visit_f64_gt(&mut self) -> Operator<'static> {
+        Operator::Numeric(NumericOperator::F64Gt)
+    }
+
+    #[inline(always)]
+    fn visit_f64_le(&mut self) -> Operator<'static> {
+        Operator::Numeric(NumericOperator::F64Le)
+    }
+
+    #[inline(always)]
+    fn visit_f64_ge(&mut self) -> Operator<'static> {
+        Operator::Numeric(NumericOperator::F64Ge)
+    }
+
+    #[inline(always)]
+    fn visit_i32_clz(&mut self) -> Operator<'static> {
+        Operator::Numeric(NumericOperator::I32Clz)
+    }
+
+    #[inline(always)]
+    fn visit_i32_ctz(&mut self) -> Operator<'static> {
+        Operator::Numeric(NumericOperator::I32Ctz)
+    }
+
+    #[inline(always)]
+    fn visit_i32_popcnt(&mut self) -> Operator<'static> {
+        Operator::Numeric(NumericOperator::I32Popcnt)
+    }
+
+    #[inline(always)]
+    fn visit_i32_add(&mut self) -> Operator<'static> {
+        Operator::Numeric(NumericOperator::I32Add)
+    }
+
+    #[inline(always)]
+    fn visit_i32_sub(&mut self) -> Operator<'static> {
+        Operator::Numeric(NumericOperator::I32Sub)
+    }
+
+    #[inline(always)]
+    fn visit_i32_mul(&mut self) -> Operator<'static> {
+        Operator::Numeric(NumericOperator::I32Mul)
+    }
+
+    #[inline(always)]
+    fn visit_i32_div_s(&mut self) -> Operator<'static> {
+        Operator::Numeric(NumericOperator::I32DivS)
+    }
+
+    #[inline(always)]
+    fn visit_i32_div_u(&mut self) -> Operator<'static> {
+        Operator::Numeric(NumericOperator::I32DivU)
+    }
+
+    #[inline(always)]
+    fn visit_i32_rem_s(&mut self) -> Operator<'static> {
+        Operator::Numeric(NumericOperator::I32RemS)
+    }
+
+    #[inline(always)]
+    fn visit_i32_rem_u(&mut self) -> Operator<'static> {
+        Operator::Numeric(NumericOperator::I32RemU)
+    }
+
+    #[inline(always)]
+    fn visit_i32_and(&mut self) -> Operator<'static> {
+        Operator::Numeric(NumericOperator::I32And)
+    }
+
+    #[inline(always)]
+    fn visit_i32_or(&mut self) -> Operator<'static> {
+        Operator::Numeric(NumericOperator::I32Or)
+    }
+
+    #[inline(always)]
+    fn visit_i32_xor(&mut self) -> Operator<'static> {
+        Operator::Numeric(NumericOperator::I32Xor)
+    }
+
+    #[inline(always)]
+    fn visit_i32_shl(&mut self) -> Operator<'static> {
+        Operator::Numeric(NumericOperator::I32Shl)
+    }
+
+    #[inline(always)]
+    fn visit_i32_shr_s(&mut self) -> Operator<'static> {
+        Operator::Numeric(NumericOperator::I32ShrS)
+    }
+
+    #[inline(always)]
+    fn visit_i32_shr_u(&mut self) -> Operator<'static> {
+        Operator::Numeric(NumericOperator::I32ShrU)
+    }
+
+    #[inline(always)]
+    fn visit_i32_rotl(&mut self) -> Operator<'static> {
+        Operator::Numeric(NumericOperator::I32Rotl)
+    }
+
+    #[inline(always)]
+    fn visit_i32_rotr(&mut self) -> Operator<'static> {
+        Operator::Numeric(NumericOperator::I32Rotr)
+    }
+
+    #[inline(always)]
+    fn visit_i64_clz(&mut self) -> Operator<'static> {
+        Operator::Numeric(NumericOperator::I64Clz)
+    }
+
+    #[inline(always)]
+    fn visit_i64_ctz(&mut self) -> Operator<'static> {
+        Operator::Numeric(NumericOperator::I64Ctz)
+    }
+
+    #[inline(always)]
+    fn visit_i64_popcnt(&mut self) -> Operator<'static> {
+        Operator::Numeric(NumericOperator::I64Popcnt)
+    }
+
+    #[inline(always)]
+    fn visit_i64_add(&mut self) -> Operator<'static> {
+        Operator::Numeric(NumericOperator::I64Add)
+    }
+
+    #[inline(always)]
+    fn visit_i64_sub(&mut self) -> Operator<'static> {
+        Operator::Numeric(NumericOperator::I64Sub)
+    }
+
+    #[inline(always)]
+    fn visit_i64_mul(&mut self) -> Operator<'static> {
+        Operator::Numeric(NumericOperator::I64Mul)
+    }
+
+    #[inline(always)]
+    fn visit_i64_div_s(&mut self) -> Operator<'static> {
+        Operator::Numeric(NumericOperator::I64DivS)
+    }
+
+    #[inline(always)]
+    fn visit_i64_div_u(&mut self) -> Operator<'static> {
+        Operator::Numeric(NumericOperator::I64DivU)
+    }
+
+    #[inline(always)]
+    fn visit_i64_rem_s(&mut self) -> Operator<'static> {
+        Operator::Numeric(NumericOperator::I64RemS)
+    }
+
+    #[inline(always)]
+    fn visit_i64_rem_u(&mut self) -> Operator<'static> {
+        Operator::Numeric(NumericOperator::I64RemU)
+    }
+
+    #[inline(always)]
+    fn visit_i64_and(&mut self) -> Operator<'static> {
+        Operator::Numeric(NumericOperator::I64And)
+    }
+
+    #[inline(always)]
+    fn visit_i64_or(&mut self) -> Operator<'static> {
+        Operator::Numeric(NumericOperator::I64Or)
+    }
+
+    #[inline(always)]
+    fn visit_i64_xor(&mut self) -> Operator<'static> {
+        Operator::Numeric(NumericOperator::I64Xor)
+    }
+
+    #[inline(always)]
+    fn visit_i64_shl(&mut self) -> Operator<'static> {
+        Operator::Numeric(NumericOperator::I64Shl)
+    }
+
+    #[inline(always)]
+    fn visit_i64_shr_s(&mut self) -> Operator<'static> {
+        Operator::Numeric(NumericOperator::I64ShrS)
+    }
+
+    #[inline(always)]
+    fn visit_i64_shr_u(&mut self) -> Operator<'static> {
+        Operator::Numeric(NumericOperator::I64ShrU)
+    }
+
+    #[inline(always)]
+    fn visit_i64_rotl(&mut self) -> Operator<'static> {
+        Operator::Numeric(NumericOperator::I64Rotl)
+    }
+
+    #[inline(always)]
+    fn visit_i64_rotr(&mut self) -> Operator<'static> {
+        Operator::Numeric(NumericOperator::I64Rotr)
+    }
+
+    #[inline(always)]
+    fn visit_f32_abs(&mut self) -> Operator<'static> {
+        Operator::Numeric(NumericOperator::F32Abs)
+    }
+
+    #[inline(always)]
+    fn visit_f32_neg(&mut self) -> Operator<'static> {
+        Operator::Numeric(NumericOperator::F32Neg)
+    }
+
+    #[inline(always)]
+    fn visit_f32_ceil(&mut self) -> Operator<'static> {
+        Operator::Numeric(NumericOperator::F32Ceil)
+    }
+
+    #[inline(always)]
+    fn visit_f32_floor(&mut self) -> Operator<'static> {
+        Operator::Numeric(NumericOperator::F32Floor)
+    }
+
+    #[inline(always)]
+    fn visit_f32_trunc(&mut self) -> Operator<'static> {
+        Operator::Numeric(NumericOperator::F32Trunc)
+    }
+
+    #[inline(always)]
+    fn visit_f32_nearest(&mut self) -> Operator<'static> {
+        Operator::Numeric(NumericOperator::F32Nearest)
+    }
+
+    #[inline(always)]
+    fn visit_f32_sqrt(&mut self) -> Operator<'static> {
+        Operator::Numeric(NumericOperator::F32Sqrt)
+    }
+
+    #[inline(always)]
+    fn visit_f32_add(&mut self) -> Operator<'static> {
+        Operator::Numeric(NumericOperator::F32Add)
+    }
+
+    #[inline(always)]
+    fn visit_f32_sub(&mut self) -> Operator<'static> {
+        Operator::Numeric(NumericOperator::F32Sub)
+    }
+
+    #[inline(always)]
+    fn visit_f32_mul(&mut self) -> Operator<'static> {
+        Operator::Numeric(NumericOperator::F32Mul)
+    }
+
+    #[inline(always)]
+    fn visit_f32_div(&mut self) -> Operator<'static> {
+        Operator::Numeric(NumericOperator::F32Div)
+    }
+
+    #[inline(always)]
+    fn visit_f32_min(&mut self) -> Operator<'static> {
+        Operator::Numeric(NumericOperator::F32Min)
+    }
+
+    #[inline(always)]
+    fn visit_f32_max(&mut self) -> Operator<'static> {
+        Operator::Numeric(NumericOperator::F32Max)
+    }
+
+    #[inline(always)]
+    fn visit_f32_copysign(&mut self) -> Operator<'static> {
+        Operator::Numeric(NumericOperator::F32Copysign)
+    }
+
+    #[inline(always)]
+    fn visit_f64_abs(&mut self) -> Operator<'static> {
+        Operator::Numeric(NumericOperator::F64Abs)
+    }
+
+    #[inline(always)]
+    fn visit_f64_neg(&mut self) -> Operator<'static> {
+        Operator::Numeric(NumericOperator::F64Neg)
+    }
+
+    #[inline(always)]
+    fn visit_f64_ceil(&mut self) -> Operator<'static> {
+        Operator::Numeric(NumericOperator::F64Ceil)
+    }
+
+    #[inline(always)]
+    fn visit_f64_floor(&mut self) -> Operator<'static> {
+        Operator::Numeric(NumericOperator::F64Floor)
+    }
+
+    #[inline(always)]
+    fn visit_f64_trunc(&mut self) -> Operator<'static> {
+        Operator::Numeric(NumericOperator::F64Trunc)
+    }
+
+    #[inline(always)]
+    fn visit_f64_nearest(&mut self) -> Operator<'static> {
+        Operator::Numeric(NumericOperator::F64Nearest)
+    }
+
+    #[inline(always)]
+    fn visit_f64_sqrt(&mut self) -> Operator<'static> {
+        Operator::Numeric(NumericOperator::F64Sqrt)
+    }
+
+    #[inline(always)]
+    fn visit_f64_add(&mut self) -> Operator<'static> {
+        Operator::Numeric(NumericOperator::F64Add)
+    }
+
+    #[inline(always)]
+    fn visit_f64_sub(&mut self) -> Operator<'static> {
+        Operator::Numeric(NumericOperator::F64Sub)
+    }
+
+    #[inline(always)]
+    fn visit_f64_mul(&mut self) -> Operator<'static> {
+        Operator::Numeric(NumericOperator::F64Mul)
+    }
+
+    #[inline(always)]
+    fn visit_f64_div(&mut self) -> Operator<'static> {
+        Operator::Numeric(NumericOperator::F64Div)
+    }
+
+    #[inline(always)]
+    fn visit_f64_min(&mut self) -> Operator<'static> {
+        Operator::Numeric(NumericOperator::F64Min)
+    }
+
+    #[inline(always)]
+    fn visit_f64_max(&mut self) -> Operator<'static> {
+        Operator::Numeric(NumericOperator::F64Max)
+    }
+
+    #[inline(always)]
+    fn visit_f64_copysign(&mut self) -> Operator<'static> {
+        Operator::Numeric(NumericOperator::F64Copysign)
+    }
+
+    #[inline(always)]
+    fn visit_i32_wrap_i64(&mut self) -> Operator<'static> {
+        Operator::Numeric(NumericOperator::I32WrapI64)
+    }
+
+    #[inline(always)]
+    fn visit_i32_trunc_f32_s(&mut self) -> Operator<'static> {
+        Operator::Numeric(NumericOperator::I32TruncF32S)
+    }
+
+    #[inline(always)]
+    fn visit_i32_trunc_f32_u(&mut self) -> Operator<'static> {
+        Operator::Numeric(NumericOperator::I32TruncF32U)
+    }
+
+    #[inline(always)]
+    fn visit_i32_trunc_f64_s(&mut self) -> Operator<'static> {
+        Operator::Numeric(NumericOperator::I32TruncF64S)
+    }
+
+    #[inline(always)]
+    fn visit_i32_trunc_f64_u(&mut self) -> Operator<'static> {
+        Operator::Numeric(NumericOperator::I32TruncF64U)
+    }
+
+    #[inline(always)]
+    fn visit_i64_extend_i32_s(&mut self) -> Operator<'static> {
+        Operator::Numeric(NumericOperator::I64ExtendI32S)
+    }
+
+    #[inline(always)]
+    fn visit_i64_extend_i32_u(&mut self) -> Operator<'static> {
+        Operator::Numeric(NumericOperator::I64ExtendI32U)
+    }
+
+    #[inline(always)]
+    fn visit_i64_trunc_f32_s(&mut self) -> Operator<'static> {
+        Operator::Numeric(NumericOperator::I64TruncF32S)
+    }
+
+    #[inline(always)]
+    fn visit_i64_trunc_f32_u(&mut self) -> Operator<'static> {
+        Operator::Numeric(NumericOperator::I64TruncF32U)
+    }
+
+    #[inline(always)]
+    fn visit_i64_trunc_f64_s(&mut self) -> Operator<'static> {
+        Operator::Numeric(NumericOperator::I64TruncF64S)
+    }
+
+    #[inline(always)]
+    fn visit_i64_trunc_f64_u(&mut self) -> Operator<'static> {
+        Operator::Numeric(NumericOperator::I64TruncF64U)
+    }
+
+    #[inline(always)]
+    fn visit_f32_convert_i32_s(&mut self) -> Operator<'static> {
+        Operator::Numeric(NumericOperator::F32ConvertI32S)
+    }
+
+    #[inline(always)]
+    fn visit_f32_convert_i32_u(&mut self) -> Operator<'static> {
+        Operator::Numeric(NumericOperator::F32ConvertI32U)
+    }
+
+    #[inline(always)]
+    fn visit_f32_convert_i64_s(&mut self) -> Operator<'static> {
+        Operator::Numeric(NumericOperator::F32ConvertI64S)
+    }
+
+    #[inline(always)]
+    fn visit_f32_convert_i64_u(&mut self) -> Operator<'static> {
+        Operator::Numeric(NumericOperator::F32ConvertI64U)
+    }
+
+    #[inline(always)]
+    fn visit_f32_demote_f64(&mut self) -> Operator<'static> {
+        Operator::Numeric(NumericOperator::F32DemoteF64)
+    }
+
+    #[inline(always)]
+    fn visit_f64_convert_i32_s(&mut self) -> Operator<'static> {
+        Operator::Numeric(NumericOperator::F64ConvertI32S)
+    }
+
+    #[inline(always)]
+    fn visit_f64_convert_i32_u(&mut self) -> Operator<'static> {
+        Operator::Numeric(NumericOperator::F64ConvertI32U)
+    }
+
+    #[inline(always)]
+    fn visit_f64_convert_i64_s(&mut self) -> Operator<'static> {
+        Operator::Numeric(NumericOperator::F64ConvertI64S)
+    }
+
+    #[inline(always)]
+    fn visit_f64_convert_i64_u(&mut self) -> Operator<'static> {
+        Operator::Numeric(NumericOperator::F64ConvertI64U)
+    }
+
+    #[inline(always)]
+    fn visit_f64_promote_f32(&mut self) -> Operator<'static> {
+        Operator::Numeric(NumericOperator::F64PromoteF32)
+    }
+
+    #[inline(always)]
+    fn visit_i32_reinterpret_f32(&mut self) -> Operator<'static> {
+        Operator::Numeric(NumericOperator::I32ReinterpretF32)
+    }
+
+    #[inline(always)]
+    fn visit_i64_reinterpret_f64(&mut self) -> Operator<'static> {
+        Operator::Numeric(NumericOperator::I64ReinterpretF64)
+    }
+
+    #[inline(always)]
+    fn visit_f32_reinterpret_i32(&mut self) -> Operator<'static> {
+        Operator::Numeric(NumericOperator::F32ReinterpretI32)
+    }
+
+    #[inline(always)]
+    fn visit_f64_reinterpret_i64(&mut self) -> Operator<'static> {
+        Operator::Numeric(NumericOperator::F64ReinterpretI64)
+    }
+
+    #[inline(always)]
+    fn visit_i32_extend8_s(&mut self) -> Operator<'static> {
+        Operator::Numeric(NumericOperator::I32Extend8S)
+    }
+
+    #[inline(always)]
+    fn visit_i32_extend16_s(&mut self) -> Operator<'static> {
+        Operator::Numeric(NumericOperator::I32Extend16S)
+    }
+
+    #[inline(always)]
+    fn visit_i64_extend8_s(&mut self) -> Operator<'static> {
+        Operator::Numeric(NumericOperator::I64Extend8S)
+    }
+
+    #[inline(always)]
+    fn visit_i64_extend16_s(&mut self) -> Operator<'static> {
+        Operator::Numeric(NumericOperator::I64Extend16S)
+    }
+
+    #[inline(always)]
+    fn visit_i64_extend32_s(&mut self) -> Operator<'static> {
+        Operator::Numeric(NumericOperator::I64Extend32S)
+    }
+}

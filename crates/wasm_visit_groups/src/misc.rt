@@ -1,0 +1,199 @@
+//! Visits of the operators behind fc. Written by tools/lists.py from tools/operators.tsv.
+ghost use Rattle.wasm_instr.specs.declared.operator.Operator.{Operator};
+ghost use Rattle.wasm_instr.specs.ops.misc.MiscOperator.{MiscOperator};
+
+use crate::visitor::Visitor;
+use wasm_instr::{MiscOperator, Operator};
+
+/// Visits of the operators behind the byte fc. Numeric, Memory and Table Instructions.
+///
+/// Each hands its operator to `visit_any` unless a visitor has its own. They are called only where
+/// the visitor's `VisitFixed` names them, by the line `dispatch::misc(self, op)`.
+pub trait VisitMisc: Visitor {
+    /// Visits `I32TruncSatF32S`.
+    #[inline(always)]
+    fn visit_i32_trunc_sat_f32_s(&mut self) -> Self::Output
+        ensures { Self.visits self.old (Operator.Misc MiscOperator.I32TruncSatF32S) result self.new }
+    {
+        self.visit_any(Operator::Misc(MiscOperator::I32TruncSatF32S))
+    }
+
+    /// Visits `I32TruncSatF32U`.
+    #[inline(always)]
+    fn visit_i32_trunc_sat_f32_u(&mut self) -> Self::Output
+        ensures { Self.visits self.old (Operator.Misc MiscOperator.I32TruncSatF32U) result self.new }
+    {
+        self.visit_any(Operator::Misc(MiscOperator::I32TruncSatF32U))
+    }
+
+    /// Visits `I32TruncSatF64S`.
+    #[inline(always)]
+    fn visit_i32_trunc_sat_f64_s(&mut self) -> Self::Output
+        ensures { Self.visits self.old (Operator.Misc MiscOperator.I32TruncSatF64S) result self.new }
+    {
+        self.visit_any(Operator::Misc(MiscOperator::I32TruncSatF64S))
+    }
+
+    /// Visits `I32TruncSatF64U`.
+    #[inline(always)]
+    fn visit_i32_trunc_sat_f64_u(&mut self) -> Self::Output
+        ensures { Self.visits self.old (Operator.Misc MiscOperator.I32TruncSatF64U) result self.new }
+    {
+        self.visit_any(Operator::Misc(MiscOperator::I32TruncSatF64U))
+    }
+
+    /// Visits `I64TruncSatF32S`.
+    #[inline(always)]
+    fn visit_i64_trunc_sat_f32_s(&mut self) -> Self::Output
+        ensures { Self.visits self.old (Operator.Misc MiscOperator.I64TruncSatF32S) result self.new }
+    {
+        self.visit_any(Operator::Misc(MiscOperator::I64TruncSatF32S))
+    }
+
+    /// Visits `I64TruncSatF32U`.
+    #[inline(always)]
+    fn visit_i64_trunc_sat_f32_u(&mut self) -> Self::Output
+        ensures { Self.visits self.old (Operator.Misc MiscOperator.I64TruncSatF32U) result self.new }
+    {
+        self.visit_any(Operator::Misc(MiscOperator::I64TruncSatF32U))
+    }
+
+    /// Visits `I64TruncSatF64S`.
+    #[inline(always)]
+    fn visit_i64_trunc_sat_f64_s(&mut self) -> Self::Output
+        ensures { Self.visits self.old (Operator.Misc MiscOperator.I64TruncSatF64S) result self.new }
+    {
+        self.visit_any(Operator::Misc(MiscOperator::I64TruncSatF64S))
+    }
+
+    /// Visits `I64TruncSatF64U`.
+    #[inline(always)]
+    fn visit_i64_trunc_sat_f64_u(&mut self) -> Self::Output
+        ensures { Self.visits self.old (Operator.Misc MiscOperator.I64TruncSatF64U) result self.new }
+    {
+        self.visit_any(Operator::Misc(MiscOperator::I64TruncSatF64U))
+    }
+
+    /// Visits `MemoryInit`.
+    #[inline(always)]
+    fn visit_memory_init(&mut self, data_index: u32, mem: u32) -> Self::Output
+        ensures { Self.visits self.old (Operator.Misc (MiscOperator.MemoryInit data_index mem)) result self.new }
+    {
+        self.visit_any(Operator::Misc(MiscOperator::MemoryInit { data_index, mem }))
+    }
+
+    /// Visits `DataDrop`.
+    #[inline(always)]
+    fn visit_data_drop(&mut self, data_index: u32) -> Self::Output
+        ensures { Self.visits self.old (Operator.Misc (MiscOperator.DataDrop data_index)) result self.new }
+    {
+        self.visit_any(Operator::Misc(MiscOperator::DataDrop { data_index }))
+    }
+
+    /// Visits `MemoryCopy`.
+    #[inline(always)]
+    fn visit_memory_copy(&mut self, dst_mem: u32, src_mem: u32) -> Self::Output
+        ensures { Self.visits self.old (Operator.Misc (MiscOperator.MemoryCopy dst_mem src_mem)) result self.new }
+    {
+        self.visit_any(Operator::Misc(MiscOperator::MemoryCopy { dst_mem, src_mem }))
+    }
+
+    /// Visits `MemoryFill`.
+    #[inline(always)]
+    fn visit_memory_fill(&mut self, mem: u32) -> Self::Output
+        ensures { Self.visits self.old (Operator.Misc (MiscOperator.MemoryFill mem)) result self.new }
+    {
+        self.visit_any(Operator::Misc(MiscOperator::MemoryFill { mem }))
+    }
+
+    /// Visits `TableInit`.
+    #[inline(always)]
+    fn visit_table_init(&mut self, elem_index: u32, table: u32) -> Self::Output
+        ensures { Self.visits self.old (Operator.Misc (MiscOperator.TableInit elem_index table)) result self.new }
+    {
+        self.visit_any(Operator::Misc(MiscOperator::TableInit { elem_index, table }))
+    }
+
+    /// Visits `ElemDrop`.
+    #[inline(always)]
+    fn visit_elem_drop(&mut self, elem_index: u32) -> Self::Output
+        ensures { Self.visits self.old (Operator.Misc (MiscOperator.ElemDrop elem_index)) result self.new }
+    {
+        self.visit_any(Operator::Misc(MiscOperator::ElemDrop { elem_index }))
+    }
+
+    /// Visits `TableCopy`.
+    #[inline(always)]
+    fn visit_table_copy(&mut self, dst_table: u32, src_table: u32) -> Self::Output
+        ensures { Self.visits self.old (Operator.Misc (MiscOperator.TableCopy dst_table src_table)) result self.new }
+    {
+        self.visit_any(Operator::Misc(MiscOperator::TableCopy {
+            dst_table,
+            src_table,
+        }))
+    }
+
+    /// Visits `TableFill`.
+    #[inline(always)]
+    fn visit_table_fill(&mut self, table: u32) -> Self::Output
+        ensures { Self.visits self.old (Operator.Misc (MiscOperator.TableFill table)) result self.new }
+    {
+        self.visit_any(Operator::Misc(MiscOperator::TableFill { table }))
+    }
+
+    /// Visits `TableGrow`.
+    #[inline(always)]
+    fn visit_table_grow(&mut self, table: u32) -> Self::Output
+        ensures { Self.visits self.old (Operator.Misc (MiscOperator.TableGrow table)) result self.new }
+    {
+        self.visit_any(Operator::Misc(MiscOperator::TableGrow { table }))
+    }
+
+    /// Visits `TableSize`.
+    #[inline(always)]
+    fn visit_table_size(&mut self, table: u32) -> Self::Output
+        ensures { Self.visits self.old (Operator.Misc (MiscOperator.TableSize table)) result self.new }
+    {
+        self.visit_any(Operator::Misc(MiscOperator::TableSize { table }))
+    }
+
+    /// Visits `MemoryDiscard`.
+    #[inline(always)]
+    fn visit_memory_discard(&mut self, mem: u32) -> Self::Output
+        ensures { Self.visits self.old (Operator.Misc (MiscOperator.MemoryDiscard mem)) result self.new }
+    {
+        self.visit_any(Operator::Misc(MiscOperator::MemoryDiscard { mem }))
+    }
+
+    /// Visits `I64Add128`.
+    #[inline(always)]
+    fn visit_i64_add128(&mut self) -> Self::Output
+        ensures { Self.visits self.old (Operator.Misc MiscOperator.I64Add128) result self.new }
+    {
+        self.visit_any(Operator::Misc(MiscOperator::I64Add128))
+    }
+
+    /// Visits `I64Sub128`.
+    #[inline(always)]
+    fn visit_i64_sub128(&mut self) -> Self::Output
+        ensures { Self.visits self.old (Operator.Misc MiscOperator.I64Sub128) result self.new }
+    {
+        self.visit_any(Operator::Misc(MiscOperator::I64Sub128))
+    }
+
+    /// Visits `I64MulWideS`.
+    #[inline(always)]
+    fn visit_i64_mul_wide_s(&mut self) -> Self::Output
+        ensures { Self.visits self.old (Operator.Misc MiscOperator.I64MulWideS) result self.new }
+    {
+        self.visit_any(Operator::Misc(MiscOperator::I64MulWideS))
+    }
+
+    /// Visits `I64MulWideU`.
+    #[inline(always)]
+    fn visit_i64_mul_wide_u(&mut self) -> Self::Output
+        ensures { Self.visits self.old (Operator.Misc MiscOperator.I64MulWideU) result self.new }
+    {
+        self.visit_any(Operator::Misc(MiscOperator::I64MulWideU))
+    }
+}

@@ -1,6 +1,0 @@
-//! What all visitors have: what their visits answer and promise.
-#![tactic(auto)]
-
-mod visitor;
-
-pub use visitor::Visitor;
