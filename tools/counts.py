@@ -19,7 +19,7 @@ def counts(ops):
     operators = {len(ops), not_vector, of_one_byte, *each.values()}
     # (the visit of the branch table stands by itself, and those of vector operators in two halves)
     low = sum(op.code < 0x80 for op in groups["Simd"])
-    visits = operators | {not_vector - 1, each["Own"] - 1, low, each["Simd"] - low}
+    visits = operators | {len(ops) - 1, not_vector - 1, each["Own"] - 1, low, each["Simd"] - low}
     return {"operators": operators | visits, "visits": visits, "proposals": {len({op.proposal for op in ops})}}
 
 
