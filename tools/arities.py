@@ -131,7 +131,7 @@ def fixed_arity_source(ops):
     inner = sorted(enum.type for enum in ENUMS if enum.group != "Simd")
     words = ["reaching as reaching_of", *[f"{enum.module}_pair" for enum in held()], "fixed_arity as pair_of"]
     out = [
-        f"// {HEAD}",
+        f"//! Arities that are fixed. {HEAD}",
         "ghost use Rattle.std.specs.Prelude.{◌≡◌, ◌<◌};",
         f"ghost use Rattle.wasm_instr.specs.FixedArity.{{{', '.join(words)}}};",
         "",

@@ -88,7 +88,7 @@ def values_source(ops):
     constant = [op for op in ops if not is_made(op)]
     more = [("wasm_instr", enum.type) for enum in ENUMS] + [("wasm_instr", "Operator"), ("wasm_imm", "MemArgTarget")]
     out = [
-        f"// {HEAD}",
+        f"//! The operators that constants make. {HEAD}",
         *uses(constant, more),
         "",
         "/// The memory argument of all operators that have one.",
@@ -121,7 +121,7 @@ def made_source(ops):
         arms.append(f"{number} => {inner if op.group == 'Own' else f'Operator::from({inner})'},")
     enums = [("wasm_instr", f"{op.group}Operator") for op in those if op.group != "Own"]
     return "\n".join([
-        f"// {HEAD}",
+        f"//! The operators that calls make. {HEAD}",
         f"use crate::parts::{{{', '.join(calls)}}};",
         "use std::alloc::Global;",
         *uses([], [("wasm_instr", "Operator"), *enums]),

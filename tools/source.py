@@ -108,7 +108,7 @@ def enum_head(enum, ops, shape):
     """What an enum's file brings in."""
     prelude = ["◌≡◌"]
     words = [f"{enum.module}_proposal", f"{enum.module}_name", f"{enum.opcode}"]
-    out = [f"// {HEAD}"]
+    out = [f"//! {enum.title.capitalize()}. {HEAD}"]
     if shape.is_large:
         prelude += ["◌⊎◌", "◌<◌", "◌≤◌", "MatchOption"]
     if shape.holds_list:
@@ -254,7 +254,7 @@ def operator_head(ops):
     more = [(enum.crate, enum.type) for enum in ENUMS]
     more += [("wasm_instr_rows", "OperatorInfo"), ("wasm_below", "Result")]
     return [
-        f"// {HEAD}",
+        f"//! All operators as one type. {HEAD}",
         "ghost use Rattle.std.specs.Prelude.{◌≡◌, ◌↔◌, IsTrue, IfOk, IfErr};",
         "ghost use Rattle.wasm_imm.specs.OutOfMemory.{IsOutOfMemoryAt};",
         "ghost use Rattle.wasm_instr.specs.Row.{proposal_of, name_of, prefix_of, opcode_of};",

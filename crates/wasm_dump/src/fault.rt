@@ -1,3 +1,4 @@
+//! What a run of the program may end with.
 ghost use Rattle.std.specs.Prelude.{◌≡◌};
 ghost use Rattle.wasm_dump.specs.Dump.{status_of};
 

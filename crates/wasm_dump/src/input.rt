@@ -1,3 +1,4 @@
+//! All that a reader gives.
 ghost use Rattle.std.specs.Prelude.{◌≡◌, IfOk, IfErr, IfSome};
 ghost use Rattle.wasm_dump.specs.Dump.{WritesNothing};
 

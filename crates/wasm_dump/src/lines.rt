@@ -1,3 +1,4 @@
+//! The lines of a listing, and the text that is written.
 ghost use Rattle.std.specs.Prelude.{◌≡◌, ◌++◌, OnOk, IfOk, string_bytes};
 ghost use Rattle.wasm_dump.specs.Dump.{line_of, lines};
 

@@ -1,3 +1,4 @@
+//! The program's texts, and readers and writers that fail.
 use crate::dump::run;
 use crate::fault::DumpFault;
 use crate::words::features_of;

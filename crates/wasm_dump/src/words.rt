@@ -1,3 +1,4 @@
+//! The features that the program's argument asks for.
 ghost use Rattle.std.specs.Prelude.{◌≡◌, option_map};
 ghost use Rattle.wasm_dump.specs.Words.{bits_of_word};
 

@@ -1,3 +1,4 @@
+//! The kinds of frames.
 /// Which construct an open frame belongs to.
 ///
 /// A frame is the control frame of the WebAssembly Core Specification 3.0 (Appendix, Validation

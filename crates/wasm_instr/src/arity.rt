@@ -1,3 +1,4 @@
+//! How many operands an operator takes and how many values it leaves.
 ghost use Rattle.std.specs.Prelude.{◌≡◌};
 ghost use Rattle.std.specs.Option.{option_and_then};
 ghost use Rattle.wasm_instr.specs.Arity.{arity_of, sum_within, taking_more, arity_of_block, arity_of_frame, arity_of_label, arity_of_function, arity_of_continuation, arity_of_entry, arity_of_if, arity_of_else, arity_of_catch, arity_of_catch_all, arity_of_end, arity_of_return, leaving, arity_of_branch, arity_of_branch_if, arity_of_branch_on_null, arity_of_branch_on_non_null, arity_of_type_call, arity_of_select, bound_within, arity_of_bind, arity_of_resume, arity_of_resume_throw, arity_of_resume_throw_ref, arity_of_switched, arity_of_switch, arity_of_struct, gc_arity_of};

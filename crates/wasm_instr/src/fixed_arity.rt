@@ -1,4 +1,4 @@
-// Written by tools/lists.py from tools/operators.tsv.
+//! Arities that are fixed. Written by tools/lists.py from tools/operators.tsv.
 ghost use Rattle.std.specs.Prelude.{◌≡◌, ◌<◌};
 ghost use Rattle.wasm_instr.specs.FixedArity.{reaching as reaching_of, numeric_pair, gc_pair, misc_pair, simd_pair, atomic_pair, fixed_arity as pair_of};
 

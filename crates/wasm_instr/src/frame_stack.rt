@@ -1,3 +1,4 @@
+//! The frames that are open where an operator stands.
 use wasm_grammar::FrameKind;
 
 /// What holds the frames that are open.

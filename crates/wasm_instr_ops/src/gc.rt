@@ -1,4 +1,4 @@
-// Written by tools/lists.py from tools/operators.tsv.
+//! The operators behind the byte fb. Written by tools/lists.py from tools/operators.tsv.
 ghost use Rattle.std.specs.Prelude.{◌≡◌};
 ghost use Rattle.wasm_instr_ops.specs.Gc.{gc_proposal, gc_name, gc_subopcode};
 

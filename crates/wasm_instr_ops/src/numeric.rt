@@ -1,4 +1,4 @@
-// Written by tools/lists.py from tools/operators.tsv.
+//! The numeric operators of one byte. Written by tools/lists.py from tools/operators.tsv.
 ghost use Rattle.std.specs.Prelude.{◌≡◌};
 ghost use Rattle.wasm_instr_ops.specs.Numeric.{numeric_proposal, numeric_name, numeric_opcode};
 

@@ -1,4 +1,4 @@
-// Written by tools/lists.py from tools/operators.tsv.
+//! The operators behind the byte fd. Written by tools/lists.py from tools/operators.tsv.
 ghost use Rattle.std.specs.Prelude.{◌≡◌, ◌⊎◌, ◌<◌, ◌≤◌, MatchOption};
 ghost use Rattle.wasm_instr_simd.specs.Simd.{simd_proposal, simd_name, simd_subopcode};
 

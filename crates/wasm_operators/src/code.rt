@@ -1,3 +1,4 @@
+//! The body of a function.
 ghost use Rattle.std.specs.Prelude.{◌≡◌};
 ghost use Rattle.wasm_operators.specs.Body.{OpensBody};
 

@@ -1,3 +1,4 @@
+//! The kinds of the open frames.
 ghost use Rattle.std.specs.Prelude.{◌≡◌, [], ◌∷◌, IsSome, Some};
 ghost use Rattle.wasm_grammar.specs.Frames.{frames_after, innermost, without_innermost};
 ghost use Rattle.wasm_operators.specs.Row.{role_of};

@@ -1,3 +1,4 @@
+//! Decoding: from the opcode and what stands behind it to the operator.
 ghost use Rattle.std.specs.Prelude.{◌≡◌, ◌≤◌, IsErrAnd};
 ghost use Rattle.wasm_below.specs.Source.{Reads, offset_of, end_of};
 ghost use Rattle.wasm_operators.specs.Row.{EncodesAllowed, EncodesBehind, IsNoOpcode};

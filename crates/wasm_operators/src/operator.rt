@@ -1,7 +1,8 @@
+//! Ten operators, and their rows.
 ghost use Rattle.std.specs.Prelude.{◌≡◌, codes};
 ghost use Rattle.wasm_operators.specs.Row.{proposal_of, name_of, prefix_of, opcode_of};
 
-/// An operator with its immediates. Operators without any, of the codes 45 to c4, are of
+/// An operator with its immediates. Operators without any, of the opcodes 45 to c4, are of
 /// [`NumericOperator`].
 #[derive(Debug, Drop, PartialEq, Eq)]
 pub enum Operator {

@@ -1,3 +1,4 @@
+//! The reader of operators.
 ghost use Rattle.std.specs.Prelude.{◌≡◌, List, [], ◌∷◌, ◌++◌, IsTrue, ◌↔◌, OnOk, IfOk, IfErr, IsErrAnd};
 ghost use Rattle.wasm_below.specs.Source.{rest, offset_of, source_of};
 ghost use Rattle.wasm_grammar.specs.OpenPath.{OpenPath};

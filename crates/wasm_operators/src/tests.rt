@@ -1,3 +1,4 @@
+//! Bodies and what is read of them.
 use crate::{FunctionBody, NumericOperator, Operator, OperatorsReader};
 use std::test::Fail;
 use wasm_below::{BinaryReader, Error, Message};

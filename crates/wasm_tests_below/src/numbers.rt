@@ -1,3 +1,4 @@
+//! Numbers, read slowly from their definitions.
 use wasm_below::{BinaryReader, Error, Message, NumberName};
 
 /// How many strings were read, and at how many the answers differ.

@@ -1,3 +1,4 @@
+//! Types, read slowly from their definitions.
 use crate::numbers::{Tally, slow_signed, slow_unsigned};
 use wasm_below::{AbstractHeapType, BinaryReader, HeapType, RefType, ValType};
 

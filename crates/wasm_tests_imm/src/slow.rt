@@ -1,3 +1,4 @@
+//! Memory arguments, read slowly from their definition.
 use wasm_below::WasmFeatures;
 use wasm_imm::{MemArg, MemArgKind, MemArgOrdering, MemArgTarget, Ordering};
 

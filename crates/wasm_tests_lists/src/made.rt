@@ -1,4 +1,4 @@
-// Written by tools/lists.py from tools/operators.tsv.
+//! The operators that calls make. Written by tools/lists.py from tools/operators.tsv.
 use crate::parts::{
     branch_table, float_32, float_64, not_nullable, nullable, resume_table, select, try_table,
     vector,

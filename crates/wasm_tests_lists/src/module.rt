@@ -1,3 +1,4 @@
+//! A module whose answers the printed arities rest on.
 use wasm_imm::BlockType;
 use wasm_instr::{FrameKind, ModuleArity};
 

@@ -1,3 +1,4 @@
+//! The arities at the edges, printed.
 use crate::module::Module;
 use crate::uniform::Uniform;
 use std::io::{self, Print};

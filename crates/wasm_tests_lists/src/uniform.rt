@@ -1,3 +1,4 @@
+//! A module that answers a question alike at all indices.
 use wasm_imm::BlockType;
 use wasm_instr::{FrameKind, ModuleArity};
 

@@ -1,4 +1,4 @@
-// Written by tools/lists.py from tools/operators.tsv.
+//! The operators that constants make. Written by tools/lists.py from tools/operators.tsv.
 use wasm_below::{HeapType, ValType};
 use wasm_imm::{BlockType, MemArg, MemArgTarget, Ordering};
 use wasm_instr::{
