@@ -4,9 +4,15 @@
 //! refused it answers the sum so far.
 #![tactic(auto)]
 
-ghost use Rattle.std.specs.Prelude.{◌≡◌, ◌<◌, ◌^◌, length};
+ghost use Rattle.std.specs.Prelude.{◌≡◌};
+ghost use Rattle.std.specs.Int.{w32, w64, cast_unsigned};
 ghost use Rattle.wasm_below.specs.Features.{all_features};
-ghost use Rattle.wasm_below.specs.Source.{reader_of};
+ghost use Rattle.wasm_below.specs.Number.{EncodesUnsigned, EncodesSigned};
+ghost use Rattle.wasm_below.specs.Source.{IsByte};
+ghost use Rattle.wasm_imm.specs.BlockTypes.{EncodesBlockType};
+ghost use Rattle.wasm_imm.specs.BranchTables.{EncodesBranchTable};
+ghost use Rattle.wasm_imm.specs.MemoryArgument.{EncodesMemArg};
+ghost use Rattle.wasm_bench.specs.Sums.{IsSumOf, itself, argument_counts, block_counts, table_counts};
 
 use std::alloc::Global;
 use wasm_below::BinaryReader;
@@ -14,8 +20,10 @@ use wasm_imm::{BlockType, BrTable, MemArg, MemArgKind};
 
 /// The sum of the bytes.
 #[unsafe(no_mangle)]
-pub extern "C" fn wasm_bench_u8(_alloc: Global, bytes: &[u8]) -> u64 {
-    let mut reader = reader_of(bytes);
+pub extern "C" fn wasm_bench_u8(_alloc: Global, bytes: &[u8]) -> u64
+    ensures { IsSumOf IsByte itself bytes.now result }
+{
+    let mut reader = BinaryReader::new(bytes, 0);
     let mut sum: u64 = 0;
     while !reader.eof() {
         match reader.read_u8() {
@@ -28,8 +36,10 @@ pub extern "C" fn wasm_bench_u8(_alloc: Global, bytes: &[u8]) -> u64 {
 
 /// The sum of the unsigned numbers of 32 bits.
 #[unsafe(no_mangle)]
-pub extern "C" fn wasm_bench_u32(_alloc: Global, bytes: &[u8]) -> u64 {
-    let mut reader = reader_of(bytes);
+pub extern "C" fn wasm_bench_u32(_alloc: Global, bytes: &[u8]) -> u64
+    ensures { IsSumOf (EncodesUnsigned 32) itself bytes.now result }
+{
+    let mut reader = BinaryReader::new(bytes, 0);
     let mut sum: u64 = 0;
     while !reader.eof() {
         match reader.read_var_u32() {
@@ -42,8 +52,10 @@ pub extern "C" fn wasm_bench_u32(_alloc: Global, bytes: &[u8]) -> u64 {
 
 /// The sum of the signed numbers of 32 bits, each as its bits.
 #[unsafe(no_mangle)]
-pub extern "C" fn wasm_bench_i32(_alloc: Global, bytes: &[u8]) -> u64 {
-    let mut reader = reader_of(bytes);
+pub extern "C" fn wasm_bench_i32(_alloc: Global, bytes: &[u8]) -> u64
+    ensures { IsSumOf (EncodesSigned 32) (cast_unsigned w32) bytes.now result }
+{
+    let mut reader = BinaryReader::new(bytes, 0);
     let mut sum: u64 = 0;
     while !reader.eof() {
         match reader.read_var_i32() {
@@ -56,8 +68,10 @@ pub extern "C" fn wasm_bench_i32(_alloc: Global, bytes: &[u8]) -> u64 {
 
 /// The sum of the signed numbers of 64 bits, each as its bits.
 #[unsafe(no_mangle)]
-pub extern "C" fn wasm_bench_i64(_alloc: Global, bytes: &[u8]) -> u64 {
-    let mut reader = reader_of(bytes);
+pub extern "C" fn wasm_bench_i64(_alloc: Global, bytes: &[u8]) -> u64
+    ensures { IsSumOf (EncodesSigned 64) (cast_unsigned w64) bytes.now result }
+{
+    let mut reader = BinaryReader::new(bytes, 0);
     let mut sum: u64 = 0;
     while !reader.eof() {
         match reader.read_var_i64() {
@@ -70,15 +84,16 @@ pub extern "C" fn wasm_bench_i64(_alloc: Global, bytes: &[u8]) -> u64 {
 
 /// The sum of the offsets and alignments of memory arguments.
 #[unsafe(no_mangle)]
-pub extern "C" fn wasm_bench_memarg(_alloc: Global, bytes: &[u8]) -> u64 {
-    let mut reader = reader_of(bytes);
+pub extern "C" fn wasm_bench_memarg(_alloc: Global, bytes: &[u8]) -> u64
+    ensures { IsSumOf (EncodesMemArg all_features MemArgKind.Plain 2) argument_counts bytes.now result }
+{
+    let mut reader = BinaryReader::new(bytes, 0);
     let mut sum: u64 = 0;
     while !reader.eof() {
         match MemArg::read(&mut reader, 2, MemArgKind::Plain) {
             Ok(argument) => {
-                sum = sum
-                    .wrapping_add(argument.offset)
-                    .wrapping_add(u64::from(argument.align));
+                let counts = argument.offset.wrapping_add(u64::from(argument.align));
+                sum = sum.wrapping_add(counts);
             }
             Err(_) => return sum,
         }
@@ -88,8 +103,10 @@ pub extern "C" fn wasm_bench_memarg(_alloc: Global, bytes: &[u8]) -> u64 {
 
 /// The sum over block types: 1 for none, 2 for a value type, else the index.
 #[unsafe(no_mangle)]
-pub extern "C" fn wasm_bench_block(_alloc: Global, bytes: &[u8]) -> u64 {
-    let mut reader = reader_of(bytes);
+pub extern "C" fn wasm_bench_block(_alloc: Global, bytes: &[u8]) -> u64
+    ensures { IsSumOf EncodesBlockType block_counts bytes.now result }
+{
+    let mut reader = BinaryReader::new(bytes, 0);
     let mut sum: u64 = 0;
     while !reader.eof() {
         match BlockType::read(&mut reader) {
@@ -102,15 +119,16 @@ pub extern "C" fn wasm_bench_block(_alloc: Global, bytes: &[u8]) -> u64 {
 
 /// The sum of the counts and default targets of branch tables.
 #[unsafe(no_mangle)]
-pub extern "C" fn wasm_bench_br_table(_alloc: Global, bytes: &[u8]) -> u64 {
-    let mut reader = reader_of(bytes);
+pub extern "C" fn wasm_bench_br_table(_alloc: Global, bytes: &[u8]) -> u64
+    ensures { IsSumOf EncodesBranchTable table_counts bytes.now result }
+{
+    let mut reader = BinaryReader::new(bytes, 0);
     let mut sum: u64 = 0;
     while !reader.eof() {
         match BrTable::read(&mut reader) {
             Ok(table) => {
-                sum = sum
-                    .wrapping_add(u64::from(table.len()))
-                    .wrapping_add(u64::from(table.default()));
+                let counts = u64::from(table.len()) + u64::from(table.default());
+                sum = sum.wrapping_add(counts);
             }
             Err(_) => return sum,
         }
@@ -120,19 +138,12 @@ pub extern "C" fn wasm_bench_br_table(_alloc: Global, bytes: &[u8]) -> u64 {
 
 /// What a block type adds to the sum.
 #[inline(always)]
-fn block_number(ty: BlockType) -> u64 {
+fn block_number(ty: BlockType) -> u64
+    ensures { result ≡ block_counts ty }
+{
     match ty {
         BlockType::Empty => 1,
         BlockType::Value(_) => 2,
         BlockType::FuncType(index) => u64::from(index),
     }
-}
-
-/// A reader of these bytes; of none where there are more than offsets.
-#[inline(always)]
-fn reader_of<'a>(bytes: &'a [u8]) -> BinaryReader<'a> {
-    if bytes.len() > BinaryReader::max_data_len(0) {
-        return BinaryReader::new(&[], 0);
-    }
-    BinaryReader::new(bytes, 0)
 }

@@ -1,0 +1,26 @@
+-- Sums over the values that bytes encode.
+use Rattle.std.specs.Prelude.{◌≡◌, ℕ, ◌+◌, ◌%◌, ◌^◌, List, sum_by}
+use Rattle.wasm_imm.specs.memory.memory_argument.MemArg.{MemArg}
+use Rattle.wasm_imm.specs.control.block_type.BlockType.{BlockType}
+use Rattle.wasm_imm.specs.control.block_type.BlockType.TheVariants as block
+use Rattle.wasm_imm.specs.BranchTables.{BranchTable}
+use Rattle.wasm_imm.specs.Lists.{EncodesEach}
+
+-- Where the bytes are the encodings of values, one after another, the answer is the sum of what each counts, in 64 bits.
+abbrev pub IsSumOf : {X : Type 0} → (List ℕ → X → Type 0) → (X → ℕ) → List ℕ → ℕ → Type 0
+IsSumOf {X} Encodes counts bytes answer = (values : List X) → EncodesEach Encodes bytes values → answer ≡ sum_by counts values % 2 ^ 64
+
+-- What each kind of value counts.
+abbrev pub itself : ℕ → ℕ
+itself n = n
+
+abbrev pub argument_counts : MemArg → ℕ
+argument_counts argument = (argument.offset + argument.align) % 2 ^ 64
+
+abbrev pub block_counts : BlockType → ℕ
+block_counts block.Empty = 1
+block_counts (block.Value type) = 2
+block_counts (block.FuncType index) = index
+
+abbrev pub table_counts : BranchTable → ℕ
+table_counts table = table.count + table.default
