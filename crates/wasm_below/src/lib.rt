@@ -4,10 +4,9 @@
 //! Its parts are `wasm_below_bytes` and `wasm_below_types`; users list this crate alone.
 #![tactic(auto)]
 
-pub use wasm_below_bytes::laws as byte_laws;
 pub use wasm_below_bytes::{
     BinaryReader, BinaryReaderError, BinaryReaderIter, Error, ErrorKind, FrameName, FromReader,
-    InstructionName, LeadingByteName, Message, NumberName, Result, SizeName, TypeName, WasmFeatures,
+    InstructionName, LeadingByteName, Message, NumberName, Result, SizeName, TypeName,
+    WasmFeatures, laws as byte_laws,
 };
-pub use wasm_below_types::laws as type_laws;
-pub use wasm_below_types::{AbstractHeapType, HeapType, RefType, ValType};
+pub use wasm_below_types::{AbstractHeapType, HeapType, RefType, ValType, laws as type_laws};

@@ -7,14 +7,14 @@
 //! crate alone.
 #![tactic(auto)]
 
-pub use wasm_imm_constants::laws as constant_laws;
-pub use wasm_imm_constants::{Ieee32, Ieee64, ReadImmediates, V128, read_lane, read_lanes};
-pub use wasm_imm_control::laws as control_laws;
-pub use wasm_imm_control::{
-    BlockType, BrTable, BrTableTargets, Cast, Catch, Catches, Handle, Handles, Members, ResumeTable,
-    Select, SelectTypes, TryTable,
+pub use wasm_imm_constants::{
+    Ieee32, Ieee64, ReadImmediates, V128, laws as constant_laws, read_lane, read_lanes,
 };
-pub use wasm_imm_memory::laws as memory_laws;
+pub use wasm_imm_control::{
+    BlockType, BrTable, BrTableTargets, Cast, Catch, Catches, Handle, Handles, Members,
+    ResumeTable, Select, SelectTypes, TryTable, laws as control_laws,
+};
 pub use wasm_imm_memory::{
-    MemArg, MemArgKind, MemArgOrdering, MemArgTarget, Ordering, read_memory_index, read_table_index,
+    MemArg, MemArgKind, MemArgOrdering, MemArgTarget, Ordering, laws as memory_laws,
+    read_memory_index, read_table_index,
 };

@@ -16,26 +16,26 @@ use Rattle.wasm_bench.proofs.wasm_bench_memarg.Goals as goal
 pub loop-reader-preserved : goal.loop-reader-preserved
 loop-reader-preserved c =
     let same : c.loop-reader.reader.features ≡ all_features = ap (λ (r : Reader). r.features) c.loop-reader.invariant.taken.moved ∙
-        ap (λ (r : Reader). r.features) c.new-reader.ensures in
+    ap (λ (r : Reader). r.features) c.new-reader.ensures in
     one_more (EncodesMemArg all_features kind.Plain 2) argument_counts c.new-reader.result c.loop-reader.reader c.read.new.reader c.loop-reader.sum _
-        c.in-Ok.argument c.loop-reader.invariant
-        (subst (λ (f : WasmFeatures). Reads (EncodesMemArg f kind.Plain 2) (Ok c.in-Ok.argument) c.loop-reader.reader c.read.new.reader) same
-        c.in-Ok.ensures.reads) (ap (λ n. (c.loop-reader.sum + (c.in-Ok.argument.offset + n) % 2 ^ 64) % 2 ^ 64) c.from.ensures)
+    c.in-Ok.argument c.loop-reader.invariant
+    (subst (λ (f : WasmFeatures). Reads (EncodesMemArg f kind.Plain 2) (Ok c.in-Ok.argument) c.loop-reader.reader c.read.new.reader) same
+    c.in-Ok.ensures.reads) (ap (λ n. (c.loop-reader.sum + (c.in-Ok.argument.offset + n) % 2 ^ 64) % 2 ^ 64) c.from.ensures)
 
 pub returns-in-Err : goal.returns-in-Err
 returns-in-Err c =
     let same : c.loop-reader.reader.features ≡ all_features = ap (λ (r : Reader). r.features) c.loop-reader.invariant.taken.moved ∙
-        ap (λ (r : Reader). r.features) c.new-reader.ensures in
+    ap (λ (r : Reader). r.features) c.new-reader.ensures in
     summed (EncodesMemArg all_features kind.Plain 2) argument_counts (memarg_prefix_code all_features kind.Plain 2)
-        (then_some (EncodesUnsigned 32) _ (unsigned_some 32)) c.args.bytes.now c.new-reader.result c.loop-reader.reader c.loop-reader.sum
-        (ap rest c.new-reader.ensures) c.loop-reader.invariant
-        (refused_now (EncodesMemArg all_features kind.Plain 2) c.in-Err.field-0 c.loop-reader.reader
-        (subst (λ (f : WasmFeatures). IsRefusal (EncodesMemArg f kind.Plain 2) c.in-Err.field-0 c.loop-reader.reader) same c.in-Err.ensures.reads.1))
+    (then_some (EncodesUnsigned 32) _ (unsigned_some 32)) c.args.bytes.now c.new-reader.result c.loop-reader.reader c.loop-reader.sum
+    (ap rest c.new-reader.ensures) c.loop-reader.invariant
+    (refused_now (EncodesMemArg all_features kind.Plain 2) c.in-Err.field-0 c.loop-reader.reader
+    (subst (λ (f : WasmFeatures). IsRefusal (EncodesMemArg f kind.Plain 2) c.in-Err.field-0 c.loop-reader.reader) same c.in-Err.ensures.reads.1))
 
 pub returns : goal.returns
 returns c =
     summed (EncodesMemArg all_features kind.Plain 2) argument_counts (memarg_prefix_code all_features kind.Plain 2)
-        (then_some (EncodesUnsigned 32) _ (unsigned_some 32)) c.args.bytes.now c.new-reader.result c.loop-reader.reader c.loop-reader.sum
-        (ap rest c.new-reader.ensures) c.loop-reader.invariant
-        (none_at_end (EncodesMemArg all_features kind.Plain 2) (then_some (EncodesUnsigned 32) _ (unsigned_some 32)) (rest c.loop-reader.reader)
-        (c.eof.ensures.0 c.loop-reader-test.false))
+    (then_some (EncodesUnsigned 32) _ (unsigned_some 32)) c.args.bytes.now c.new-reader.result c.loop-reader.reader c.loop-reader.sum
+    (ap rest c.new-reader.ensures) c.loop-reader.invariant
+    (none_at_end (EncodesMemArg all_features kind.Plain 2) (then_some (EncodesUnsigned 32) _ (unsigned_some 32)) (rest c.loop-reader.reader)
+    (c.eof.ensures.0 c.loop-reader-test.false))
