@@ -128,7 +128,7 @@ fn read_announced(
     ensures fault { IfErr result (λ e. FlagsFault reader.old.features kind flags
         (offset_of (at_position reader.old start)) e.message reader.old e.offset) }
 {
-    if names_memory_alone(reader.features(), flags) {
+    if names_memory_alone(flags) {
         return read_rest(reader, start, flags, max_align, kind);
     }
     match read_other(reader, start, flags, max_align, kind) {
@@ -222,12 +222,10 @@ fn announces(features: WasmFeatures, feature: WasmFeatures, flags: u32, bit: u32
     features.contains(feature) && flags / bit % 2 == 1
 }
 
-/// Whether the flags number announces a memory's index and nothing else.
+/// Whether a memory's index alone is announced, by a flags number of its bit and an alignment.
 #[inline(always)]
-fn names_memory_alone(features: WasmFeatures, flags: u32) -> bool {
-    flags >= MEMORY_INDEX
-        && flags < MEMORY_INDEX + ORDERING
-        && features.contains(WasmFeatures::MULTI_MEMORY)
+fn names_memory_alone(flags: u32) -> bool {
+    flags / ORDERING == MEMORY_INDEX / ORDERING
 }
 
 /// Whether a memory and an array are named at once.
