@@ -128,10 +128,13 @@ fn read_announced(
     ensures fault { IfErr result (λ e. FlagsFault reader.old.features kind flags
         (offset_of (at_position reader.old start)) e.message reader.old e.offset) }
 {
-    if names_memory_alone(flags) {
+    if names_memory_alone(reader.features(), flags) {
         return read_rest(reader, start, flags, max_align, kind);
     }
-    match read_other(reader, start, flags, max_align, kind) {
+    let mut lent = reader.clone();
+    let argument = read_other(&mut lent, start, flags, max_align, kind);
+    *reader = lent;
+    match argument {
         Ok(argument) => Ok(argument),
         Err(e) => Err(e),
     }
@@ -222,10 +225,10 @@ fn announces(features: WasmFeatures, feature: WasmFeatures, flags: u32, bit: u32
     features.contains(feature) && flags / bit % 2 == 1
 }
 
-/// Whether a memory's index alone is announced, by a flags number of its bit and an alignment.
+/// Whether the flags number announces a memory's index and nothing else.
 #[inline(always)]
-fn names_memory_alone(flags: u32) -> bool {
-    flags / ORDERING == MEMORY_INDEX / ORDERING
+fn names_memory_alone(features: WasmFeatures, flags: u32) -> bool {
+    flags / ORDERING == MEMORY_INDEX / ORDERING && features.contains(WasmFeatures::MULTI_MEMORY)
 }
 
 /// Whether a memory and an array are named at once.
