@@ -131,10 +131,7 @@ fn read_announced(
     if names_memory_alone(reader.features(), flags) {
         return read_rest(reader, start, flags, max_align, kind);
     }
-    let mut lent = reader.clone();
-    let argument = read_other(&mut lent, start, flags, max_align, kind);
-    *reader = lent;
-    match argument {
+    match read_other(reader, start, flags, max_align, kind) {
         Ok(argument) => Ok(argument),
         Err(e) => Err(e),
     }
