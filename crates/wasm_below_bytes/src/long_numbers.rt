@@ -73,12 +73,11 @@ pub fn number_error(
 /// The unsigned number of two bytes at this position, if one stands there.
 #[inline(always)]
 pub fn two_bytes(buffer: &[u8], start: usize) -> Option<Unsigned>
-    requires { start ≤ length buffer.now }
     ensures of_32 { IfSome result (λ n. NumberAt (EncodesUnsigned 32) buffer.now start n.value n.behind) }
     ensures of_64 { IfSome result (λ n. NumberAt (EncodesUnsigned 64) buffer.now start n.value n.behind) }
     ensures within { IfSome result (λ n. n.value < 2 ^ 14) }
 {
-    if buffer.len() - start < 2 {
+    if start >= buffer.len() || start + 1 >= buffer.len() {
         return None;
     }
     let first = buffer[start];

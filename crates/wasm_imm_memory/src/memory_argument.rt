@@ -225,9 +225,7 @@ fn announces(features: WasmFeatures, feature: WasmFeatures, flags: u32, bit: u32
 /// Whether the flags number announces a memory's index and nothing else.
 #[inline(always)]
 fn names_memory_alone(features: WasmFeatures, flags: u32) -> bool {
-    flags >= MEMORY_INDEX
-        && flags < MEMORY_INDEX + ORDERING
-        && features.contains(WasmFeatures::MULTI_MEMORY)
+    flags / ORDERING == MEMORY_INDEX / ORDERING && features.contains(WasmFeatures::MULTI_MEMORY)
 }
 
 /// Whether a memory and an array are named at once.
