@@ -44,16 +44,14 @@ GROUPS = [
 FIXED = [group for group in GROUPS if group.enum != "Simd"]
 VECTORS = [group for group in GROUPS if group.enum == "Simd"]
 
+# The variants of `Operator` that are of no group of one byte, as a pattern.
+ONE_BYTE_OTHERS = " | ".join(["Operator::BrTable { targets: _ }"] + [f"Operator::{enum.group}(_)" for enum in held()])
+
 
 def signature(op, answer):
-    """The head of a visit, broken as the layout wants it, with the brace where a body follows at once."""
+    """The head of a visit."""
     fields = [f"{name}: {ty}" for name, ty in op.fields]
-    brace = "" if answer == "Self::Output" else " {"
-    one = f"    fn {op.visit}({', '.join(['&mut self'] + fields)}) -> {answer}"
-    if len(one + brace) <= WIDTH:
-        return [one + brace]
-    lines = [f"    fn {op.visit}("] + [f"        {part}," for part in ["&mut self"] + fields]
-    return lines + [f"    ) -> {answer}{brace}"]
+    return f"    fn {op.visit}({', '.join(['&mut self'] + fields)}) -> {answer}"
 
 
 def type_name(group):
@@ -69,19 +67,12 @@ def term(op):
     return f"(Operator.{op.group} ({inner}))" if op.fields else f"(Operator.{op.group} {inner})"
 
 
-def made(op, opened="", closed=""):
-    """The operator made of its fields, between an opening and a closing text."""
-    indent = "        "
-    path = f"Operator::{op.name}" if op.group == "Own" else f"{op.group}Operator::{op.name}"
-    if op.group != "Own":
-        opened, closed = f"{opened}Operator::{op.group}(", f"){closed}"
-    names = [name for name, _ in op.fields]
-    inner = ", ".join(names)
-    if not names:
-        return [f"{indent}{opened}{path}{closed}"]
-    if len(inner) <= 18:
-        return [f"{indent}{opened}{path} {{ {inner} }}{closed}"]
-    return [f"{indent}{opened}{path} {{", *[f"{indent}    {name}," for name in names], f"{indent}}}{closed}"]
+def made(op):
+    """The operator made of its fields."""
+    ty = "Operator" if op.group == "Own" else f"{op.group}Operator"
+    names = ", ".join(name for name, _ in op.fields)
+    inner = f"{ty}::{op.name} {{ {names} }}" if names else f"{ty}::{op.name}"
+    return inner if op.group == "Own" else f"Operator::{op.group}({inner})"
 
 
 def ghost_uses(group):
@@ -121,10 +112,10 @@ def group_trait(ops, group):
         out += [
             f"    /// Visits `{op.name}`.",
             "    #[inline(always)]",
-            *signature(op, "Self::Output"),
+            signature(op, "Self::Output"),
             f"        ensures {{ Self.visits self.old {term(op)} result self.new }}",
             "    {",
-            *made(op, "self.visit_any(", ")"),
+            f"        self.visit_any({made(op)})",
             "    }",
         ]
     return "\n".join(out + ["}", ""])
@@ -133,17 +124,12 @@ def group_trait(ops, group):
 def arm(op):
     """The arm of a dispatch that visits an operator."""
     ty = "Operator" if op.group == "Own" else f"{op.group}Operator"
-    names = [name for name, _ in op.fields]
-    call = f"v.{op.visit}({', '.join(names)})"
-    pat = f"{ty}::{op.name}" + (f" {{ {', '.join(names)} }}" if names else "")
-    indent = "        "
-    if len(", ".join(names)) > 18:
-        lines = [f"{indent}{ty}::{op.name} {{"] + [f"{indent}    {name}," for name in names]
-        return lines + [f"{indent}}} => {call},"]
-    one = f"{indent}{pat} => {call},"
-    if len(one) <= WIDTH:
-        return [one]
-    return [f"{indent}{pat} => {{", f"{indent}    {call}", f"{indent}}}"]
+    names = ", ".join(name for name, _ in op.fields)
+    pattern = f"{ty}::{op.name} {{ {names} }}" if names else f"{ty}::{op.name}"
+    call = f"v.{op.visit}({names})"
+    # a call that has no room behind its pattern stands in a block, as long as the pattern keeps to one line
+    has_room = len(names) > 18 or len(f"        {pattern} => {call},") <= WIDTH
+    return f"        {pattern} => {call}," if has_room else f"        {pattern} => {{ {call} }}"
 
 
 def group_dispatch(ops, group):
@@ -151,11 +137,7 @@ def group_dispatch(ops, group):
     param = "Operator<'_>" if group.enum == "Own" else type_name(group)
     told = "op.entry" if group.enum == "Own" else f"(Operator.{group.enum} op)"
     wanted = {"one_byte": "IsOneByte", "simd_low": "IsSimdLow", "simd_high": "IsSimdHigh"}.get(group.module)
-    rest = {
-        "one_byte": ["        " + line for line in ONE_BYTE_REST],
-        "simd_low": ["        _ => unreachable!(),"],
-        "simd_high": ["        _ => unreachable!(),"],
-    }.get(group.module, [])
+    others = ONE_BYTE_OTHERS if group.enum == "Own" else "_"
     return [
         "",
         f"/// Visits one of {group.short}. It takes no memory.",
@@ -164,22 +146,11 @@ def group_dispatch(ops, group):
         f"    ensures {{ V.visits v.old {told} result v.new }}",
         "{",
         "    match op {",
-        *[line for op in group.of(ops) for line in arm(op)],
-        *rest,
+        *[arm(op) for op in group.of(ops)],
+        *([f"        {others} => unreachable!(),"] if wanted else []),
         "    }",
         "}",
     ]
-
-
-# The operators that are not of one byte, or of another group.
-ONE_BYTE_REST = [
-    "Operator::BrTable { targets: _ }",
-    "| Operator::Numeric(_)",
-    "| Operator::Gc(_)",
-    "| Operator::Misc(_)",
-    "| Operator::Simd(_)",
-    "| Operator::Atomic(_) => unreachable!(),",
-]
 
 
 def dispatch(ops, groups):
@@ -214,7 +185,7 @@ def group_factory(ops, group):
     ]
     for number, op in enumerate(those):
         out += [] if number == 0 else [""]
-        out += ["    #[inline(always)]", *signature(op, "Operator<'static>"), *made(op), "    }"]
+        out += ["    #[inline(always)]", signature(op, "Operator<'static>") + " {", f"        {made(op)}", "    }"]
     return "\n".join(out + ["}", ""])
 
 
