@@ -1,0 +1,4 @@
+pub mod LayoutLemmas
+pub mod FlatLemmas
+pub mod VisitLemmas
+pub mod OpeningLemmas

@@ -1,0 +1,4 @@
+pub mod Expression
+pub mod Flat
+pub mod Openings
+pub mod Visiting

@@ -1,0 +1,6 @@
+pub mod Premises
+pub mod OneRead
+pub mod Runs
+pub mod Ends
+pub mod Plain
+pub mod Clauses

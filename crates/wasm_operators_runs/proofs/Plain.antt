@@ -1,0 +1,149 @@
+-- The run of a visitor that takes no vector operator: along the longest beginning without one.
+use Rattle.std.proofs.Common.{◌≡◌, ℕ, Bool, true, false, List, ◌∷◌, ◌++◌, length, refl, sym, subst, ap, ◌∙◌, arith, ◌⊎◌, inl, inr}
+use Rattle.std.proofs.lemmas.Bool.{cases_lt}
+use Rattle.wasm_below.specs.bytes.error.Error.{Error}
+use Rattle.wasm_below.specs.bytes.message.Message.{Message}
+use Rattle.wasm_below.specs.bytes.message.Message.TheVariants as message
+use Rattle.wasm_below.specs.Source.{rest, offset_of, source_of, BeginsWith}
+use Rattle.wasm_grammar.specs.Frames.{frames_after}
+use Rattle.wasm_instr.specs.declared.operator.Operator.{Operator}
+use Rattle.wasm_instr.specs.declared.operator.Operator.TheVariants as operator
+use Rattle.wasm_instr.specs.Encoding.{EncodesOperator}
+use Rattle.wasm_instr.specs.Kinds.{IsVector}
+use Rattle.wasm_instr.specs.Roles.{role_of}
+use Rattle.wasm_instr.specs.Row.{prefix_of, opcode_of}
+use Rattle.wasm_operators_expressions.specs.Expression.{Placed, operators, EncodesRest, IsLongestBehind, IsBeginningOf}
+use Rattle.wasm_operators_runs.specs.Reading.{Taking, Refusing, Needing, State, Ran, StopsRun}
+use Rattle.wasm_operators_runs.specs.Headline.{StoodBefore, PlainBeginningAt, ReadsPlainBeginning}
+use Rattle.wasm_operators_expressions.specs.Visiting.{is_vector, plain_beginning, IsPlain}
+use Rattle.wasm_operators_runs.proofs.Ends.{AreEach}
+use Rattle.wasm_operators_expressions.proofs.LayoutLemmas.{begins_walk, not_empty, laid_beginning, laid_goes_on, laid_same, GoesOn, goes_allowed}
+use Rattle.wasm_operators_runs.proofs.OneRead.{is_memory}
+use Rattle.wasm_operators_expressions.proofs.OpeningLemmas.{first_byte, begins_encoding}
+use Rattle.wasm_operators_runs.proofs.Premises.{IsNoVector, TakesPlain, RefusesVectors}
+use Rattle.wasm_operators_runs.proofs.Runs.{features_stay, stood_on, beginning_of_run, encoded_longest, whole_run, no_refusal, IsStuckFor, stuck_run}
+use Rattle.wasm_operators_expressions.proofs.VisitLemmas.{no_vector_of, vector_of, plain_stops, plain_longest, plain_none}
+
+-- A plain list has no vector operator.
+pub each_plain : (placed : Placed) → IsPlain placed → AreEach IsNoVector placed
+each_plain placed plain before after p e vector = plain_none placed p before after (plain ∙ e) vector
+
+either : (b : Bool) → (b ≡ true) ⊎ (b ≡ false)
+either true = inl refl
+either false = inr refl
+
+-- What goes on behind a run that only vector operators may follow is one.
+next_vector : (before : List Operator) (old new : State) (placed longest : Placed) → StoodBefore before old → (r : Ran old new placed) →
+    IsLongestBehind before (source_of old.reader) longest → IsStuckFor IsNoVector new →
+    (g : GoesOn old.reader.features placed longest (rest new.reader)) → is_vector g.next.0 ≡ true
+next_vector before old new placed longest h r l none g =
+    elim (either (is_vector g.next.0)) [
+      | inl is ↦ is
+      | inr not ↦ (
+          let encodes = subst (λ f. EncodesOperator f g.next.0 g.text) (sym (features_stay old.reader new.reader r.text r.takes)) g.encodes in
+          absurd (goes_allowed before old.reader.features placed longest (rest new.reader) new.frames (stood_on before old new placed h r).path
+          (begins_walk old.reader.features (before ++ operators longest) l.beginning.begins) g
+          (none g.text g.more g.next.0 encodes (no_vector_of g.next.0 not) g.bytes))
+          )
+    ]
+
+-- The run and the longest list: the same, or more follows in the list.
+run_and_longest : (before : List Operator) (old new : State) (placed longest : Placed) → StoodBefore before old → (r : Ran old new placed) →
+    IsLongestBehind before (source_of old.reader) longest →
+    (placed ≡ longest) ⊎ GoesOn old.reader.features placed longest (rest new.reader)
+run_and_longest before old new placed longest h r l =
+    let both = sym r.takes.parts ∙ l.beginning.parts in
+    let le = l.longest placed (beginning_of_run before old new placed h r) in
+    elim (cases_lt (length placed) (length longest)) [
+      | inl lt ↦ inr (laid_goes_on old.reader.features (offset_of old.reader) placed longest r.text l.beginning.beginning (rest new.reader) l.beginning.more
+          r.laid l.beginning.laid both lt)
+      | inr ge ↦ inl (laid_same old.reader.features (offset_of old.reader) placed longest r.text l.beginning.beginning (rest new.reader) l.beginning.more r.laid
+          l.beginning.laid both (omega arith)).0
+    ]
+
+plain_part : (before : List Operator) (old new : State) (placed longest : Placed) → StoodBefore before old → Ran old new placed → IsPlain placed →
+    IsLongestBehind before (source_of old.reader) longest → IsBeginningOf placed (plain_beginning longest)
+plain_part before old new placed longest h r plain l =
+    let le = l.longest placed (beginning_of_run before old new placed h r) in
+    plain_longest longest placed (laid_beginning old.reader.features (offset_of old.reader) placed longest r.text l.beginning.beginning (rest new.reader)
+    l.beginning.more r.laid l.beginning.laid (sym r.takes.parts ∙ l.beginning.parts) le) plain
+
+plain_whole : (before : List Operator) (old new : State) (placed longest : Placed) → StoodBefore before old → Ran old new placed → IsPlain placed →
+    IsStuckFor IsNoVector new → IsLongestBehind before (source_of old.reader) longest → placed ≡ plain_beginning longest
+plain_whole before old new placed longest h r plain none l =
+    elim (run_and_longest before old new placed longest h r l) [
+      | inl same ↦ sym plain ∙ ap plain_beginning same
+      | inr g ↦ sym (ap plain_beginning g.parts ∙ plain_stops placed g.others g.next plain (next_vector before old new placed longest h r l none g))
+    ]
+
+plain_at : (m : Message) (before : List Operator) (old new : State) (placed : Placed) → StoodBefore before old → Ran old new placed → IsPlain placed →
+    ((m ≡ message.OutOfMemory → ⊥) → IsStuckFor IsNoVector new) → PlainBeginningAt m before old.reader placed
+plain_at message.OutOfMemory before old new placed h r plain none =
+    (beginning_of_run before old new placed h r, λ longest l. plain_part before old new placed longest h r plain l)
+plain_at _ before old new placed h r plain none =
+    (beginning_of_run before old new placed h r, λ longest l. plain_whole before old new placed longest h r plain (none (λ is. absurd (cc is))) l)
+
+pub run_plain : (Encodes : Taking) (Fault : Refusing) (Needs : Needing) → TakesPlain Encodes → (before : List Operator) (e : Error) (old new : State)
+    (placed : Placed) → StoodBefore before old → Ran old new placed → IsPlain placed → StopsRun Encodes Fault Needs e new →
+    ReadsPlainBeginning Encodes Fault Needs before e old new placed
+run_plain Encodes Fault Needs takes before e old new placed h r plain stops =
+    record {
+      at = plain_at e.message before old new placed h r plain (stuck_run Encodes Fault Needs IsNoVector takes e new stops);
+      text = r.text;
+      takes = r.takes;
+      laid = r.laid;
+      stood = stood_on before old new placed h r;
+      stops = stops;
+    }
+
+-- Where the bytes encode an expression without vector operators, memory alone is refused.
+pub plain_only : (Encodes : Taking) (Fault : Refusing) (Needs : Needing) → TakesPlain Encodes → (before : List Operator) (e : Error) (old new : State)
+    (placed whole : Placed) → StoodBefore before old → Ran old new placed → IsPlain placed → StopsRun Encodes Fault Needs e new →
+    EncodesRest before (source_of old.reader) whole → IsPlain whole → e.message ≡ message.OutOfMemory
+plain_only Encodes Fault Needs takes before e old new placed whole h r plain stops encodes whole_plain =
+    elim (is_memory e.message) [
+      | inl is ↦ is
+      | inr other ↦ (
+          let longest = encoded_longest before (source_of old.reader) whole h.encodes encodes in
+          let same = plain_whole before old new placed whole h r plain (stuck_run Encodes Fault Needs IsNoVector takes e new stops other) longest in
+          let end = whole_run before old new placed whole h r encodes (same ∙ whole_plain) in
+          absurd (no_refusal Encodes Fault Needs e new stops end.0 end.1)
+          )
+    ]
+
+vector_byte : (op : Operator) → IsVector op → first_byte (prefix_of op) (opcode_of op) ≡ 0xfd
+vector_byte (operator.Simd op) is = refl
+vector_byte _ is = absurd is
+
+-- Where a vector operator ends it, that is what the refusal says.
+pub plain_vector : (Encodes : Taking) (Fault : Refusing) (Needs : Needing) → TakesPlain Encodes → RefusesVectors Fault → (before : List Operator) (e : Error)
+    (old new : State) (placed longest : Placed) → StoodBefore before old → Ran old new placed → IsPlain placed → StopsRun Encodes Fault Needs e new →
+    IsLongestBehind before (source_of old.reader) longest → (IsPlain longest → ⊥) → (e.message ≡ message.UnexpectedSimd) ⊎ (e.message ≡ message.OutOfMemory)
+plain_vector Encodes Fault Needs takes refuses before e old new placed longest h r plain stops l vectors =
+    elim (is_memory e.message) [
+      | inl is ↦ inr is
+      | inr other ↦ inl (elim (run_and_longest before old new placed longest h r l) [
+        | inl same ↦ absurd (vectors (subst IsPlain same plain))
+        | inr g ↦ at_next g other
+      ])
+    ]
+  where
+    led : GoesOn old.reader.features placed longest (rest new.reader) → (e.message ≡ message.OutOfMemory → ⊥) → BeginsWith 0xfd (rest new.reader)
+    led g other =
+        let none = stuck_run Encodes Fault Needs IsNoVector takes e new stops other in
+        let vector = vector_of g.next.0 (next_vector before old new placed longest h r l none g) in
+        let first = begins_encoding old.reader.features g.next.0 g.text g.encodes in
+        let byte = vector_byte g.next.0 vector in
+        (first.0 ++ g.more, g.bytes ∙ ap (λ x. x ++ g.more) (first.1 ∙ ap (λ (b : ℕ). b ∷ first.0) byte))
+
+    at_next : GoesOn old.reader.features placed longest (rest new.reader) → (e.message ≡ message.OutOfMemory → ⊥) → e.message ≡ message.UnexpectedSimd
+    at_next g other = stopped stops
+      where
+        stopped : StopsRun Encodes Fault Needs e new → e.message ≡ message.UnexpectedSimd
+        stopped (inl left) = absurd (not_empty old.reader.features g.next.0 g.text g.more g.encodes (sym left.0 ∙ g.bytes))
+        stopped (inr (some, inl none)) =
+            absurd (goes_allowed before old.reader.features placed longest (rest new.reader) new.frames (stood_on before old new placed h r).path
+            (begins_walk old.reader.features (before ++ operators longest) l.beginning.begins) g
+            (ap (λ frames. frames_after frames (role_of g.next.0)) none.0))
+        stopped (inr (some, inr (inl there))) = refuses new.reader.features there.kind e.message new.reader e.offset there.fault (led g other)
+        stopped (inr (some, inr (inr memory))) = absurd (other memory.0)
