@@ -1,7 +1,9 @@
 -- The steps of the open frames: roles without what operators carry.
 -- WebAssembly Core Specification 3.0: Structure, Instructions, Control Instructions; Appendix, Validation Algorithm,
 -- control frames.
+-- The opcodes of step_at: Binary Format, Instructions, Control Instructions and Expressions.
 -- The legacy exception handling proposal: try, catch, catch_all and delegate.
+use Rattle.std.specs.Prelude.{ℕ, cond, eqb}
 use Rattle.wasm_grammar.specs.Role.{Role, block, loop, try_table, plain, opens, opens_if, opens_try, turns_else, turns_catch, turns_catch_all, delegates, ends}
 use Rattle.wasm_operators_frames.specs.declared.step.FrameStep.{FrameStep}
 use Rattle.wasm_operators_frames.specs.declared.step.FrameStep.TheVariants as step
@@ -42,3 +44,18 @@ Opens step.OpensTryTable = Unit {0}
 Opens step.OpensIf = Unit {0}
 Opens step.OpensTry = Unit {0}
 Opens _ = ⊥
+
+-- The step of the operators that begin with this byte.
+abbrev pub step_at : ℕ → FrameStep
+step_at byte =
+    cond (eqb byte 0x02) step.OpensBlock
+    (cond (eqb byte 0x03) step.OpensLoop
+    (cond (eqb byte 0x04) step.OpensIf
+    (cond (eqb byte 0x05) step.TurnsElse
+    (cond (eqb byte 0x06) step.OpensTry
+    (cond (eqb byte 0x07) step.TurnsCatch
+    (cond (eqb byte 0x0b) step.Ends
+    (cond (eqb byte 0x18) step.Delegates
+    (cond (eqb byte 0x19) step.TurnsCatchAll
+    (cond (eqb byte 0x1f) step.OpensTryTable
+    step.Stays)))))))))

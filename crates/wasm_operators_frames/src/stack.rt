@@ -108,6 +108,23 @@ impl ControlStack {
         Ok(())
     }
 
+    /// Makes room for the frame that this step opens, if it opens one.
+    ///
+    /// `OutOfMemory` at offset 0, and only where the step opens a frame and no room is left; nothing
+    /// changes then.
+    #[inline(always)]
+    pub fn make_room(&mut self, step: FrameStep) -> Result<()>
+        ensures frames { self.new.frames ≡ self.old.frames }
+        ensures room { OnOk result (Opens step → HasRoom self.new) }
+        ensures kept { self.old.room ≤ self.new.room }
+        ensures refused { IfErr result (λ e. IsOutOfMemory e × Opens step × (self.old.room ≡ 0) × (self.new ≡ self.old)) }
+    {
+        if step.opens() {
+            return self.reserve(1);
+        }
+        Ok(())
+    }
+
     /// Opens a frame inside the others. It uses at most one of the room.
     ///
     /// `OutOfMemory` at offset 0; nothing changes then. It succeeds onto an empty stack and into

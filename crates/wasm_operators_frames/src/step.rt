@@ -1,6 +1,6 @@
 //! What operators do to the open frames.
-ghost use Rattle.std.specs.Prelude.{◌↔◌, IsTrue};
-ghost use Rattle.wasm_operators_frames.specs.Step.{Opens};
+ghost use Rattle.std.specs.Prelude.{◌≡◌, ◌↔◌, IsTrue};
+ghost use Rattle.wasm_operators_frames.specs.Step.{Opens, step_at};
 
 /// What an operator does to the open frames: its role in the structure, without what it carries.
 ///
@@ -32,6 +32,27 @@ pub enum FrameStep {
 }
 
 impl FrameStep {
+    /// The step of the operators that begin with this byte, an opcode or a prefix byte. No others of
+    /// one byte do anything to the frames, and none behind a prefix byte.
+    #[inline(always)]
+    pub fn at(byte: u8) -> FrameStep
+        ensures { result ≡ step_at byte }
+    {
+        match byte {
+            0x02 => FrameStep::OpensBlock,
+            0x03 => FrameStep::OpensLoop,
+            0x04 => FrameStep::OpensIf,
+            0x05 => FrameStep::TurnsElse,
+            0x06 => FrameStep::OpensTry,
+            0x07 => FrameStep::TurnsCatch,
+            0x0b => FrameStep::Ends,
+            0x18 => FrameStep::Delegates,
+            0x19 => FrameStep::TurnsCatchAll,
+            0x1f => FrameStep::OpensTryTable,
+            _ => FrameStep::Stays,
+        }
+    }
+
     /// Whether a frame more is open behind it.
     #[inline(always)]
     pub fn opens(self) -> bool

@@ -4,3 +4,4 @@ pub mod Runs
 pub mod Ends
 pub mod Plain
 pub mod Clauses
+pub mod StepLemmas

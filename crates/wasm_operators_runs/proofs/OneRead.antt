@@ -30,14 +30,21 @@ may_end message.EndOfData other = refl
 may_end message.OutOfMemory other = absurd (other refl)
 may_end _ other = tt
 
--- A refusal of what stands at the start stops a read.
-pub stops_read : (Encodes : Taking) (Fault : Refusing) (Needs : Needing) (e : Error) (s : State) (kind : FrameKind) → innermost s.frames ≡ Some kind →
-    Refuses (Encodes s.reader.features kind) (rest s.reader) e.message → IsAhead s.reader e.offset → HasFault (Fault s.reader.features kind) e s.reader →
-    (e.message ≡ message.OutOfMemory → (e.offset ≡ offset_of s.reader) × Needs s) → StopsRead Encodes Fault Needs e s
-stops_read Encodes Fault Needs e s kind open_frame refuses ahead fault memory =
+-- A refusal of what stands at the start stops a read, which leaves the reader and the frames as they were.
+pub stops_read : (Encodes : Taking) (Fault : Refusing) (Needs : Needing) (e : Error) (old new : State) (kind : FrameKind) → new.reader ≡ old.reader →
+    new.frames ≡ old.frames → innermost old.frames ≡ Some kind → Refuses (Encodes old.reader.features kind) (rest old.reader) e.message →
+    IsAhead old.reader e.offset → HasFault (Fault old.reader.features kind) e old.reader →
+    (e.message ≡ message.OutOfMemory → (e.offset ≡ offset_of old.reader) × Needs new) → StopsRead Encodes Fault Needs e new
+stops_read Encodes Fault Needs e old new kind reader frames open_frame refuses ahead fault memory =
     elim (is_memory e.message) [
-      | inl is ↦ inr (inr (is, (memory is).0, (memory is).1))
-      | inr other ↦ inr (inl (record { kind = kind; open_frame = open_frame; refuses = refuses; ahead = ahead; fault = fault other }))
+      | inl is ↦ inr (inr (is, (memory is).0 ∙ ap offset_of (sym reader), (memory is).1))
+      | inr other ↦ inr (inl (record {
+        kind = kind;
+        open_frame = ap innermost frames ∙ open_frame;
+        refuses = subst (λ (r : Reader). Refuses (Encodes r.features kind) (rest r) e.message) (sym reader) refuses;
+        ahead = subst (λ r. IsAhead r e.offset) (sym reader) ahead;
+        fault = subst (λ (r : Reader). Fault r.features kind e.message r e.offset) (sym reader) (fault other);
+      }))
     ]
 
 -- What a refusal says of the bytes as they are, with these behind them: an operator that would be taken does not stand there.

@@ -1,5 +1,5 @@
 -- A run of reads, and what its end says.
-use Rattle.std.proofs.Common.{◌≡◌, ℕ, ◌+◌, ◌≤◌, List, [], ◌∷◌, ◌++◌, length, Bool, true, cond, None, Result, Ok, Err, refl, sym, subst, ap, ◌∙◌, append_assoc, arith, inl, inr}
+use Rattle.std.proofs.Common.{◌≡◌, ℕ, ◌+◌, ◌≤◌, List, [], ◌∷◌, ◌++◌, length, Bool, true, cond, None, Some, Result, Ok, Err, refl, sym, subst, ap, ◌∙◌, append_assoc, arith, inl, inr}
 use Rattle.std.proofs.lemmas.Bool.{cases_lt}
 use Rattle.std.proofs.lemmas.List.{append-nil}
 use Rattle.std.specs.Option.{option_and_then}
@@ -8,6 +8,7 @@ use Rattle.wasm_below.specs.bytes.message.Message.{Message}
 use Rattle.wasm_below.specs.bytes.message.Message.TheVariants as message
 use Rattle.wasm_below.specs.Source.{Source, Reader, rest, offset_of, source_of, Takes}
 use Rattle.wasm_below.proofs.TakesLemmas.{takes_then, takes_none}
+use Rattle.wasm_grammar.specs.declared.frame_kind.FrameKind.{FrameKind}
 use Rattle.wasm_grammar.specs.Frames.{frames_after, frames_along}
 use Rattle.wasm_grammar.specs.Beginning.{IsWalk}
 use Rattle.wasm_grammar.specs.OpenPath.{OpenPath}
@@ -21,7 +22,7 @@ use Rattle.wasm_instr.specs.Roles.{role_of, roles_of}
 use Rattle.wasm_operators_expressions.specs.Expression.{Placed, operators, LaidOut, AreEncoded, EncodesRest, IsBeginningBehind, IsLongestBehind}
 use Rattle.wasm_operators_expressions.specs.Flat.{IsAllowedFrom, IsFlatFrom}
 use Rattle.wasm_operators_expressions.specs.Openings.{opened_by, opened_along}
-use Rattle.wasm_operators_runs.specs.Reading.{Taking, Refusing, Needing, State, IsFresh, TakesOperator, Ran, StopsRun, Finishes, StopsFinish, EndsRun}
+use Rattle.wasm_operators_runs.specs.Reading.{Taking, Refusing, Needing, State, StopsRead, IsFresh, IsUnchanged, TakesOperator, Ran, StopsRun, Finishes, StopsFinish, EndsRun}
 use Rattle.wasm_operators_runs.specs.Headline.{StoodBefore, ReadsTree, BeginningAt, ReadsBeginning, IsWithinDepth, IsNotOutOfMemory}
 use Rattle.wasm_operators_expressions.proofs.FlatLemmas.{allowed_begins, flat_longest}
 use Rattle.wasm_operators_expressions.proofs.LayoutLemmas.{roles_of-append, operators-append, laid_push, laid_encoded, both_encoded, path_begins, not_empty, laid_goes_on, laid_no_longer, laid_same, one_longest, GoesOn, next_allowed}
@@ -57,6 +58,22 @@ ran_push Encodes sound old mid new placed op r t =
   where
     pushed_room : (a b c m n k : ℕ) → a ≤ b + m → b ≤ c + n → k ≡ m + (n + 0) → a ≤ c + k
     pushed_room a b c m n k p q e = omega (arith, p, q, e)
+
+-- A read that is refused adds nothing.
+pub ran_unchanged : (old mid new : State) (placed : Placed) → Ran old mid placed → IsUnchanged mid new → Ran old new placed
+ran_unchanged old mid new placed r (reader, frames, room) =
+    record {
+      text = r.text;
+      takes = subst (λ s. Takes old.reader s r.text) (sym reader) r.takes;
+      laid = r.laid;
+      frames = r.frames ∙ ap (λ (x : List FrameKind). Some x) (sym frames);
+      room = let first = r.room in omega (arith, first, room);
+    }
+
+-- It ends the run, where data was left.
+pub run_stops : (Encodes : Taking) (Fault : Refusing) (Needs : Needing) (e : Error) (mid new : State) → (rest mid.reader ≡ [] → ⊥) → IsUnchanged mid new →
+    StopsRead Encodes Fault Needs e new → StopsRun Encodes Fault Needs e new
+run_stops Encodes Fault Needs e mid new left same stops = inr (λ none. left (ap rest (sym same.0) ∙ none), stops)
 
 -- before a fresh reader no operator stood
 pub fresh_before : (s : State) → IsFresh s → StoodBefore [] s

@@ -80,15 +80,15 @@ NeedsRoom s = (byte : ℕ) × BeginsWith byte (rest s.reader) × LeadsFrame byte
 abbrev pub StopsRead : Taking → Refusing → Needing → Error → State → Type 0
 StopsRead Encodes Fault Needs e s = NoFrameOpen e s ⊎ (IsRefusedThere Encodes Fault e s ⊎ NoMemory Needs e s)
 
--- One read.
+-- One read. Where it is refused, what is said of the refusal holds of the reader as it stands then.
 abbrev pub ReadsOperator : Taking → Refusing → Needing → Result Operator Error → State → State → Type 0
 ReadsOperator Encodes Fault Needs (Ok op) old new = TakesOperator Encodes op old new
-ReadsOperator Encodes Fault Needs (Err e) old new = IsUnchanged old new × StopsRead Encodes Fault Needs e old
+ReadsOperator Encodes Fault Needs (Err e) old new = IsUnchanged old new × StopsRead Encodes Fault Needs e new
 
 -- One visit, with the visitor before and after it. None is made of an operator that is refused.
 abbrev pub VisitsOperator : {V A : Type 0} → (V → Operator → A → V → Type 0) → Taking → Refusing → Needing → Result A Error → State → State → V → V → Type 0
 VisitsOperator visits Encodes Fault Needs (Ok a) old new before after = (op : Operator) × TakesOperator Encodes op old new × visits before op a after
-VisitsOperator visits Encodes Fault Needs (Err e) old new before after = IsUnchanged old new × (after ≡ before) × StopsRead Encodes Fault Needs e old
+VisitsOperator visits Encodes Fault Needs (Err e) old new before after = IsUnchanged old new × (after ≡ before) × StopsRead Encodes Fault Needs e new
 
 -- Reads of these operators, one after another.
 pub record Ran (old new : State) (placed : Placed) : Type 0 where
