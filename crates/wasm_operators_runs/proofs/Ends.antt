@@ -21,10 +21,10 @@ use Rattle.wasm_instr.specs.Encoding.{EncodesOperator}
 use Rattle.wasm_instr.specs.Roles.{role_of, roles_of}
 use Rattle.wasm_operators_expressions.specs.Expression.{Placed, operators, LaidOut}
 use Rattle.wasm_operators_expressions.specs.Flat.{IsFlatFrom}
-use Rattle.wasm_operators_runs.specs.Reading.{Taking, Refusing, Needing, State, Ran, StopsRun, EndsRun}
+use Rattle.wasm_operators_runs.specs.Reading.{Taking, Refusing, Needing, State, Ran, StopsRun, EndsRun, ReadsOperator}
 use Rattle.wasm_operators_runs.specs.Headline.{StoodBefore, IsNotOutOfMemory, ClosesFrom, IsCut, CutFault, IsCompletedByEnds}
 use Rattle.wasm_operators_expressions.proofs.LayoutLemmas.{roles_of-append, operators-append, roles_of-ends, laid_append, laid_goes_on, laid_no_longer, laid_same, GoesOn, next_allowed, goes_allowed}
-use Rattle.wasm_operators_runs.proofs.OneRead.{refused_none, one_refusal, closed_read, read_closed}
+use Rattle.wasm_operators_runs.proofs.OneRead.{refused_none, refused_not_taken, one_refusal, closed_read, read_closed}
 use Rattle.wasm_operators_runs.proofs.Premises.{Everything, TakesEach, TakesAll, IsReading, IsDetermined}
 use Rattle.wasm_operators_runs.proofs.Runs.{features_stay, stood_on, IsStuckFor, stuck, run_flat, no_refusal}
 
@@ -194,6 +194,15 @@ abbrev pub SameAnswer : {X Y : Type 0} → Result X Error → Result Y Error →
 SameAnswer (Ok x) (Ok y) = Unit {0}
 SameAnswer (Err d) (Err e) = (d.message ≡ e.message) × (d.offset ≡ e.offset)
 SameAnswer _ _ = ⊥
+
+-- A read that was refused is refused again, by the same message and offset, memory aside.
+pub refused_again : (Encodes : Taking) (Fault : Refusing) (Needs : Needing) → IsDetermined Fault → (d : Error) (result : Result Operator Error)
+    (old mid new : State) → ReadsOperator Encodes Fault Needs (Err d) old mid → (d.message ≡ message.OutOfMemory → ⊥) →
+    ReadsOperator Encodes Fault Needs result mid new → IsNotOutOfMemory result → SameAnswer {X = Operator} (Err d) result
+refused_again Encodes Fault Needs determined d (Ok op) old mid new (same, stops) other takes memory =
+    refused_not_taken Encodes Fault Needs d mid mid new op refl refl stops other takes
+refused_again Encodes Fault Needs determined d (Err e) old mid new (same, stops) other (again, others) memory =
+    one_refusal Encodes Fault Needs determined d e mid new again.0 again.1 stops others other memory
 
 same_stops : (Encodes : Taking) (Fault : Refusing) (Needs : Needing) → IsDetermined Fault → (d e : Error) (s t : State) → t.reader ≡ s.reader →
     t.frames ≡ s.frames → StopsRun Encodes Fault Needs d s → StopsRun Encodes Fault Needs e t → (d.message ≡ message.OutOfMemory → ⊥) →

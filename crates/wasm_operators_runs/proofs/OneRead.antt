@@ -47,6 +47,13 @@ stops_read Encodes Fault Needs e old new kind reader frames open_frame refuses a
       }))
     ]
 
+-- Where memory may be refused, it may be where more is allowed.
+pub needs_more : (Encodes : Taking) (Fault : Refusing) (Needs Others : Needing) → ((s : State) → Needs s → Others s) → (e : Error) (s : State) →
+    StopsRead Encodes Fault Needs e s → StopsRead Encodes Fault Others e s
+needs_more Encodes Fault Needs Others more e s (inl none) = inl none
+needs_more Encodes Fault Needs Others more e s (inr (inl there)) = inr (inl there)
+needs_more Encodes Fault Needs Others more e s (inr (inr memory)) = inr (inr (memory.0, memory.1, more s memory.2))
+
 -- What a refusal says of the bytes as they are, with these behind them: an operator that would be taken does not stand there.
 pub refused_none : (Encodes : Taking) (Fault : Refusing) (e : Error) (s : State) (h : IsRefusedThere Encodes Fault e s) (behind : List ℕ) →
     MayFollow e.message behind → (text more : List ℕ) (op : Operator) → (Allows h.kind (role_of op) → Encodes s.reader.features h.kind text op) →

@@ -79,7 +79,8 @@ abbrev from_1 : ℕ → FrameStep
 from_1 byte = cond (eqb byte 0x03) step.OpensLoop (from_2 byte)
 
 -- at each byte in turn
-at_byte : (byte n : ℕ) (first no_step : FrameStep) (P : Type 0) → Opens (cond (eqb byte n) first no_step) → (byte ≡ n → Opens first → P) → (Opens no_step → P) → P
+at_byte : (byte n : ℕ) (first no_step : FrameStep) (P : Type 0) → Opens (cond (eqb byte n) first no_step) → (byte ≡ n → Opens first → P) →
+    (Opens no_step → P) → P
 at_byte byte n first no_step P h is other = go (eqb byte n) refl h
   where
     go : (b : Bool) → eqb byte n ≡ b → Opens (cond b first no_step) → P
