@@ -1,9 +1,9 @@
 #!/usr/bin/env python3
 """Writes docs/GATE.md, what each crate costs the gate, from the log of a run.
 
-    tools/gate_table.py LOG
+    tools/gate_table.py LOG [NOTE]
 
-LOG is what `.ci/run` wrote: `.ci/run > LOG 2>&1`. The functions of a crate come from the prover's last line
+LOG is what `.ci/run` wrote: `.ci/run > LOG 2>&1`. NOTE, a sentence on the run, stands above the table. The functions of a crate come from the prover's last line
 for it, the edits from rt's line for each, and the minutes from the lines of tools/timed.py.
 """
 
@@ -18,7 +18,7 @@ HEAD = """\
 Written by tools/gate_table.py from the log of a run of `.ci/run`; a new run's log replaces all of it.
 
 The whole of `rt ci` took {wall} minutes on {count} processors, and {processor} minutes of a processor. It ended with \
-`{last}`.
+`{last}`.{note}
 
 The table has minutes of a processor. A proof from nothing is a crate's own; where a crate has tests it is proved \
 once more with them, and each must-fail edit is a check of the crate over what the first proved. Time that \
@@ -72,13 +72,13 @@ def row(name, crate):
     return f"| `{name}` | {crate.functions or ''} | {' | '.join(cells)} | {crate.edits or ''} |"
 
 
-def page(text):
-    """The page that a log gives."""
+def page(text, note=""):
+    """The page that a log gives, with a note on the run."""
     crates, whole, last = read(text)
     if whole is None or not crates:
         sys.exit("the log has no lines of costs: it is not one of .ci/run")
     processor, wall, count = whole
-    head = HEAD.format(wall=minutes(wall), processor=minutes(processor), count=count, last=last)
+    head = HEAD.format(wall=minutes(wall), processor=minutes(processor), count=count, last=last, note=f" {note}" if note else "")
     dearest = sorted(crates, key=lambda name: (-sum(crates[name].processor.values()), name))
     functions, edits = (sum(getattr(it, word) for it in crates.values()) for word in ("functions", "edits"))
     parts = [sum(it.processor.get(part, 0) for it in crates.values()) for part in ("proof", "tests", "edits")]
@@ -88,11 +88,11 @@ def page(text):
 
 
 def main():
-    if len(sys.argv) != 2 or sys.argv[1].startswith("-"):
+    if len(sys.argv) not in (2, 3) or sys.argv[1].startswith("-"):
         print(__doc__)
         sys.exit(sys.argv[1:] not in (["--help"], ["-h"]))
     text = Path(sys.argv[1]).read_text(encoding="utf-8", errors="replace")
-    (TOP / "docs" / "GATE.md").write_text(page(text), encoding="utf-8")
+    (TOP / "docs" / "GATE.md").write_text(page(text, "".join(sys.argv[2:])), encoding="utf-8")
     print("docs/GATE.md")
 
 
