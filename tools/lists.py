@@ -14,6 +14,8 @@ import sys
 
 from arities import fixed_arity_source, fixed_arity_specs
 from counts import wrong_counts
+from decode import decode_files, unread
+from entries import entry_files
 from layout import laid_out
 from original import differences
 from printed import made_source, values_source
@@ -39,6 +41,8 @@ def files(ops):
     out["crates/wasm_instr/specs/FixedArity.antt"] = fixed_arity_specs(ops)
     out["crates/wasm_instr/src/fixed_arity.rt"] = fixed_arity_source(ops)
     out["crates/wasm_instr/proofs/ByOpcode.antt"] = operators_by_opcode(own)
+    out |= entry_files(ops)
+    out |= decode_files(ops)
     out |= visit_files(ops)
     out["crates/wasm_tests_lists/src/values.rt"] = values_source(ops)
     out["crates/wasm_tests_lists/src/made.rt"] = made_source(ops)
@@ -53,7 +57,7 @@ def stale(wanted, top=TOP):
 
 def left_over(wanted, top=TOP):
     """The files that say they are written from the table, and no longer are."""
-    found = [*top.glob("crates/*/src/**/*.rt"), *top.glob("crates/*/specs/*.antt"), *top.glob("crates/*/proofs/*.antt")]
+    found = [*top.glob("crates/*/src/**/*.rt"), *top.glob("crates/*/specs/*.antt"), *top.glob("crates/*/proofs/**/*.antt")]
     names = [str(path.relative_to(top)) for path in found if HEAD in path.read_text(encoding="utf-8")[:200]]
     return sorted(name for name in names if name not in wanted)
 
@@ -63,7 +67,7 @@ def main():
     if sys.argv[1:] and not check:
         print(__doc__)
         sys.exit(sys.argv[1:] not in (["--help"], ["-h"]))
-    found = faults() or differences(table())
+    found = faults() or differences(table()) or unread(table())
     if found:
         sys.exit("\n".join(found))
     wanted = files(table())

@@ -12,3 +12,6 @@ pub use Rattle.wasm_imm_control.proofs.HandlerTables
 pub use Rattle.wasm_imm_control.proofs.ListLemmas
 pub use Rattle.wasm_imm_control.proofs.ListRefusals
 pub use Rattle.wasm_imm_control.proofs.BranchTables
+pub use Rattle.wasm_imm_memory.proofs.DeterminedRefusals as DeterminedMemoryRefusals
+pub use Rattle.wasm_imm_constants.proofs.DeterminedRefusals as DeterminedConstantRefusals
+pub use Rattle.wasm_imm_control.proofs.DeterminedRefusals as DeterminedControlRefusals

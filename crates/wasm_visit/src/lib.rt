@@ -7,6 +7,7 @@ pub use wasm_visit_calls::{
     VisitOperator, VisitSimdOperator, visit_operator, visit_operator_with_simd, visit_owned,
     visit_owned_simd,
 };
+pub use wasm_visit_decode as decode;
 pub use wasm_visit_dispatch as dispatch;
 pub use wasm_visit_groups::{
     VisitAtomic, VisitGc, VisitMisc, VisitNumeric, VisitOneByte, VisitSimdHigh, VisitSimdLow,

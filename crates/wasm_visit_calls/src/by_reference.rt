@@ -2,6 +2,9 @@
 use crate::fixed::VisitFixed;
 use crate::operator::VisitOperator;
 use crate::vectors::VisitSimdOperator;
+use std::alloc::Global;
+use wasm_below::{BinaryReader, Result};
+use wasm_grammar::FrameKind;
 use wasm_instr::{
     AtomicOperator, BrTable, GcOperator, MiscOperator, NumericOperator, Operator, SimdOperator,
 };
@@ -26,6 +29,53 @@ impl<V: VisitFixed> VisitFixed for &mut V {
     fn dispatch_atomic(&mut self, op: AtomicOperator) -> Self::Output {
         (**self).dispatch_atomic(op)
     }
+
+    #[inline(always)]
+    fn decode_one_byte(
+        &mut self,
+        alloc: Global,
+        reader: &mut BinaryReader<'_>,
+        start: usize,
+        frame: FrameKind,
+        code: u8,
+    ) -> Result<Self::Output> {
+        (**self).decode_one_byte(alloc, reader, start, frame, code)
+    }
+
+    #[inline(always)]
+    fn decode_numeric(&mut self, code: u8) -> Self::Output {
+        (**self).decode_numeric(code)
+    }
+
+    #[inline(always)]
+    fn decode_gc(
+        &mut self,
+        reader: &mut BinaryReader<'_>,
+        start: usize,
+        code: u32,
+    ) -> Result<Self::Output> {
+        (**self).decode_gc(reader, start, code)
+    }
+
+    #[inline(always)]
+    fn decode_misc(
+        &mut self,
+        reader: &mut BinaryReader<'_>,
+        start: usize,
+        code: u32,
+    ) -> Result<Self::Output> {
+        (**self).decode_misc(reader, start, code)
+    }
+
+    #[inline(always)]
+    fn decode_atomic(
+        &mut self,
+        reader: &mut BinaryReader<'_>,
+        start: usize,
+        code: u32,
+    ) -> Result<Self::Output> {
+        (**self).decode_atomic(reader, start, code)
+    }
 }
 
 impl<'a, V: VisitOperator<'a>> VisitOperator<'a> for &mut V {
@@ -41,5 +91,25 @@ impl<V: VisitSimdOperator> VisitSimdOperator for &mut V {
 
     fn dispatch_simd_high(&mut self, op: SimdOperator) -> Self::Output {
         (**self).dispatch_simd_high(op)
+    }
+
+    #[inline(always)]
+    fn decode_simd_low(
+        &mut self,
+        reader: &mut BinaryReader<'_>,
+        start: usize,
+        code: u32,
+    ) -> Result<Self::Output> {
+        (**self).decode_simd_low(reader, start, code)
+    }
+
+    #[inline(always)]
+    fn decode_simd_high(
+        &mut self,
+        reader: &mut BinaryReader<'_>,
+        start: usize,
+        code: u32,
+    ) -> Result<Self::Output> {
+        (**self).decode_simd_high(reader, start, code)
     }
 }

@@ -1,17 +1,27 @@
 //! Visitors of the operators that are neither vector operators nor branch tables.
+ghost use Rattle.std.specs.Prelude.{◌≡◌, ◌≤◌, [], Some, None};
+ghost use Rattle.wasm_below.specs.Source.{at_position};
+ghost use Rattle.wasm_grammar.specs.declared.frame_kind.FrameKind.{FrameKind};
 ghost use Rattle.wasm_instr.specs.declared.operator.Operator.{Operator};
+ghost use Rattle.wasm_opcodes.specs.Allowed.{EncodesAllowed};
+ghost use Rattle.wasm_opcodes.specs.Decoding.{Decodes, StandsBehind, VisitsRow};
+ghost use Rattle.wasm_opcodes.specs.OperatorFaults.{OperatorFault};
+ghost use Rattle.wasm_visit_decode.specs.OneByte.{IsOneByteCode};
 ghost use Rattle.wasm_visit_groups.specs.Groups.{IsOneByte};
 
+use std::alloc::Global;
+use wasm_below::{BinaryReader, Result};
+use wasm_grammar::FrameKind;
 use wasm_instr::{AtomicOperator, GcOperator, MiscOperator, NumericOperator, Operator};
 use wasm_visit_dispatch as dispatch;
 use wasm_visit_factory::Factory;
 use wasm_visit_groups::Visitor;
 
 /// A visitor of the operators that are neither vector operators nor branch tables: for each group
-/// of visits, the call by which it is reached.
+/// of visits, the calls by which it is reached, from an operator and from bytes.
 ///
 /// It does not stand on the groups. A visitor with visits of its own in a group names it in one
-/// line, as said at each call; where it does not, the operators go to `visit_any`, and visits that
+/// line a call, as said at each; where it does not, the operators go to `visit_any`, and visits that
 /// it has in the group are not made.
 pub trait VisitFixed: Visitor {
     /// Visits an operator of one byte, neither a numeric one nor a branch table.
@@ -58,5 +68,102 @@ pub trait VisitFixed: Visitor {
         ensures { Self.visits self.old (Operator.Atomic op) result self.new }
     {
         self.visit_any(Operator::Atomic(op))
+    }
+
+    /// Reads what stands behind this opcode, and visits the operator of one byte, neither a numeric
+    /// one nor a branch table. `start` is the position of the opcode, to which a refused reader goes
+    /// back, and `frame` the innermost frame.
+    ///
+    /// A visitor with visits in `VisitOneByte` says
+    /// `decode::one_byte(self, alloc, reader, start, frame, code)` here.
+    #[inline(always)]
+    fn decode_one_byte(
+        &mut self,
+        alloc: Global,
+        reader: &mut BinaryReader<'_>,
+        start: usize,
+        frame: FrameKind,
+        code: u8,
+    ) -> Result<Self::Output>
+        requires behind { StandsBehind start None code reader.old }
+        requires apart { IsOneByteCode code }
+        ensures { Decodes Self.visits (EncodesAllowed reader.old.features frame) (OperatorFault reader.old.features frame) result (at_position reader.old start) reader.new self.old self.new }
+    {
+        match Factory.decode_one_byte(alloc, reader, start, frame, code) {
+            Ok(op) => Ok(self.visit_any(op)),
+            Err(e) => Err(e),
+        }
+    }
+
+    /// Visits the numeric operator of this opcode.
+    ///
+    /// A visitor with visits in `VisitNumeric` says `decode::numeric(self, code)` here.
+    #[inline(always)]
+    fn decode_numeric(&mut self, code: u8) -> Self::Output
+        requires from { 0x45 ≤ code }
+        requires to { code ≤ 0xc4 }
+        ensures { VisitsRow Self.visits None code [] self.old result self.new }
+    {
+        self.visit_any(Factory.decode_numeric(code))
+    }
+
+    /// Reads what stands behind a subopcode, and visits the operator of this subopcode behind the byte fb. `start` is the
+    /// position of the prefix byte, to which a refused reader goes back.
+    ///
+    /// A visitor with visits in `VisitGc` says `decode::gc(self, reader, start, code)` here.
+    #[inline(always)]
+    fn decode_gc(
+        &mut self,
+        reader: &mut BinaryReader<'_>,
+        start: usize,
+        code: u32,
+    ) -> Result<Self::Output>
+        requires behind { StandsBehind start (Some 0xfb) code reader.old }
+        ensures { (frame : FrameKind) → Decodes Self.visits (EncodesAllowed reader.old.features frame) (OperatorFault reader.old.features frame) result (at_position reader.old start) reader.new self.old self.new }
+    {
+        match Factory.decode_gc(reader, start, code) {
+            Ok(op) => Ok(self.visit_any(op)),
+            Err(e) => Err(e),
+        }
+    }
+
+    /// Reads what stands behind a subopcode, and visits the operator of this subopcode behind the byte fc. `start` is the
+    /// position of the prefix byte, to which a refused reader goes back.
+    ///
+    /// A visitor with visits in `VisitMisc` says `decode::misc(self, reader, start, code)` here.
+    #[inline(always)]
+    fn decode_misc(
+        &mut self,
+        reader: &mut BinaryReader<'_>,
+        start: usize,
+        code: u32,
+    ) -> Result<Self::Output>
+        requires behind { StandsBehind start (Some 0xfc) code reader.old }
+        ensures { (frame : FrameKind) → Decodes Self.visits (EncodesAllowed reader.old.features frame) (OperatorFault reader.old.features frame) result (at_position reader.old start) reader.new self.old self.new }
+    {
+        match Factory.decode_misc(reader, start, code) {
+            Ok(op) => Ok(self.visit_any(op)),
+            Err(e) => Err(e),
+        }
+    }
+
+    /// Reads what stands behind a subopcode, and visits the operator of this subopcode behind the byte fe. `start` is the
+    /// position of the prefix byte, to which a refused reader goes back.
+    ///
+    /// A visitor with visits in `VisitAtomic` says `decode::atomic(self, reader, start, code)` here.
+    #[inline(always)]
+    fn decode_atomic(
+        &mut self,
+        reader: &mut BinaryReader<'_>,
+        start: usize,
+        code: u32,
+    ) -> Result<Self::Output>
+        requires behind { StandsBehind start (Some 0xfe) code reader.old }
+        ensures { (frame : FrameKind) → Decodes Self.visits (EncodesAllowed reader.old.features frame) (OperatorFault reader.old.features frame) result (at_position reader.old start) reader.new self.old self.new }
+    {
+        match Factory.decode_atomic(reader, start, code) {
+            Ok(op) => Ok(self.visit_any(op)),
+            Err(e) => Err(e),
+        }
     }
 }

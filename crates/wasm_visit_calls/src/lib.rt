@@ -8,6 +8,7 @@ mod by_reference;
 mod factory;
 mod fixed;
 mod is_end;
+mod making;
 mod operator;
 mod owned;
 mod vectors;

@@ -1,15 +1,23 @@
 //! Visitors of the vector operators.
+ghost use Rattle.std.specs.Prelude.{◌≤◌, ◌<◌, Some};
+ghost use Rattle.wasm_below.specs.Source.{at_position};
+ghost use Rattle.wasm_grammar.specs.declared.frame_kind.FrameKind.{FrameKind};
 ghost use Rattle.wasm_instr.specs.declared.operator.Operator.{Operator};
+ghost use Rattle.wasm_opcodes.specs.Allowed.{EncodesAllowed};
+ghost use Rattle.wasm_opcodes.specs.Decoding.{Decodes, StandsBehind};
+ghost use Rattle.wasm_opcodes.specs.OperatorFaults.{OperatorFault};
 ghost use Rattle.wasm_visit_groups.specs.Groups.{IsSimdHigh, IsSimdLow};
 
+use wasm_below::{BinaryReader, Result};
 use wasm_instr::{Operator, SimdOperator};
+use wasm_visit_factory::Factory;
 use wasm_visit_groups::Visitor;
 
-/// A visitor of the vector operators: for each of the two groups of their visits, the call by which
-/// it is reached. Vector Instructions.
+/// A visitor of the vector operators: for each of the two groups of their visits, the calls by
+/// which it is reached, from an operator and from bytes. Vector Instructions.
 ///
 /// It does not stand on the groups. A visitor with visits of its own in a group names it in one
-/// line, as said at each call; where it does not, the operators go to `visit_any`, and visits that
+/// line a call, as said at each; where it does not, the operators go to `visit_any`, and visits that
 /// it has in the group are not made. A visitor of all operators is bound by
 /// `VisitOperator<'a> + VisitSimdOperator`.
 pub trait VisitSimdOperator: Visitor {
@@ -31,5 +39,47 @@ pub trait VisitSimdOperator: Visitor {
         ensures { Self.visits self.old (Operator.Simd op) result self.new }
     {
         self.visit_any(Operator::Simd(op))
+    }
+
+    /// Reads what stands behind a subopcode, and visits the vector operator of this subopcode below 80. `start` is the
+    /// position of the prefix byte, to which a refused reader goes back.
+    ///
+    /// A visitor with visits in `VisitSimdLow` says `decode::simd_low(self, reader, start, code)` here.
+    #[inline(always)]
+    fn decode_simd_low(
+        &mut self,
+        reader: &mut BinaryReader<'_>,
+        start: usize,
+        code: u32,
+    ) -> Result<Self::Output>
+        requires behind { StandsBehind start (Some 0xfd) code reader.old }
+        requires half { code < 0x80 }
+        ensures { (frame : FrameKind) → Decodes Self.visits (EncodesAllowed reader.old.features frame) (OperatorFault reader.old.features frame) result (at_position reader.old start) reader.new self.old self.new }
+    {
+        match Factory.decode_simd_low(reader, start, code) {
+            Ok(op) => Ok(self.visit_any(op)),
+            Err(e) => Err(e),
+        }
+    }
+
+    /// Reads what stands behind a subopcode, and visits the vector operator of this subopcode from 80 on. `start` is the
+    /// position of the prefix byte, to which a refused reader goes back.
+    ///
+    /// A visitor with visits in `VisitSimdHigh` says `decode::simd_high(self, reader, start, code)` here.
+    #[inline(always)]
+    fn decode_simd_high(
+        &mut self,
+        reader: &mut BinaryReader<'_>,
+        start: usize,
+        code: u32,
+    ) -> Result<Self::Output>
+        requires behind { StandsBehind start (Some 0xfd) code reader.old }
+        requires half { 0x80 ≤ code }
+        ensures { (frame : FrameKind) → Decodes Self.visits (EncodesAllowed reader.old.features frame) (OperatorFault reader.old.features frame) result (at_position reader.old start) reader.new self.old self.new }
+    {
+        match Factory.decode_simd_high(reader, start, code) {
+            Ok(op) => Ok(self.visit_any(op)),
+            Err(e) => Err(e),
+        }
     }
 }

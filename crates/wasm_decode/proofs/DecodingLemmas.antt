@@ -1,0 +1,316 @@
+-- From the first byte of an operator to its visit.
+use Rattle.std.proofs.Common.{◌≡◌, ◌≢◌, ℕ, suc, ◌+◌, ◌-◌, ◌≤◌, ◌<◌, inl, inr, Bool, true, false, List, [], ◌∷◌, ◌++◌, length, length-append, Option, Some, None, Result, Ok, Err, refl, sym, subst, ap, ◌∙◌, append_assoc, arith}
+use Rattle.wasm_below.specs.bytes.error.Error.{Error}
+use Rattle.wasm_below.specs.bytes.features.WasmFeatures.{WasmFeatures}
+use Rattle.wasm_below.specs.bytes.message.Message.{Message}
+use Rattle.wasm_below.specs.bytes.message.Message.TheVariants as message
+use Rattle.wasm_below.specs.Fault.{HasFault}
+use Rattle.wasm_below.specs.Number.{EncodesUnsigned}
+use Rattle.wasm_below.specs.Refusal.{IsReadFault}
+use Rattle.wasm_below.specs.Source.{Reader, rest, offset_of, end_of, at_position, Takes, NoPrefix, MayFollow, BeginsWith, IsAhead, IsRefusal, Reads, IsByte, IsEndHere, U32Fault}
+use Rattle.wasm_below.proofs.Blocks.{refused_now}
+use Rattle.wasm_below.proofs.Faults.{none_here}
+use Rattle.wasm_below.proofs.TakesLemmas.{takes_then, takes_none, rewound, first_byte_read}
+use Rattle.wasm_grammar.specs.declared.frame_kind.FrameKind.{FrameKind}
+use Rattle.wasm_instr.specs.declared.operator.Operator.{Operator}
+use Rattle.wasm_instr.specs.declared.operator.Operator.TheVariants as operator
+use Rattle.wasm_instr.specs.Encoding.{EncodesOpcode, EncodesOperator}
+use Rattle.wasm_instr.specs.Immediate.{Kind}
+use Rattle.wasm_instr.specs.Kinds.{IsVector}
+use Rattle.wasm_instr.specs.Row.{prefix_of, opcode_of}
+use Rattle.wasm_opcodes.specs.Allowed.{EncodesAllowed, EncodesPlain, EncodesIn}
+use Rattle.wasm_opcodes.specs.Decoding.{Decodes, RefusesOperator, StandsBehind, VisitsRow}
+use Rattle.wasm_opcodes.specs.declared.guard.Guard.{Guard}
+use Rattle.wasm_opcodes.specs.Entry.{Entry, prefixes, guard_of, kinds_of, guarded_entry, entry_of}
+use Rattle.wasm_opcodes.specs.Entries.{opcode_entries, entry_at}
+use Rattle.wasm_opcodes.specs.OperatorFaults.{SubopcodeFault, EntryFault, OperatorFault, PlainOperatorFault, FaultIn}
+use Rattle.wasm_opcodes.specs.Refused.{IsRefusedOperator, NeedsMemory}
+use Rattle.wasm_opcodes.proofs.OperatorLemmas.{within_behind}
+use Rattle.wasm_opcodes.proofs.Told.{told}
+use Rattle.wasm_visit_decode.proofs.Ranges.{InRanges, codes_in}
+use Rattle.wasm_decode.specs.Reading.{DecodesOperator}
+
+-- ---- the first byte
+
+-- the reader stands behind the byte that it read
+pub stands : (old mid : Reader) (code start : ℕ) → Reads IsByte (Ok code) old mid → start ≡ old.position → (at_position mid start ≡ old) × StandsBehind start None code mid
+stands old mid code start r same =
+    let f = first_byte_read old mid code r in
+    let position : mid.position ≡ old.position + 1 = ap (λ (z : Reader). z.position) f.2.moved in
+    let back : at_position mid start ≡ old = ap (at_position mid) same ∙ rewound old mid (code ∷ []) f.2 in (
+      back,
+      record { begun = omega (arith, same, position); opcode = (code ∷ [], refl, subst (λ z. Takes z mid (code ∷ [])) (sym back) f.2) },
+    )
+
+some_head : (p : Option ℕ) (code : ℕ) (head : List ℕ) → EncodesOpcode p code head → 0 < length head
+some_head None code head h = let n : length head ≡ 1 = ap length h in omega arith
+some_head (Some p) code head (number, h, u) = let n : length head ≡ suc (length number) = ap length h in omega arith
+
+no_prefixes : (g : Option Guard) (ks : List Kind) → guarded_entry g ks ≡ prefixes → ⊥
+no_prefixes None ks e = cc e
+no_prefixes (Some g) ks e = cc e
+
+-- no operator has no bytes
+none_empty : (f : WasmFeatures) (k : FrameKind) → NoPrefix (EncodesAllowed f k) []
+none_empty f k text left op s eq =
+    let some = some_head (prefix_of op) (opcode_of op) s.0.head s.0.code in
+    let whole : 0 ≡ length s.0.head + length s.0.behind + length left = ap length eq ∙ length-append text left ∙ ap (λ z. length z + length left) s.0.parts ∙
+    ap (λ z. z + length left) (length-append s.0.head s.0.behind) in
+    omega arith
+
+-- no byte is left
+pub refuses_end : (k : FrameKind) (e : Error) (old new : Reader) → (new ≡ old) × IsRefusal IsByte e old → IsEndHere e old →
+    RefusesOperator (EncodesAllowed old.features k) (OperatorFault old.features k) e old new
+refuses_end k e old new (same, h) end = (
+  same,
+  record {
+    refuses = λ more follow. (
+        let none : more ≡ [] = subst (λ m. MayFollow m more) end.0 follow in
+        let left : rest old ≡ [] = none_here old end.2 in
+        let all : rest old ++ more ≡ [] = ap (λ z. z ++ more) left ∙ none in
+        subst (NoPrefix (EncodesAllowed old.features k)) (sym all) (none_empty old.features k)
+        );
+    ahead = h.ahead;
+    memory = λ m. absurd (subst IsReadFault m h.fault);
+  },
+  λ some. inl (refused_now IsByte e old h, end),
+)
+
+-- no frame is open
+pub refuses_closed : (E : FrameKind → List ℕ → Operator → Type 0) (F : FrameKind → Message → Reader → ℕ → Type 0) (e : Error) (old : Reader) →
+    e.message ≡ message.OperatorsRemaining → e.offset ≡ offset_of old → offset_of old ≤ end_of old → RefusesOperator (EncodesIn E None) (FaultIn F None) e old old
+refuses_closed E F e old m at within = (
+  refl,
+  record {
+    refuses = λ more follow text left op s eq. s;
+    ahead = (omega (arith, at), omega (arith, at, within));
+    memory = λ z. absurd (cc (sym m ∙ z));
+  },
+  λ some. (m, at),
+)
+
+-- ---- a prefix byte
+
+-- the reader stands behind the subopcode that it read
+pub stands_behind : (start p code : ℕ) (mid now : Reader) → StandsBehind start None p mid → Reads (EncodesUnsigned 32) (Ok code) mid now →
+    (now ≡ at_position mid now.position) × StandsBehind start (Some p) code now
+stands_behind start p code mid now b (number, u, t) = go b.opcode
+  where
+    stays : now ≡ at_position mid now.position
+    stays = t.moved ∙ ap (at_position mid) (sym (ap (λ (z : Reader). z.position) t.moved))
+
+    start_same : at_position mid start ≡ at_position now start
+    start_same = sym (ap (λ (z : Reader). at_position z start) t.moved)
+
+    go : Reads (λ text it. EncodesOpcode None it text) (Ok p) (at_position mid start) mid → (now ≡ at_position mid now.position) × StandsBehind start (Some p) code now
+    go (head, opcode, taken) =
+        let both : Takes (at_position mid start) now (head ++ number) = takes_then (at_position mid start) mid now head number taken t in
+        let whole : Takes (at_position mid start) now (p ∷ number) = subst (λ z. Takes (at_position mid start) now (z ++ number)) opcode both in
+        let at : now.position ≡ mid.position + length number = ap (λ (z : Reader). z.position) t.moved in
+        let begun = b.begun in (
+          stays,
+          record { begun = omega (arith, at, begun); opcode = (p ∷ number, (number, refl, u), subst (λ z. Takes z now (p ∷ number)) start_same whole) },
+        )
+
+-- an operator that begins with a prefix byte has it
+pub begins_prefix : (f : WasmFeatures) (op : Operator) (p : ℕ) (text after left : List ℕ) → entry_at None p ≡ prefixes → EncodesOperator f op text → p ∷ after ≡ text ++ left →
+    (number behind : List ℕ) × (prefix_of op ≡ Some p) × EncodesUnsigned 32 number (opcode_of op) × (after ≡ number ++ (behind ++ left))
+begins_prefix f op p text after left is s eq = go (prefix_of op) refl s.code
+  where
+    whole : p ∷ after ≡ s.head ++ (s.behind ++ left)
+    whole = eq ∙ ap (λ z. z ++ left) s.parts ∙ append_assoc s.head s.behind left
+
+    go : (q : Option ℕ) → prefix_of op ≡ q → EncodesOpcode q (opcode_of op) s.head →
+        (number behind : List ℕ) × (prefix_of op ≡ Some p) × EncodesUnsigned 32 number (opcode_of op) × (after ≡ number ++ (behind ++ left))
+    go None e h =
+        let first : p ∷ after ≡ opcode_of op ∷ (s.behind ++ left) = whole ∙ ap (λ z. z ++ (s.behind ++ left)) h in
+        let same : p ≡ opcode_of op = cc first in
+        let row : entry_at None (opcode_of op) ≡ entry_of op = ap (λ z. entry_at z (opcode_of op)) (sym e) ∙ told op in
+        absurd (no_prefixes (guard_of op) (kinds_of op) (sym row ∙ ap (entry_at None) (sym same) ∙ is))
+    go (Some q) e (number, h, u) =
+        let first : p ∷ after ≡ q ∷ (number ++ (s.behind ++ left)) = whole ∙ ap (λ z. z ++ (s.behind ++ left)) h in
+        let same : p ≡ q = cc first in
+        (number, s.behind, e ∙ ap Some (sym same), u, cc first)
+
+-- the subopcode is refused
+pub refuses_subopcode : (k : FrameKind) (start p : ℕ) (e : Error) (mid now new : Reader) → p < 256 → entry_at None p ≡ prefixes → StandsBehind start None p mid →
+    (now ≡ mid) × IsRefusal (EncodesUnsigned 32) e mid → U32Fault e.message mid e.offset → new ≡ at_position now start →
+    RefusesOperator (EncodesAllowed mid.features k) (OperatorFault mid.features k) e (at_position mid start) new
+refuses_subopcode k start p e mid now new small is b (same, h) fault went = go b.opcode
+  where
+    go : Reads (λ text it. EncodesOpcode None it text) (Ok p) (at_position mid start) mid →
+        RefusesOperator (EncodesAllowed mid.features k) (OperatorFault mid.features k) e (at_position mid start) new
+    go (head, opcode, t) =
+        let parts : rest (at_position mid start) ≡ p ∷ rest mid = t.parts ∙ ap (λ z. z ++ rest mid) opcode in
+        let begun = b.begun in
+        let ahead = h.ahead in (
+          went ∙ ap (λ (z : Reader). at_position z start) same,
+          record {
+            refuses = λ more follow text left op s eq.
+                (
+                let o = begins_prefix mid.features op p text (rest mid ++ more) left is s.0 (ap (λ z. z ++ more) (sym parts) ∙ eq) in
+                h.refuses more follow o.0 (o.1 ++ left) (opcode_of op) o.3 o.4
+                );
+            ahead = (omega (arith, ahead.0, begun), ahead.1);
+            memory = λ m. absurd (subst IsReadFault m h.fault);
+          },
+          λ some. inr (
+            p,
+            mid,
+            (head, (opcode, small), t),
+            subst (λ z. EntryFault mid.features k (mid.start + start) p z e.message mid e.offset) (sym is) (inl (refused_now (EncodesUnsigned 32) e mid h, fault)),
+          ),
+        )
+
+-- what is decoded behind the subopcode is decoded behind the prefix byte
+pub behind_prefix : {V A : Type 0} (visits : V → Operator → A → V → Type 0) (k : FrameKind) (start : ℕ) (mid now new : Reader) (v w : V) (result : Result A Error) →
+    now ≡ at_position mid now.position → Decodes visits (EncodesAllowed now.features k) (OperatorFault now.features k) result (at_position now start) new v w →
+    Decodes visits (EncodesAllowed mid.features k) (OperatorFault mid.features k) result (at_position mid start) new v w
+behind_prefix visits k start mid now new v w result stays h =
+    subst (λ (z : Reader). Decodes visits (EncodesAllowed z.features k) (OperatorFault z.features k) result (at_position z start) new v w) stays h
+
+-- ---- plain visitors
+
+pub vector_prefix : (op : Operator) → IsVector op → prefix_of op ≡ Some 0xfd
+vector_prefix (operator.Simd op) h = refl
+vector_prefix op h = absurd h
+
+abbrev number_in : Option ℕ → ℕ
+number_in None = 0
+number_in (Some n) = n
+
+pub prefix_vector : (op : Operator) → prefix_of op ≡ Some 0xfd → IsVector op
+prefix_vector (operator.Simd op) e = tt
+prefix_vector op e = absurd (omega (arith, ap number_in e))
+
+-- an operator without the prefix byte fd in front is no vector operator
+plain_behind : (f : WasmFeatures) (op : Operator) (code : ℕ) (text after left : List ℕ) → code ≢ 0xfd → EncodesOperator f op text → code ∷ after ≡ text ++ left → ¬ IsVector op
+plain_behind f op code text after left other s eq h = go (prefix_of op) refl s.code
+  where
+    go : (q : Option ℕ) → prefix_of op ≡ q → EncodesOpcode q (opcode_of op) s.head → ⊥
+    go None e code_is = cc (sym e ∙ vector_prefix op h)
+    go (Some q) e (number, head, u) =
+        let first : code ∷ after ≡ q ∷ (number ++ (s.behind ++ left)) = eq ∙ ap (λ z. z ++ left) s.parts ∙ append_assoc s.head s.behind left ∙
+        ap (λ z. z ++ (s.behind ++ left)) head in
+        let same : code ≡ q = cc first in
+        let is : q ≡ 0xfd = cc (sym e ∙ vector_prefix op h) in
+        other (same ∙ is)
+
+other_byte : (code : ℕ) (after bytes : List ℕ) → code ≢ 0xfd → bytes ≡ code ∷ after → BeginsWith 0xfd bytes → ⊥
+other_byte code after bytes other e (more, h) = other (let whole : code ∷ after ≡ 0xfd ∷ more = sym e ∙ h in cc whole)
+
+refused_plain : (f : WasmFeatures) (k : FrameKind) (e : Error) (old : Reader) → IsRefusedOperator (EncodesAllowed f k) e old → IsRefusedOperator (EncodesPlain f k) e old
+refused_plain f k e old h =
+    record {
+      refuses = λ more follow text left op s eq. h.refuses more follow text left op s.0 eq;
+      ahead = h.ahead;
+      memory = λ m. (
+          let g = h.memory m in
+          (g.0, record { leads = g.1.leads; owns = λ text left op s eq. g.1.owns text left op (s.0.0, s.1) eq })
+          );
+    }
+
+-- what is decoded behind another opcode than fd, is by a plain visitor too
+pub to_plain : {V A : Type 0} (visits : V → Operator → A → V → Type 0) (k : FrameKind) (start code : ℕ) (mid new : Reader) (v w : V) (result : Result A Error) → code ≢ 0xfd →
+    StandsBehind start None code mid → Decodes visits (EncodesAllowed mid.features k) (OperatorFault mid.features k) result (at_position mid start) new v w →
+    Decodes visits (EncodesPlain mid.features k) (PlainOperatorFault mid.features k) result (at_position mid start) new v w
+to_plain {V} {A} visits k start code mid new v w result other b h = go b.opcode result h
+  where
+    go : Reads (λ text it. EncodesOpcode None it text) (Ok code) (at_position mid start) mid → (result : Result A Error) →
+        Decodes visits (EncodesAllowed mid.features k) (OperatorFault mid.features k) result (at_position mid start) new v w →
+        Decodes visits (EncodesPlain mid.features k) (PlainOperatorFault mid.features k) result (at_position mid start) new v w
+    go (head, opcode, t) (Ok a) (text, op, s, taken, vis) =
+        let parts : rest (at_position mid start) ≡ code ∷ rest mid = t.parts ∙ ap (λ z. z ++ rest mid) opcode in
+        (text, op, (s, plain_behind mid.features op code text (rest mid) (rest new) other s.0 (sym parts ∙ taken.parts)), taken, vis)
+    go (head, opcode, t) (Err e) (same, (went, h, fault)) =
+        let parts : rest (at_position mid start) ≡ code ∷ rest mid = t.parts ∙ ap (λ z. z ++ rest mid) opcode in (
+          same,
+          (went, refused_plain mid.features k e (at_position mid start) h, λ some. inr (other_byte code (rest mid) (rest (at_position mid start)) other parts, fault some)),
+        )
+
+-- no byte is left, of a plain visitor
+pub refuses_end_plain : (k : FrameKind) (e : Error) (old new : Reader) → (new ≡ old) × IsRefusal IsByte e old → IsEndHere e old →
+    RefusesOperator (EncodesPlain old.features k) (PlainOperatorFault old.features k) e old new
+refuses_end_plain k e old new r end =
+    let h = refuses_end k e old new r end in
+    (h.0, refused_plain old.features k e old h.1, λ some. inr ((λ b. empty b.0 (sym (none_here old end.2) ∙ b.1)), h.2 some))
+  where
+    empty : (more : List ℕ) → [] ≡ 0xfd ∷ more → ⊥
+    empty more q = cc q
+
+-- the byte fd, whatever stands behind it
+pub refuses_vector : (k : FrameKind) (start : ℕ) (e : Error) (mid new : Reader) → entry_at None 0xfd ≡ prefixes → StandsBehind start None 0xfd mid → new ≡ at_position mid start →
+    e.message ≡ message.UnexpectedSimd → e.offset ≡ mid.start + start →
+    RefusesOperator (EncodesPlain mid.features k) (PlainOperatorFault mid.features k) e (at_position mid start) new
+refuses_vector k start e mid new is b went m at = go b.opcode
+  where
+    go : Reads (λ text it. EncodesOpcode None it text) (Ok 0xfd) (at_position mid start) mid →
+        RefusesOperator (EncodesPlain mid.features k) (PlainOperatorFault mid.features k) e (at_position mid start) new
+    go (head, opcode, t) =
+        let parts : rest (at_position mid start) ≡ 0xfd ∷ rest mid = t.parts ∙ ap (λ z. z ++ rest mid) opcode in
+        let within = within_behind start None 0xfd mid b in
+        let begun = b.begun in (
+          went,
+          record {
+            refuses = λ more follow text left op s eq.
+                (
+                let o = begins_prefix mid.features op 0xfd text (rest mid ++ more) left is s.0.0 (ap (λ z. z ++ more) (sym parts) ∙ eq) in
+                s.1 (prefix_vector op o.2)
+                );
+            ahead = (omega (arith, at), omega (arith, at, within, begun));
+            memory = λ z. absurd (cc (sym m ∙ z));
+          },
+          λ some. inl ((rest mid, parts), m, at),
+        )
+
+-- ---- the whole call
+
+-- from behind the opcode to the operator's start
+pub from_start : {V A : Type 0} (visits : V → Operator → A → V → Type 0) (E : WasmFeatures → FrameKind → List ℕ → Operator → Type 0)
+    (F : WasmFeatures → FrameKind → Message → Reader → ℕ → Type 0) (k : FrameKind) (start : ℕ) (old mid new : Reader) (v w : V) (result : Result A Error) → at_position mid start ≡ old →
+    Decodes visits (E mid.features k) (F mid.features k) result (at_position mid start) new v w → Decodes visits (E old.features k) (F old.features k) result old new v w
+from_start visits E F k start old mid new v w result back h =
+    subst (λ (z : Reader). Decodes visits (E z.features k) (F z.features k) result z new v w) back h
+
+-- ---- reading
+
+-- what a visitor that answers the operator decodes is read
+pub as_read : {V : Type 0} (E : List ℕ → Operator → Type 0) (F : Message → Reader → ℕ → Type 0) (old new : Reader) (v w : V) (result : Result Operator Error) →
+    Decodes {V = V} (λ before op answer after. answer ≡ op) E F result old new v w → DecodesOperator E F result old new
+as_read E F old new v w (Ok op) (text, it, s, taken, same) = (text, subst (E text) (sym same) s, taken)
+as_read E F old new v w (Err e) (same, h) = h
+
+pub read_from_start : (E : WasmFeatures → FrameKind → List ℕ → Operator → Type 0) (F : WasmFeatures → FrameKind → Message → Reader → ℕ → Type 0) (k : FrameKind) (start : ℕ)
+    (old mid new : Reader) (result : Result Operator Error) → at_position mid start ≡ old →
+    DecodesOperator (E mid.features k) (F mid.features k) result (at_position mid start) new → DecodesOperator (E old.features k) (F old.features k) result old new
+read_from_start E F k start old mid new result back h = subst (λ (z : Reader). DecodesOperator (E z.features k) (F z.features k) result z new) back h
+
+-- ---- prefix bytes
+
+abbrev is_prefixes : Entry → Bool
+is_prefixes prefixes = true
+is_prefixes _ = false
+
+-- the prefix bytes are fb to fe
+pub prefix_bytes : (code : ℕ) → entry_at None code ≡ prefixes → InRanges code ((0xfb, 0xfe) ∷ [])
+prefix_bytes code e = codes_in is_prefixes ((0xfb, 0xfe) ∷ []) opcode_entries code refl refl (ap is_prefixes e)
+
+-- ---- where a frame is open
+
+opened : (E : FrameKind → List ℕ → Operator → Type 0) (k : FrameKind) (e : Error) (old : Reader) → IsRefusedOperator (E k) e old → IsRefusedOperator (EncodesIn E (Some k)) e old
+opened E k e old h =
+    record {
+      refuses = h.refuses;
+      ahead = h.ahead;
+      memory = λ m. (let g = h.memory m in (g.0, record { leads = g.1.leads; owns = g.1.owns }));
+    }
+
+pub visited_in : {V A : Type 0} (visits : V → Operator → A → V → Type 0) (E : FrameKind → List ℕ → Operator → Type 0) (F : FrameKind → Message → Reader → ℕ → Type 0) (k : FrameKind)
+    (old new : Reader) (v w : V) (result : Result A Error) → Decodes visits (E k) (F k) result old new v w → Decodes visits (EncodesIn E (Some k)) (FaultIn F (Some k)) result old new v w
+visited_in visits E F k old new v w (Ok a) h = h
+visited_in visits E F k old new v w (Err e) (same, (went, h, fault)) = (same, (went, opened E k e old h, fault))
+
+pub read_in : (E : FrameKind → List ℕ → Operator → Type 0) (F : FrameKind → Message → Reader → ℕ → Type 0) (k : FrameKind) (old new : Reader) (result : Result Operator Error) →
+    DecodesOperator (E k) (F k) result old new → DecodesOperator (EncodesIn E (Some k)) (FaultIn F (Some k)) result old new
+read_in E F k old new (Ok op) h = h
+read_in E F k old new (Err e) (went, h, fault) = (went, opened E k e old h, fault)

@@ -1,0 +1,17 @@
+use Rattle.std.proofs.Common.{sym, subst}
+use Rattle.wasm_opcodes.specs.Allowed.{EncodesPlain, EncodesIn}
+use Rattle.wasm_opcodes.specs.Decoding.{Decodes}
+use Rattle.wasm_opcodes.specs.OperatorFaults.{PlainOperatorFault, FaultIn}
+use Rattle.wasm_decode.proofs.DecodingLemmas.{stands, from_start, visited_in}
+use Rattle.wasm_decode.proofs.visit.visit_operator.Goals as goal
+
+pub returns-in-Ok : goal.returns-in-Ok
+returns-in-Ok g c =
+    let r = c.args.reader.now in
+    let k = c.in-Some.frame in
+    let s = stands r c.read_u8.new.self c.in-Ok.code c.current_position-start.result c.in-Ok.ensures.reads c.current_position-start.ensures in
+    subst (λ z. Decodes g.V.Visitor.visits (EncodesIn (EncodesPlain r.features) z) (FaultIn (PlainOperatorFault r.features) z) c.visit_behind.result r c.visit_behind.new.reader c.args.v.now c.visit_behind.new.v)
+    (sym c.in-Some.is)
+    (visited_in g.V.Visitor.visits (EncodesPlain r.features) (PlainOperatorFault r.features) k r c.visit_behind.new.reader c.args.v.now c.visit_behind.new.v c.visit_behind.result
+    (from_start g.V.Visitor.visits EncodesPlain PlainOperatorFault k c.current_position-start.result r c.read_u8.new.self c.visit_behind.new.reader c.args.v.now c.visit_behind.new.v
+    c.visit_behind.result s.0 c.visit_behind.ensures))

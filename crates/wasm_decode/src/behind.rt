@@ -1,0 +1,127 @@
+//! What stands behind an opcode, but for the branch table and the vector operators.
+ghost use Rattle.std.specs.Prelude.{◌≡◌, ◌≢◌, Some, None, IfOk, IfErr};
+ghost use Rattle.wasm_below.specs.Source.{at_position};
+ghost use Rattle.wasm_grammar.specs.declared.frame_kind.FrameKind.{FrameKind};
+ghost use Rattle.wasm_opcodes.specs.Allowed.{EncodesAllowed};
+ghost use Rattle.wasm_opcodes.specs.Decoding.{Decodes, RefusesOperator, StandsBehind};
+ghost use Rattle.wasm_opcodes.specs.Entries.{entry_at};
+ghost use Rattle.wasm_opcodes.specs.Entry.{prefixes};
+ghost use Rattle.wasm_opcodes.specs.OperatorFaults.{OperatorFault};
+
+use std::alloc::Global;
+use wasm_below::{BinaryReader, Result};
+use wasm_grammar::FrameKind;
+use wasm_visit::{VisitFixed, VisitSimdOperator};
+
+/// The subopcode behind a prefix byte that was read at the position `start`: a LEB128 number of 32
+/// bits, overlong ones too. Where it is refused the reader goes back.
+#[inline(always)]
+fn subopcode(reader: &mut BinaryReader<'_>, start: usize, prefix: u8) -> Result<u32>
+    requires behind { StandsBehind start None prefix reader.old }
+    requires prefix { entry_at None prefix ≡ prefixes }
+    ensures read { IfOk result (λ code. StandsBehind start (Some prefix) code reader.new) }
+    ensures stays { IfOk result (λ code. reader.new ≡ at_position reader.old reader.new.position) }
+    ensures refuses { IfErr result (λ e. (frame : FrameKind) → RefusesOperator (EncodesAllowed reader.old.features frame) (OperatorFault reader.old.features frame) e (at_position reader.old start) reader.new) }
+{
+    match reader.read_var_u32() {
+        Ok(code) => Ok(code),
+        Err(e) => {
+            reader.rewind(start);
+            Err(e)
+        }
+    }
+}
+
+/// An operator that is neither a branch table nor a vector operator, behind its opcode.
+#[inline(always)]
+pub fn fixed_behind<V: VisitFixed>(
+    v: &mut V,
+    alloc: Global,
+    reader: &mut BinaryReader<'_>,
+    start: usize,
+    frame: FrameKind,
+    code: u8,
+) -> Result<V::Output>
+    requires behind { StandsBehind start None code reader.old }
+    requires table { code ≢ 0x0e }
+    requires vector { code ≢ 0xfd }
+    ensures { Decodes V.visits (EncodesAllowed reader.old.features frame) (OperatorFault reader.old.features frame) result (at_position reader.old start) reader.new v.old v.new }
+{
+    match code {
+        0x45..=0xc4 => Ok(v.decode_numeric(code)),
+        0xfb => gc_behind(v, reader, start),
+        0xfc => misc_behind(v, reader, start),
+        0xfe => atomic_behind(v, reader, start),
+        _ => v.decode_one_byte(alloc, reader, start, frame, code),
+    }
+}
+
+/// An operator behind the byte fb.
+#[inline(always)]
+fn gc_behind<V: VisitFixed>(
+    v: &mut V,
+    reader: &mut BinaryReader<'_>,
+    start: usize,
+) -> Result<V::Output>
+    requires { StandsBehind start None 0xfb reader.old }
+    ensures { (frame : FrameKind) → Decodes V.visits (EncodesAllowed reader.old.features frame) (OperatorFault reader.old.features frame) result (at_position reader.old start) reader.new v.old v.new }
+{
+    match subopcode(reader, start, 0xfb) {
+        Ok(code) => v.decode_gc(reader, start, code),
+        Err(e) => Err(e),
+    }
+}
+
+/// An operator behind the byte fc.
+#[inline(always)]
+fn misc_behind<V: VisitFixed>(
+    v: &mut V,
+    reader: &mut BinaryReader<'_>,
+    start: usize,
+) -> Result<V::Output>
+    requires { StandsBehind start None 0xfc reader.old }
+    ensures { (frame : FrameKind) → Decodes V.visits (EncodesAllowed reader.old.features frame) (OperatorFault reader.old.features frame) result (at_position reader.old start) reader.new v.old v.new }
+{
+    match subopcode(reader, start, 0xfc) {
+        Ok(code) => v.decode_misc(reader, start, code),
+        Err(e) => Err(e),
+    }
+}
+
+/// An operator behind the byte fe.
+#[inline(always)]
+fn atomic_behind<V: VisitFixed>(
+    v: &mut V,
+    reader: &mut BinaryReader<'_>,
+    start: usize,
+) -> Result<V::Output>
+    requires { StandsBehind start None 0xfe reader.old }
+    ensures { (frame : FrameKind) → Decodes V.visits (EncodesAllowed reader.old.features frame) (OperatorFault reader.old.features frame) result (at_position reader.old start) reader.new v.old v.new }
+{
+    match subopcode(reader, start, 0xfe) {
+        Ok(code) => v.decode_atomic(reader, start, code),
+        Err(e) => Err(e),
+    }
+}
+
+/// A vector operator, behind the byte fd.
+#[inline(always)]
+pub fn simd_behind<V: VisitSimdOperator>(
+    v: &mut V,
+    reader: &mut BinaryReader<'_>,
+    start: usize,
+) -> Result<V::Output>
+    requires { StandsBehind start None 0xfd reader.old }
+    ensures { (frame : FrameKind) → Decodes V.visits (EncodesAllowed reader.old.features frame) (OperatorFault reader.old.features frame) result (at_position reader.old start) reader.new v.old v.new }
+{
+    match subopcode(reader, start, 0xfd) {
+        Ok(code) => {
+            if code < 0x80 {
+                v.decode_simd_low(reader, start, code)
+            } else {
+                v.decode_simd_high(reader, start, code)
+            }
+        }
+        Err(e) => Err(e),
+    }
+}

@@ -1,0 +1,15 @@
+//! One operator, from its bytes to its visit: the direct path, by which operators are read too.
+//!
+//! The opcode is read, and what stands behind it by the call of the visitor for its group, so that
+//! no `Operator` is built but by a visitor that makes one. What these calls promise stands in
+//! `specs/` of `wasm_opcodes`: `Decodes`, `EncodesAllowed` and `OperatorFault`.
+#![tactic(auto)]
+
+mod behind;
+pub mod laws;
+mod read;
+mod refusals;
+mod visit;
+
+pub use read::{read_behind, read_operator};
+pub use visit::{visit_behind, visit_behind_simd, visit_operator, visit_operator_simd};

@@ -1,0 +1,98 @@
+//! An operator is read, by the visitor that makes it in place.
+ghost use Rattle.std.specs.Prelude.{◌≡◌, ◌≢◌, None};
+ghost use Rattle.wasm_below.specs.Source.{at_position};
+ghost use Rattle.wasm_decode.specs.Reading.{DecodesOperator};
+ghost use Rattle.wasm_grammar.specs.declared.frame_kind.FrameKind.{FrameKind};
+ghost use Rattle.wasm_opcodes.specs.Allowed.{EncodesAllowed, EncodesIn};
+ghost use Rattle.wasm_opcodes.specs.Decoding.{StandsBehind};
+ghost use Rattle.wasm_opcodes.specs.OperatorFaults.{OperatorFault, FaultIn};
+
+use crate::behind::{fixed_behind, simd_behind};
+use crate::refusals::no_frame;
+use std::alloc::Global;
+use wasm_below::{BinaryReader, Result};
+use wasm_grammar::FrameKind;
+use wasm_instr::Operator;
+use wasm_opcodes::immediates;
+use wasm_visit_factory::Factory;
+
+/// The operator at the start of the rest, a vector operator too, where `frame` is the innermost
+/// frame: what a visit by `OperatorFactory` answers.
+///
+/// Refusals are those of `visit_operator_simd`.
+#[inline(always)]
+pub fn read_operator<'a>(
+    alloc: Global,
+    reader: &mut BinaryReader<'a>,
+    frame: Option<FrameKind>,
+) -> Result<Operator<'a>>
+    ensures { DecodesOperator (EncodesIn (EncodesAllowed reader.old.features) frame) (FaultIn (OperatorFault reader.old.features) frame) result reader.old reader.new }
+{
+    let Some(frame) = frame else {
+        return Err(no_frame(reader));
+    };
+    let start = reader.current_position();
+    match reader.read_u8() {
+        Ok(code) => read_behind(alloc, reader, start, frame, code),
+        Err(e) => Err(e),
+    }
+}
+
+/// The operator of this opcode, which was read at the position `start`.
+///
+/// Refusals are those of `visit_behind_simd`.
+#[inline(always)]
+pub fn read_behind<'a>(
+    alloc: Global,
+    reader: &mut BinaryReader<'a>,
+    start: usize,
+    frame: FrameKind,
+    code: u8,
+) -> Result<Operator<'a>>
+    requires { StandsBehind start None code reader.old }
+    ensures { DecodesOperator (EncodesAllowed reader.old.features frame) (OperatorFault reader.old.features frame) result (at_position reader.old start) reader.new }
+{
+    match code {
+        0x0e => read_table(reader, start),
+        0xfd => read_simd(reader, start),
+        _ => read_fixed(alloc, reader, start, frame, code),
+    }
+}
+
+/// A branch table, the one operator that borrows.
+#[inline(always)]
+fn read_table<'a>(reader: &mut BinaryReader<'a>, start: usize) -> Result<Operator<'a>>
+    requires { StandsBehind start None 0x0e reader.old }
+    ensures { (frame : FrameKind) → DecodesOperator (EncodesAllowed reader.old.features frame) (OperatorFault reader.old.features frame) result (at_position reader.old start) reader.new }
+{
+    match immediates::branch_table(reader, start) {
+        Ok(targets) => Ok(Operator::BrTable { targets }),
+        Err(e) => Err(e),
+    }
+}
+
+/// A vector operator, behind the byte fd.
+#[inline(always)]
+fn read_simd(reader: &mut BinaryReader<'_>, start: usize) -> Result<Operator<'static>>
+    requires { StandsBehind start None 0xfd reader.old }
+    ensures { (frame : FrameKind) → DecodesOperator (EncodesAllowed reader.old.features frame) (OperatorFault reader.old.features frame) result (at_position reader.old start) reader.new }
+{
+    simd_behind(&mut Factory, reader, start)
+}
+
+/// An operator that is neither a branch table nor a vector operator, behind its opcode.
+#[inline(always)]
+fn read_fixed(
+    alloc: Global,
+    reader: &mut BinaryReader<'_>,
+    start: usize,
+    frame: FrameKind,
+    code: u8,
+) -> Result<Operator<'static>>
+    requires behind { StandsBehind start None code reader.old }
+    requires table { code ≢ 0x0e }
+    requires vector { code ≢ 0xfd }
+    ensures { DecodesOperator (EncodesAllowed reader.old.features frame) (OperatorFault reader.old.features frame) result (at_position reader.old start) reader.new }
+{
+    fixed_behind(&mut Factory, alloc, reader, start, frame, code)
+}

@@ -1,0 +1,31 @@
+//! Refusals at the start of an operator.
+ghost use Rattle.std.specs.Prelude.{◌≡◌, ◌≤◌, None};
+ghost use Rattle.wasm_below.specs.Source.{at_position, offset_of, end_of};
+ghost use Rattle.wasm_grammar.specs.declared.frame_kind.FrameKind.{FrameKind};
+ghost use Rattle.wasm_opcodes.specs.Allowed.{EncodesPlain};
+ghost use Rattle.wasm_opcodes.specs.Decoding.{RefusesOperator, StandsBehind};
+ghost use Rattle.wasm_opcodes.specs.OperatorFaults.{PlainOperatorFault};
+
+use wasm_below::{BinaryReader, Error, Message};
+
+/// No frame is open, so that no operator may stand there.
+#[cold]
+#[inline(never)]
+pub fn no_frame(reader: &BinaryReader<'_>) -> Error
+    ensures message { result.message ≡ Message.OperatorsRemaining }
+    ensures offset { result.offset ≡ offset_of reader.now }
+    ensures within { offset_of reader.now ≤ end_of reader.now }
+{
+    let _ = reader.peek();
+    Error::new(Message::OperatorsRemaining, reader.original_position())
+}
+
+/// The byte fd, at which a plain visitor is refused, whatever stands behind it.
+#[cold]
+#[inline(never)]
+pub fn unexpected_simd(reader: &mut BinaryReader<'_>, start: usize) -> Error
+    requires { StandsBehind start None 0xfd reader.old }
+    ensures { (frame : FrameKind) → RefusesOperator (EncodesPlain reader.old.features frame) (PlainOperatorFault reader.old.features frame) result (at_position reader.old start) reader.new }
+{
+    reader.refuse(start, Message::UnexpectedSimd)
+}

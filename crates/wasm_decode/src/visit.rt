@@ -1,0 +1,130 @@
+//! An operator is read and visited.
+ghost use Rattle.std.specs.Prelude.{◌≡◌, None};
+ghost use Rattle.wasm_below.specs.Source.{at_position};
+ghost use Rattle.wasm_grammar.specs.declared.frame_kind.FrameKind.{FrameKind};
+ghost use Rattle.wasm_opcodes.specs.Allowed.{EncodesAllowed, EncodesPlain, EncodesIn};
+ghost use Rattle.wasm_opcodes.specs.Decoding.{Decodes, StandsBehind};
+ghost use Rattle.wasm_opcodes.specs.OperatorFaults.{OperatorFault, PlainOperatorFault, FaultIn};
+
+use crate::behind::{fixed_behind, simd_behind};
+use crate::refusals::{no_frame, unexpected_simd};
+use std::alloc::Global;
+use wasm_below::{BinaryReader, Result};
+use wasm_grammar::FrameKind;
+use wasm_opcodes::immediates;
+use wasm_visit::{VisitOperator, VisitSimdOperator};
+
+/// Visits the operator at the start of the rest, a vector operator too, where `frame` is the
+/// innermost frame.
+///
+/// `OperatorsRemaining` at the position where no frame is open. Else as
+/// `docs/REFUSALS.md` says of operators: `EndOfData`, `FeatureRequired`, `WrongFrame`,
+/// `IllegalOpcode`, `UnknownSubopcode`, and those of the immediates. `OutOfMemory` where the
+/// operator begins, and only of one that owns a list.
+#[inline(always)]
+pub fn visit_operator_simd<'a, V>(
+    v: &mut V,
+    alloc: Global,
+    reader: &mut BinaryReader<'a>,
+    frame: Option<FrameKind>,
+) -> Result<V::Output>
+where
+    V: VisitOperator<'a> + VisitSimdOperator,
+    ensures { Decodes V.visits (EncodesIn (EncodesAllowed reader.old.features) frame) (FaultIn (OperatorFault reader.old.features) frame) result reader.old reader.new v.old v.new }
+{
+    let Some(frame) = frame else {
+        return Err(no_frame(reader));
+    };
+    let start = reader.current_position();
+    match reader.read_u8() {
+        Ok(code) => visit_behind_simd(v, alloc, reader, start, frame, code),
+        Err(e) => Err(e),
+    }
+}
+
+/// Visits the operator of this opcode, which was read at the position `start`: what stands behind it
+/// is read, and where that is refused the reader goes back to `start`.
+///
+/// Refusals are those of `visit_operator_simd`, behind its first two.
+#[inline(always)]
+pub fn visit_behind_simd<'a, V>(
+    v: &mut V,
+    alloc: Global,
+    reader: &mut BinaryReader<'a>,
+    start: usize,
+    frame: FrameKind,
+    code: u8,
+) -> Result<V::Output>
+where
+    V: VisitOperator<'a> + VisitSimdOperator,
+    requires { StandsBehind start None code reader.old }
+    ensures { Decodes V.visits (EncodesAllowed reader.old.features frame) (OperatorFault reader.old.features frame) result (at_position reader.old start) reader.new v.old v.new }
+{
+    match code {
+        0x0e => table_behind(v, reader, start),
+        0xfd => simd_behind(v, reader, start),
+        _ => fixed_behind(v, alloc, reader, start, frame, code),
+    }
+}
+
+/// Visits the operator at the start of the rest, which is no vector operator, where `frame` is the
+/// innermost frame.
+///
+/// `UnexpectedSimd` at the byte fd, whatever stands behind it; else as `visit_operator_simd`.
+#[inline(always)]
+pub fn visit_operator<'a, V: VisitOperator<'a>>(
+    v: &mut V,
+    alloc: Global,
+    reader: &mut BinaryReader<'a>,
+    frame: Option<FrameKind>,
+) -> Result<V::Output>
+    ensures { Decodes V.visits (EncodesIn (EncodesPlain reader.old.features) frame) (FaultIn (PlainOperatorFault reader.old.features) frame) result reader.old reader.new v.old v.new }
+{
+    let Some(frame) = frame else {
+        return Err(no_frame(reader));
+    };
+    let start = reader.current_position();
+    match reader.read_u8() {
+        Ok(code) => visit_behind(v, alloc, reader, start, frame, code),
+        Err(e) => Err(e),
+    }
+}
+
+/// Visits the operator of this opcode, which was read at the position `start` and is no vector
+/// operator's.
+///
+/// `UnexpectedSimd` at `start` where the opcode is fd; else as `visit_behind_simd`.
+#[inline(always)]
+pub fn visit_behind<'a, V: VisitOperator<'a>>(
+    v: &mut V,
+    alloc: Global,
+    reader: &mut BinaryReader<'a>,
+    start: usize,
+    frame: FrameKind,
+    code: u8,
+) -> Result<V::Output>
+    requires { StandsBehind start None code reader.old }
+    ensures { Decodes V.visits (EncodesPlain reader.old.features frame) (PlainOperatorFault reader.old.features frame) result (at_position reader.old start) reader.new v.old v.new }
+{
+    match code {
+        0x0e => table_behind(v, reader, start),
+        0xfd => Err(unexpected_simd(reader, start)),
+        _ => fixed_behind(v, alloc, reader, start, frame, code),
+    }
+}
+
+/// A branch table, the one operator that borrows.
+#[inline(always)]
+fn table_behind<'a, V: VisitOperator<'a>>(
+    v: &mut V,
+    reader: &mut BinaryReader<'a>,
+    start: usize,
+) -> Result<V::Output>
+    requires { StandsBehind start None 0x0e reader.old }
+    ensures { (frame : FrameKind) → Decodes V.visits (EncodesAllowed reader.old.features frame) (OperatorFault reader.old.features frame) result (at_position reader.old start) reader.new v.old v.new }
+{
+    match immediates::branch_table(reader, start) {
+        Ok(targets) => Ok(v.visit_br_table(targets)),
+        Err(e) => Err(e),
+    }
+}

@@ -1,0 +1,5 @@
+pub mod GuardLemmas
+pub mod KindLemmas
+pub mod MemoryLemmas
+pub mod OperatorLemmas
+pub mod Told

@@ -1,0 +1,7 @@
+pub mod Allowed
+pub mod Decoding
+pub mod Entries
+pub mod Entry
+pub mod Kinds
+pub mod OperatorFaults
+pub mod Refused

@@ -1,0 +1,146 @@
+"""What stands behind each opcode and subopcode, and that it is what the operators' rows say."""
+
+from table import HEAD, PREFIXES, by_cases, held, imported, pattern
+
+# The operators whose features and frame are looked at before their immediates.
+GUARDS = {
+    "Else": "guard.Else",
+    "Try": "guard.Try",
+    "Catch": "guard.Catch",
+    "CatchAll": "guard.CatchAll",
+    "Delegate": "guard.Delegate",
+}
+# The kind of an immediate, without its value, by the table's word.
+KIND_NAMES = {
+    "unsigned": "is_unsigned_32", "signed_32": "is_signed_32", "signed_64": "is_signed_64",
+    "float_32": "is_float_32", "float_64": "is_float_64", "lane_index": "is_one_lane",
+    "lane_list": "is_sixteen_lanes", "vector": "is_vector", "memory_index": "is_memory_index",
+    "table_index": "is_table_index", "ordered": "is_order", "fence": "is_fence_order",
+    "heap_type": "is_heap_type", "cast": "is_cast", "block_type": "is_block_type",
+    "branch_table": "is_branch_table", "one_type": "is_select_types", "types": "is_select_types",
+    "try_table": "is_try_clauses", "resume_table": "is_resume_clauses",
+}
+KIND_WORDS = [*dict.fromkeys(KIND_NAMES.values()), "is_memory_argument"]
+ENTRY = "Rattle.wasm_opcodes.specs.Entry"
+GUARD = "Rattle.wasm_opcodes.specs.declared.guard.Guard"
+OPERATOR = "Rattle.wasm_instr.specs.declared.operator.Operator"
+
+
+def kind(immediate):
+    """The kind of an immediate, in antt."""
+    word, *more = immediate.split()
+    if word == "memory":
+        return f"is_memory_argument kind.{more[0]} {more[1]}"
+    return KIND_NAMES[word]
+
+
+def kinds(op):
+    """The kinds of the immediates of an operator, in antt."""
+    return " ∷ ".join([kind(it) for it in op.immediates] + ["[]"])
+
+
+def entry(op):
+    """What stands behind the opcode of an operator, in antt."""
+    inner = f"({kinds(op)})" if op.immediates else "[]"
+    if op.prefix == "" and op.name in GUARDS:
+        return f"guarded {GUARDS[op.name]} {inner}"
+    return f"free {inner}"
+
+
+def entries(name, those, prefixes=()):
+    """A list of entries, by their codes from 0 on."""
+    found = {op.code: entry(op) for op in those} | {code: "prefixes" for code in prefixes}
+    each = [found.get(code, "unknown") for code in range(max(found) + 1)]
+    lines = [f"    {it} ∷" if " " not in it else f"    ({it}) ∷" for it in each]
+    return [f"abbrev pub {name} : List Entry", f"{name} =", *lines, "    []", ""]
+
+
+def names():
+    """The list of each prefix byte."""
+    return {prefix: f"{group.lower()}_entries" for prefix, group in PREFIXES.items()}
+
+
+def entry_lists(ops):
+    """The lists of entries, and the entry of an opcode or a subopcode."""
+    body = ["-- Behind an opcode."]
+    body += entries("opcode_entries", [op for op in ops if not op.prefix], [int(it, 16) for it in PREFIXES])
+    for prefix, name in names().items():
+        body.append(f"-- Behind the byte {prefix} and a subopcode.")
+        body += entries(name, [op for op in ops if op.prefix == prefix])
+    body += [
+        "-- The entries behind a prefix byte.",
+        "abbrev pub entries_behind : ℕ → List Entry",
+        "entries_behind prefix =",
+        *[f"    cond (eqb prefix 0x{prefix}) {name} (" for prefix, name in names().items()],
+        "    []" + ")" * len(names()),
+        "",
+        "-- What stands behind an opcode, or behind a prefix byte and a subopcode.",
+        "abbrev pub entry_at : Option ℕ → ℕ → Entry",
+        "entry_at None code = get_or opcode_entries code unknown",
+        "entry_at (Some prefix) code = get_or (entries_behind prefix) code unknown",
+        "",
+        "-- The exponent of the alignment of the operator that has it, where that has a memory argument.",
+        "abbrev pub align_at : Option ℕ → ℕ → ℕ",
+        "align_at prefix code = align_in (entry_at prefix code)",
+    ]
+    text = "\n".join(body)
+    head = [
+        f"-- {HEAD}",
+        "-- What stands behind each opcode and each subopcode.",
+        "-- WebAssembly Core Specification 3.0: Binary Format, Instructions; Appendix, Index of Instructions.",
+        "use Rattle.std.specs.Prelude.{ℕ, cond, eqb, List, [], ◌∷◌, get_or, Option, Some, None}",
+        "use Rattle.wasm_imm.specs.memory.memory_argument.MemArgKind.TheVariants as kind",
+        f"use Rattle.wasm_instr.specs.Immediate.{{{', '.join(imported(text, KIND_WORDS))}}}",
+        f"use {GUARD}.TheVariants as guard",
+        f"use {ENTRY}.{{Entry, unknown, prefixes, free, guarded, align_in}}",
+    ]
+    return "\n".join([*head, "", text, ""])
+
+
+def entries_told(ops):
+    """The entry of an operator's opcode is what its row says, and prefix bytes are no opcodes."""
+    body = []
+    for enum in held():
+        those = [op for op in ops if op.group == enum.group]
+        prefix = f"(Some 0x{those[0].prefix})" if those[0].prefix else "None"
+        low = enum.module
+        body.append(f"{low}_told : (op : {enum.type}) → entry_at {prefix} ({enum.opcode} op) ≡ free (map kind_of ({low}_immediates op))")
+        body += [*by_cases(f"{low}_told", those[0], low, "refl"), ""]
+    own = [op for op in ops if op.group == "Own"]
+    body += ["-- the entry of an operator's opcode is the operator's"]
+    body.append("pub told : (op : Operator) → entry_at (prefix_of op) (opcode_of op) ≡ entry_of op")
+    body += [f"told (operator.{enum.group} op) = {enum.module}_told op" for enum in held()]
+    body += ["told op = refl", ""]
+    body += ["-- a byte before a subopcode is a prefix byte"]
+    body.append("pub prefix_told : (op : Operator) (p : ℕ) → prefix_of op ≡ Some p → entry_at None p ≡ prefixes")
+    for enum in held():
+        if enum.group != "Numeric":
+            byte = next(prefix for prefix, group in PREFIXES.items() if group == enum.group)
+            body.append(f"prefix_told (operator.{enum.group} op) p e = let h : 0x{byte} ≡ p = cc e in ap (entry_at None) (sym h)")
+    body.append(f"prefix_told {pattern(own[0], 'operator')} p e = absurd (cc e)")
+    body.append("prefix_told op p e = absurd (cc e)")
+    text = "\n".join(body)
+    uses = [
+        f"-- {HEAD}",
+        "-- The entries are those of the operators' rows.",
+        "use Rattle.std.proofs.Common.{◌≡◌, ℕ, Option, Some, None, map, refl, sym, ap}",
+    ]
+    uses += [f"use {OPERATOR}.{{Operator}}", f"use {OPERATOR}.TheVariants as operator"]
+    uses.append("use Rattle.wasm_instr.specs.Row.{prefix_of, opcode_of}")
+    for enum in held():
+        part = enum.crate.removeprefix("wasm_instr_")
+        path = f"Rattle.wasm_instr.specs.{part}.{enum.module}.{enum.type}"
+        uses += [f"use {path}.{{{enum.type}}}", f"use {path}.TheVariants as {enum.module}"]
+        uses.append(f"use Rattle.wasm_instr.specs.{enum.group}.{{{enum.opcode}, {enum.module}_immediates}}")
+    uses.append("use Rattle.wasm_instr.specs.Immediate.{kind_of}")
+    uses.append(f"use {ENTRY}.{{prefixes, free, entry_of}}")
+    uses.append("use Rattle.wasm_opcodes.specs.Entries.{entry_at}")
+    return "\n".join([*uses, "", text, ""])
+
+
+def entry_files(ops):
+    """Each file over the entries with its text."""
+    return {
+        "crates/wasm_opcodes/specs/Entries.antt": entry_lists(ops),
+        "crates/wasm_opcodes/proofs/Told.antt": entries_told(ops),
+    }
