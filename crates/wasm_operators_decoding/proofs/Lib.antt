@@ -1,0 +1,4 @@
+pub mod Messages
+pub mod Decoder
+pub mod Taken
+pub mod Begins

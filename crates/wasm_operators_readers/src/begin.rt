@@ -1,0 +1,51 @@
+//! What comes before the immediates of an operator: its frame, its opcode, and room for its step.
+ghost use Rattle.std.specs.Prelude.{◌≡◌, IfOk, IfErr};
+ghost use Rattle.wasm_opcodes.specs.Allowed.{EncodesAllowed, EncodesPlain};
+ghost use Rattle.wasm_opcodes.specs.OperatorFaults.{OperatorFault, PlainOperatorFault};
+ghost use Rattle.wasm_operators_decoding.specs.Next.{BeginsOperator, StopsNext, state_of};
+
+use wasm_below::{BinaryReader, Error, Message, Result};
+use wasm_grammar::FrameKind;
+use wasm_operators_frames::{ControlStack, FrameStep};
+
+/// The innermost frame, the position at which the operator began, its opcode, and what it does to
+/// the frames.
+#[derive(Clone, Copy, Debug)]
+pub struct Begun {
+    pub frame: FrameKind,
+    pub start: usize,
+    pub code: u8,
+    pub step: FrameStep,
+}
+
+/// Reads the opcode of the next operator, and makes room for the frame that it opens, if it opens
+/// one.
+///
+/// `OperatorsRemaining` where no frame is open, `EndOfData` where no byte is left, and `OutOfMemory`
+/// where no room could be made. The reader and the frames are unchanged then.
+#[inline(always)]
+pub fn begin(reader: &mut BinaryReader<'_>, control: &mut ControlStack) -> Result<Begun>
+    ensures begun { IfOk result (λ at. BeginsOperator (state_of reader.old control.old) (state_of reader.new control.new) at.frame at.start at.code at.step) }
+    ensures refused { IfErr result (λ e. StopsNext EncodesAllowed OperatorFault e (state_of reader.old control.old) (state_of reader.new control.new)) }
+    ensures plain { IfErr result (λ e. StopsNext EncodesPlain PlainOperatorFault e (state_of reader.old control.old) (state_of reader.new control.new)) }
+{
+    let Some(frame) = control.last() else {
+        return Err(Error::new(Message::OperatorsRemaining, reader.original_position()));
+    };
+    let start = reader.current_position();
+    match reader.read_u8() {
+        Ok(code) => {
+            let step = FrameStep::at(code);
+            match control.make_room(step) {
+                Ok(()) => Ok(Begun {
+                    frame,
+                    start,
+                    code,
+                    step,
+                }),
+                Err(_) => Err(reader.refuse(start, Message::OutOfMemory)),
+            }
+        }
+        Err(e) => Err(e),
+    }
+}

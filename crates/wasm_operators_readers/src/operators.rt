@@ -1,0 +1,112 @@
+//! The reader of operators.
+ghost use Rattle.std.specs.Prelude.{◌≡◌, ◌↔◌, ◌≤◌, ◌∷◌, [], IsTrue, IfOk, IfErr};
+ghost use Rattle.wasm_below.specs.Source.{rest, offset_of};
+ghost use Rattle.wasm_operators_runs.specs.Reading.{Finishes, IsFresh};
+
+use std::alloc::Global;
+use std::marker::Model;
+use wasm_below::{BinaryReader, Error, Message, Result};
+use wasm_grammar::FrameKind;
+use wasm_operators_frames::{ControlStack, OperatorsReaderAllocations};
+
+/// Reads the operators of an expression one after another, and keeps the kinds of the open frames.
+///
+/// Contracts see the reader of the bytes, the open frames from the outermost to the innermost, and
+/// the room: how many frames more can be opened without asking for memory.
+#[derive(Drop)]
+pub struct OperatorsReader<'a> {
+    alloc: Global,
+    reader: BinaryReader<'a>,
+    control: ControlStack,
+}
+
+impl<'a> Model for OperatorsReader<'a> {
+    ghost use Rattle.wasm_operators_runs.specs.Reading.{State};
+
+    ghost Value = { State };
+
+    ghost view = { λ r. record { reader = r.reader; frames = r.control.frames; room = r.control.room } };
+}
+
+impl<'a> OperatorsReader<'a> {
+    /// A reader of the expression that begins where this reader stands: one frame is open. It takes
+    /// no memory.
+    pub fn new(alloc: Global, reader: BinaryReader<'a>) -> OperatorsReader<'a>
+        ensures reader { result.reader ≡ reader.entry }
+        ensures fresh { IsFresh result }
+    {
+        OperatorsReader::new_with_allocs(alloc, reader, OperatorsReaderAllocations::new(alloc))
+    }
+
+    /// The same with the memory of another reader. It takes no memory, and uses none of the room.
+    pub fn new_with_allocs(
+        alloc: Global,
+        reader: BinaryReader<'a>,
+        allocs: OperatorsReaderAllocations,
+    ) -> OperatorsReader<'a>
+        ensures reader { result.reader ≡ reader.entry }
+        ensures fresh { IsFresh result }
+        ensures room { allocs ≤ result.room }
+    {
+        OperatorsReader {
+            alloc,
+            reader,
+            control: ControlStack::with_allocations(allocs, FrameKind::Block),
+        }
+    }
+
+    /// The memory of the frames, for another reader.
+    pub fn into_allocations(self) -> OperatorsReaderAllocations
+        ensures { self.entry.room ≤ result }
+    {
+        let OperatorsReader { control, .. } = self;
+        control.into_allocations()
+    }
+
+    /// The reader of the bytes, where it stands.
+    pub fn get_binary_reader(&self) -> BinaryReader<'a>
+        ensures { result ≡ self.now.reader }
+    {
+        self.reader.clone()
+    }
+
+    /// Whether no byte is left.
+    #[inline(always)]
+    pub fn eof(&self) -> bool
+        ensures { IsTrue result ↔ (rest self.now.reader ≡ []) }
+    {
+        self.reader.eof()
+    }
+
+    /// The offset of the next byte.
+    #[inline(always)]
+    pub fn original_position(&self) -> u64
+        ensures { result ≡ offset_of self.now.reader }
+    {
+        self.reader.original_position()
+    }
+
+    /// Whether what is left is the byte of one `end`.
+    pub fn is_end_then_eof(&self) -> bool
+        ensures { IsTrue result ↔ (rest self.now.reader ≡ 0x0b ∷ []) }
+    {
+        self.reader.is_end_then_eof()
+    }
+
+    /// Whether all frames are closed and all data is taken.
+    ///
+    /// `FramesRemain` where a frame is open, else `UnexpectedData` where a byte is left; both at the
+    /// position.
+    pub fn finish(&self) -> Result<()>
+        ensures { Finishes result self.now }
+    {
+        let position = self.reader.original_position();
+        if !self.control.is_empty() {
+            return Err(Error::new(Message::FramesRemain, position));
+        }
+        if !self.reader.eof() {
+            return Err(Error::new(Message::UnexpectedData, position));
+        }
+        Ok(())
+    }
+}
