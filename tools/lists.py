@@ -19,6 +19,7 @@ from entries import entry_files
 from layout import laid_out
 from original import differences
 from printed import made_source, values_source
+from printed_fields import printed_field_files
 from rows import enum_by_opcode, enum_rows, operator_rows, operators_by_opcode
 from rules import faults
 from source import enum_source, operator_source
@@ -46,6 +47,7 @@ def files(ops):
     out |= visit_files(ops)
     out["crates/wasm_tests_lists/src/values.rt"] = values_source(ops)
     out["crates/wasm_tests_lists/src/made.rt"] = made_source(ops)
+    out |= printed_field_files(ops)
     return laid_out(out)
 
 

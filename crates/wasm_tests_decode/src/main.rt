@@ -1,0 +1,54 @@
+//! Reads operators as the lines of its input ask, one a line, and prints what the reading calls
+//! answer.
+#![tactic(auto)]
+
+mod bytes;
+mod each;
+mod fields;
+mod runs;
+mod task;
+mod teller;
+mod values;
+
+use crate::bytes::{read_hex, read_input};
+use crate::each::{Texts, write_each};
+use crate::task::task_of;
+use std::alloc::Global;
+use std::io::{self, Print};
+
+fn main(rt: HostRuntime) -> io::Result<()> {
+    let alloc = rt.alloc();
+    let input = read_input(alloc, &mut rt.reader())?;
+    let Ok(text) = str::from_utf8(input.as_slice()) else {
+        return println!(rt; "the input is no text");
+    };
+    let mut bytes = Vec::new(alloc);
+    let mut texts = Texts::new(alloc);
+    for line in text.lines() {
+        run_line(&rt, alloc, &mut bytes, &mut texts, line)?;
+    }
+    Ok(())
+}
+
+/// One line of the input: the words of a task, and bytes in hexadecimal.
+fn run_line<R: Print>(
+    rt: &R,
+    alloc: Global,
+    bytes: &mut Vec<u8>,
+    texts: &mut Texts,
+    line: &str,
+) -> io::Result<()> {
+    let mut words = line.split_whitespace();
+    let features = words.next().unwrap_or("");
+    let frame = words.next().unwrap_or("");
+    let before = words.next().unwrap_or("");
+    read_hex(bytes, words.next().unwrap_or(""))?;
+    match task_of(features, frame, before) {
+        Some(task) => {
+            texts.clear();
+            write_each(alloc, texts, task, bytes.as_slice())?;
+            println!(rt; "{}", texts.line)
+        }
+        None => println!(rt; "no task: {line}"),
+    }
+}

@@ -1,0 +1,69 @@
+//! One operator, read and visited.
+
+use crate::fields::operator;
+use crate::task::Task;
+use crate::teller::{Call, Teller};
+use crate::values::Written;
+use std::alloc::{AllocError, Global};
+use wasm_below::{BinaryReader, Error, Result};
+use wasm_decode::{read_operator, visit_operator, visit_operator_simd};
+use wasm_instr::Operator;
+use wasm_visit::OperatorFactory;
+
+/// A reader that stands at the operator of a task, or at the end of data that are too short.
+fn reader_at<'a>(task: Task, bytes: &'a [u8]) -> BinaryReader<'a> {
+    let mut reader = BinaryReader::new_features(bytes, 0, task.features);
+    let _ = reader.read_bytes(task.before);
+    reader
+}
+
+/// What the reading call answers, and the position of the reader behind it.
+pub fn run_read<'a>(alloc: Global, task: Task, bytes: &'a [u8]) -> (Result<Operator<'a>>, usize) {
+    let mut reader = reader_at(task, bytes);
+    let answer = read_operator(alloc, &mut reader, task.frame);
+    (answer, reader.current_position())
+}
+
+/// The same of a visit by the factory.
+pub fn run_factory<'a>(
+    alloc: Global,
+    task: Task,
+    bytes: &'a [u8],
+) -> (Result<Operator<'a>>, usize) {
+    let mut reader = reader_at(task, bytes);
+    let answer = visit_operator_simd(&mut OperatorFactory::new(), alloc, &mut reader, task.frame);
+    (answer, reader.current_position())
+}
+
+/// How a visit that writes ended.
+pub type Told = Result<std::result::Result<Call, AllocError>>;
+
+/// What a visit by a visitor of vector operators answers, and the position of the reader.
+pub fn run_simd(alloc: Global, teller: &mut Teller, task: Task, bytes: &[u8]) -> (Told, usize) {
+    let mut reader = reader_at(task, bytes);
+    let answer = visit_operator_simd(teller, alloc, &mut reader, task.frame);
+    (answer, reader.current_position())
+}
+
+/// The same of a plain visitor.
+pub fn run_plain(alloc: Global, teller: &mut Teller, task: Task, bytes: &[u8]) -> (Told, usize) {
+    let mut reader = reader_at(task, bytes);
+    let answer = visit_operator(teller, alloc, &mut reader, task.frame);
+    (answer, reader.current_position())
+}
+
+/// A refusal: its number, its offset and its text.
+pub fn write_refusal(out: &mut String, e: Error) -> Written {
+    let number = e.message().number();
+    let offset = e.offset();
+    let message = e.message();
+    write!(out, "E{number} at {offset}: {message}")
+}
+
+/// An operator that was read, or the refusal.
+pub fn write_answer(out: &mut String, answer: &Result<Operator<'_>>) -> Written {
+    match answer {
+        Ok(op) => operator(out, op),
+        Err(e) => write_refusal(out, *e),
+    }
+}

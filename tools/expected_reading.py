@@ -1,0 +1,217 @@
+#!/usr/bin/env python3
+"""Writes what the program wasm_tests_decode is asked and what it has to print, from outside.
+
+    tools/expected_reading.py            writes crates/wasm_tests_decode/stdin and stdout
+    tools/expected_reading.py --check    fails where a file is not what they give
+
+It reads tools/original, two samples of each operator with the original's answers among it, and
+rows.tsv beside the program, which is written by hand. Besides those it asks for each subopcode lengthened by a byte, each opcode that no
+operator has, the subopcodes next to known ones, and the operators that want a frame in each frame.
+It reads neither the table nor anything that is made of it.
+"""
+
+import csv
+import sys
+from pathlib import Path
+
+from original import FOLDER, GROUPS, originals
+
+TOP = Path(__file__).resolve().parent.parent
+CRATE = TOP / "crates" / "wasm_tests_decode"
+
+# The features, each by its bit.
+FEATURES = [
+    "MULTI_MEMORY", "MEMORY64", "CALL_INDIRECT_OVERLONG", "LEGACY_EXCEPTIONS", "ACQUIRE_RELEASE_ATOMICS",
+    "MULTIBYTE_ARRAY_ACCESS",
+]
+ALL = 2 ** len(FEATURES) - 1
+FRAMES = ["Block", "If", "Else", "Loop", "TryTable", "LegacyTry", "LegacyCatch", "LegacyCatchAll"]
+# The innermost frame behind the bytes that stand before a sample.
+FRAME_BEHIND = {"00": "Block", "000440": "If", "000640": "LegacyTry"}
+# The operators that want a frame: their bytes, fields, the frames that they may stand in, and the
+# name of the instruction and of the frame in the refusal.
+FRAMED = [
+    ("05", "Else", ["If"], "else", "If"),
+    ("0701", "Catch tag_index=1", ["LegacyTry", "LegacyCatch"], "catch", "LegacyTry"),
+    ("19", "CatchAll", ["LegacyTry", "LegacyCatch"], "catch_all", "LegacyTry"),
+    ("1801", "Delegate relative_depth=1", ["LegacyTry"], "delegate", "LegacyTry"),
+]
+# Those that want the feature LEGACY_EXCEPTIONS, by their bytes.
+LEGACY = [("0640", "try"), ("0701", "catch"), ("19", "catch_all")]
+# Flags of a memory argument that a feature gives a meaning, as `i32.load` reads them with the offset 0.
+FLAGS = [
+    ("MULTI_MEMORY", "28400000", "I32Load memarg=0/2/0/M0/-"),
+    ("MULTIBYTE_ARRAY_ACCESS", "28200000", "I32Load memarg=0/2/0/A0/-"),
+    ("ACQUIRE_RELEASE_ATOMICS", "281200", "E18 at 1: cannot specify atomic ordering on non-atomic instruction"),
+]
+RESERVED = "E20 at 1: malformed memop: reserved flags bits set"
+# The immediates that are taken at once: cut data are found to be short where these begin.
+BLOCKS = {"float_32": 4, "float_64": 8, "vector": 16}
+# The operators that the program's visitor has visits of its own for.
+OWN = ("I32TruncSatF32S", "DataDrop", "MemoryCopy", "TableInit", "I64MulWideU")
+
+
+class Task:
+    """One operator to read: how, its bytes and those around it, and the answer, fields or refusal."""
+
+    def __init__(self, operator, answer, *, features=ALL, frame="Block", before="", behind=""):
+        self.features = features
+        self.frame = frame
+        self.before = bytes.fromhex(before)
+        self.operator = bytes.fromhex(operator)
+        self.behind = bytes.fromhex(behind)
+        self.answer = answer
+
+    @property
+    def start(self):
+        """Where the operator begins."""
+        return len(self.before)
+
+    @property
+    def is_refused(self):
+        """Whether the answer is a refusal."""
+        return self.answer.split(" at ")[0][1:].isdecimal()
+
+    def line(self):
+        """What the program is asked."""
+        text = (self.before + self.operator + self.behind).hex()
+        return f"{self.features} {self.frame} {self.start} {text}".rstrip()
+
+
+def cuts(task, kinds):
+    """The offsets at which an operator is found to be cut, one for each of its proper prefixes."""
+    block = sum(BLOCKS.get(kind, 0) for kind in kinds)
+    last = len(task.operator) - block
+    return [task.start + (size if size < last or not block else last) for size in range(len(task.operator))]
+
+
+def plain_answer(task, otherwise):
+    """What a plain visitor answers."""
+    if task.operator[:1] == b"\xfd" and task.frame != "None":
+        return f"E14 at {task.start}: unexpected SIMD opcode: 0xfd; at {task.start}"
+    return otherwise
+
+
+def wanted(task, kinds):
+    """The line that the program prints of a task; `kinds` has the immediates of each operator."""
+    if task.is_refused:
+        answer = f"{task.answer}; at {task.start}"
+        return f"{answer}; factory the same; visit {answer}; plain {plain_answer(task, answer)}; cut"
+    name = task.answer.split()[0]
+    call = "by " + ("Table" if name == "BrTable" else "Own" if name in OWN else "Any")
+    offsets = "".join(f" {offset}" for offset in cuts(task, kinds[name]))
+    at = task.start + len(task.operator)
+    return f"{task.answer}; at {at}; factory the same; visit {call}; plain {plain_answer(task, call)}; cut{offsets}"
+
+
+def samples():
+    """Two samples of each operator."""
+    with open(FOLDER / "samples.tsv", encoding="utf-8", newline="") as lines:
+        for row in csv.DictReader(lines, delimiter="\t"):
+            frame = FRAME_BEHIND[row["before"]]
+            yield Task(row["operator"], row["fields"] or row["name"], frame=frame, before=row["before"], behind=row["behind"])
+
+
+def lengthened(task):
+    """A task whose subopcode takes one byte more."""
+    text = task.operator
+    last = next(at for at in range(1, len(text)) if text[at] < 0x80)
+    longer = text[:last] + bytes([text[last] | 0x80, 0]) + text[last + 1 :]
+    return Task(longer.hex(), task.answer, frame=task.frame, before=task.before.hex(), behind=task.behind.hex())
+
+
+def unsigned(value):
+    """A number as LEB128, in hexadecimal."""
+    out = []
+    while value >= 0x80:
+        out.append(value % 0x80 | 0x80)
+        value //= 0x80
+    return bytes([*out, value]).hex()
+
+
+def unknown(ops):
+    """Each opcode that no operator has, and the subopcodes next to those that operators have."""
+    known = {op.code for op in ops if not op.prefix} | {int(prefix, 16) for prefix in GROUPS}
+    for code in range(0x100):
+        if code not in known:
+            yield Task(f"{code:02x}", f"E12 at 1: illegal opcode: 0x{code:x}", before="00", behind="00")
+    for prefix in GROUPS:
+        codes = {op.code for op in ops if op.prefix == prefix}
+        beside = {code + step for code in codes for step in (-1, 1)} | {2 ** 32 - 1}
+        for code in sorted(beside - codes - {-1}):
+            text = f"E13 at 1: unknown 0x{prefix} subopcode: 0x{code:x}"
+            yield Task(prefix + unsigned(code), text, before="00", behind="00")
+
+
+def framed():
+    """The operators that want a frame or a feature, in each frame."""
+    for operator, fields, frames, instruction, name in FRAMED:
+        for frame in FRAMES:
+            refusal = f"E7 at 2: `{instruction}` found outside `{name}` block"
+            yield Task(operator, fields if frame in frames else refusal, frame=frame, before="00", behind="0b")
+    without = ALL - 2 ** FEATURES.index("LEGACY_EXCEPTIONS")
+    for operator, instruction in LEGACY:
+        for frame in FRAMES:
+            refusal = f"E2 at 1: legacy_exceptions feature required for {instruction} instruction"
+            yield Task(operator, refusal, features=without, frame=frame, before="00", behind="0b")
+
+
+def flagged():
+    """Flags of memory arguments under all features."""
+    for feature, operator, answer in FLAGS:
+        for features in range(ALL + 1):
+            has = features >> FEATURES.index(feature) & 1
+            yield Task(operator, answer if has else RESERVED, features=features, behind="0b")
+
+
+def features_of(text):
+    """The features that a row names: `all`, `none`, or `all but` one."""
+    without = text.removeprefix("all but ")
+    if without in FEATURES:
+        return ALL - 2 ** FEATURES.index(without)
+    return {"all": ALL, "none": 0}[text]
+
+
+def written_by_hand():
+    """The rows beside the program."""
+    with open(CRATE / "rows.tsv", encoding="utf-8", newline="") as lines:
+        for row in csv.DictReader(lines, delimiter="\t", quoting=csv.QUOTE_NONE):
+            features = features_of(row["features"])
+            yield Task(row["operator"], row["answer"], features=features, frame=row["frame"], behind=row["behind"])
+
+
+def tasks():
+    """All that the program is asked."""
+    ops = originals()
+    found = list(samples())
+    longer = [lengthened(task) for task in found[::2] if f"{task.operator[0]:02x}" in GROUPS]
+    return [*found, *longer, *unknown(ops), *framed(), *flagged(), *written_by_hand()]
+
+
+def files():
+    """What the program is asked, and what it prints."""
+    kinds = {op.name: op.immediates for op in originals()}
+    asked = tasks()
+    return {
+        "stdin": "".join(task.line() + "\n" for task in asked),
+        "stdout": "".join(wanted(task, kinds) + "\n" for task in asked),
+    }
+
+
+def main():
+    check = sys.argv[1:] == ["--check"]
+    if sys.argv[1:] and not check:
+        sys.exit(__doc__)
+    for name, text in files().items():
+        path = CRATE / name
+        if path.exists() and path.read_bytes() == text.encode():
+            continue
+        if check:
+            sys.exit(f"{path.relative_to(TOP)} is not what tools/original gives: run tools/expected_reading.py")
+        path.write_bytes(text.encode())
+        print(path.relative_to(TOP))
+
+
+if __name__ == "__main__":
+    sys.dont_write_bytecode = True
+    main()

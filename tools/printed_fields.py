@@ -1,0 +1,133 @@
+"""The printing of each operator's fields in the words of tools/original/samples.tsv, for the program that reads them."""
+
+from source import LAYERS, rust_binding
+from table import HEAD, held
+
+CRATE = "crates/wasm_tests_decode/src/fields"
+# The function of src/values.rt that prints a field of a type.
+PRINTERS = {
+    "u32": "number",
+    "u8": "lane",
+    "i32": "signed_32",
+    "i64": "signed_64",
+    "Ieee32": "float_32",
+    "Ieee64": "float_64",
+    "V128": "vector",
+    "[u8; 16]": "lanes",
+    "MemArg": "memory_argument",
+    "Ordering": "ordering",
+    "HeapType": "heap_type",
+    "RefType": "reference_type",
+    "ValType": "value_type",
+    "BlockType": "block_type",
+    "BrTable<'a>": "branch_table",
+    "SelectTypes": "select_types",
+    "TryTable": "try_table",
+    "ResumeTable": "resume_table",
+}
+
+
+def shape_name(fields):
+    """The function that prints fields of these names."""
+    return f"write_{'_and_'.join(name for name, _ in fields)}"
+
+
+def printed(name, ty):
+    """The call that prints a field."""
+    return f'values::{PRINTERS[ty]}(out, "{name}", {name})'
+
+
+def call_of(fields):
+    """The call that prints these fields."""
+    if len(fields) == 1:
+        return printed(*fields[0])
+    return f"shapes::{shape_name(fields)}(out, {', '.join(name for name, _ in fields)})"
+
+
+def shapes(ops):
+    """The operators by their fields, with types."""
+    found = {}
+    for op in ops:
+        if op.fields:
+            found.setdefault(tuple(op.fields), []).append(op)
+    return found
+
+
+def shape_source(fields):
+    """The function that prints these fields."""
+    given = ", ".join(f"{name}: &{ty}" for name, ty in fields).replace("'a", "'_")
+    calls = [printed(name, ty) for name, ty in fields]
+    return [
+        "",
+        f"pub fn {shape_name(fields)}(out: &mut String, {given}) -> Written {{",
+        *[f"{call}?;" for call in calls[:-1]],
+        calls[-1],
+        "}",
+    ]
+
+
+def shapes_source(ops):
+    """A function for each list of several fields that operators have."""
+    those = [fields for fields in shapes(ops) if len(fields) > 1]
+    types = {ty for fields in those for _, ty in fields}
+    layers = {}
+    for ty in types:
+        name = ty.split("<")[0]
+        if name in LAYERS:
+            layers.setdefault(LAYERS[name], set()).add(name)
+    out = [
+        f"//! The lists of several fields that operators have, each by its names. {HEAD}",
+        "use crate::values::{self, Written};",
+        *[f"use {layer}::{{{', '.join(sorted(layers[layer]))}}};" for layer in sorted(layers)],
+    ]
+    for fields in those:
+        out += shape_source(fields)
+    return "\n".join([*out, ""])
+
+
+def match_arms(ops, ty):
+    """The arms over operators with fields, those of the same fields together."""
+    out = []
+    for fields, those in shapes(ops).items():
+        patterns = " | ".join(rust_binding(op, ty) for op in those)
+        out.append(f"{patterns} => {call_of(fields)},")
+    return out
+
+
+def enum_source(title, name, ty, ops, held_enums=()):
+    """The function that prints the fields of an enum's operators."""
+    given = "Operator<'_>" if ty == "Operator" else ty
+    uses = [f"use wasm_instr::{ty};", "use crate::values::{self, Written};", "use crate::fields::shapes;"]
+    inner = []
+    for enum in held_enums:
+        if enum.group == "Numeric":
+            continue
+        uses.append(f"use crate::fields::{enum.module}::{enum.module};")
+        inner.append(f"Operator::{enum.group}(op) => {enum.module}(out, op),")
+    return "\n".join([
+        f"//! The fields of {title}, printed. {HEAD}",
+        *sorted(uses),
+        "",
+        f"/// Prints the fields of {title}, none where an operator has none.",
+        f"pub fn {name}(out: &mut String, op: &{given}) -> Written {{",
+        "match op {",
+        *match_arms(ops, ty),
+        *inner,
+        "_ => Ok(()),",
+        "}",
+        "}",
+        "",
+    ])
+
+
+def printed_field_files(ops):
+    """Each file of the program that is made of the table."""
+    out = {f"{CRATE}/shapes.rt": shapes_source(ops)}
+    enums = [enum for enum in held() if enum.group != "Numeric"]
+    for enum in enums:
+        those = [op for op in ops if op.group == enum.group]
+        out[f"{CRATE}/{enum.module}.rt"] = enum_source(enum.title, enum.module, enum.type, those)
+    own = [op for op in ops if op.group == "Own"]
+    title = "an operator"
+    out[f"{CRATE}/own.rt"] = enum_source(title, "own", "Operator", own, enums)
+    return out
