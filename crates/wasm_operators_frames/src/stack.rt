@@ -1,5 +1,5 @@
 //! The stack of open frames.
-ghost use Rattle.std.specs.Prelude.{◌≡◌, ◌↔◌, ◌+◌, ◌≤◌, ◌<◌, [], ◌∷◌, ◌++◌, IsTrue, IsSome, IsOk, Some, OnOk, IfOk, IfErr};
+ghost use Rattle.std.specs.Prelude.{◌≡◌, ◌↔◌, ◌+◌, ◌≤◌, ◌<◌, [], ◌∷◌, ◌++◌, length, IsTrue, IsSome, IsOk, Some, OnOk, IfOk, IfErr};
 ghost use Rattle.wasm_grammar.specs.Frames.{frames_after, innermost, without_innermost};
 ghost use Rattle.wasm_operators_frames.specs.Stack.{HasRoom, IsOutOfMemory};
 ghost use Rattle.wasm_operators_frames.specs.Step.{Opens, role_of_step};
@@ -203,20 +203,20 @@ impl ControlStack {
         }
     }
 
-    /// The same frames in memory of their own.
+    /// The same frames in memory of their own, of the same allocator. Of its room nothing is known.
     ///
-    /// `OutOfMemory` at offset 0.
+    /// `OutOfMemory` at offset 0, and only where more than one frame is open.
     pub fn clone(&self) -> Result<ControlStack>
         ensures frames { IfOk result (λ copy. copy.frames ≡ self.now.frames) }
-        ensures refused { IfErr result (λ e. IsOutOfMemory e) }
+        ensures refused { IfErr result (λ e. IsOutOfMemory e × (1 < length self.now.frames)) }
     {
-        let alloc = *self.around.allocator();
-        match Vec::from_slice(alloc, self.around.as_slice()) {
-            Ok(around) => Ok(ControlStack {
-                around,
-                current: self.current,
-            }),
-            Err(_) => Err(Error::new(Message::OutOfMemory, 0)),
+        let mut around = Vec::new(*self.around.allocator());
+        if around.extend_from_slice(self.around.as_slice()).is_err() {
+            return Err(Error::new(Message::OutOfMemory, 0));
         }
+        Ok(ControlStack {
+            around,
+            current: self.current,
+        })
     }
 }

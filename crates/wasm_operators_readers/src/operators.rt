@@ -2,12 +2,19 @@
 ghost use Rattle.std.specs.Prelude.{◌≡◌, ◌↔◌, ◌≤◌, ◌∷◌, [], IsTrue, IfOk, IfErr};
 ghost use Rattle.wasm_below.specs.Source.{rest, offset_of};
 ghost use Rattle.wasm_operators_runs.specs.Reading.{Finishes, IsFresh};
+ghost use Rattle.wasm_operators_decoding.specs.Next.{ReadsNext, VisitsNext, VisitsNextPlain};
 
+mod stack;
+
+use crate::begin::begin;
 use std::alloc::Global;
 use std::marker::Model;
 use wasm_below::{BinaryReader, Error, Message, Result};
+use wasm_decode::{read_behind, visit_behind, visit_behind_simd};
 use wasm_grammar::FrameKind;
+use wasm_instr::Operator;
 use wasm_operators_frames::{ControlStack, OperatorsReaderAllocations};
+use wasm_visit::{VisitOperator, VisitSimdOperator};
 
 /// Reads the operators of an expression one after another, and keeps the kinds of the open frames.
 ///
@@ -91,6 +98,82 @@ impl<'a> OperatorsReader<'a> {
         ensures { IsTrue result ↔ (rest self.now.reader ≡ 0x0b ∷ []) }
     {
         self.reader.is_end_then_eof()
+    }
+
+    /// The next operator, a vector operator too: `Ok` exactly where a frame is open and a prefix of
+    /// the rest encodes an operator that the innermost frame allows, memory aside. That prefix is
+    /// taken, and the frames step.
+    ///
+    /// `OperatorsRemaining` where no frame is open; else what `docs/REFUSALS.md` says of operators.
+    /// `OutOfMemory` at the position, where the operator opens a frame and no room is left, or where
+    /// it owns a list. On an error reader and frames are unchanged; there may be more room.
+    #[inline(always)]
+    pub fn read(&mut self) -> Result<Operator<'a>>
+        ensures { ReadsNext result self.old self.new }
+    {
+        match begin(&mut self.reader, &mut self.control) {
+            Ok(at) => {
+                match read_behind(self.alloc, &mut self.reader, at.start, at.frame, at.code) {
+                    Ok(operator) => {
+                        self.control.advance(at.step);
+                        Ok(operator)
+                    }
+                    Err(e) => Err(e),
+                }
+            }
+            Err(e) => Err(e),
+        }
+    }
+
+    /// Visits the next operator, a vector operator too: as `read`, with the answer of the visit.
+    ///
+    /// Refusals are those of `read`; then no visit was made.
+    #[inline(always)]
+    pub fn visit_operator_simd<V>(&mut self, v: &mut V) -> Result<V::Output>
+    where
+        V: VisitOperator<'a> + VisitSimdOperator,
+        ensures { VisitsNext V.visits result self.old self.new v.old v.new }
+    {
+        match begin(&mut self.reader, &mut self.control) {
+            Ok(at) => {
+                match visit_behind_simd(
+                    v,
+                    self.alloc,
+                    &mut self.reader,
+                    at.start,
+                    at.frame,
+                    at.code,
+                ) {
+                    Ok(answer) => {
+                        self.control.advance(at.step);
+                        Ok(answer)
+                    }
+                    Err(e) => Err(e),
+                }
+            }
+            Err(e) => Err(e),
+        }
+    }
+
+    /// Visits the next operator, which is no vector operator.
+    ///
+    /// `UnexpectedSimd` at the position where the byte fd stands; else as `visit_operator_simd`.
+    #[inline(always)]
+    pub fn visit_operator<V: VisitOperator<'a>>(&mut self, v: &mut V) -> Result<V::Output>
+        ensures { VisitsNextPlain V.visits result self.old self.new v.old v.new }
+    {
+        match begin(&mut self.reader, &mut self.control) {
+            Ok(at) => {
+                match visit_behind(v, self.alloc, &mut self.reader, at.start, at.frame, at.code) {
+                    Ok(answer) => {
+                        self.control.advance(at.step);
+                        Ok(answer)
+                    }
+                    Err(e) => Err(e),
+                }
+            }
+            Err(e) => Err(e),
+        }
     }
 
     /// Whether all frames are closed and all data is taken.

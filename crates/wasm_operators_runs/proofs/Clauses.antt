@@ -6,11 +6,11 @@ use Rattle.wasm_below.specs.Source.{rest, source_of}
 use Rattle.wasm_instr.specs.declared.operator.Operator.{Operator}
 use Rattle.wasm_operators_expressions.specs.Expression.{Placed, EncodesRest, IsLongestBehind}
 use Rattle.wasm_operators_runs.specs.Reading.{Taking, Refusing, Needing, State, RunsToEnd, VisitsToEnd, VisitsPlainToEnd}
-use Rattle.wasm_operators_runs.specs.Headline.{StoodBefore, ReadsTree, ReadsBeginning, ReadsPlainBeginning, Appends, VisitsAlong, ReadsFlat, VisitsFlat, IsWithinDepth, IsCut, CutFault}
+use Rattle.wasm_operators_runs.specs.Headline.{StoodBefore, ReadsTree, ReadsBeginning, ReadsPlainBeginning, Appends, VisitsAlong, ReadsFlat, VisitsFlat, VisitsPlainFlat, IsWithinDepth, IsCut, CutFault, IsCompletedIfCut}
 use Rattle.wasm_operators_expressions.specs.Visiting.{Visited, IsPlain}
-use Rattle.wasm_operators_runs.proofs.Ends.{flat_run, run_cut}
-use Rattle.wasm_operators_runs.proofs.Plain.{run_plain, plain_only, plain_vector}
-use Rattle.wasm_operators_runs.proofs.Premises.{TakesAll, TakesPlain, RefusesVectors}
+use Rattle.wasm_operators_runs.proofs.Ends.{flat_run, run_cut, run_left}
+use Rattle.wasm_operators_runs.proofs.Plain.{run_plain, plain_only, plain_vector, plain_flat}
+use Rattle.wasm_operators_runs.proofs.Premises.{TakesAll, TakesPlain, RefusesVectors, IsReading}
 use Rattle.wasm_operators_runs.proofs.Runs.{run_tree, run_beginning, run_only, run_depth}
 
 module _ (Encodes : Taking) (Fault : Refusing) (Needs : Needing) where
@@ -45,6 +45,12 @@ module _ (Encodes : Taking) (Fault : Refusing) (Needs : Needing) where
   reads_cut takes (Ok x) before old new out_old out_new run h cut = tt
   reads_cut takes (Err e) before old new out_old out_new (placed, added, ran, stops) h cut =
       run_cut Encodes Fault Needs takes e before old new placed h ran stops cut
+
+  pub reads_completed : {X : Type 0} (reading : IsReading Fault) (r : Result X Error) (before : List Operator) (old new : State) (out_old out_new : Placed) →
+      RunsToEnd Encodes Fault Needs r old new out_old out_new → StoodBefore before old → IsCompletedIfCut before r old new
+  reads_completed reading (Ok x) before old new out_old out_new run h = tt
+  reads_completed reading (Err e) before old new out_old out_new (placed, added, ran, stops) h =
+      run_left Encodes Fault Needs reading e before old new placed h ran stops
 
   pub reads_within_depth : {X : Type 0} (r : Result X Error) (old new : State) (out_old out_new : Placed) →
       RunsToEnd Encodes Fault Needs r old new out_old out_new → IsWithinDepth old new
@@ -84,6 +90,13 @@ module _ (Encodes : Taking) (Fault : Refusing) (Needs : Needing) where
   visits_cut visits takes (Err e) list old new before after (placed, visited, ran, stops) h cut =
       run_cut Encodes Fault Needs takes e list old new placed h ran stops cut
 
+  pub visits_completed : {V A X : Type 0} (visits : V → Operator → A → V → Type 0) (reading : IsReading Fault) (r : Result X Error) (list : List Operator)
+      (old new : State) (before after : V) → VisitsToEnd visits Encodes Fault Needs r old new before after → StoodBefore list old →
+      IsCompletedIfCut list r old new
+  visits_completed visits reading (Ok x) list old new before after run h = tt
+  visits_completed visits reading (Err e) list old new before after (placed, visited, ran, stops) h =
+      run_left Encodes Fault Needs reading e list old new placed h ran stops
+
   pub visits_within_depth : {V A X : Type 0} (visits : V → Operator → A → V → Type 0) (r : Result X Error) (old new : State) (before after : V) →
       VisitsToEnd visits Encodes Fault Needs r old new before after → IsWithinDepth old new
   visits_within_depth visits r old new before after (placed, visited, ran, ended) = run_depth old new placed ran
@@ -121,3 +134,16 @@ module _ (Encodes : Taking) (Fault : Refusing) (Needs : Needing) where
   pub plain_visits_within_depth : {V A X : Type 0} (visits : V → Operator → A → V → Type 0) (r : Result X Error) (old new : State) (before after : V) →
       VisitsPlainToEnd visits Encodes Fault Needs r old new before after → IsWithinDepth old new
   plain_visits_within_depth visits r old new before after (placed, visited, plain, ran, ended) = run_depth old new placed ran
+
+  pub plain_visits_completed : {V A X : Type 0} (visits : V → Operator → A → V → Type 0) (reading : IsReading Fault) (r : Result X Error)
+      (list : List Operator) (old new : State) (before after : V) → VisitsPlainToEnd visits Encodes Fault Needs r old new before after →
+      StoodBefore list old → IsCompletedIfCut list r old new
+  plain_visits_completed visits reading (Ok x) list old new before after run h = tt
+  plain_visits_completed visits reading (Err e) list old new before after (placed, visited, plain, ran, stops) h =
+      run_left Encodes Fault Needs reading e list old new placed h ran stops
+
+  pub plain_visits_flat : {V A X : Type 0} (visits : V → Operator → A → V → Type 0) (takes : TakesPlain Encodes) (r : Result X Error) (old new : State)
+      (before after : V) → VisitsPlainToEnd visits Encodes Fault Needs r old new before after → VisitsPlainFlat visits r old before after
+  plain_visits_flat visits takes r old new before after (placed, visited, plain, ran, ended) flat longest other =
+      let h = plain_flat Encodes Fault Needs takes r old new placed flat ran plain ended longest other in
+      (subst (Visited visits before after) h.0 visited, h.1)

@@ -13,17 +13,18 @@ use Rattle.wasm_grammar.specs.declared.frame_kind.FrameKind.{FrameKind}
 use Rattle.wasm_grammar.specs.Role.{ends}
 use Rattle.wasm_grammar.specs.Frames.{frames_after, frames_along}
 use Rattle.wasm_grammar.specs.Beginning.{IsWalk}
-use Rattle.wasm_grammar.proofs.Paths.{run_path}
+use Rattle.wasm_grammar.specs.OpenPath.{OpenPath}
+use Rattle.wasm_grammar.proofs.Paths.{run_path, same_frames}
 use Rattle.wasm_grammar.proofs.Runs.{ends_complete}
 use Rattle.wasm_instr.specs.declared.operator.Operator.{Operator}
 use Rattle.wasm_instr.specs.declared.operator.Operator.TheVariants as operator
 use Rattle.wasm_instr.specs.Encoding.{EncodesOperator}
 use Rattle.wasm_instr.specs.Roles.{role_of, roles_of}
-use Rattle.wasm_operators_expressions.specs.Expression.{Placed, operators, LaidOut}
+use Rattle.wasm_operators_expressions.specs.Expression.{Placed, operators, LaidOut, IsLongestBehind}
 use Rattle.wasm_operators_expressions.specs.Flat.{IsFlatFrom}
 use Rattle.wasm_operators_runs.specs.Reading.{Taking, Refusing, Needing, State, Ran, StopsRun, EndsRun, ReadsOperator}
-use Rattle.wasm_operators_runs.specs.Headline.{StoodBefore, IsNotOutOfMemory, ClosesFrom, IsCut, CutFault, IsCompletedByEnds}
-use Rattle.wasm_operators_expressions.proofs.LayoutLemmas.{roles_of-append, operators-append, roles_of-ends, laid_append, laid_goes_on, laid_no_longer, laid_same, GoesOn, next_allowed, goes_allowed}
+use Rattle.wasm_operators_runs.specs.Headline.{StoodBefore, BeginningAt, ReadsBeginning, IsNotOutOfMemory, ClosesFrom, IsCut, CutFault, IsCompletedByEnds}
+use Rattle.wasm_operators_expressions.proofs.LayoutLemmas.{roles_of-append, operators-append, roles_of-ends, laid_append, laid_goes_on, laid_no_longer, laid_same, one_longest, GoesOn, next_allowed, goes_allowed}
 use Rattle.wasm_operators_runs.proofs.OneRead.{refused_none, refused_not_taken, one_refusal, closed_read, read_closed}
 use Rattle.wasm_operators_runs.proofs.Premises.{Everything, TakesEach, TakesAll, IsReading, IsDetermined}
 use Rattle.wasm_operators_runs.proofs.Runs.{features_stay, stood_on, IsStuckFor, stuck, run_flat, no_refusal}
@@ -40,14 +41,14 @@ one_flat frames s first second p q =
     (sym p.beginning.parts ∙ q.beginning.parts) (omega arith)).0
 
 -- A run that ends with nothing left closes every frame, and the other way round.
-run_closes : (old new : State) (placed : Placed) → Ran old new placed → new.frames ≡ [] → rest new.reader ≡ [] →
+pub run_closes : (old new : State) (placed : Placed) → Ran old new placed → new.frames ≡ [] → rest new.reader ≡ [] →
     ClosesFrom old.frames (source_of old.reader) placed
 run_closes old new placed r closed all = (
   subst (LaidOut old.reader.features (offset_of old.reader) placed) (sym (r.takes.parts ∙ ap (λ x. r.text ++ x) all ∙ append-nil r.text)) r.laid,
   r.frames ∙ ap (λ (x : List FrameKind). Some x) closed,
 )
 
-closes_run : (old new : State) (placed : Placed) → Ran old new placed → ClosesFrom old.frames (source_of old.reader) placed →
+pub closes_run : (old new : State) (placed : Placed) → Ran old new placed → ClosesFrom old.frames (source_of old.reader) placed →
     (new.frames ≡ []) × (rest new.reader ≡ [])
 closes_run old new placed r (laid, closes) =
     let both : r.text ++ rest new.reader ≡ rest old.reader ++ [] = sym r.takes.parts ∙ sym (append-nil (rest old.reader)) in (
@@ -289,3 +290,33 @@ tells_left Encodes Fault Needs reading e s (inr (some, inr (inl there))) = (
   λ h. absurd (some h.0),
 )
 tells_left Encodes Fault Needs reading e s (inr (some, inr (inr memory))) = (λ is. absurd (cc (is, memory.0)), λ h. absurd (some h.0))
+
+-- Where frames are left at the end of the data, as many bytes 0b complete it.
+pub run_left : (Encodes : Taking) (Fault : Refusing) (Needs : Needing) → IsReading Fault → (e : Error) (before : List Operator) (old new : State)
+    (placed : Placed) → StoodBefore before old → Ran old new placed → StopsRun Encodes Fault Needs e new → e.message ≡ message.FramesRemain →
+    IsCompletedByEnds before (source_of old.reader) (length new.frames)
+run_left Encodes Fault Needs reading e before old new placed h r stops is =
+    run_completed before old new placed h r ((tells_left Encodes Fault Needs reading e new stops).0 is).0
+
+longest_at : (m : Message) (before : List Operator) (r : Reader) (placed : Placed) → BeginningAt m before r placed → (m ≡ message.OutOfMemory → ⊥) →
+    IsLongestBehind before (source_of r) placed
+longest_at message.OutOfMemory before r placed h other = absurd (other refl)
+longest_at _ before r placed h other = h
+
+-- Of two drivers from one place, behind the same operators, all is the same, memory aside.
+pub beginnings_same : (Encodes : Taking) (Fault : Refusing) (Needs : Needing) → IsDetermined Fault → (before : List Operator) (d e : Error)
+    (old new end : State) (placed others : Placed) → ReadsBeginning Encodes Fault Needs before d old new placed →
+    ReadsBeginning Encodes Fault Needs before e old end others → (d.message ≡ message.OutOfMemory → ⊥) → (e.message ≡ message.OutOfMemory → ⊥) →
+    (placed ≡ others) × (end.reader ≡ new.reader) × (end.frames ≡ new.frames) × (d.message ≡ e.message) × (d.offset ≡ e.offset)
+beginnings_same Encodes Fault Needs determined before d e old new end placed others a b other_d other_e =
+    let same = one_longest before (source_of old.reader) placed others (longest_at d.message before old.reader placed a.at other_d)
+    (longest_at e.message before old.reader others b.at other_e) in
+    let layout = laid_same old.reader.features (offset_of old.reader) placed others a.text b.text (rest new.reader) (rest end.reader) a.laid b.laid
+    (sym a.takes.parts ∙ b.takes.parts) (ap length same) in
+    let readers : end.reader ≡ new.reader = b.takes.moved ∙ ap (λ z. at_position old.reader (old.reader.position + length z)) (sym layout.1) ∙
+    sym a.takes.moved in
+    let path : OpenPath (roles_of (before ++ operators placed)) end.frames =
+    subst (λ (ps : Placed). OpenPath (roles_of (before ++ operators ps)) end.frames) (sym same) b.stood.path in
+    let stacks : end.frames ≡ new.frames = same_frames end.frames new.frames (roles_of (before ++ operators placed)) path a.stood.path in
+    let both = same_stops Encodes Fault Needs determined d e new end readers stacks a.stops b.stops other_d other_e in
+    (same, readers, stacks, both.0, both.1)

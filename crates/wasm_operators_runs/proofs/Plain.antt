@@ -1,27 +1,30 @@
 -- The run of a visitor that takes no vector operator: along the longest beginning without one.
-use Rattle.std.proofs.Common.{◌≡◌, ℕ, Bool, true, false, List, ◌∷◌, ◌++◌, length, refl, sym, subst, ap, ◌∙◌, arith, ◌⊎◌, inl, inr}
+use Rattle.std.proofs.Common.{◌≡◌, ℕ, Bool, true, false, List, [], ◌∷◌, ◌++◌, length, Result, Ok, Err, refl, sym, subst, ap, ◌∙◌, arith, ◌⊎◌, inl, inr}
+use Rattle.std.specs.Prelude.{◌↔◌, IsOk}
 use Rattle.std.proofs.lemmas.Bool.{cases_lt}
 use Rattle.wasm_below.specs.bytes.error.Error.{Error}
 use Rattle.wasm_below.specs.bytes.message.Message.{Message}
 use Rattle.wasm_below.specs.bytes.message.Message.TheVariants as message
 use Rattle.wasm_below.specs.Source.{rest, offset_of, source_of, BeginsWith}
-use Rattle.wasm_grammar.specs.Frames.{frames_after}
+use Rattle.wasm_grammar.specs.Frames.{frames_after, frames_along}
+use Rattle.wasm_grammar.proofs.Runs.{some_of}
 use Rattle.wasm_instr.specs.declared.operator.Operator.{Operator}
 use Rattle.wasm_instr.specs.declared.operator.Operator.TheVariants as operator
 use Rattle.wasm_instr.specs.Encoding.{EncodesOperator}
 use Rattle.wasm_instr.specs.Kinds.{IsVector}
-use Rattle.wasm_instr.specs.Roles.{role_of}
+use Rattle.wasm_instr.specs.Roles.{role_of, roles_of}
 use Rattle.wasm_instr.specs.Row.{prefix_of, opcode_of}
 use Rattle.wasm_operators_expressions.specs.Expression.{Placed, operators, EncodesRest, IsLongestBehind, IsBeginningOf}
-use Rattle.wasm_operators_runs.specs.Reading.{Taking, Refusing, Needing, State, Ran, StopsRun}
-use Rattle.wasm_operators_runs.specs.Headline.{StoodBefore, PlainBeginningAt, ReadsPlainBeginning}
+use Rattle.wasm_operators_expressions.specs.Flat.{IsFlatFrom}
+use Rattle.wasm_operators_runs.specs.Reading.{Taking, Refusing, Needing, State, Ran, StopsRun, EndsRun}
+use Rattle.wasm_operators_runs.specs.Headline.{StoodBefore, PlainBeginningAt, ReadsPlainBeginning, IsNotOutOfMemory, ClosesFrom}
 use Rattle.wasm_operators_expressions.specs.Visiting.{is_vector, plain_beginning, IsPlain}
-use Rattle.wasm_operators_runs.proofs.Ends.{AreEach}
-use Rattle.wasm_operators_expressions.proofs.LayoutLemmas.{begins_walk, not_empty, laid_beginning, laid_goes_on, laid_same, GoesOn, goes_allowed}
+use Rattle.wasm_operators_runs.proofs.Ends.{AreEach, run_closes, closes_run}
+use Rattle.wasm_operators_expressions.proofs.LayoutLemmas.{begins_walk, not_empty, laid_beginning, laid_goes_on, laid_same, GoesOn, next_allowed, goes_allowed}
 use Rattle.wasm_operators_runs.proofs.OneRead.{is_memory}
 use Rattle.wasm_operators_expressions.proofs.OpeningLemmas.{first_byte, begins_encoding}
 use Rattle.wasm_operators_runs.proofs.Premises.{IsNoVector, TakesPlain, RefusesVectors}
-use Rattle.wasm_operators_runs.proofs.Runs.{features_stay, stood_on, beginning_of_run, encoded_longest, whole_run, no_refusal, IsStuckFor, stuck_run}
+use Rattle.wasm_operators_runs.proofs.Runs.{features_stay, stood_on, ran_allowed, beginning_of_run, encoded_longest, whole_run, no_refusal, IsStuckFor, stuck_run, stuck}
 use Rattle.wasm_operators_expressions.proofs.VisitLemmas.{no_vector_of, vector_of, plain_stops, plain_longest, plain_none}
 
 -- A plain list has no vector operator.
@@ -147,3 +150,70 @@ plain_vector Encodes Fault Needs takes refuses before e old new placed longest h
             (ap (λ frames. frames_after frames (role_of g.next.0)) none.0))
         stopped (inr (some, inr (inl there))) = refuses new.reader.features there.kind e.message new.reader e.offset there.fault (led g other)
         stopped (inr (some, inr (inr memory))) = absurd (other memory.0)
+
+-- The run and the longest list by frames alone: the same, or more follows in the list, and that is a vector operator.
+run_and_flat : (old new : State) (placed flat : Placed) → (r : Ran old new placed) → IsFlatFrom old.frames (source_of old.reader) flat →
+    (placed ≡ flat) ⊎ GoesOn old.reader.features placed flat (rest new.reader)
+run_and_flat old new placed flat r l =
+    let both = sym r.takes.parts ∙ l.beginning.parts in
+    let le = l.longest placed (ran_allowed old new placed r) in
+    elim (cases_lt (length placed) (length flat)) [
+      | inl lt ↦ inr (laid_goes_on old.reader.features (offset_of old.reader) placed flat r.text l.beginning.beginning (rest new.reader) l.beginning.more
+          r.laid l.beginning.laid both lt)
+      | inr ge ↦ inl (laid_same old.reader.features (offset_of old.reader) placed flat r.text l.beginning.beginning (rest new.reader) l.beginning.more r.laid
+          l.beginning.laid both (omega arith)).0
+    ]
+
+flat_vector : (old new : State) (placed flat : Placed) → (r : Ran old new placed) → IsFlatFrom old.frames (source_of old.reader) flat →
+    IsStuckFor IsNoVector new → (g : GoesOn old.reader.features placed flat (rest new.reader)) → is_vector g.next.0 ≡ true
+flat_vector old new placed flat r l none g =
+    elim (either (is_vector g.next.0)) [
+      | inl is ↦ is
+      | inr not ↦ (
+          let encodes = subst (λ f. EncodesOperator f g.next.0 g.text) (sym (features_stay old.reader new.reader r.text r.takes)) g.encodes in
+          let some = some_of (frames_along old.frames (roles_of (operators flat))) l.beginning.allowed in
+          absurd (next_allowed old.reader.features old.frames new.frames some.0 placed flat (rest new.reader) r.frames some.1 g
+          (none g.text g.more g.next.0 encodes (no_vector_of g.next.0 not) g.bytes))
+          )
+    ]
+
+flat_part : (old new : State) (placed flat : Placed) → (r : Ran old new placed) → IsPlain placed → IsFlatFrom old.frames (source_of old.reader) flat →
+    IsStuckFor IsNoVector new → placed ≡ plain_beginning flat
+flat_part old new placed flat r plain l none =
+    elim (run_and_flat old new placed flat r l) [
+      | inl same ↦ sym plain ∙ ap plain_beginning same
+      | inr g ↦ sym (ap plain_beginning g.parts ∙ plain_stops placed g.others g.next plain (flat_vector old new placed flat r l none g))
+    ]
+
+-- What was visited by frames alone, and when the answer is Ok.
+pub plain_flat : {X : Type 0} (Encodes : Taking) (Fault : Refusing) (Needs : Needing) → TakesPlain Encodes → (result : Result X Error) (old new : State)
+    (placed flat : Placed) → Ran old new placed → IsPlain placed → EndsRun Encodes Fault Needs result new →
+    IsFlatFrom old.frames (source_of old.reader) flat → IsNotOutOfMemory result →
+    (placed ≡ plain_beginning flat) × (IsOk result ↔ (ClosesFrom old.frames (source_of old.reader) flat × IsPlain flat))
+plain_flat {X} Encodes Fault Needs takes result old new placed flat r plain ended l other =
+    (part, exactly result ended)
+  where
+    part : placed ≡ plain_beginning flat
+    part = flat_part old new placed flat r plain l (stuck Encodes Fault Needs IsNoVector takes result new ended other)
+
+    whole : rest new.reader ≡ [] → placed ≡ flat
+    whole all = elim (run_and_flat old new placed flat r l) [
+      | inl same ↦ same
+      | inr g ↦ absurd (not_empty old.reader.features g.next.0 g.text g.more g.encodes (sym all ∙ g.bytes))
+    ]
+
+    closed : ClosesFrom old.frames (source_of old.reader) flat → IsPlain flat → (new.frames ≡ []) × (rest new.reader ≡ [])
+    closed closes is = closes_run old new placed r (subst (ClosesFrom old.frames (source_of old.reader)) (sym (part ∙ is)) closes)
+
+    exactly : (one : Result X Error) → EndsRun Encodes Fault Needs one new → IsOk one ↔ (ClosesFrom old.frames (source_of old.reader) flat × IsPlain flat)
+    exactly (Ok x) (none, all) = (
+      λ ok. (
+        subst (ClosesFrom old.frames (source_of old.reader)) (whole all) (run_closes old new placed r none all),
+        subst IsPlain (whole all) plain,
+      ),
+      λ h. refl,
+    )
+    exactly (Err e) stops = (
+      λ ok. absurd (cc ok),
+      λ h. let end = closed h.0 h.1 in absurd (no_refusal Encodes Fault Needs e new stops end.0 end.1),
+    )

@@ -14,7 +14,7 @@ use Rattle.wasm_instr.specs.Roles.{roles_of}
 use Rattle.wasm_operators_expressions.specs.Expression.{Placed, operators, LaidOut, AreEncoded, EncodesRest, IsBeginningBehind, IsLongestBehind, IsBeginningOf}
 use Rattle.wasm_operators_expressions.specs.Flat.{IsFlatFrom}
 use Rattle.wasm_operators_runs.specs.Reading.{State, Taking, Refusing, Needing, StopsRun}
-use Rattle.wasm_operators_expressions.specs.Visiting.{Visited, plain_beginning}
+use Rattle.wasm_operators_expressions.specs.Visiting.{Visited, plain_beginning, IsPlain}
 
 -- These operators stood before: they have encodings, and their open path leads to the frames of the reader. Before a fresh reader none stood.
 pub record StoodBefore (before : List Operator) (s : State) : Type 0 where
@@ -92,6 +92,13 @@ VisitsFlat visits result old before after =
     (flat : Placed) → IsFlatFrom old.frames (source_of old.reader) flat → IsNotOutOfMemory result → Visited visits before after flat ×
     (IsOk result ↔ ClosesFrom old.frames (source_of old.reader) flat)
 
+-- Without trees, of visits without vector operators: that list was visited up to its first vector operator, and the answer is Ok exactly where it has none,
+-- takes all of the bytes and closes every frame.
+abbrev pub VisitsPlainFlat : {V A X : Type 0} → (V → Operator → A → V → Type 0) → Result X Error → State → V → V → Type 0
+VisitsPlainFlat visits result old before after =
+    (flat : Placed) → IsFlatFrom old.frames (source_of old.reader) flat → IsNotOutOfMemory result → Visited visits before after (plain_beginning flat) ×
+    (IsOk result ↔ (ClosesFrom old.frames (source_of old.reader) flat × IsPlain flat))
+
 -- Twice the frames that were added is at most the bytes that were taken.
 abbrev pub IsWithinDepth : State → State → Type 0
 IsWithinDepth old new = 2 * length new.frames + old.reader.position ≤ 2 * length old.frames + new.reader.position
@@ -117,3 +124,8 @@ CutFault _ left = ⊥
 -- As many bytes 0b behind them make them the rest of an expression.
 abbrev pub IsCompletedByEnds : List Operator → Source → ℕ → Type 0
 IsCompletedByEnds before s n = (whole : Placed) × EncodesRest before (with_behind s (replicate n 0x0b)) whole
+
+-- A frame is open at the end of the data only where as many bytes 0b as frames are open make it the rest of an expression.
+abbrev pub IsCompletedIfCut : {X : Type 0} → List Operator → Result X Error → State → State → Type 0
+IsCompletedIfCut before result old new =
+    IfErr result (λ e. e.message ≡ message.FramesRemain → IsCompletedByEnds before (source_of old.reader) (length new.frames))

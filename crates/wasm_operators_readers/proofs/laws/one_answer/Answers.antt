@@ -1,0 +1,15 @@
+use Rattle.wasm_opcodes.specs.Allowed.{EncodesAllowed}
+use Rattle.wasm_opcodes.specs.OperatorFaults.{OperatorFault}
+use Rattle.wasm_decode.proofs.DeterminedOperatorRefusals.{operator_determines}
+use Rattle.wasm_operators_decoding.specs.Next.{NeedsNext}
+use Rattle.wasm_operators_runs.specs.Reading.{Anywhere}
+use Rattle.wasm_operators_runs.proofs.Ends.{beginnings_same}
+use Rattle.wasm_operators_readers.proofs.laws.one_answer.Goals as goal
+
+pub returns-clause-reads : goal.returns-clause-reads
+returns-clause-reads c = λ before d e old new end placed others first other second not.
+    beginnings_same EncodesAllowed OperatorFault Anywhere operator_determines before d e old new end placed others first second other not
+
+pub returns-clause-visits : goal.returns-clause-visits
+returns-clause-visits c = λ before d e old new end placed others first other second not.
+    beginnings_same EncodesAllowed OperatorFault (NeedsNext EncodesAllowed) operator_determines before d e old new end placed others first second other not

@@ -1,0 +1,39 @@
+use Rattle.std.proofs.Common.{true, is_ok, ℕ, ◌≡◌, ◌∙◌, ◌++◌, ◌∷◌, [], refl, ap, rules}
+use Rattle.wasm_below.specs.Source.{rest, offset_of}
+use Rattle.wasm_instr.specs.declared.operator.Operator.{Operator}
+use Rattle.wasm_operators_expressions.proofs.LayoutLemmas.{same_place}
+use Rattle.wasm_opcodes.specs.OperatorFaults.{OperatorFault}
+use Rattle.wasm_operators_runs.specs.Reading.{Anywhere}
+use Rattle.wasm_operators_runs.proofs.OneRead.{needs_more}
+use Rattle.wasm_operators_runs.proofs.Runs.{ran_push, ran_unchanged, run_stops, pushed}
+use Rattle.wasm_operators_decoding.specs.Next.{NeedsNext}
+use Rattle.wasm_opcodes.specs.Allowed.{EncodesAllowed}
+use Rattle.wasm_operators_decoding.proofs.Decoder.{sound}
+use Rattle.wasm_operators_readers.proofs.operators.OperatorsReader.read_to_end.Goals as goal
+
+pub operators-preserved : goal.operators-preserved
+operators-preserved c =
+    let i = c.operators.invariant in
+    let ok : is_ok c.push.result ≡ true = search rules in
+    let op = c.in-Ok.operator in
+    let now = c.try_reserve.new.self.items in
+    let placed : Operator × ℕ = (op, c.original_position-offset.result) in
+    let wanted : Operator × ℕ = (op, offset_of c.operators.self.reader) in
+    let same : placed ≡ wanted = same_place placed wanted refl c.original_position-offset.ensures in (
+      i.0 ++ wanted ∷ [],
+      pushed (is_ok c.push.result) c.push.new.self.items now c.args.out.now.items i.0 placed wanted c.push.ensures.items ok
+          (c.try_reserve.ensures.items ∙ i.1) same,
+      ran_push EncodesAllowed sound c.args.self.now c.operators.self c.read.new.self i.0 op i.2 c.in-Ok.ensures,
+    )
+
+pub returns-in-Err : goal.returns-in-Err
+returns-in-Err c =
+    let i = c.operators.invariant in
+    let r = c.in-Err.ensures in
+    let left : rest c.operators.self.reader ≡ [] → ⊥ = search rules in
+    let stops = needs_more EncodesAllowed OperatorFault (NeedsNext EncodesAllowed) Anywhere (λ s h. tt) c.in-Err.e c.read.new.self r.1 in (
+      i.0,
+      c.try_reserve.ensures.items ∙ i.1,
+      ran_unchanged c.args.self.now c.operators.self c.read.new.self i.0 i.2 r.0,
+      run_stops EncodesAllowed OperatorFault Anywhere c.in-Err.e c.operators.self c.read.new.self left r.0 stops,
+    )

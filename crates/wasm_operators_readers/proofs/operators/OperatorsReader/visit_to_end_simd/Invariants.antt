@@ -1,0 +1,13 @@
+use Rattle.std.proofs.Common.{length}
+use Rattle.wasm_below.specs.Source.{rest}
+use Rattle.wasm_operators_expressions.specs.Expression.{Placed}
+use Rattle.wasm_operators_expressions.specs.Visiting.{Visited}
+use Rattle.wasm_operators_runs.specs.Reading.{Ran}
+use Rattle.wasm_operators_readers.proofs.operators.OperatorsReader.visit_to_end_simd.Given as goal
+
+-- the visitor went along the operators of the visits so far
+abbrev pub invariant-visits : goal.invariant-visits
+invariant-visits g l = (placed : Placed) × Visited g.V.Visitor.visits l.fn.v l.v placed × Ran l.fn.self l.self placed
+
+abbrev pub decreases-visits : goal.decreases-visits
+decreases-visits g l = length (rest l.self.reader)

@@ -1,0 +1,35 @@
+-- Reading operators one after another by iterators.
+use Rattle.std.specs.Prelude.{◌≡◌, ℕ, cond, Bool, true, false, [], length, Option, None, Some, Result, Ok, Err, is_err, ◌⊎◌}
+use Rattle.std.specs.Iterator.{Count, at_most}
+use Rattle.wasm_below.specs.bytes.error.Error.{Error}
+use Rattle.wasm_below.specs.Source.{rest, offset_of}
+use Rattle.wasm_instr.specs.declared.operator.Operator.{Operator}
+use Rattle.wasm_operators_runs.specs.Reading.{State}
+use Rattle.wasm_operators_decoding.specs.Next.{ReadsNext}
+
+-- One read that answers the operator with the offset at which it began.
+abbrev pub ReadsNextPlaced : Result (Operator × ℕ) Error → State → State → Type 0
+ReadsNextPlaced (Ok placed) old new = ReadsNext (Ok placed.0) old new × (placed.1 ≡ offset_of old.reader)
+ReadsNextPlaced (Err e) old new = ReadsNext (Err e) old new
+
+-- An iterator over operators: the reader that it reads, and whether a read was refused.
+pub record Iterating : Type 0 where
+  pub reader : State
+  pub refused : Bool
+
+-- An iterator that has read nothing yet.
+abbrev pub iterating_over : State → Iterating
+iterating_over s = record { reader = s; refused = false }
+
+-- No item comes any more: a read was refused, or all data is taken.
+abbrev pub HasEnded : Iterating → Type 0
+HasEnded i = (i.refused ≡ true) ⊎ (rest i.reader.reader ≡ [])
+
+-- A step of an iterator whose reads are these: where it has ended nothing comes and nothing changes, else the answer of one read comes.
+abbrev pub StepsBy : {X : Type 0} → (Result X Error → State → State → Type 0) → Iterating → Option (Result X Error) → Iterating → Type 0
+StepsBy Reads old None new = HasEnded old × (new ≡ old)
+StepsBy Reads old (Some item) new = (HasEnded old → ⊥) × Reads item old.reader new.reader × (new.refused ≡ is_err item)
+
+-- At most as many items come as bytes are left, and none behind a refusal.
+abbrev pub items_to_come : Iterating → Count
+items_to_come i = at_most (cond i.refused 0 (length (rest i.reader.reader)))

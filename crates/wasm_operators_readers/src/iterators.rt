@@ -1,0 +1,143 @@
+//! Operators by iterators, alone and with the offsets at which they begin.
+ghost use Rattle.std.specs.Prelude.{◌≡◌, ◌≤◌};
+ghost use Rattle.wasm_operators_decoding.specs.Next.{ReadsNext};
+ghost use Rattle.wasm_operators_readers.specs.Iterating.{ReadsNextPlaced, StepsBy, items_to_come, iterating_over};
+
+use crate::operators::OperatorsReader;
+use std::marker::Model;
+use wasm_below::Result;
+use wasm_instr::Operator;
+use wasm_operators_frames::OperatorsReaderAllocations;
+
+impl<'a> OperatorsReader<'a> {
+    /// The next operator, with the original position at which it begins. It is read as by `read`,
+    /// and refused as there.
+    #[inline(always)]
+    pub fn read_with_offset(&mut self) -> Result<(Operator<'a>, u64)>
+        ensures { ReadsNextPlaced result self.old self.new }
+    {
+        let offset = self.original_position();
+        match self.read() {
+            Ok(operator) => Ok((operator, offset)),
+            Err(e) => Err(e),
+        }
+    }
+
+    /// The operators one after another, each with the original position at which it begins.
+    pub fn into_iter_with_offsets(self) -> OperatorsIteratorWithOffsets<'a>
+        ensures { result ≡ iterating_over self.entry }
+    {
+        OperatorsIteratorWithOffsets {
+            reader: self,
+            refused: false,
+        }
+    }
+}
+
+impl<'a> IntoIterator for OperatorsReader<'a> {
+    type Item = Result<Operator<'a>>;
+
+    type IntoIter = OperatorsIterator<'a>;
+
+    ghost into_iter_gives = { λ reader items. items ≡ iterating_over reader };
+
+    fn into_iter(self) -> OperatorsIterator<'a> {
+        OperatorsIterator {
+            reader: self,
+            refused: false,
+        }
+    }
+}
+
+/// The operators of a reader, one after another.
+///
+/// Each item is one `read`. It ends where all data is taken and behind an `Err`, and does not ask
+/// whether frames are open then. Contracts see the reader, and whether a read was refused.
+#[derive(Drop)]
+pub struct OperatorsIterator<'a> {
+    reader: OperatorsReader<'a>,
+    refused: bool,
+}
+
+impl<'a> Model for OperatorsIterator<'a> {
+    ghost use Rattle.wasm_operators_readers.specs.Iterating.{Iterating};
+
+    ghost Value = { Iterating };
+
+    ghost view = { λ i. record { reader = i.reader; refused = i.refused } };
+}
+
+impl<'a> OperatorsIterator<'a> {
+    /// The memory of the frames, for another reader.
+    pub fn into_allocations(self) -> OperatorsReaderAllocations
+        ensures { self.entry.reader.room ≤ result }
+    {
+        let OperatorsIterator { reader, .. } = self;
+        reader.into_allocations()
+    }
+}
+
+impl<'a> Iterator for OperatorsIterator<'a> {
+    type Item = Result<Operator<'a>>;
+
+    ghost next_gives = { StepsBy ReadsNext };
+
+    ghost remaining = { items_to_come };
+
+    #[inline(always)]
+    fn next(&mut self) -> Option<Result<Operator<'a>>> {
+        if self.refused || self.reader.eof() {
+            return None;
+        }
+        let item = self.reader.read();
+        self.refused = item.is_err();
+        Some(item)
+    }
+}
+
+/// The operators of a reader, one after another, each with the original position at which it begins.
+///
+/// Each item is one `read_with_offset`. It ends where all data is taken and behind an `Err`, and
+/// does not ask whether frames are open then. Contracts see the reader, and whether a read was
+/// refused.
+#[derive(Drop)]
+pub struct OperatorsIteratorWithOffsets<'a> {
+    reader: OperatorsReader<'a>,
+    refused: bool,
+}
+
+impl<'a> Model for OperatorsIteratorWithOffsets<'a> {
+    ghost use Rattle.wasm_operators_readers.specs.Iterating.{Iterating};
+
+    ghost Value = { Iterating };
+
+    ghost view = { λ i. record { reader = i.reader; refused = i.refused } };
+}
+
+impl<'a> OperatorsIteratorWithOffsets<'a> {
+    /// The memory of the frames, for another reader.
+    pub fn into_allocations(self) -> OperatorsReaderAllocations
+        ensures { self.entry.reader.room ≤ result }
+    {
+        let OperatorsIteratorWithOffsets { reader, .. } = self;
+        reader.into_allocations()
+    }
+}
+
+impl<'a> Iterator for OperatorsIteratorWithOffsets<'a> {
+    type Item = Result<(Operator<'a>, u64)>;
+
+    ghost next_gives = { StepsBy ReadsNextPlaced };
+
+    ghost remaining = { items_to_come };
+
+    #[inline(always)]
+    fn next(&mut self) -> Option<Result<(Operator<'a>, u64)>> {
+        if self.refused || self.reader.eof() {
+            return None;
+        }
+        let placed = self.reader.read_with_offset();
+        self.refused = placed.is_err();
+        Some(placed)
+    }
+}

@@ -1,0 +1,49 @@
+//! Laws of reads, visits and drivers. Each is the contract of a function that does nothing.
+ghost use Rattle.std.specs.Prelude.{◌≡◌, ◌≢◌, List};
+ghost use Rattle.wasm_below.specs.bytes.error.Error.{Error};
+ghost use Rattle.wasm_instr.specs.declared.operator.Operator.{Operator};
+ghost use Rattle.wasm_opcodes.specs.Allowed.{EncodesAllowed, EncodesPlain};
+ghost use Rattle.wasm_opcodes.specs.OperatorFaults.{OperatorFault, PlainOperatorFault};
+ghost use Rattle.wasm_operators_decoding.specs.Next.{NeedsNext, StopsNext};
+ghost use Rattle.wasm_operators_expressions.specs.Expression.{Placed};
+ghost use Rattle.wasm_operators_runs.specs.Reading.{State, TakesOperator, Anywhere};
+ghost use Rattle.wasm_operators_runs.specs.Headline.{ReadsBeginning};
+
+use wasm_below::Message;
+
+/// A read or a visit that was refused is refused again, by the same message and at the same offset,
+/// allocation failure aside.
+pub fn refused_again()
+    ensures any { (d e : Error) (old mid new : State)
+        → StopsNext EncodesAllowed OperatorFault d old mid → d.message ≢ Message.OutOfMemory
+        → StopsNext EncodesAllowed OperatorFault e mid new → e.message ≢ Message.OutOfMemory
+        → (d.message ≡ e.message) × (d.offset ≡ e.offset) }
+    ensures plain { (d e : Error) (old mid new : State)
+        → StopsNext EncodesPlain PlainOperatorFault d old mid → d.message ≢ Message.OutOfMemory
+        → StopsNext EncodesPlain PlainOperatorFault e mid new → e.message ≢ Message.OutOfMemory
+        → (d.message ≡ e.message) × (d.offset ≡ e.offset) }
+{}
+
+/// It does not succeed.
+pub fn not_taken()
+    ensures any { (e : Error) (old mid new : State) (op : Operator)
+        → StopsNext EncodesAllowed OperatorFault e old mid → e.message ≢ Message.OutOfMemory
+        → ¬ TakesOperator EncodesAllowed op mid new }
+    ensures plain { (e : Error) (old mid new : State) (op : Operator)
+        → StopsNext EncodesPlain PlainOperatorFault e old mid → e.message ≢ Message.OutOfMemory
+        → ¬ TakesOperator EncodesPlain op mid new }
+{}
+
+/// Where reading or visiting to the end is refused, the whole answer is determined, allocation
+/// failure aside: which operators came, where the reader stands, which frames are open, and message
+/// and offset.
+pub fn one_answer()
+    ensures reads { (before : List Operator) (d e : Error) (old new end : State) (placed others : Placed)
+        → ReadsBeginning EncodesAllowed OperatorFault Anywhere before d old new placed → d.message ≢ Message.OutOfMemory
+        → ReadsBeginning EncodesAllowed OperatorFault Anywhere before e old end others → e.message ≢ Message.OutOfMemory
+        → (placed ≡ others) × (end.reader ≡ new.reader) × (end.frames ≡ new.frames) × (d.message ≡ e.message) × (d.offset ≡ e.offset) }
+    ensures visits { (before : List Operator) (d e : Error) (old new end : State) (placed others : Placed)
+        → ReadsBeginning EncodesAllowed OperatorFault (NeedsNext EncodesAllowed) before d old new placed → d.message ≢ Message.OutOfMemory
+        → ReadsBeginning EncodesAllowed OperatorFault (NeedsNext EncodesAllowed) before e old end others → e.message ≢ Message.OutOfMemory
+        → (placed ≡ others) × (end.reader ≡ new.reader) × (end.frames ≡ new.frames) × (d.message ≡ e.message) × (d.offset ≡ e.offset) }
+{}

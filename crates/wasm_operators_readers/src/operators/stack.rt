@@ -1,0 +1,41 @@
+//! The open frames of a reader: the innermost of them, and a clone of the reader with all of them.
+ghost use Rattle.std.specs.Prelude.{◌≡◌, ◌<◌, length, IfOk, IfErr};
+ghost use Rattle.wasm_operators_frames.specs.Stack.{IsOutOfMemory};
+
+use super::OperatorsReader;
+use wasm_below::Result;
+use wasm_grammar::FrameKind;
+use wasm_instr::FrameStack;
+
+impl<'a> OperatorsReader<'a> {
+    /// A reader of its own that stands where this one does, with the same open frames, in memory of
+    /// the same allocator. It reads the same bytes. Of its room nothing is known.
+    ///
+    /// `OutOfMemory` at offset 0, and only where more than one frame is open.
+    pub fn clone(&self) -> Result<OperatorsReader<'a>>
+        ensures reader { IfOk result (λ copy. copy.reader ≡ self.now.reader) }
+        ensures frames { IfOk result (λ copy. copy.frames ≡ self.now.frames) }
+        ensures refused { IfErr result (λ e. IsOutOfMemory e × (1 < length self.now.frames)) }
+    {
+        match self.control.clone() {
+            Ok(control) => Ok(OperatorsReader {
+                alloc: self.alloc,
+                reader: self.reader.clone(),
+                control,
+            }),
+            Err(e) => Err(e),
+        }
+    }
+}
+
+/// The open frames are those of the reader.
+impl<'a> FrameStack for OperatorsReader<'a> {
+    ghost use Rattle.wasm_grammar.specs.Frames.{innermost};
+
+    ghost frame = { λ r. innermost r.frames };
+
+    #[inline(always)]
+    fn current_frame(&self) -> Option<FrameKind> {
+        self.control.last()
+    }
+}
