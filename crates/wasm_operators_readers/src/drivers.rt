@@ -1,5 +1,5 @@
 //! Reading and visiting to the end of the data.
-ghost use Rattle.std.specs.Prelude.{◌≡◌, [], List, ◌++◌, ◌⊎◌, OnOk, IfErr};
+ghost use Rattle.std.specs.Prelude.{◌≡◌, ◌+◌, ◌<◌, [], List, ◌++◌, ◌⊎◌, OnOk, IfErr, vec_capacity, vec_len};
 ghost use Rattle.wasm_below.specs.Source.{rest, source_of};
 ghost use Rattle.wasm_instr.specs.declared.operator.Operator.{Operator};
 ghost use Rattle.wasm_opcodes.specs.Allowed.{EncodesAllowed, EncodesPlain};
@@ -18,7 +18,8 @@ use wasm_visit::{VisitOperator, VisitSimdOperator};
 impl<'a> OperatorsReader<'a> {
     /// Reads up to the end of the data or a refusal, and finishes.
     fn read_to_end(&mut self, out: &mut Vec<(Operator<'a>, u64)>) -> Result<()>
-        ensures { RunsToEnd EncodesAllowed OperatorFault Anywhere result self.old self.new out.old.items out.new.items }
+        ensures runs { RunsToEnd EncodesAllowed OperatorFault Anywhere result self.old self.new out.old.items out.new.items }
+        ensures memory { IfErr result (λ e. e.message ≡ Message.OutOfMemory → NeedsNext EncodesAllowed self.new ⊎ (vec_capacity out.new < vec_len out.new + 1)) }
     {
         'operators: while !self.eof() {
             let offset = self.original_position();
@@ -66,6 +67,8 @@ impl<'a> OperatorsReader<'a> {
         ensures flat { ReadsFlat result self.old out.old.items out.new.items }
         // Few frames are opened.
         ensures depth { IsWithinDepth self.old self.new }
+        // Memory is refused only where one read may ask for it, or where `out` is full.
+        ensures memory { IfErr result (λ e. e.message ≡ Message.OutOfMemory → NeedsNext EncodesAllowed self.new ⊎ (vec_capacity out.new < vec_len out.new + 1)) }
     {
         self.read_to_end(out)
     }

@@ -1,4 +1,4 @@
-use Rattle.std.proofs.Common.{true, is_ok, ℕ, ◌≡◌, ◌∙◌, ◌++◌, ◌∷◌, [], refl, ap, rules}
+use Rattle.std.proofs.Common.{true, is_ok, ℕ, ◌≡◌, ◌∙◌, ◌++◌, ◌∷◌, [], refl, ap, rules, inl}
 use Rattle.wasm_below.specs.Source.{rest, offset_of}
 use Rattle.wasm_instr.specs.declared.operator.Operator.{Operator}
 use Rattle.wasm_operators_expressions.proofs.LayoutLemmas.{same_place}
@@ -8,7 +8,8 @@ use Rattle.wasm_operators_runs.proofs.OneRead.{needs_more}
 use Rattle.wasm_operators_runs.proofs.Runs.{ran_push, ran_unchanged, run_stops, pushed}
 use Rattle.wasm_operators_decoding.specs.Next.{NeedsNext}
 use Rattle.wasm_opcodes.specs.Allowed.{EncodesAllowed}
-use Rattle.wasm_operators_decoding.proofs.Decoder.{sound}
+use Rattle.wasm_operators_decoding.proofs.Decoder.{sound, is_reading}
+use Rattle.wasm_operators_readers.proofs.MemoryLemmas.{memory_needs}
 use Rattle.wasm_operators_readers.proofs.operators.OperatorsReader.read_to_end.Goals as goal
 
 pub operators-preserved : goal.operators-preserved
@@ -26,8 +27,8 @@ operators-preserved c =
       ran_push EncodesAllowed sound c.args.self.now c.operators.self c.read.new.self i.0 op i.2 c.in-Ok.ensures,
     )
 
-pub returns-in-Err : goal.returns-in-Err
-returns-in-Err c =
+pub returns-in-Err-clause-runs : goal.returns-in-Err-clause-runs
+returns-in-Err-clause-runs c =
     let i = c.operators.invariant in
     let r = c.in-Err.ensures in
     let left : rest c.operators.self.reader ≡ [] → ⊥ = search rules in
@@ -37,3 +38,7 @@ returns-in-Err c =
       ran_unchanged c.args.self.now c.operators.self c.read.new.self i.0 i.2 r.0,
       run_stops EncodesAllowed OperatorFault Anywhere c.in-Err.e c.operators.self c.read.new.self left r.0 stops,
     )
+
+pub returns-in-Err-clause-memory : goal.returns-in-Err-clause-memory
+returns-in-Err-clause-memory c = λ is. inl (memory_needs EncodesAllowed OperatorFault (NeedsNext EncodesAllowed) is_reading c.in-Err.e c.read.new.self
+    c.in-Err.ensures.1 is)

@@ -1,0 +1,15 @@
+-- Where memory is refused.
+use Rattle.std.proofs.Common.{◌≡◌, inl, inr, subst}
+use Rattle.wasm_below.specs.bytes.error.Error.{Error}
+use Rattle.wasm_below.specs.bytes.message.Message.TheVariants as message
+use Rattle.wasm_below.specs.Refusal.{IsReadFault}
+use Rattle.wasm_operators_runs.specs.Reading.{Taking, Refusing, Needing, State, StopsRead}
+use Rattle.wasm_operators_runs.proofs.Premises.{IsReading}
+
+-- A read that is refused by memory stands where it may be.
+pub memory_needs : (Encodes : Taking) (Fault : Refusing) (Needs : Needing) → IsReading Fault → (e : Error) (s : State) → StopsRead Encodes Fault Needs e s →
+    e.message ≡ message.OutOfMemory → Needs s
+memory_needs Encodes Fault Needs reading e s (inl none) is = absurd (cc (is, none.1))
+memory_needs Encodes Fault Needs reading e s (inr (inl there)) is =
+    absurd (subst IsReadFault is (reading s.reader.features there.kind e.message s.reader e.offset there.fault))
+memory_needs Encodes Fault Needs reading e s (inr (inr memory)) is = memory.2
