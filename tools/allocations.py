@@ -11,7 +11,8 @@ with its second, and so on until none is. Each run has to end by itself, with no
 - another test passes, or ends by an error or an assertion of its own;
 - a program ends with a status of its own. One that has a file `refused` beside its src/ ends
   as that file says, or as it does when no allocation is refused. The file has three lines: the status,
-  what it writes and what it complains.
+  what it writes and what it complains; or one line `as ever`, of a program that ends as it does when
+  no allocation is refused, whichever was.
 
 The allocations are counted in the C library's `malloc` and `realloc`, which is where Rattle's go:
 `refuse_allocation.c` is built with the kit's own compiler and loaded first.
@@ -29,6 +30,8 @@ TOP = Path(__file__).resolve().parent.parent
 SECONDS = 60
 # A test or a program that takes more allocations than these is one to make smaller.
 MOST = 1000
+# The file `refused` of a program whose end no refused allocation changes.
+AS_EVER = "as ever\n"
 
 
 def built_library(folder):
@@ -97,11 +100,16 @@ def follow_tests(program, library):
         yield test, followed(f"{program.name} {test}", [program, test], b"", library, allowed)
 
 
-def refused_shapes(crate):
-    """How the program may end where an allocation was refused, or None where nothing is said of that."""
+def refused_shapes(crate, plain):
+    """How the program may end where an allocation was refused, or None where nothing is said of that.
+
+    `plain` is how it ends where none was.
+    """
     path = crate / "refused"
     if not path.exists():
         return None
+    if path.read_text(encoding="utf-8") == AS_EVER:
+        return plain
     status, wrote, complained = path.read_text(encoding="utf-8").split("\n")[:3]
     line = lambda text: f"{text}\n".encode() if text else b""
     return int(status), line(wrote), line(complained)
@@ -112,7 +120,7 @@ def follow_program(program, crate, library):
     read = lambda name: (crate / name).read_bytes() if (crate / name).exists() else b""
     words = [program, *read("args").decode().splitlines()]
     plain = Run(words, read("stdin"), library, 0).shape
-    refused = refused_shapes(crate)
+    refused = refused_shapes(crate, plain)
     if refused is None:
         allowed = lambda ran: ran.status is not None and ran.status >= 0
     else:
@@ -131,7 +139,7 @@ def follow_crate(crate, library):
     built = [program for program in (crate / "out" / name, crate / "out" / f"{name}.by-rattle") if program.exists()]
     for program in built:
         yield program.name, follow_program(program, crate, library)
-    if refused_shapes(crate) and not built:
+    if (crate / "refused").exists() and not built:
         yield name, (0, [f"{name}: the program is not built"])
     tests = crate / "out" / f"{name}_tests"
     if tests.exists():

@@ -100,9 +100,12 @@ class Allocations(unittest.TestCase):
 
     def test_refused_shapes(self):
         with tempfile.TemporaryDirectory() as folder:
-            self.assertIsNone(allocations.refused_shapes(Path(folder)))
+            plain = (0, b"read\n", b"")
+            self.assertIsNone(allocations.refused_shapes(Path(folder), plain))
             (Path(folder) / "refused").write_text("3\n\nout of memory\n", encoding="utf-8")
-            self.assertEqual(allocations.refused_shapes(Path(folder)), (3, b"", b"out of memory\n"))
+            self.assertEqual(allocations.refused_shapes(Path(folder), plain), (3, b"", b"out of memory\n"))
+            (Path(folder) / "refused").write_text("as ever\n", encoding="utf-8")
+            self.assertEqual(allocations.refused_shapes(Path(folder), plain), plain)
 
     def test_ends(self):
         self.assertEqual([allocations.is_own_end(it) for it in (0, 1, -6, -11, None)], [True, True, True, False, False])

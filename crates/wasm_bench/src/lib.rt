@@ -14,6 +14,9 @@ ghost use Rattle.wasm_imm.specs.BranchTables.{EncodesBranchTable};
 ghost use Rattle.wasm_imm.specs.MemoryArgument.{EncodesMemArg};
 ghost use Rattle.wasm_bench.specs.Sums.{IsSumOf, itself, argument_counts, block_counts, table_counts};
 
+mod operators;
+mod visitors;
+
 use std::alloc::Global;
 use wasm_below::BinaryReader;
 use wasm_imm::{BlockType, BrTable, MemArg, MemArgKind};

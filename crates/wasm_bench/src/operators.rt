@@ -1,0 +1,83 @@
+//! The operators of a function body, visited and read.
+use crate::visitors::{CountAny, CountSome};
+use std::alloc::Global;
+use wasm_below::{BinaryReader, ValType};
+use wasm_instr::Operator;
+use wasm_operators_readers::OperatorsReader;
+
+/// The operators behind the locals of a body. Code Section.
+fn operators_of(alloc: Global, body: &[u8]) -> Option<OperatorsReader<'_>> {
+    let mut reader = BinaryReader::new(body, 0);
+    let count = reader.read_var_u32().ok()?;
+    for _ in 0..count {
+        let _ = reader.read_var_u32().ok()?;
+        let _ = ValType::read(&mut reader).ok()?;
+    }
+    Some(OperatorsReader::new(alloc, reader))
+}
+
+/// How many operators a body has, counted by a visitor without visits of its own.
+#[unsafe(no_mangle)]
+pub extern "C" fn wasm_bench_count_any(alloc: Global, body: &[u8]) -> u64 {
+    let mut count = CountAny { operators: 0 };
+    if let Some(mut operators) = operators_of(alloc, body) {
+        let _ = operators.visit_all_simd(&mut count);
+    }
+    count.operators
+}
+
+/// How many operators a body has, counted by a visitor with four visits of its own. The numbers that
+/// these see are looked at, so that no reading of them can be left out.
+#[unsafe(no_mangle)]
+pub extern "C" fn wasm_bench_count_some(alloc: Global, body: &[u8]) -> u64 {
+    let mut count = CountSome {
+        operators: 0,
+        sum: 0,
+    };
+    if let Some(mut operators) = operators_of(alloc, body) {
+        let _ = operators.visit_all_simd(&mut count);
+    }
+    if count.sum == u64::MAX {
+        return 0;
+    }
+    count.operators
+}
+
+/// The sum over the operators of a body of the indices, constants and offsets of four, and of 1 for
+/// each other.
+#[unsafe(no_mangle)]
+pub extern "C" fn wasm_bench_read(alloc: Global, body: &[u8]) -> u64 {
+    let Some(mut operators) = operators_of(alloc, body) else {
+        return 0;
+    };
+    let mut sum: u64 = 0;
+    while !operators.eof() {
+        match operators.read() {
+            Ok(op) => sum = sum.wrapping_add(number_of(&op)),
+            Err(_) => return sum,
+        }
+    }
+    sum
+}
+
+/// How many operators of a body are read into a list.
+#[unsafe(no_mangle)]
+pub extern "C" fn wasm_bench_read_vec(alloc: Global, body: &[u8]) -> u64 {
+    let mut out = Vec::new(alloc);
+    if let Some(mut operators) = operators_of(alloc, body) {
+        let _ = operators.read_all(&mut out);
+    }
+    out.len() as u64
+}
+
+/// What an operator adds to the sum.
+#[inline(always)]
+fn number_of(op: &Operator<'_>) -> u64 {
+    match op {
+        Operator::LocalGet { local_index } => u64::from(*local_index),
+        Operator::I32Const { value } => u64::from(value.cast_unsigned()),
+        Operator::I32Load { memarg } => memarg.offset,
+        Operator::Call { function_index } => u64::from(*function_index),
+        _ => 1,
+    }
+}

@@ -1,0 +1,110 @@
+//! The calls that read.
+
+use crate::told::{Listed, Told, is_memory};
+use wasm_below::Result;
+use wasm_instr::{FrameStack, Operator};
+use wasm_operators_readers::OperatorsReader;
+
+/// What `read_all` adds to the list. Where memory is refused, what was read stays, and a second call
+/// goes on from there.
+pub fn read_all<'a>(
+    operators: &mut OperatorsReader<'a>,
+    list: &mut Vec<(Operator<'a>, u64)>,
+) -> Told {
+    let mut told = Told::new();
+    let mut answer = operators.read_all(list);
+    if let Err(e) = answer {
+        told.check(e.offset() == operators.original_position() || !is_memory(e));
+        if is_memory(e) {
+            answer = operators.read_all(list);
+        }
+    }
+    told.operators = list.len();
+    told.refusal = answer.err();
+    told
+}
+
+/// One read after another, and `finish` at the end of the data.
+pub fn read_each<'a>(operators: &mut OperatorsReader<'a>, list: Listed<'_, 'a>) -> Told {
+    let mut told = Told::new();
+    let count = list.len() as u64;
+    for _ in 0..=count {
+        if operators.eof() {
+            told.refusal = operators.finish().err();
+            break;
+        }
+        match read_twice(operators, &mut told) {
+            Ok((op, offset)) => told.give_at(list, &op, offset),
+            Err(e) => {
+                told.refusal = Some(e);
+                break;
+            }
+        }
+    }
+    told
+}
+
+/// One read; where it is refused, the next one is refused in the same way.
+fn read_twice<'a>(
+    operators: &mut OperatorsReader<'a>,
+    told: &mut Told,
+) -> Result<(Operator<'a>, u64)> {
+    let answer = read_with_memory(operators, told);
+    if let Err(e) = &answer {
+        let again = read_with_memory(operators, told);
+        told.check(again.err() == Some(*e));
+    }
+    answer
+}
+
+/// One read, once more where memory was refused. A refusal changes nothing, and memory is refused
+/// only of the operators that open a frame or own a list.
+fn read_with_memory<'a>(
+    operators: &mut OperatorsReader<'a>,
+    told: &mut Told,
+) -> Result<(Operator<'a>, u64)> {
+    let position = operators.original_position();
+    let frame = operators.current_frame();
+    let answer = operators.read_with_offset();
+    if let Err(e) = &answer {
+        let stays = operators.original_position() == position && operators.current_frame() == frame;
+        told.check(stays);
+        if is_memory(*e) {
+            told.check(e.offset() == position && may_take_memory(operators));
+            return operators.read_with_offset();
+        }
+    }
+    answer
+}
+
+/// Whether the next operator may take memory.
+fn may_take_memory(operators: &OperatorsReader<'_>) -> bool {
+    match operators.get_binary_reader().peek() {
+        Ok(code) => matches!(code, 0x02..=0x04 | 0x06 | 0x1c | 0x1f | 0xe3..=0xe5),
+        Err(_) => false,
+    }
+}
+
+/// The reads of clones, each of which reads one operator.
+pub fn read_clones<'a>(operators: &mut OperatorsReader<'a>, list: Listed<'_, 'a>) -> Told {
+    let mut told = Told::new();
+    let count = list.len() as u64;
+    for _ in 0..count {
+        let mut answer = operators.clone();
+        if let Err(e) = &answer {
+            told.check(is_memory(*e) && e.offset() == 0);
+            answer = operators.clone();
+        }
+        let Ok(mut copy) = answer else {
+            break;
+        };
+        match read_with_memory(&mut copy, &mut told) {
+            Ok((op, offset)) => told.give_at(list, &op, offset),
+            Err(_) => break,
+        }
+        let _ = read_with_memory(operators, &mut told);
+        told.check(copy.original_position() == operators.original_position());
+        told.check(copy.current_frame() == operators.current_frame());
+    }
+    told
+}

@@ -1,0 +1,190 @@
+//! One row, by each of the calls.
+
+use crate::input::Features;
+use crate::items::{items, items_with_offsets};
+use crate::reads::{read_all, read_clones, read_each};
+use crate::told::{Listed, Told};
+use crate::visits::{visit_all, visit_all_simd, visit_boxed};
+use bitflags::Flags;
+use std::alloc::Global;
+use std::io::{self, Print};
+use wasm_below::{BinaryReader, Error, WasmFeatures};
+use wasm_instr::{FrameKind, FrameStack, Operator};
+use wasm_operators_readers::OperatorsReader;
+
+/// How many operators are printed one by one, and read by clones.
+const FEW: usize = 16;
+
+/// What the calls answer to an expression.
+#[derive(Clone, Copy, Debug, PartialEq, Eq)]
+struct Answers {
+    read: Told,
+    position: u64,
+    frame: Option<FrameKind>,
+    finish: Option<Error>,
+    items: Told,
+    plain: Told,
+    /// Whether the other calls gave the same.
+    agree: Agree,
+}
+
+/// Whether calls gave what `read_all` does.
+#[derive(Clone, Copy, Debug, PartialEq, Eq)]
+struct Agree {
+    reads: bool,
+    clones: bool,
+    offsets: bool,
+    visits: bool,
+    boxed: bool,
+}
+
+/// That all gave the same.
+const ALL_AGREE: Agree = Agree {
+    reads: true,
+    clones: true,
+    offsets: true,
+    visits: true,
+    boxed: true,
+};
+
+/// Prints what is read of an expression, how the calls answer, and in how many sets of features
+/// `read_all` answers otherwise than in the first.
+pub fn run_row<R: Print>(
+    rt: &R,
+    alloc: Global,
+    features: Features,
+    bytes: &[u8],
+) -> io::Result<()> {
+    let mut list = Vec::new(alloc);
+    let answers = answers_to(alloc, features.first(), bytes, &mut list);
+    print_list(rt, list.as_slice())?;
+    print_answers(rt, answers)?;
+    if let Features::These(_) = features {
+        return println!(rt);
+    }
+    let mut sets = 0u32;
+    let mut others = 0u32;
+    for bits in 0..64u32 {
+        if features.take(bits) {
+            sets = sets.wrapping_add(1);
+            if !is_read(alloc, bits, bytes, list.as_slice(), answers.read) {
+                others = others.wrapping_add(1);
+            }
+        }
+    }
+    println!(rt; "; {sets} sets, {others} with another answer")
+}
+
+/// Whether `read_all` reads this list under these features, and is refused in this way.
+fn is_read(alloc: Global, bits: u32, bytes: &[u8], list: Listed<'_, '_>, wanted: Told) -> bool {
+    let reader = BinaryReader::new_features(bytes, 0, WasmFeatures::from_bits_retain(bits));
+    let mut found = Vec::new(alloc);
+    let mut told = read_all(&mut OperatorsReader::new(alloc, reader), &mut found);
+    told.operators = 0;
+    for (op, offset) in found.iter() {
+        told.give_at(list, op, *offset);
+    }
+    told == wanted
+}
+
+/// What the calls answer under these features. The list is what `read_all` reads.
+fn answers_to<'a>(
+    alloc: Global,
+    bits: u32,
+    bytes: &'a [u8],
+    list: &mut Vec<(Operator<'a>, u64)>,
+) -> Answers {
+    let reader = BinaryReader::new_features(bytes, 0, WasmFeatures::from_bits_retain(bits));
+    let mut operators = OperatorsReader::new(alloc, reader.clone());
+    let read = read_all(&mut operators, list);
+    let list = list.as_slice();
+    let (offsets, allocations) = items_with_offsets(alloc, &reader, list);
+    let items = items(alloc, &reader, list);
+    let mut again = OperatorsReader::new_with_allocs(alloc, reader.clone(), allocations);
+    let plain = visit_all(&mut again, list);
+    Answers {
+        read,
+        position: operators.original_position(),
+        frame: operators.current_frame(),
+        finish: operators.finish().err(),
+        items,
+        plain,
+        agree: Agree {
+            reads: read_each(&mut OperatorsReader::new(alloc, reader.clone()), list) == read,
+            clones: list.len() > FEW || are_clones(alloc, &reader, list),
+            offsets: offsets == items,
+            visits: visit_all_simd(&mut OperatorsReader::new(alloc, reader.clone()), list) == read,
+            boxed: visit_boxed(alloc, &reader, list) == read,
+        },
+    }
+}
+
+/// Whether the clones read the list.
+fn are_clones<'a>(alloc: Global, reader: &BinaryReader<'a>, list: Listed<'_, 'a>) -> bool {
+    let mut operators = OperatorsReader::new(alloc, reader.clone());
+    let told = read_clones(&mut operators, list);
+    told.is_right && told.operators == list.len()
+}
+
+/// The operators with their offsets, or how many there are and the last.
+fn print_list<R: Print>(rt: &R, list: Listed<'_, '_>) -> io::Result<()> {
+    match list.last() {
+        None => print!(rt; "nothing"),
+        Some((op, offset)) if list.len() > FEW => {
+            print!(rt; "{} operators, the last {op:?} {offset}", list.len())
+        }
+        _ => {
+            for (place, (op, offset)) in list.iter().enumerate() {
+                let before = if place == 0 { "" } else { ", " };
+                print!(rt; "{before}{op:?} {offset}")?;
+            }
+            Ok(())
+        }
+    }
+}
+
+/// How the calls answer.
+fn print_answers<R: Print>(rt: &R, answers: Answers) -> io::Result<()> {
+    print!(rt; "; ")?;
+    print_end(rt, answers.read.refusal)?;
+    if let Some(e) = answers.read.refusal {
+        print!(rt; ": {}", e.message())?;
+    }
+    print!(rt; "\n    at {} in ", answers.position)?;
+    match answers.frame {
+        Some(kind) => print!(rt; "{kind:?}")?,
+        None => print!(rt; "no frame")?,
+    }
+    print!(rt; "; finish: ")?;
+    print_end(rt, answers.finish)?;
+    print_told(rt, "items", answers.items)?;
+    print_told(rt, "plain visits", answers.plain)?;
+    if answers.read.is_right && answers.agree == ALL_AGREE {
+        print!(rt; "; the others agree")
+    } else {
+        print!(rt; "; NOT: {:?}", answers.agree)
+    }
+}
+
+/// How many operators a call gave, and its refusal.
+fn print_told<R: Print>(rt: &R, name: &str, told: Told) -> io::Result<()> {
+    print!(rt; "; {name}: {}", told.operators)?;
+    if !told.is_right {
+        print!(rt; ", NOT those of the list")?;
+    }
+    match told.refusal {
+        Some(e) => {
+            print!(rt; ", ")?;
+            print_end(rt, Some(e))
+        }
+        None => Ok(()),
+    }
+}
+
+/// The number of a refusal, and its offset.
+fn print_end<R: Print>(rt: &R, refusal: Option<Error>) -> io::Result<()> {
+    match refusal {
+        Some(e) => print!(rt; "E{} at {}", e.message().number(), e.offset()),
+        None => print!(rt; "Ok"),
+    }
+}

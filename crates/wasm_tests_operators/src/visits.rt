@@ -1,0 +1,89 @@
+//! The calls that visit.
+
+use crate::prints::Prints;
+use crate::told::{Listed, Told, is_memory, offset_at};
+use std::alloc::Global;
+use wasm_below::{BinaryReader, Error, Message, Result};
+use wasm_operators_readers::OperatorsReader;
+
+/// The visits of `visit_all_simd`. Where memory was refused, none was made of that operator, and a
+/// second call goes on from there.
+pub fn visit_all_simd<'a>(operators: &mut OperatorsReader<'a>, list: Listed<'_, 'a>) -> Told {
+    let mut prints = Prints::new();
+    let mut told = Told::new();
+    let mut answer = operators.visit_all_simd(&mut prints);
+    if let Some(e) = memory_refused(answer) {
+        check_stop(&mut told, operators, list, prints, e);
+        answer = operators.visit_all_simd(&mut prints);
+    }
+    end(told, list, prints, answer)
+}
+
+/// The same by a plain visitor.
+pub fn visit_all<'a>(operators: &mut OperatorsReader<'a>, list: Listed<'_, 'a>) -> Told {
+    let mut prints = Prints::new();
+    let mut told = Told::new();
+    let mut answer = operators.visit_all(&mut prints);
+    if let Some(e) = memory_refused(answer) {
+        check_stop(&mut told, operators, list, prints, e);
+        answer = operators.visit_all(&mut prints);
+    }
+    end(told, list, prints, answer)
+}
+
+/// The visits of a visitor in a box, through a reference to it. Where memory was refused they are
+/// made again.
+pub fn visit_boxed<'a>(alloc: Global, reader: &BinaryReader<'a>, list: Listed<'_, 'a>) -> Told {
+    let told = boxed_once(alloc, reader, list);
+    if told.lacked_memory() {
+        return boxed_once(alloc, reader, list);
+    }
+    told
+}
+
+fn boxed_once<'a>(alloc: Global, reader: &BinaryReader<'a>, list: Listed<'_, 'a>) -> Told {
+    let mut operators = OperatorsReader::new(alloc, reader.clone());
+    match Box::new(alloc, Prints::new()) {
+        Ok(mut prints) => {
+            let mut lent = &mut prints;
+            let answer = operators.visit_all_simd(&mut lent);
+            end(Told::new(), list, *prints, answer)
+        }
+        Err(_) => {
+            let mut told = Told::new();
+            told.refusal = Some(Error::new(Message::OutOfMemory, 0));
+            told
+        }
+    }
+}
+
+/// The refusal, where it is one of memory.
+fn memory_refused(answer: Result<()>) -> Option<Error> {
+    match answer {
+        Err(e) if is_memory(e) => Some(e),
+        _ => None,
+    }
+}
+
+/// The reader stands at the operator of which memory was refused, and the visitor did not see it.
+fn check_stop(
+    told: &mut Told,
+    operators: &OperatorsReader<'_>,
+    list: Listed<'_, '_>,
+    prints: Prints,
+    e: Error,
+) {
+    let position = operators.original_position();
+    let next = offset_at(list, prints.operators);
+    told.check(e.offset() == position);
+    told.check(next == Some(position) || next.is_none());
+}
+
+/// What was told at the end, and whether the operators visited are the first of the list.
+fn end(told: Told, list: Listed<'_, '_>, prints: Prints, answer: Result<()>) -> Told {
+    let mut told = told;
+    told.operators = prints.operators;
+    told.refusal = answer.err();
+    told.check(prints == Prints::of(list, prints.operators));
+    told
+}
