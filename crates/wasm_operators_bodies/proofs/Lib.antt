@@ -1,0 +1,5 @@
+pub mod LocalsLemmas
+pub mod Steps
+pub mod Bodies
+pub mod Determined
+pub mod StoppedBodies
