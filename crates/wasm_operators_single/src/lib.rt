@@ -6,5 +6,7 @@
 #![tactic(auto)]
 
 mod read_operators;
+#[cfg(test)]
+mod tests;
 
 pub use read_operators::{ReadOperators, ReadSimdVisits, ReadVisits};
