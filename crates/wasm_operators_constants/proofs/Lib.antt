@@ -1,0 +1,5 @@
+pub mod OneEnd
+pub mod Passed
+pub mod Refused
+pub mod Read
+pub mod Determined

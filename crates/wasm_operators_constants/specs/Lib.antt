@@ -1,0 +1,4 @@
+pub mod Constant
+pub mod Equality
+pub mod ConstantFaults
+pub mod Passing
