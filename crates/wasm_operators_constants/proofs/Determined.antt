@@ -68,11 +68,13 @@ features_there : (old new : Reader) (text : List ℕ) → Takes old new text →
 features_there old new text t = ap (λ (r : Reader). r.features) t.moved
 
 -- Of two passings of the same bytes the one that ends is not the shorter.
-not_shorter : (m : Message) (r a b : Reader) (xs ys : List FrameKind) (offset : ℕ) (p : PassesOperators r a xs) (q : PassesOperators r b ys) → Ended m a xs offset →
+not_shorter : (m : Message) (r a b : Reader) (xs ys : List FrameKind) (offset : ℕ) (p : PassesOperators r a xs) (q : PassesOperators r b ys) →
+    Ended m a xs offset →
     length q.placed ≤ length p.placed
 not_shorter m r a b xs ys offset p q ended =
     elim (cases_lt (length p.placed) (length q.placed)) [
-      | inl lt ↦ absurd (goes (laid_goes_on r.features (offset_of r) p.placed q.placed p.text q.text (rest a) (rest b) p.laid q.laid (sym p.takes.parts ∙ q.takes.parts) lt))
+      | inl lt ↦ absurd (goes (laid_goes_on r.features (offset_of r) p.placed q.placed p.text q.text (rest a) (rest b) p.laid q.laid
+          (sym p.takes.parts ∙ q.takes.parts) lt))
       | inr le ↦ le
     ]
   where

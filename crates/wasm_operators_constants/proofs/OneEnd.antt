@@ -23,7 +23,8 @@ no_end_push [] op h other = (other, tt)
 no_end_push (x ∷ xs) op h other = (h.0, no_end_push xs op h.1 other)
 
 -- One more operator was passed, which is no `end`;
-pub passed_more : (placed : Placed) (op : Operator) (at : ℕ) → HasNoEnd (operators placed) → (op ≡ operator.End → ⊥) → HasNoEnd (operators (placed ++ (op, at) ∷ []))
+pub passed_more : (placed : Placed) (op : Operator) (at : ℕ) → HasNoEnd (operators placed) → (op ≡ operator.End → ⊥) →
+    HasNoEnd (operators (placed ++ (op, at) ∷ []))
 passed_more placed op at h other = subst HasNoEnd (sym (operators-append placed ((op, at) ∷ []))) (no_end_push (operators placed) op h other)
 
 -- or which is.
@@ -53,7 +54,8 @@ end_inside [] (b ∷ bs) ys next e h = h.0 (cc e)
 end_inside (x ∷ xs) (b ∷ bs) ys next e h = end_inside xs bs ys next (cc e) h.1
 
 -- So a list of which one beginning has its one `end` last is that beginning.
-pub not_longer : (placed whole others : Placed) (next : Operator × ℕ) → EndsOnce (operators placed) → EndsOnce (operators whole) → whole ≡ placed ++ next ∷ others → ⊥
+pub not_longer : (placed whole others : Placed) (next : Operator × ℕ) → EndsOnce (operators placed) → EndsOnce (operators whole) →
+    whole ≡ placed ++ next ∷ others → ⊥
 not_longer placed whole others next (first, d, m) (before, e, n) eq =
     let ops : first ++ operator.End ∷ next.0 ∷ operators others ≡ before ++ operator.End ∷ [] =
     sym (append_assoc first (operator.End ∷ []) (next.0 ∷ operators others)) ∙ ap (λ z. z ++ next.0 ∷ operators others) (sym d) ∙
@@ -63,7 +65,8 @@ not_longer placed whole others next (first, d, m) (before, e, n) eq =
 -- ---- the place of the bytes
 
 -- The same operators, where the bytes stand at another offset.
-relocate : (f : WasmFeatures) (from to : ℕ) (ps : Placed) (bytes : List ℕ) → LaidOut f from ps bytes → (qs : Placed) × LaidOut f to qs bytes × (operators qs ≡ operators ps)
+relocate : (f : WasmFeatures) (from to : ℕ) (ps : Placed) (bytes : List ℕ) → LaidOut f from ps bytes →
+    (qs : Placed) × LaidOut f to qs bytes × (operators qs ≡ operators ps)
 relocate f from to [] bytes l = ([], l, refl)
 relocate f from to (p ∷ ps) bytes (at, text, more, parts, encodes, l) =
     let r = relocate f (from + length text) (to + length text) ps more l in
@@ -111,7 +114,8 @@ open_step : {A : Type 0} (inside next : List FrameKind) (role : Role A) → (rol
 open_step [] next role other e = open_alone role next other e
 open_step (kind ∷ inside) next role other e = open_around (frames_after_in kind inside role) next e
 
-open_along : (ops : List Operator) (inside frames : List FrameKind) → HasNoEnd ops → frames_along (frame.Block ∷ inside) (roles_of ops) ≡ Some frames → IsOpen frames
+open_along : (ops : List Operator) (inside frames : List FrameKind) → HasNoEnd ops →
+    frames_along (frame.Block ∷ inside) (roles_of ops) ≡ Some frames → IsOpen frames
 open_along [] inside frames h e = (inside, sym (some_is e))
 open_along (op ∷ ops) inside frames h e =
     let b = bound (λ next. frames_along next (roles_of ops)) (frames_after (frame.Block ∷ inside) (role_of op)) frames e in

@@ -1,5 +1,6 @@
 -- Where operators without `end` were passed: no constant expression stands there, or one does.
-use Rattle.std.proofs.Common.{◌≡◌, ℕ, ◌+◌, ◌-◌, ◌<◌, ◌≤◌, List, [], ◌∷◌, ◌++◌, length, Some, None, inl, inr, refl, sym, subst, ap, ◌∙◌, append_assoc, length-append, length-drop, arith}
+use Rattle.std.proofs.Common.{◌≡◌, ℕ, ◌+◌, ◌-◌, ◌<◌, ◌≤◌, List, [], ◌∷◌, ◌++◌, length, Some}
+use Rattle.std.proofs.Common.{None, inl, inr, refl, sym, subst, ap, ◌∙◌, append_assoc, length-append, length-drop, arith}
 use Rattle.std.proofs.lemmas.Bool.{cases_lt}
 use Rattle.wasm_below.specs.bytes.message.Message.TheVariants as message
 use Rattle.wasm_below.specs.Source.{Reader, rest, offset_of, end_of, Takes, NoPrefix, IsAhead, BeginsWith}
@@ -57,7 +58,8 @@ none_follows s t placed more fresh r no_end stuck text left x encodes eq =
 
 -- The frames behind it are those around the innermost.
 pub behind_end : (t u : State) → TakesOperator EncodesAllowed operator.End t u → u.frames ≡ without_innermost t.frames
-behind_end t u k = go (sym k.frames ∙ steps_ends t.frames (role_of operator.End) refl (IsSome_of (frames_after t.frames (role_of operator.End)) u.frames k.frames))
+behind_end t u k =
+    go (sym k.frames ∙ steps_ends t.frames (role_of operator.End) refl (IsSome_of (frames_after t.frames (role_of operator.End)) u.frames k.frames))
   where
     go : Some u.frames ≡ Some (without_innermost t.frames) → u.frames ≡ without_innermost t.frames
     go e = cc e

@@ -60,7 +60,8 @@ constant_read old s t behind c bytes same fresh passed closed went cut is =
     ap (λ (r : Reader). r.position - old.position) went ∙ ap (λ (r : Reader). t.reader.position - r.position) (sym same) in
     let bytes_there : bytes ≡ take (t.reader.position - s.reader.position) (rest s.reader) =
     cut ∙ ap (λ n. take n (rest old)) size ∙ ap (λ r. take (t.reader.position - s.reader.position) (rest r)) (sym same) in
-    let reader_there : c ≡ reader_of s.reader.features (offset_of s.reader) bytes = is ∙ ap (λ (r : Reader). reader_of r.features (offset_of r) bytes) (sym same) in
+    let reader_there : c ≡ reader_of s.reader.features (offset_of s.reader) bytes =
+    is ∙ ap (λ (r : Reader). reader_of r.features (offset_of r) bytes) (sym same) in
     let there = constant_there s t c bytes fresh passed closed bytes_there reader_there in (
       there.0,
       subst (λ (r : Reader). EncodesConstantReader r.features there.0 c) same there.1,

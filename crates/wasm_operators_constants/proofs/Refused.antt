@@ -78,7 +78,8 @@ there_ahead e offset s t placed fresh r no_end stops memory other = elim (is_mem
     at_operator not (inr (inr needs)) = absurd (not needs.0)
 
 -- An operator was refused: so is the expression, by the same message, where allocation failure is said at its start.
-pub refused_there : (e d : Error) (s mid t : State) (placed : Placed) → IsFresh s → Ran s mid placed → HasNoEnd (operators placed) → IsUnchanged mid t → Stops e t →
+pub refused_there : (e d : Error) (s mid t : State) (placed : Placed) → IsFresh s → Ran s mid placed → HasNoEnd (operators placed) →
+    IsUnchanged mid t → Stops e t →
     d.message ≡ e.message → (e.message ≡ message.OutOfMemory → d.offset ≡ offset_of s.reader) → ((e.message ≡ message.OutOfMemory → ⊥) → d.offset ≡ e.offset) →
     IsRefused (EncodesConstantReader s.reader.features) true d s.reader
 refused_there e d s mid t placed fresh r no_end same stops is memory other =
@@ -89,7 +90,8 @@ refused_there e d s mid t placed fresh r no_end same stops is memory other =
       memory = λ m. (refl, memory (sym is ∙ m));
     }
 
-pub refused_fault : (e d : Error) (s mid t : State) (placed : Placed) → IsFresh s → Ran s mid placed → HasNoEnd (operators placed) → IsUnchanged mid t → Stops e t →
+pub refused_fault : (e d : Error) (s mid t : State) (placed : Placed) → IsFresh s → Ran s mid placed → HasNoEnd (operators placed) →
+    IsUnchanged mid t → Stops e t →
     d.message ≡ e.message → ((e.message ≡ message.OutOfMemory → ⊥) → d.offset ≡ e.offset) → HasFault ConstantFault d s.reader
 refused_fault e d s mid t placed fresh r no_end same stops is other not =
     let not_memory : e.message ≡ message.OutOfMemory → ⊥ = λ m. not (is ∙ m) in

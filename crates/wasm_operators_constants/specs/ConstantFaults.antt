@@ -13,7 +13,8 @@ use Rattle.wasm_opcodes.specs.OperatorFaults.{OperatorFault}
 use Rattle.wasm_operators_expressions.specs.Expression.{Placed, operators, LaidOut}
 use Rattle.wasm_operators_constants.specs.Constant.{HasNoEnd}
 
--- Between the readers stand operators that are no `end`, each allowed by the frame that those before it have left, from the frame of the expression on; and behind them these frames are open.
+-- Between the readers stand operators that are no `end`, each allowed by the frame that those before it have left, from the frame of the
+-- expression on; and behind them these frames are open.
 pub record PassesOperators (old new : Reader) (frames : List FrameKind) : Type 0 where
   pub placed : Placed
   pub no_end : HasNoEnd (operators placed)
@@ -34,4 +35,5 @@ EndsInside m r frames offset =
 
 -- Operators stand there that are no `end`, and behind them no operator, or an `end` inside another construct.
 abbrev pub ConstantFault : Message → Reader → ℕ → Type 0
-ConstantFault m r offset = (behind : Reader) × (frames : List FrameKind) × PassesOperators r behind frames × (IsNoOperator m behind frames offset ⊎ EndsInside m behind frames offset)
+ConstantFault m r offset =
+    (behind : Reader) × (frames : List FrameKind) × PassesOperators r behind frames × (IsNoOperator m behind frames offset ⊎ EndsInside m behind frames offset)

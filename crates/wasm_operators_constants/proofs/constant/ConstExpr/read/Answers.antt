@@ -13,7 +13,8 @@ returns-in-Ok-clause-reads c =
     let same = c.new-operators.ensures.reader ∙ c.clone.ensures in
     let size = ap (λ n. n - c.current_position-in-Ok.result) c.current_position.ensures ∙ ap (λ n. behind.position - n) c.current_position-in-Ok.ensures in
     let bytes = ap (λ n. take n c.remaining_buffer.result.now) size ∙ ap (take (behind.position - old.position)) c.remaining_buffer.ensures in
-    let is = c.part-constant.ensures ∙ ap (λ o. reader_of old.features o (take (c.current_position.result - c.current_position-in-Ok.result) c.remaining_buffer.result.now))
+    let is =
+    c.part-constant.ensures ∙ ap (λ o. reader_of old.features o (take (c.current_position.result - c.current_position-in-Ok.result) c.remaining_buffer.result.now))
     c.original_position.ensures in
     constant_read old c.new-operators.result c.pass_constant.new.operators behind c.part-constant.result
     (take (c.current_position.result - c.current_position-in-Ok.result) c.remaining_buffer.result.now) same c.new-operators.ensures.fresh passed.0 passed.1
