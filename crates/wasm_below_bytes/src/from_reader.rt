@@ -19,8 +19,8 @@ use std::marker::PhantomData;
 
 /// A type that is read from the start of bytes.
 pub trait FromReader<'a>: Drop + Sized {
-    // Whether a reading may answer that memory was refused.
-    ghost TAKES_MEMORY: { Bool };
+    // Whether a reading may answer that memory was refused, as contracts see it.
+    ghost takes_memory: { Bool };
 
     /// Whether a reading may answer that memory was refused.
     const TAKES_MEMORY: bool;
@@ -36,8 +36,12 @@ pub trait FromReader<'a>: Drop + Sized {
 
     /// Reads the value that a prefix of the rest encodes.
     fn from_reader(alloc: Global, reader: &mut BinaryReader<'a>) -> Result<Self>
-        ensures reads { ReadsValue (encodes reader.old.features) TAKES_MEMORY result reader.old reader.new }
+        ensures reads { ReadsValue (encodes reader.old.features) takes_memory result reader.old reader.new }
         ensures fault { IfErr result (λ e. HasFault fault e reader.old) };
+
+    /// A law: the constant is what contracts see. It answers the constant.
+    fn memory_law() -> bool
+        ensures { result ≡ takes_memory };
 
     /// A law: no encoding is a proper prefix of another, and each is that of one value. It does
     /// nothing; generic code calls it to use the law.
@@ -51,7 +55,7 @@ pub trait FromReader<'a>: Drop + Sized {
 }
 
 impl<'a> FromReader<'a> for u32 {
-    ghost TAKES_MEMORY = { false };
+    ghost takes_memory = { false };
 
     const TAKES_MEMORY: bool = false;
 
@@ -63,6 +67,10 @@ impl<'a> FromReader<'a> for u32 {
         reader.read_var_u32()
     }
 
+    fn memory_law() -> bool {
+        <u32 as FromReader<'a>>::TAKES_MEMORY
+    }
+
     fn is_prefix_code() {}
 
     fn determines_refusal() {}
@@ -72,7 +80,7 @@ impl<'a> BinaryReader<'a> {
     /// Reads a value of a type. Refused as the type's own reading.
     #[inline(always)]
     pub fn read<T: FromReader<'a>>(&mut self, alloc: Global) -> Result<T>
-        ensures reads { ReadsValue (T.encodes self.old.features) T.TAKES_MEMORY result self.old self.new }
+        ensures reads { ReadsValue (T.encodes self.old.features) T.takes_memory result self.old self.new }
         ensures fault { IfErr result (λ e. HasFault T.fault e self.old) }
     {
         T::from_reader(alloc, self)
@@ -151,7 +159,7 @@ impl<'a, 'r, T: FromReader<'a>> BinaryReaderIter<'a, 'r, T> {
 impl<'a, 'r, T: FromReader<'a>> Iterator for BinaryReaderIter<'a, 'r, T> {
     type Item = Result<T>;
 
-    ghost next_gives = { λ s item t. (items_name t ≡ items_name s) × StepsItems (T.encodes (items_reader s).features) T.fault T.TAKES_MEMORY (items_left s) (items_left t) item (items_reader s) (items_reader t) };
+    ghost next_gives = { λ s item t. (items_name t ≡ items_name s) × StepsItems (T.encodes (items_reader s).features) T.fault T.takes_memory (items_left s) (items_left t) item (items_reader s) (items_reader t) };
 
     ghost remaining = { λ s. at_most (items_left s) };
 
@@ -182,7 +190,7 @@ impl<'a, 'r, T: FromReader<'a>> Iterator for BinaryReaderIter<'a, 'r, T> {
 
 impl<'a, 'r, T: FromReader<'a>> Drop for BinaryReaderIter<'a, 'r, T> {
     fn drop(self)
-        ensures { ReadsOn (T.encodes (items_reader self.entry).features) T.TAKES_MEMORY (items_left self.entry) (items_reader self.entry) self.exit.1.0.now }
+        ensures { ReadsOn (T.encodes (items_reader self.entry).features) T.takes_memory (items_left self.entry) (items_reader self.entry) self.exit.1.0.now }
     {
         let BinaryReaderIter {
             remaining,
@@ -196,7 +204,7 @@ impl<'a, 'r, T: FromReader<'a>> Drop for BinaryReaderIter<'a, 'r, T> {
 
 /// Reads this many values, up to a refusal.
 fn read_on<'a, T: FromReader<'a>>(alloc: Global, reader: &mut BinaryReader<'a>, count: usize)
-    ensures { ReadsOn (T.encodes reader.old.features) T.TAKES_MEMORY count reader.old reader.new }
+    ensures { ReadsOn (T.encodes reader.old.features) T.takes_memory count reader.old reader.new }
 {
     for _ in 0..count {
         if reader.read::<T>(alloc).is_err() {

@@ -7,7 +7,7 @@ use std::alloc::Global;
 use wasm_below_bytes::{BinaryReader, FromReader, Result};
 
 impl<'a> FromReader<'a> for HeapType {
-    ghost TAKES_MEMORY = { false };
+    ghost takes_memory = { false };
 
     const TAKES_MEMORY: bool = false;
 
@@ -19,13 +19,17 @@ impl<'a> FromReader<'a> for HeapType {
         HeapType::read(reader)
     }
 
+    fn memory_law() -> bool {
+        <HeapType as FromReader<'a>>::TAKES_MEMORY
+    }
+
     fn is_prefix_code() {}
 
     fn determines_refusal() {}
 }
 
 impl<'a> FromReader<'a> for RefType {
-    ghost TAKES_MEMORY = { false };
+    ghost takes_memory = { false };
 
     const TAKES_MEMORY: bool = false;
 
@@ -37,13 +41,17 @@ impl<'a> FromReader<'a> for RefType {
         RefType::read(reader)
     }
 
+    fn memory_law() -> bool {
+        <RefType as FromReader<'a>>::TAKES_MEMORY
+    }
+
     fn is_prefix_code() {}
 
     fn determines_refusal() {}
 }
 
 impl<'a> FromReader<'a> for ValType {
-    ghost TAKES_MEMORY = { false };
+    ghost takes_memory = { false };
 
     const TAKES_MEMORY: bool = false;
 
@@ -53,6 +61,10 @@ impl<'a> FromReader<'a> for ValType {
 
     fn from_reader(_alloc: Global, reader: &mut BinaryReader<'a>) -> Result<ValType> {
         ValType::read(reader)
+    }
+
+    fn memory_law() -> bool {
+        <ValType as FromReader<'a>>::TAKES_MEMORY
     }
 
     fn is_prefix_code() {}

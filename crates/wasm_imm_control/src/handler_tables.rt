@@ -45,7 +45,7 @@ impl TryTable {
 }
 
 impl<'a> FromReader<'a> for TryTable {
-    ghost TAKES_MEMORY = { true };
+    ghost takes_memory = { true };
 
     const TAKES_MEMORY: bool = true;
 
@@ -68,6 +68,10 @@ impl<'a> FromReader<'a> for TryTable {
             Ok(catches) => Ok(TryTable { ty, catches }),
             Err(e) => Err(begun_at(reader, start, e)),
         }
+    }
+
+    fn memory_law() -> bool {
+        <TryTable as FromReader<'a>>::TAKES_MEMORY
     }
 
     fn is_prefix_code() {}
@@ -105,7 +109,7 @@ impl ResumeTable {
 }
 
 impl<'a> FromReader<'a> for ResumeTable {
-    ghost TAKES_MEMORY = { true };
+    ghost takes_memory = { true };
 
     const TAKES_MEMORY: bool = true;
 
@@ -123,6 +127,10 @@ impl<'a> FromReader<'a> for ResumeTable {
             Ok(handlers) => Ok(ResumeTable { handlers }),
             Err(e) => Err(e),
         }
+    }
+
+    fn memory_law() -> bool {
+        <ResumeTable as FromReader<'a>>::TAKES_MEMORY
     }
 
     fn is_prefix_code() {}

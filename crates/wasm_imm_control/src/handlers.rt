@@ -78,7 +78,7 @@ impl Catch {
 }
 
 impl<'a> FromReader<'a> for Catch {
-    ghost TAKES_MEMORY = { false };
+    ghost takes_memory = { false };
 
     const TAKES_MEMORY: bool = false;
 
@@ -88,6 +88,10 @@ impl<'a> FromReader<'a> for Catch {
 
     fn from_reader(_alloc: Global, reader: &mut BinaryReader<'a>) -> Result<Catch> {
         Catch::read(reader)
+    }
+
+    fn memory_law() -> bool {
+        <Catch as FromReader<'a>>::TAKES_MEMORY
     }
 
     fn is_prefix_code() {}
@@ -154,7 +158,7 @@ impl Handle {
 }
 
 impl<'a> FromReader<'a> for Handle {
-    ghost TAKES_MEMORY = { false };
+    ghost takes_memory = { false };
 
     const TAKES_MEMORY: bool = false;
 
@@ -164,6 +168,10 @@ impl<'a> FromReader<'a> for Handle {
 
     fn from_reader(_alloc: Global, reader: &mut BinaryReader<'a>) -> Result<Handle> {
         Handle::read(reader)
+    }
+
+    fn memory_law() -> bool {
+        <Handle as FromReader<'a>>::TAKES_MEMORY
     }
 
     fn is_prefix_code() {}
