@@ -1,6 +1,9 @@
 //! The body of a function.
-ghost use Rattle.std.specs.Prelude.{◌≡◌, IfOk, IfErr};
-ghost use Rattle.wasm_below.specs.FromReader.{EncodesReader, ReaderFault};
+ghost use Rattle.std.specs.Prelude.{◌≡◌, false, IfOk, IfErr};
+ghost use Rattle.wasm_below.specs.bytes.features.WasmFeatures.{WasmFeatures};
+ghost use Rattle.wasm_below.specs.Fault.{HasFault, DeterminesRefusal};
+ghost use Rattle.wasm_below.specs.FromReader.{ReadsValue, EncodesReader, ReaderFault, SameReader};
+ghost use Rattle.wasm_below.specs.Sequence.{PrefixCodeUpTo};
 ghost use Rattle.wasm_below.specs.Source.{Reads, rest, offset_of, end_of};
 ghost use Rattle.wasm_operators_bodies.specs.Body.{OpensBody};
 ghost use Rattle.wasm_operators_bodies.specs.Locals.{OpensLocals, ReadsPastLocals};
@@ -10,7 +13,7 @@ use crate::locals::LocalsReader;
 use std::alloc::{AllocError, Global};
 use std::marker::Model;
 use std::ops::Range;
-use wasm_below::{BinaryReader, Result};
+use wasm_below::{BinaryReader, FromReader, Result};
 use wasm_operators_readers::OperatorsReader;
 
 /// The body of a function.
@@ -136,4 +139,39 @@ impl<'a> FunctionBody<'a> {
     {
         self.reader.remaining_buffer()
     }
+}
+
+impl<'a> FromReader<'a> for FunctionBody<'a> {
+    ghost takes_memory = { false };
+
+    const TAKES_MEMORY: bool = false;
+
+    ghost encodes = { λ features text body. EncodesReader features text body };
+
+    ghost fault = { λ m r offset. ReaderFault m r offset };
+
+    ghost same = { λ body other. SameReader body other };
+
+    /// As `FunctionBody::read`.
+    fn from_reader(_alloc: Global, reader: &mut BinaryReader<'a>) -> Result<FunctionBody<'a>>
+        ensures reads { ReadsValue (EncodesReader reader.old.features) false result reader.old reader.new }
+        ensures fault { IfErr result (λ e. HasFault ReaderFault e reader.old) }
+        ensures placed { IfOk result (λ body. end_of body ≡ offset_of reader.new) }
+    {
+        FunctionBody::read(reader)
+    }
+
+    fn memory_law() -> bool
+        ensures { result ≡ false }
+    {
+        <FunctionBody<'a> as FromReader<'a>>::TAKES_MEMORY
+    }
+
+    fn is_prefix_code()
+        ensures { (features : WasmFeatures) → PrefixCodeUpTo SameReader (EncodesReader features) }
+    {}
+
+    fn determines_refusal()
+        ensures { DeterminesRefusal ReaderFault }
+    {}
 }

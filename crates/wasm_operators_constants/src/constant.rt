@@ -1,7 +1,9 @@
 //! Constant expressions.
 ghost use Rattle.std.specs.Prelude.{◌≡◌, true, IfOk, IfErr};
-ghost use Rattle.wasm_below.specs.FromReader.{ReadsValue};
-ghost use Rattle.wasm_below.specs.Fault.{HasFault};
+ghost use Rattle.wasm_below.specs.FromReader.{ReadsValue, SameReader};
+ghost use Rattle.wasm_below.specs.bytes.features.WasmFeatures.{WasmFeatures};
+ghost use Rattle.wasm_below.specs.Sequence.{PrefixCodeUpTo};
+ghost use Rattle.wasm_below.specs.Fault.{DeterminesRefusal, HasFault};
 ghost use Rattle.wasm_below.specs.Source.{offset_of};
 ghost use Rattle.wasm_operators_runs.specs.Reading.{IsFresh};
 ghost use Rattle.wasm_operators_constants.specs.Constant.{EncodesConstantReader};
@@ -10,7 +12,7 @@ ghost use Rattle.wasm_operators_constants.specs.ConstantFaults.{ConstantFault};
 use crate::passing::pass_constant;
 use std::alloc::{AllocError, Global};
 use std::marker::Model;
-use wasm_below::{BinaryReader, Result};
+use wasm_below::{BinaryReader, FromReader, Result};
 use wasm_operators_readers::OperatorsReader;
 
 /// A constant expression: a reader of its bytes.
@@ -108,4 +110,38 @@ impl<'a> Eq for ConstExpr<'a> {
     ghost use Rattle.wasm_operators_constants.specs.Equality.{same_bytes_equiv};
 
     ghost laws = { same_bytes_equiv };
+}
+
+impl<'a> FromReader<'a> for ConstExpr<'a> {
+    ghost takes_memory = { true };
+
+    const TAKES_MEMORY: bool = true;
+
+    ghost encodes = { λ features text c. EncodesConstantReader features text c };
+
+    ghost fault = { λ m r offset. ConstantFault m r offset };
+
+    ghost same = { λ c d. SameReader c d };
+
+    fn from_reader(alloc: Global, reader: &mut BinaryReader<'a>) -> Result<ConstExpr<'a>>
+        ensures reads { ReadsValue (EncodesConstantReader reader.old.features) true result reader.old reader.new }
+        ensures fault { IfErr result (λ e. HasFault ConstantFault e reader.old) }
+        ensures placed { IfOk result (λ c. c.start ≡ offset_of reader.old) }
+    {
+        ConstExpr::read(alloc, reader)
+    }
+
+    fn memory_law() -> bool
+        ensures { result ≡ true }
+    {
+        <ConstExpr<'a> as FromReader<'a>>::TAKES_MEMORY
+    }
+
+    fn is_prefix_code()
+        ensures { (features : WasmFeatures) → PrefixCodeUpTo SameReader (EncodesConstantReader features) }
+    {}
+
+    fn determines_refusal()
+        ensures { DeterminesRefusal ConstantFault }
+    {}
 }
