@@ -1,10 +1,10 @@
 //! The listing of a function body, over any reader and writer.
-ghost use Rattle.std.specs.Prelude.{◌≡◌, ◌↔◌, IsTrue, IsOk, IsErrAnd, IfOk, IfErr, IfSome, OnOk, string_bytes};
+ghost use Rattle.std.specs.Prelude.{◌≡◌, ◌↔◌, List, IsTrue, IsOk, IsErrAnd, IfOk, IfErr, IfSome, OnOk, string_bytes};
 ghost use Rattle.std.specs.Io.KnownBytes.{Appends};
-ghost use Rattle.wasm_below.specs.Source.{Source};
 ghost use Rattle.wasm_operators.specs.Expression.{Placed};
-ghost use Rattle.wasm_operators.specs.Body.{EncodesBody, ReadsBody};
-ghost use Rattle.wasm_dump.specs.Dump.{input_of, Lists, Dumps, WritesNothing, IsNotRefused};
+ghost use Rattle.wasm_operators.specs.Body.{ReadsBody};
+ghost use Rattle.wasm_operators.specs.Locals.{Declaration};
+ghost use Rattle.wasm_dump.specs.Dump.{input_of, IsBody, Lists, Dumps, WritesNothing, IsNotRefused};
 
 use crate::fault::DumpFault;
 use crate::input::read_input;
@@ -21,14 +21,14 @@ struct Listing {
 }
 
 /// Reads a body's operators.
-fn read_body(
+fn read_body<'a>(
     alloc: Global,
     features: WasmFeatures,
-    bytes: &[u8],
-    out: &mut Vec<(Operator, u64)>,
+    bytes: &'a [u8],
+    out: &mut Vec<(Operator<'a>, u64)>,
 ) -> Result<(), Error>
     ensures reads { ReadsBody result (input_of features bytes.now) out.old.items out.new.items }
-    ensures whole { (placed : Placed) → EncodesBody (input_of features bytes.now) placed → IfErr result (λ e. e.message ≡ Message.OutOfMemory) }
+    ensures whole { (declarations : List Declaration) → (placed : Placed) → IsBody (input_of features bytes.now) declarations placed → IfErr result (λ e. e.message ≡ Message.OutOfMemory) }
 {
     let reader = BinaryReader::new_features(bytes, 0, features);
     let mut operators = FunctionBody::new(reader).get_operators_reader(alloc)?;
@@ -38,7 +38,7 @@ fn read_body(
 /// Makes the text for a body, of which only memory can keep it.
 fn list_body(alloc: Global, features: WasmFeatures, bytes: &[u8]) -> Result<Listing, DumpFault>
     ensures lists { IfOk result (λ listing. Lists (input_of features bytes.now) listing.end (string_bytes listing.text)) }
-    ensures whole { (placed : Placed) → EncodesBody (input_of features bytes.now) placed → IfOk result (λ listing. IsOk listing.end) }
+    ensures whole { (declarations : List Declaration) → (placed : Placed) → IsBody (input_of features bytes.now) declarations placed → IfOk result (λ listing. IsOk listing.end) }
     ensures memory { IfErr result (λ fault. fault ≡ DumpFault.Memory) }
 {
     let mut operators = Vec::new(alloc);
@@ -91,7 +91,7 @@ pub fn run<R: Read, W: Write>(
         Dumps (input_of features bytes) result (W.contents writer.old) (W.contents writer.new)) }
     // Where the bytes encode a body, it is not refused.
     ensures whole { IfSome (R.remaining reader.old) (λ bytes.
-        (placed : Placed) → EncodesBody (input_of features bytes) placed → IsNotRefused result) }
+        (declarations : List Declaration) → (placed : Placed) → IsBody (input_of features bytes) declarations placed → IsNotRefused result) }
     ensures nothing { IfErr result (λ fault. WritesNothing fault → writer.new ≡ writer.old) }
 {
     let input = read_input(alloc, reader)?;

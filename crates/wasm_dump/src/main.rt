@@ -4,6 +4,8 @@
 //! The theorem stands on [`dump::run`], over any reader and writer.
 #![tactic(auto)]
 
+mod census;
+mod counting;
 mod dump;
 mod fault;
 mod input;

@@ -1,4 +1,5 @@
-//! The program's texts, and readers and writers that fail.
+//! The program's texts, counts, and readers and writers that fail.
+use crate::census::census;
 use crate::dump::run;
 use crate::fault::DumpFault;
 use crate::words::features_of;
@@ -7,7 +8,7 @@ use std::io;
 use std::io::{Read, Write};
 use std::process::Abort;
 use std::test::Fail;
-use wasm_operators::WasmFeatures;
+use wasm_operators::{Error, Message, WasmFeatures};
 
 /// A reader that gives one byte a call, and fails at one call.
 #[derive(Drop)]
@@ -132,6 +133,13 @@ fn bodies(rt: HostRuntime) -> Result<(), Fail> {
         "1 Unreachable\n2 Return\n3 Drop\n4 Select\n5 End\n",
         0,
         "",
+    )?;
+    row(
+        &rt,
+        &[0x01, 0x02, 0x7f, 0x01, 0x0b],
+        "3 Nop\n4 End\n",
+        0,
+        "",
     )
 }
 
@@ -166,7 +174,20 @@ fn refusals(rt: HostRuntime) -> Result<(), Fail> {
         1,
         "error at 1: illegal opcode: 0xff",
     )?;
-    row(&rt, &[0x01, 0x0b], "", 1, "error at 1: too many locals")?;
+    row(
+        &rt,
+        &[0x01, 0x02],
+        "",
+        1,
+        "error at 2: unexpected end-of-file",
+    )?;
+    row(
+        &rt,
+        &[0x00, 0x04, 0x40, 0x05, 0x05],
+        "1 If\n3 Else\n",
+        1,
+        "error at 5: `else` found outside `If` block",
+    )?;
     row(
         &rt,
         &[0x00, 0x01, 0x20, 0x80],
@@ -263,6 +284,75 @@ fn memory(rt: HostRuntime) -> Result<(), Fail> {
             assert_eq!(&rt; writer.count, 0);
         }
     }
+    Ok(())
+}
+
+/// The same of a frame and of a list that an operator owns.
+#[test]
+fn memory_of_operators(rt: HostRuntime) -> Result<(), Fail> {
+    let mut reader: &[u8] = &[0x00, 0x02, 0x40, 0x1c, 0x02, 0x7f, 0x7e, 0x0b, 0x0b];
+    let mut writer = Counted { count: 0 };
+    match run(rt.alloc(), WasmFeatures::all(), &mut reader, &mut writer) {
+        Ok(()) => {
+            assert_eq!(&rt; writer.count, 39);
+        }
+        Err(fault) => {
+            assert!(&rt; matches!(fault, DumpFault::Memory));
+            assert_eq!(&rt; writer.count, 0);
+        }
+    }
+    Ok(())
+}
+
+/// The same of the counts.
+#[test]
+fn memory_of_counts(rt: HostRuntime) -> Result<(), Fail> {
+    let body = [0x00, 0x02, 0x40, 0x1c, 0x02, 0x7f, 0x7e, 0x0b, 0x0b];
+    let mut expected = [0u64; 19];
+    expected[0] = 3;
+    expected[6] = 1;
+    match census(rt.alloc(), WasmFeatures::all(), &body) {
+        Ok(counts) => {
+            assert_eq!(&rt; counts, expected);
+        }
+        Err(fault) => {
+            assert!(&rt; matches!(fault, DumpFault::Memory));
+        }
+    }
+    Ok(())
+}
+
+#[test]
+fn counts(rt: HostRuntime) -> Result<(), Fail> {
+    let all = WasmFeatures::all();
+    let mut simd = [0u64; 19];
+    simd[0] = 2;
+    simd[10] = 1;
+    assert_eq!(&rt;
+        census(rt.alloc(), all, &[0x00, 0x01, 0xfd, 0x0e, 0x0b]),
+        Ok(simd)
+    );
+    let mut pause = [0u64; 19];
+    pause[0] = 1;
+    pause[18] = 1;
+    assert_eq!(&rt;
+        census(rt.alloc(), all, &[0x01, 0x02, 0x7f, 0xfe, 0x04, 0x0b]),
+        Ok(pause)
+    );
+    let cut = Error::new(Message::FramesRemain, 2);
+    assert_eq!(&rt;
+        census(rt.alloc(), all, &[0x00, 0x01]),
+        Err(DumpFault::Refused(cut))
+    );
+    let reserved = Error::new(Message::ReservedFlags, 2);
+    assert_eq!(&rt;
+        census(
+            rt.alloc(),
+            WasmFeatures::empty(),
+            &[0x00, 0x28, 0x10, 0x00, 0x0b]
+        ),
+        Err(DumpFault::Refused(reserved))
+    );
     Ok(())
 }
 
