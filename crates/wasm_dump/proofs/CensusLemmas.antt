@@ -1,5 +1,5 @@
 -- The counts behind visits of a list, and that none comes to the greatest u64.
-use Rattle.std.proofs.Common.{◌≡◌, ◌≢◌, inl, inr, ℕ, ◌+◌, ◌-◌, ◌^◌, ◌<◌, ◌≤◌, List, [], ◌∷◌, ◌++◌, length, map, min, refl, sym, subst, ap, ◌∙◌, arith, cond, Bool, true, false, nat_eq, Result, Ok, Err, IfErr, OnOk}
+use Rattle.std.proofs.Common.{◌≡◌, ◌≢◌, inl, inr, ℕ, ◌+◌, ◌-◌, ◌^◌, ◌≤◌, List, [], ◌∷◌, length, map, refl, sym, subst, ap, ◌∙◌, arith, cond, Bool, true, false, nat_eq, Result, Ok, Err, IfErr, OnOk}
 use Rattle.std.proofs.lemmas.List.{length-append}
 use Rattle.std.specs.Cmp.Lexicographic.{pointwise}
 use Rattle.wasm_below.specs.bytes.error.Error.{Error}

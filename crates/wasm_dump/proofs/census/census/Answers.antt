@@ -1,4 +1,4 @@
-use Rattle.std.proofs.Common.{◌≡◌, ◌≢◌, ◌-◌, ◌^◌, ◌≤◌, length, Ok, sym, subst, ◌∙◌, arith}
+use Rattle.std.proofs.Common.{◌≢◌, ◌-◌, ◌^◌, ◌≤◌, length, Ok, sym, subst, ◌∙◌, arith}
 use Rattle.wasm_below.specs.bytes.message.Message.TheVariants as message
 use Rattle.wasm_dump.specs.Census.{Counts}
 use Rattle.wasm_dump.specs.Dump.{input_of}

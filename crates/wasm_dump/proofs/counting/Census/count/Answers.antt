@@ -1,4 +1,4 @@
-use Rattle.std.proofs.Common.{◌≡◌, ℕ, ◌<◌, suc, ◌+◌, List, [], Bool, true, false, nat_eq, length, get_or, set, sym, ap, ◌∙◌, arith, refl}
+use Rattle.std.proofs.Common.{◌≡◌, ◌<◌, suc, ◌+◌, [], nat_eq, length, get_or, set, sym, ap, ◌∙◌, arith}
 use Rattle.std.specs.Cmp.Lexicographic.{pointwise}
 use Rattle.wasm_dump.specs.Census.{proposals, one_more}
 use Rattle.wasm_dump.proofs.Places.{counted_first, first_all, first_more, first_other}
