@@ -85,7 +85,8 @@ counted_adds (q ∷ qs) (n ∷ ns) p placed most h below =
 
 -- Behind visits of a list each count has what the list adds, where that is not too much.
 counts_along : (placed : Placed) (answers : List (Unit {0})) (before after : List ℕ) (most : ℕ) → length proposals ≡ length before → AreWithin most before →
-    most + length placed ≤ 2 ^ 64 - 1 → VisitRun {A = Unit {0}} (λ s op a t. CountsVisit s op t) before placed answers after → after ≡ added proposals before placed
+    most + length placed ≤ 2 ^ 64 - 1 → VisitRun {A = Unit {0}} (λ s op a t. CountsVisit s op t) before placed answers after →
+    after ≡ added proposals before placed
 counts_along [] answers before after most same h below run = run.1 ∙ added_none proposals before same
 counts_along (p ∷ ps) answers before after most same h below (first, others, between, is, visits, run) =
     let more : most + 1 + length ps ≤ 2 ^ 64 - 1 = omega (arith, below) in
@@ -120,7 +121,8 @@ refused_counts X e body before h = λ other. ([], inl (record { refused = h; not
 -- Counting the operators of a body whose locals were read.
 pub opened_counts : {X : Type 0} (Needs : Needing) (r : Result X Error) (body : Reader) (opened new : State) (before after : List ℕ) →
     OpensBody (Ok opened) body → OnOk r (VisitsAlong {A = Unit {0}} (λ s op a t. CountsVisit s op t) before after (ReadsTree [] opened new)) →
-    IfErr r (λ e. VisitsAlong {A = Unit {0}} (λ s op a t. CountsVisit s op t) before after (ReadsBeginning EncodesAllowed OperatorFault Needs [] e opened new)) →
+    IfErr r (λ e. VisitsAlong {A = Unit {0}} (λ s op a t. CountsVisit s op t) before after
+    (ReadsBeginning EncodesAllowed OperatorFault Needs [] e opened new)) →
     CountsBody r body before after
 opened_counts Needs (Ok x) body opened new before after opens tree beginning =
     let whole = body_tree body opened new tree.0 opens tree.2 in

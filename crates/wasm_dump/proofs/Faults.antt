@@ -31,7 +31,8 @@ not_refused fault.Writing h = tt
 not_refused fault.Memory h = tt
 
 pub whole_fault : (known : Option (List ℕ)) (f : WasmFeatures) (e : DumpFault) → WritesNothing e →
-    IfSome known (λ bytes. (declarations : List Declaration) (placed : Placed) → IsBody (input_of f bytes) declarations placed → IsNotRefused {X = Unit {0}} (Err e))
+    IfSome known (λ bytes. (declarations : List Declaration) (placed : Placed) → IsBody (input_of f bytes) declarations placed →
+    IsNotRefused {X = Unit {0}} (Err e))
 whole_fault None f e h = tt
 whole_fault (Some bytes) f e h = λ declarations placed encodes. not_refused e h
 
@@ -41,7 +42,8 @@ err_not_ok (Err d) e is ok = cc ok
 
 -- a body that the input encodes is not refused
 pub whole_refused : (known : Option (List ℕ)) (f : WasmFeatures) (input slice : List ℕ) (end : Result (Unit {0}) Error) (e : Error) →
-    IfSome known (λ bytes. input ≡ bytes) → slice ≡ input → end ≡ Err e → ((declarations : List Declaration) (placed : Placed) → IsBody (input_of f slice) declarations placed → IsOk end) →
+    IfSome known (λ bytes. input ≡ bytes) → slice ≡ input → end ≡ Err e →
+    ((declarations : List Declaration) (placed : Placed) → IsBody (input_of f slice) declarations placed → IsOk end) →
     IfSome known (λ bytes. (declarations : List Declaration) (placed : Placed) → IsBody (input_of f bytes) declarations placed → ⊥)
 whole_refused None f input slice end e told same is whole = tt
 whole_refused (Some bytes) f input slice end e told same is whole = λ declarations placed encodes.

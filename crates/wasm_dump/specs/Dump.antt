@@ -41,7 +41,8 @@ abbrev pub Lists : {X : Type 0} → Reader → Result X Error → List ℕ → T
 Lists input (Ok x) text = (declarations : List Declaration) × (placed : Placed) × IsBody input declarations placed × (text ≡ lines placed)
 Lists input (Err e) text = (placed : Placed) × IsNoBody e input placed × (text ≡ lines placed)
 
--- What the program writes: the lines of the body that the input encodes; or, of other input, those of what was read before the refusal. Of the other faults nothing is said here.
+-- What the program writes: the lines of the body that the input encodes; or, of other input, those of what was read before the refusal.
+-- Of the other faults nothing is said here.
 abbrev pub Dumps : {X : Type 0} → Reader → Result X DumpFault → Option (List ℕ) → Option (List ℕ) → Type 0
 Dumps input (Ok x) old new = (declarations : List Declaration) × (placed : Placed) × IsBody input declarations placed × Appends old new (lines placed)
 Dumps input (Err (fault.Refused e)) old new = (placed : Placed) × IsNoBody e input placed × Appends old new (lines placed)

@@ -25,8 +25,9 @@ pub returns-clause-counts : goal.returns-clause-counts
 returns-clause-counts c =
     let same = c.new.ensures ∙ c.new_features-reader.ensures in
     let opens = rw same at c.in_ok-operators.ensures in
-    opened_counts (NeedsNext EncodesAllowed) c.visit_all_simd.result
-    (reader_of c.args.features 0 c.args.bytes.now) c.in_ok-operators.operators c.visit_all_simd.new.self c.args.census.now c.visit_all_simd.new.v opens (c.visit_all_simd.ensures.tree opens.1) (c.visit_all_simd.ensures.beginning opens.1)
+    opened_counts (NeedsNext EncodesAllowed) c.visit_all_simd.result (reader_of c.args.features 0 c.args.bytes.now)
+    c.in_ok-operators.operators c.visit_all_simd.new.self c.args.census.now c.visit_all_simd.new.v opens
+    (c.visit_all_simd.ensures.tree opens.1) (c.visit_all_simd.ensures.beginning opens.1)
 
 pub returns-clause-whole : goal.returns-clause-whole
 returns-clause-whole c = λ declarations placed encodes.
