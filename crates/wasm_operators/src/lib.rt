@@ -28,3 +28,6 @@ pub use wasm_operators_single::{ReadOperators, ReadSimdVisits, ReadVisits};
 
 /// The code section: the bodies of functions (Binary Format, Modules, Code Section).
 pub type CodeSectionReader<'a> = SectionLimited<'a, FunctionBody<'a>>;
+
+#[cfg(test)]
+mod tests;
