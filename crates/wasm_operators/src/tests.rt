@@ -91,3 +91,32 @@ fn code_sections(rt: HostRuntime) -> std::result::Result<(), Fail> {
     }
     Ok(())
 }
+
+#[test]
+fn operators_of_a_code_section(rt: HostRuntime) -> std::result::Result<(), Fail> {
+    let bytes: &[u8] = &[0x01, 0x03, 0x00, 0x01, 0x0b];
+    let Ok(section) = CodeSectionReader::new(rt.alloc(), BinaryReader::new(bytes, 20)) else {
+        return Err(Fail::from("the count is refused"));
+    };
+    let Some(Ok(body)) = section.into_iter().next() else {
+        return Err(Fail::from("the body is refused"));
+    };
+    let Ok(mut operators) = body.get_operators_reader(rt.alloc()) else {
+        return Err(Fail::from("the locals are refused"));
+    };
+    let mut read = Vec::new(rt.alloc());
+    assert_eq!(&rt; refusal(operators.read_all(&mut read)), None);
+    assert_eq!(&rt; read.len(), 2);
+    let Ok(operators) = body.get_operators_reader(rt.alloc()) else {
+        return Err(Fail::from("the locals are refused"));
+    };
+    let mut items = operators.into_iter_with_offsets();
+    for want in [("Nop", 23), ("End", 24)] {
+        match items.next() {
+            Some(Ok((operator, offset))) => assert_eq!(&rt; (operator.info().name, offset), want),
+            _ => assert!(&rt; false),
+        }
+    }
+    assert!(&rt; items.next().is_none());
+    Ok(())
+}
