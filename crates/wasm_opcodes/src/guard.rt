@@ -8,7 +8,7 @@ ghost use Rattle.wasm_opcodes.specs.Allowed.{EncodesAllowed};
 ghost use Rattle.wasm_opcodes.specs.Decoding.{RefusesOperator, StandsBehind};
 ghost use Rattle.wasm_opcodes.specs.Entries.{entry_at};
 ghost use Rattle.wasm_opcodes.specs.Entry.{guarded, role_behind, instruction_behind, frame_behind, NeedsLegacy};
-ghost use Rattle.wasm_opcodes.specs.OperatorFaults.{OperatorFault, LacksFeature};
+ghost use Rattle.wasm_opcodes.specs.OperatorFaults.{GuardFault, OperatorFault, LacksFeature};
 
 use wasm_below::{BinaryReader, Error, FrameName, InstructionName, Message, Result, WasmFeatures};
 use wasm_grammar::FrameKind;
@@ -39,6 +39,8 @@ impl Guard {
         ensures stays { IfOk result (λ u. reader.new ≡ reader.old) }
         ensures feature { IfOk result (λ u. NeedsLegacy self → HasFeature legacy_exceptions reader.old.features) }
         ensures allows { IfOk result (λ u. Allows frame (role_behind self)) }
+        ensures back { IfErr result (λ e. reader.new ≡ at_position reader.old start) }
+        ensures fault { IfErr result (λ e. GuardFault reader.old.features frame (reader.old.start + start) self (λ m r offset. ⊥) e.message reader.old e.offset) }
         ensures refuses { IfErr result (λ e. (code : ℕ) (ks : List Kind) → code < 256 → StandsBehind start None code reader.old → entry_at None code ≡ guarded self ks
             → RefusesOperator (EncodesAllowed reader.old.features frame) (OperatorFault reader.old.features frame) e (at_position reader.old start) reader.new) }
     {
