@@ -14,6 +14,20 @@ WITH_FRAME = ("Else", "Try", "Catch", "CatchAll", "Delegate")
 WITH_MEMORY = ("TypedSelect", "TryTable", "Resume", "ResumeThrow", "ResumeThrowRef")
 
 
+# The opcodes that most of a body has. They are decoded where the call stands, all others behind a call.
+COMMON = (
+    *range(0x02, 0x05), *range(0x20, 0x27), *range(0x28, 0x3F), 0x41, 0x42,
+)
+# Those that each have a call of their own besides, since the call of their part would stand inline once a run.
+ALONE = (0x00, 0x01, 0x0B, 0x0C, 0x0D, 0x0F, 0x10, 0x1A, 0x1B)
+# Those from here on, locals, loads and constants, are asked for first, since they are the most.
+FIRST_HIGH = 0x20
+# The call that decodes the common ones below.
+LOW = "control_or_parametric"
+# The call of a group that decodes all of it, where that of the group's name has the common ones alone.
+ALL = {"one_byte": "any_one_byte"}
+
+
 # The widths of the numbers that are handed on by their bits.
 SIGNED = {"signed_32": "w32", "signed_64": "w64"}
 # The codes of a group among those of its list of entries, where there are others without immediates.
@@ -158,6 +172,17 @@ def parts(ops, group):
     return [Part(group, key, those, ops) for key, those in found.items()]
 
 
+def alone(ops, group):
+    """The common operators of a group that have a call of their own, a part each."""
+    found = []
+    for op in group.of(ops):
+        if group.module in ALL and op.code in ALONE:
+            part = Part(group, form_key(op), [op], ops)
+            part.function += "_alone"
+            found.append(part)
+    return found
+
+
 def runs(codes):
     """The runs of some codes: the first and the last of each."""
     out = []
@@ -272,15 +297,51 @@ def apart(name):
 
 
 def group_call(ops, group, those):
-    """The call that decodes an operator of a group."""
+    """The calls that decode an operator of a group. Of one byte there are two, for visits that are short where they stand and for any."""
+    if group.module not in ALL:
+        return whole_group(ops, group, those, group.module)
+    given = "(v, alloc, reader, start, frame, code)"
+    common = [
+        *group_head(group, those, group.module, "inline(always)", "pub ", " Common ones inline, the others out of line."),
+        "    match code {",
+        *group_arms(those, lambda code: code in COMMON and code >= FIRST_HIGH),
+        f"        _ => {LOW}{given},",
+        "    }",
+        "}",
+        "",
+        *group_head(group, those, LOW, "inline(always)", "", " The common ones of them inline, the others out of line."),
+        "    match code {",
+        *group_arms(those, lambda code: code in COMMON and code < FIRST_HIGH),
+        *[f"        {part.code()} => {part.function}(v, reader, start)," for part in alone(ops, group)],
+        f"        _ => others{given},",
+        "    }",
+        "}",
+        "",
+        *group_head(group, those, "others", "inline(always)", "", " What the call out of line answers is matched and made again, so that it is not held in memory where the common operators end."),
+        f"    match out_of_line{given} {{",
+        "        Ok(answer) => Ok(answer),",
+        "        Err(e) => Err(e),",
+        "    }",
+        "}",
+        "",
+        *group_head(group, those, "out_of_line", "inline(never)", "", " All of it out of line."),
+        f"    {ALL[group.module]}{given}",
+        "}",
+        "",
+    ]
+    return [*common, *whole_group(ops, group, those, ALL[group.module])]
+
+
+def group_head(group, those, name, inline, visibility, more=""):
+    """The head of a call that decodes an operator of a group, up to its body."""
     is_own = group.enum == "Own"
-    prefix = those[0].prefix
     ty = "u8" if is_own else "u32"
     given = "v: &mut V, alloc: Global, reader: &mut BinaryReader<'_>, start: usize, frame: FrameKind, code: u8" if is_own else f"v: &mut V, reader: &mut BinaryReader<'_>, start: usize, code: {ty}"
+    doc = f"/// Reads what stands behind the {'opcode' if is_own else 'subopcode'} of one of {group.short}, and visits the operator.{more}"
     out = [
-        f"/// Reads what stands behind the {'opcode' if is_own else 'subopcode'} of one of {group.short}, and visits the operator.",
-        "#[inline(always)]",
-        f"pub fn {group.module}<V: {group.trait}>({given}) -> Result<V::Output>",
+        doc,
+        f"#[{inline}]",
+        f"{visibility}fn {name}<V: {group.trait}>({given}) -> Result<V::Output>",
         f"    requires behind {{ StandsBehind start {those[0].place} code reader.old }}",
     ]
     if is_own:
@@ -288,14 +349,28 @@ def group_call(ops, group, those):
     if group.enum == "Simd":
         out.append("    requires half { code < 0x80 }" if group.module == "simd_low" else "    requires half { 0x80 ≤ code }")
     claim = decodes() if not is_own else decodes().removeprefix("(frame : FrameKind) → ")
-    out += [f"    ensures {{ {claim} }}", "{", "    match code {"]
+    return [*out, f"    ensures {{ {claim} }}", "{"]
+
+
+def group_arms(those, takes):
+    """The arms of the parts, for the codes that are taken."""
+    out = []
     for part in those:
         call = f"{part.function}(v, reader, start{'' if part.is_one else ', code'})"
-        out += [f"        {run_pattern(run)} => {call}," for run in runs([op.code for op in part.ops])]
-    for name, codes in calls(ops, group).items():
-        if name != "TypedSelectMulti":
-            out += [f"        {run_pattern(run)} => {apart(name)}," for run in runs(codes)]
-    unknown = "unknown_opcode(reader, start, code)" if is_own else f"unknown_subopcode(reader, start, 0x{prefix}, code)"
+        found = runs([op.code for op in part.ops if takes(op.code)])
+        out += [f"        {run_pattern(run)} => {call}," for run in found]
+    return out
+
+
+def whole_group(ops, group, those, name):
+    """The call that decodes each operator of a group."""
+    more = " All of it inline." if name in ALL.values() else ""
+    out = [*group_head(group, those, name, "inline(always)", "pub ", more), "    match code {", *group_arms(those, lambda code: True)]
+    for it, codes in calls(ops, group).items():
+        if it != "TypedSelectMulti":
+            out += [f"        {run_pattern(run)} => {apart(it)}," for run in runs(codes)]
+    is_own = group.enum == "Own"
+    unknown = "unknown_opcode(reader, start, code)" if is_own else f"unknown_subopcode(reader, start, 0x{those[0].prefix}, code)"
     return [*out, f"        _ => Err({unknown}),", "    }", "}", ""]
 
 
@@ -309,6 +384,8 @@ def group_decode(ops, group):
             body += alignment(part)
         if not part.is_one:
             body += arms(part)
+    for part in alone(ops, group):
+        body += function(part)
     body = [*group_call(ops, group, those), *body]
     text = "\n".join(body)
     prelude = ["◌≡◌"] + [it for it in ("◌≤◌", "◌<◌") if it.strip("◌") in text] + ["[]", "◌∷◌", "Some", "None"]
@@ -584,14 +661,12 @@ def unreachable_file(part, function):
     return "\n".join([*uses, "", *body, ""])
 
 
-def group_file(ops, group):
-    """The proofs of a group's call: each arm has its kinds, and the last no operator."""
-    those = parts(ops, group)
-    is_own = group.enum == "Own"
+def kinds_proofs(those, takes):
+    """The proofs that the arms of a call have their kinds, and the lemmas that they use."""
     body = []
     lemmas = []
     for part in those:
-        found = runs([op.code for op in part.ops])
+        found = runs([op.code for op in part.ops if takes(op.code)])
         # the first goal of a call bears no place: that of a code by itself, where there is one
         alone = [run for run in found if run[0] == run[1]] + found
         for run in found:
@@ -599,13 +674,38 @@ def group_file(ops, group):
             if first < last:
                 place = "" if run == alone[0] else f"-{run_name(run)}"
                 goal = f"{part.function}-requires{place}-clause-kinds"
-                lemmas.append(f"{part_lemma(part)}_{first:02x}")
+                whole = [it for it in runs([op.code for op in part.ops]) if it[0] <= first and last <= it[1]]
+                lemmas.append(f"{part_lemma(part)}_{whole[0][0]:02x}")
                 here = f"c.{run_name(run)}"
                 body += [
                     f"pub {goal} : goal.{goal}",
                     f"{goal} g c = {lemmas[-1]} c.args.code (omega (arith, {here})) (omega (arith, {here}))",
                     "",
                 ]
+    return body, lemmas
+
+
+def proof_head(group, name, words, lemmas):
+    """What a file of proofs of a group's call begins with."""
+    return [
+        f"-- {HEAD}",
+        f"use Rattle.std.proofs.Common.{{{words}}}",
+        f"use Rattle.wasm_visit_decode.proofs.Codes.{{{', '.join(lemmas)}}}",
+        f"use Rattle.wasm_visit_decode.proofs.{group.module}_operators.{name}.Goals as goal",
+        "",
+    ]
+
+
+def common_file(ops, group, name, takes):
+    """The proofs of a call that has some of the common operators: each arm has its kinds."""
+    body, lemmas = kinds_proofs(parts(ops, group), lambda code: code in COMMON and takes(code))
+    return "\n".join([*proof_head(group, name, "arith", lemmas), *body])
+
+
+def group_file(ops, group):
+    """The proofs of the call that has all of a group: each arm has its kinds, and the last no operator."""
+    is_own = group.enum == "Own"
+    body, lemmas = kinds_proofs(parts(ops, group), lambda code: True)
     name = "unknown_opcode" if is_own else "unknown_subopcode"
     if group.module != "simd_low":
         goal = f"{name}-requires-clause-unknown"
@@ -617,13 +717,7 @@ def group_file(ops, group):
         body += [f"pub {goal} : goal.{goal}", f"{goal} g c = {lemmas[-1]} c.args.code {outside}", ""]
     given, frame = ("g c", "c.args.frame") if is_own else ("g c k", "k")
     body += ["pub returns-in_default : goal.returns-in_default", f"returns-in_default {given} = (refl, c.{name}.ensures {frame})"]
-    uses = [
-        f"-- {HEAD}",
-        "use Rattle.std.proofs.Common.{refl, arith}",
-        f"use Rattle.wasm_visit_decode.proofs.Codes.{{{', '.join(lemmas)}}}",
-        f"use Rattle.wasm_visit_decode.proofs.{group.module}_operators.{group.module}.Goals as goal",
-    ]
-    return "\n".join([*uses, "", *body, ""])
+    return "\n".join([*proof_head(group, ALL.get(group.module, group.module), "refl, arith", lemmas), *body, ""])
 
 
 def decode_files(ops):
@@ -636,7 +730,12 @@ def decode_files(ops):
             continue
         out[at] = group_decode(ops, group)
         at = f"crates/wasm_visit_decode/proofs/{group.module}_operators"
-        out[f"{at}/{group.module}/Answers.antt"] = group_file(ops, group)
+        out[f"{at}/{ALL.get(group.module, group.module)}/Answers.antt"] = group_file(ops, group)
+        if group.module in ALL:
+            out[f"{at}/{group.module}/Answers.antt"] = common_file(ops, group, group.module, lambda code: code >= FIRST_HIGH)
+            for part in alone(ops, group):
+                out[f"{at}/{part.function}/Answers.antt"] = answer_file(part)
+            out[f"{at}/{LOW}/Answers.antt"] = common_file(ops, group, LOW, lambda code: code < FIRST_HIGH)
         for part in parts(ops, group):
             out[f"{at}/{part.function}/Answers.antt"] = answer_file(part)
             if not part.is_one:

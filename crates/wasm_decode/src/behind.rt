@@ -1,4 +1,6 @@
-//! What stands behind an opcode, but for the branch table and the vector operators.
+//! What stands behind an opcode, but for the branch table. Operators behind a prefix byte are decoded
+//! out of line, so that the code for all others stays small; what these calls answer is matched and
+//! made again where they are made, so that it is not held in memory where the others end.
 ghost use Rattle.std.specs.Prelude.{◌≡◌, ◌≢◌, Some, None, IfOk, IfErr};
 ghost use Rattle.wasm_below.specs.Source.{at_position};
 ghost use Rattle.wasm_grammar.specs.declared.frame_kind.FrameKind.{FrameKind};
@@ -66,6 +68,21 @@ fn gc_behind<V: VisitFixed>(
     requires { StandsBehind start None 0xfb reader.old }
     ensures { (frame : FrameKind) → Decodes V.visits (EncodesAllowed reader.old.features frame) (OperatorFault reader.old.features frame) result (at_position reader.old start) reader.new v.old v.new }
 {
+    match gc_out_of_line(v, reader, start) {
+        Ok(answer) => Ok(answer),
+        Err(e) => Err(e),
+    }
+}
+
+#[inline(never)]
+fn gc_out_of_line<V: VisitFixed>(
+    v: &mut V,
+    reader: &mut BinaryReader<'_>,
+    start: usize,
+) -> Result<V::Output>
+    requires { StandsBehind start None 0xfb reader.old }
+    ensures { (frame : FrameKind) → Decodes V.visits (EncodesAllowed reader.old.features frame) (OperatorFault reader.old.features frame) result (at_position reader.old start) reader.new v.old v.new }
+{
     match subopcode(reader, start, 0xfb) {
         Ok(code) => v.decode_gc(reader, start, code),
         Err(e) => Err(e),
@@ -75,6 +92,21 @@ fn gc_behind<V: VisitFixed>(
 /// An operator behind the byte fc.
 #[inline(always)]
 fn misc_behind<V: VisitFixed>(
+    v: &mut V,
+    reader: &mut BinaryReader<'_>,
+    start: usize,
+) -> Result<V::Output>
+    requires { StandsBehind start None 0xfc reader.old }
+    ensures { (frame : FrameKind) → Decodes V.visits (EncodesAllowed reader.old.features frame) (OperatorFault reader.old.features frame) result (at_position reader.old start) reader.new v.old v.new }
+{
+    match misc_out_of_line(v, reader, start) {
+        Ok(answer) => Ok(answer),
+        Err(e) => Err(e),
+    }
+}
+
+#[inline(never)]
+fn misc_out_of_line<V: VisitFixed>(
     v: &mut V,
     reader: &mut BinaryReader<'_>,
     start: usize,
@@ -98,6 +130,21 @@ fn atomic_behind<V: VisitFixed>(
     requires { StandsBehind start None 0xfe reader.old }
     ensures { (frame : FrameKind) → Decodes V.visits (EncodesAllowed reader.old.features frame) (OperatorFault reader.old.features frame) result (at_position reader.old start) reader.new v.old v.new }
 {
+    match atomic_out_of_line(v, reader, start) {
+        Ok(answer) => Ok(answer),
+        Err(e) => Err(e),
+    }
+}
+
+#[inline(never)]
+fn atomic_out_of_line<V: VisitFixed>(
+    v: &mut V,
+    reader: &mut BinaryReader<'_>,
+    start: usize,
+) -> Result<V::Output>
+    requires { StandsBehind start None 0xfe reader.old }
+    ensures { (frame : FrameKind) → Decodes V.visits (EncodesAllowed reader.old.features frame) (OperatorFault reader.old.features frame) result (at_position reader.old start) reader.new v.old v.new }
+{
     match subopcode(reader, start, 0xfe) {
         Ok(code) => v.decode_atomic(reader, start, code),
         Err(e) => Err(e),
@@ -107,6 +154,21 @@ fn atomic_behind<V: VisitFixed>(
 /// A vector operator, behind the byte fd.
 #[inline(always)]
 pub fn simd_behind<V: VisitSimdOperator>(
+    v: &mut V,
+    reader: &mut BinaryReader<'_>,
+    start: usize,
+) -> Result<V::Output>
+    requires { StandsBehind start None 0xfd reader.old }
+    ensures { (frame : FrameKind) → Decodes V.visits (EncodesAllowed reader.old.features frame) (OperatorFault reader.old.features frame) result (at_position reader.old start) reader.new v.old v.new }
+{
+    match simd_out_of_line(v, reader, start) {
+        Ok(answer) => Ok(answer),
+        Err(e) => Err(e),
+    }
+}
+
+#[inline(never)]
+fn simd_out_of_line<V: VisitSimdOperator>(
     v: &mut V,
     reader: &mut BinaryReader<'_>,
     start: usize,

@@ -1,7 +1,12 @@
-//! What comes before the immediates of an operator: its frame, its opcode, and room for its step.
-ghost use Rattle.std.specs.Prelude.{◌≡◌, IfOk, IfErr};
+//! What comes before the immediates of an operator: its frame, its opcode, and room for its step; and
+//! the step, behind them.
+ghost use Rattle.std.specs.Prelude.{◌≡◌, ◌+◌, ◌≤◌, Some, IsSome, IfOk, IfErr};
+ghost use Rattle.wasm_grammar.specs.Frames.{frames_after};
+ghost use Rattle.wasm_below.specs.Source.{offset_of};
 ghost use Rattle.wasm_opcodes.specs.Allowed.{EncodesAllowed, EncodesPlain};
 ghost use Rattle.wasm_opcodes.specs.OperatorFaults.{OperatorFault, PlainOperatorFault};
+ghost use Rattle.wasm_operators_frames.specs.Stack.{HasRoom};
+ghost use Rattle.wasm_operators_frames.specs.Step.{Opens, role_of_step, step_at};
 ghost use Rattle.wasm_operators_decoding.specs.Next.{BeginsOperator, StopsNext, state_of};
 
 use wasm_below::{BinaryReader, Error, Message, Result};
@@ -30,11 +35,20 @@ pub fn begin(reader: &mut BinaryReader<'_>, control: &mut ControlStack) -> Resul
     ensures plain { IfErr result (λ e. StopsNext EncodesPlain PlainOperatorFault e (state_of reader.old control.old) (state_of reader.new control.new)) }
 {
     let Some(frame) = control.last() else {
-        return Err(Error::new(Message::OperatorsRemaining, reader.original_position()));
+        return Err(no_frame(reader));
     };
     let start = reader.current_position();
     match reader.read_u8() {
         Ok(code) => {
+            // No opcode from 20 on does anything to the frames.
+            if code >= 0x20 {
+                return Ok(Begun {
+                    frame,
+                    start,
+                    code,
+                    step: FrameStep::Stays,
+                });
+            }
             let step = FrameStep::at(code);
             match control.make_room(step) {
                 Ok(()) => Ok(Begun {
@@ -48,4 +62,30 @@ pub fn begin(reader: &mut BinaryReader<'_>, control: &mut ControlStack) -> Resul
         }
         Err(e) => Err(e),
     }
+}
+
+/// The refusal where no frame is open. It is made apart, out of the way of all else.
+#[cold]
+#[inline(never)]
+fn no_frame(reader: &BinaryReader<'_>) -> Error
+    ensures message { result.message ≡ Message.OperatorsRemaining }
+    ensures offset { result.offset ≡ offset_of reader.now }
+{
+    Error::new(Message::OperatorsRemaining, reader.original_position())
+}
+
+/// Makes the step of an operator that was read. No opcode from 20 on does anything to the frames.
+#[inline(always)]
+pub fn advance(control: &mut ControlStack, at: Begun)
+    requires step { at.step ≡ step_at at.code }
+    requires allowed { IsSome (frames_after control.old.frames (role_of_step at.step)) }
+    requires room { Opens at.step → HasRoom control.old }
+    ensures frames { frames_after control.old.frames (role_of_step at.step) ≡ Some control.new.frames }
+    ensures opened { control.old.room ≤ control.new.room + 1 }
+    ensures other { (Opens at.step → ⊥) → control.old.room ≤ control.new.room }
+{
+    if at.code >= 0x20 {
+        return;
+    }
+    control.advance(at.step);
 }

@@ -6,7 +6,7 @@ ghost use Rattle.wasm_operators_decoding.specs.Next.{ReadsNext, VisitsNext, Visi
 
 mod stack;
 
-use crate::begin::begin;
+use crate::begin::{advance, begin};
 use std::alloc::Global;
 use std::marker::Model;
 use wasm_below::{BinaryReader, Error, Message, Result};
@@ -115,7 +115,7 @@ impl<'a> OperatorsReader<'a> {
             Ok(at) => {
                 match read_behind(self.alloc, &mut self.reader, at.start, at.frame, at.code) {
                     Ok(operator) => {
-                        self.control.advance(at.step);
+                        advance(&mut self.control, at);
                         Ok(operator)
                     }
                     Err(e) => Err(e),
@@ -145,7 +145,7 @@ impl<'a> OperatorsReader<'a> {
                     at.code,
                 ) {
                     Ok(answer) => {
-                        self.control.advance(at.step);
+                        advance(&mut self.control, at);
                         Ok(answer)
                     }
                     Err(e) => Err(e),
@@ -166,7 +166,7 @@ impl<'a> OperatorsReader<'a> {
             Ok(at) => {
                 match visit_behind(v, self.alloc, &mut self.reader, at.start, at.frame, at.code) {
                     Ok(answer) => {
-                        self.control.advance(at.step);
+                        advance(&mut self.control, at);
                         Ok(answer)
                     }
                     Err(e) => Err(e),

@@ -9,10 +9,12 @@ ghost use Rattle.wasm_opcodes.specs.OperatorFaults.{OperatorFault};
 ghost use Rattle.wasm_visit_decode.specs.OneByte.{IsOneByteCode};
 ghost use Rattle.wasm_visit_groups.specs.Groups.{IsOneByte};
 
+use crate::any::ByAny;
 use std::alloc::Global;
 use wasm_below::{BinaryReader, Result};
 use wasm_grammar::FrameKind;
 use wasm_instr::{AtomicOperator, GcOperator, MiscOperator, NumericOperator, Operator};
+use wasm_visit_decode as decode;
 use wasm_visit_dispatch as dispatch;
 use wasm_visit_factory::Factory;
 use wasm_visit_groups::Visitor;
@@ -85,14 +87,20 @@ pub trait VisitFixed: Visitor {
         frame: FrameKind,
         code: u8,
     ) -> Result<Self::Output>
+    where
+        Self: Sized,
         requires behind { StandsBehind start None code reader.old }
         requires apart { IsOneByteCode code }
         ensures { Decodes Self.visits (EncodesAllowed reader.old.features frame) (OperatorFault reader.old.features frame) result (at_position reader.old start) reader.new self.old self.new }
     {
-        match Factory.decode_one_byte(alloc, reader, start, frame, code) {
-            Ok(op) => Ok(self.visit_any(op)),
-            Err(e) => Err(e),
-        }
+        decode::one_byte(
+            &mut ByAny { visitor: self },
+            alloc,
+            reader,
+            start,
+            frame,
+            code,
+        )
     }
 
     /// Visits the numeric operator of this opcode.

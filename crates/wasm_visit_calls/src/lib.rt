@@ -2,6 +2,7 @@
 //! visitors that are ready to use.
 #![tactic(auto)]
 
+mod any;
 mod borrowed;
 mod by_box;
 mod by_reference;

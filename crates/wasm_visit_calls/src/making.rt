@@ -17,7 +17,7 @@ impl VisitFixed for Factory {
         frame: FrameKind,
         code: u8,
     ) -> Result<Self::Output> {
-        decode::one_byte(self, alloc, reader, start, frame, code)
+        decode::any_one_byte(self, alloc, reader, start, frame, code)
     }
 
     #[inline(always)]

@@ -15,6 +15,6 @@ pub use atomic_operators::atomic;
 pub use gc_operators::gc;
 pub use misc_operators::misc;
 pub use numeric_operators::numeric;
-pub use one_byte_operators::one_byte;
+pub use one_byte_operators::{any_one_byte, one_byte};
 pub use simd_high_operators::simd_high;
 pub use simd_low_operators::simd_low;

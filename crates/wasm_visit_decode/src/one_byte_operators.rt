@@ -21,9 +21,98 @@ use wasm_imm::{BlockType, MemArg, MemArgKind};
 use wasm_opcodes::{immediates, unknown_opcode};
 use wasm_visit_groups::VisitOneByte;
 
-/// Reads what stands behind the opcode of one of the operators of one byte, and visits the operator.
+/// Reads what stands behind the opcode of one of the operators of one byte, and visits the operator. Common ones inline, the others out of line.
 #[inline(always)]
 pub fn one_byte<V: VisitOneByte>(
+    v: &mut V,
+    alloc: Global,
+    reader: &mut BinaryReader<'_>,
+    start: usize,
+    frame: FrameKind,
+    code: u8,
+) -> Result<V::Output>
+    requires behind { StandsBehind start None code reader.old }
+    requires apart { IsOneByteCode code }
+    ensures { Decodes V.visits (EncodesAllowed reader.old.features frame) (OperatorFault reader.old.features frame) result (at_position reader.old start) reader.new v.old v.new }
+{
+    match code {
+        0x20..=0x26 => unsigned(v, reader, start, code),
+        0x28..=0x3e => memory(v, reader, start, code),
+        0x41 => i32_const(v, reader, start),
+        0x42 => i64_const(v, reader, start),
+        _ => control_or_parametric(v, alloc, reader, start, frame, code),
+    }
+}
+
+/// Reads what stands behind the opcode of one of the operators of one byte, and visits the operator. The common ones of them inline, the others out of line.
+#[inline(always)]
+fn control_or_parametric<V: VisitOneByte>(
+    v: &mut V,
+    alloc: Global,
+    reader: &mut BinaryReader<'_>,
+    start: usize,
+    frame: FrameKind,
+    code: u8,
+) -> Result<V::Output>
+    requires behind { StandsBehind start None code reader.old }
+    requires apart { IsOneByteCode code }
+    ensures { Decodes V.visits (EncodesAllowed reader.old.features frame) (OperatorFault reader.old.features frame) result (at_position reader.old start) reader.new v.old v.new }
+{
+    match code {
+        0x02..=0x04 => block_type(v, reader, start, code),
+        0x00 => unreachable_alone(v, reader, start),
+        0x01 => nop_alone(v, reader, start),
+        0x0b => end_alone(v, reader, start),
+        0x0c => br_alone(v, reader, start),
+        0x0d => br_if_alone(v, reader, start),
+        0x0f => return_alone(v, reader, start),
+        0x10 => call_alone(v, reader, start),
+        0x1a => drop_alone(v, reader, start),
+        0x1b => select_alone(v, reader, start),
+        _ => others(v, alloc, reader, start, frame, code),
+    }
+}
+
+/// Reads what stands behind the opcode of one of the operators of one byte, and visits the operator. What the call out of line answers is matched and made again, so that it is not held in memory where the common operators end.
+#[inline(always)]
+fn others<V: VisitOneByte>(
+    v: &mut V,
+    alloc: Global,
+    reader: &mut BinaryReader<'_>,
+    start: usize,
+    frame: FrameKind,
+    code: u8,
+) -> Result<V::Output>
+    requires behind { StandsBehind start None code reader.old }
+    requires apart { IsOneByteCode code }
+    ensures { Decodes V.visits (EncodesAllowed reader.old.features frame) (OperatorFault reader.old.features frame) result (at_position reader.old start) reader.new v.old v.new }
+{
+    match out_of_line(v, alloc, reader, start, frame, code) {
+        Ok(answer) => Ok(answer),
+        Err(e) => Err(e),
+    }
+}
+
+/// Reads what stands behind the opcode of one of the operators of one byte, and visits the operator. All of it out of line.
+#[inline(never)]
+fn out_of_line<V: VisitOneByte>(
+    v: &mut V,
+    alloc: Global,
+    reader: &mut BinaryReader<'_>,
+    start: usize,
+    frame: FrameKind,
+    code: u8,
+) -> Result<V::Output>
+    requires behind { StandsBehind start None code reader.old }
+    requires apart { IsOneByteCode code }
+    ensures { Decodes V.visits (EncodesAllowed reader.old.features frame) (OperatorFault reader.old.features frame) result (at_position reader.old start) reader.new v.old v.new }
+{
+    any_one_byte(v, alloc, reader, start, frame, code)
+}
+
+/// Reads what stands behind the opcode of one of the operators of one byte, and visits the operator. All of it inline.
+#[inline(always)]
+pub fn any_one_byte<V: VisitOneByte>(
     v: &mut V,
     alloc: Global,
     reader: &mut BinaryReader<'_>,
@@ -440,4 +529,130 @@ fn visit_two_unsigned<V: VisitOneByte>(v: &mut V, code: u8, it: (u32, u32)) -> V
         0xe6 => v.visit_switch(it.0, it.1),
         _ => unreachable!(),
     }
+}
+
+/// `Unreachable`.
+#[inline(always)]
+fn unreachable_alone<V: VisitOneByte>(
+    v: &mut V,
+    reader: &mut BinaryReader<'_>,
+    start: usize,
+) -> Result<V::Output>
+    requires behind { StandsBehind start None 0x00 reader.old }
+    ensures { (frame : FrameKind) → Decodes V.visits (EncodesAllowed reader.old.features frame) (OperatorFault reader.old.features frame) result (at_position reader.old start) reader.new v.old v.new }
+{
+    Ok(v.visit_unreachable())
+}
+
+/// `Nop`.
+#[inline(always)]
+fn nop_alone<V: VisitOneByte>(
+    v: &mut V,
+    reader: &mut BinaryReader<'_>,
+    start: usize,
+) -> Result<V::Output>
+    requires behind { StandsBehind start None 0x01 reader.old }
+    ensures { (frame : FrameKind) → Decodes V.visits (EncodesAllowed reader.old.features frame) (OperatorFault reader.old.features frame) result (at_position reader.old start) reader.new v.old v.new }
+{
+    Ok(v.visit_nop())
+}
+
+/// `End`.
+#[inline(always)]
+fn end_alone<V: VisitOneByte>(
+    v: &mut V,
+    reader: &mut BinaryReader<'_>,
+    start: usize,
+) -> Result<V::Output>
+    requires behind { StandsBehind start None 0x0b reader.old }
+    ensures { (frame : FrameKind) → Decodes V.visits (EncodesAllowed reader.old.features frame) (OperatorFault reader.old.features frame) result (at_position reader.old start) reader.new v.old v.new }
+{
+    Ok(v.visit_end())
+}
+
+/// `Br`.
+#[inline(always)]
+fn br_alone<V: VisitOneByte>(
+    v: &mut V,
+    reader: &mut BinaryReader<'_>,
+    start: usize,
+) -> Result<V::Output>
+    requires behind { StandsBehind start None 0x0c reader.old }
+    ensures { (frame : FrameKind) → Decodes V.visits (EncodesAllowed reader.old.features frame) (OperatorFault reader.old.features frame) result (at_position reader.old start) reader.new v.old v.new }
+{
+    match immediates::unsigned(reader, start) {
+        Ok(it) => Ok(v.visit_br(it)),
+        Err(e) => Err(e),
+    }
+}
+
+/// `BrIf`.
+#[inline(always)]
+fn br_if_alone<V: VisitOneByte>(
+    v: &mut V,
+    reader: &mut BinaryReader<'_>,
+    start: usize,
+) -> Result<V::Output>
+    requires behind { StandsBehind start None 0x0d reader.old }
+    ensures { (frame : FrameKind) → Decodes V.visits (EncodesAllowed reader.old.features frame) (OperatorFault reader.old.features frame) result (at_position reader.old start) reader.new v.old v.new }
+{
+    match immediates::unsigned(reader, start) {
+        Ok(it) => Ok(v.visit_br_if(it)),
+        Err(e) => Err(e),
+    }
+}
+
+/// `Return`.
+#[inline(always)]
+fn return_alone<V: VisitOneByte>(
+    v: &mut V,
+    reader: &mut BinaryReader<'_>,
+    start: usize,
+) -> Result<V::Output>
+    requires behind { StandsBehind start None 0x0f reader.old }
+    ensures { (frame : FrameKind) → Decodes V.visits (EncodesAllowed reader.old.features frame) (OperatorFault reader.old.features frame) result (at_position reader.old start) reader.new v.old v.new }
+{
+    Ok(v.visit_return())
+}
+
+/// `Call`.
+#[inline(always)]
+fn call_alone<V: VisitOneByte>(
+    v: &mut V,
+    reader: &mut BinaryReader<'_>,
+    start: usize,
+) -> Result<V::Output>
+    requires behind { StandsBehind start None 0x10 reader.old }
+    ensures { (frame : FrameKind) → Decodes V.visits (EncodesAllowed reader.old.features frame) (OperatorFault reader.old.features frame) result (at_position reader.old start) reader.new v.old v.new }
+{
+    match immediates::unsigned(reader, start) {
+        Ok(it) => Ok(v.visit_call(it)),
+        Err(e) => Err(e),
+    }
+}
+
+/// `Drop`.
+#[inline(always)]
+fn drop_alone<V: VisitOneByte>(
+    v: &mut V,
+    reader: &mut BinaryReader<'_>,
+    start: usize,
+) -> Result<V::Output>
+    requires behind { StandsBehind start None 0x1a reader.old }
+    ensures { (frame : FrameKind) → Decodes V.visits (EncodesAllowed reader.old.features frame) (OperatorFault reader.old.features frame) result (at_position reader.old start) reader.new v.old v.new }
+{
+    Ok(v.visit_drop())
+}
+
+/// `Select`.
+#[inline(always)]
+fn select_alone<V: VisitOneByte>(
+    v: &mut V,
+    reader: &mut BinaryReader<'_>,
+    start: usize,
+) -> Result<V::Output>
+    requires behind { StandsBehind start None 0x1b reader.old }
+    ensures { (frame : FrameKind) → Decodes V.visits (EncodesAllowed reader.old.features frame) (OperatorFault reader.old.features frame) result (at_position reader.old start) reader.new v.old v.new }
+{
+    Ok(v.visit_select())
 }

@@ -22,7 +22,7 @@ returns-in-Ok-visit_behind_simd g c =
     let r = c.in-Ok-visit_behind_simd.ensures in
     let old = state_of c.self.inside.reader c.self.inside.control in
     let mid = state_of c.begin.new.reader c.begin.new.control in
-    let new = state_of c.visit_behind_simd.new.reader c.advance.new.self in
+    let new = state_of c.visit_behind_simd.new.reader c.advance.new.control in
     let step = c.advance.ensures in
     let taken = begun_took EncodesAllowed sound old mid new at.frame at.code at.start at.step r.1 r.0 c.in-Ok.ensures.begun r.2 r.3 step.frames step.opened
     step.other in
