@@ -364,7 +364,7 @@ def group_arms(those, takes):
 
 def whole_group(ops, group, those, name):
     """The call that decodes each operator of a group."""
-    more = " All of it inline." if name in ALL.values() else ""
+    more = " Each of them is an arm here." if name in ALL.values() else ""
     out = [*group_head(group, those, name, "inline(always)", "pub ", more), "    match code {", *group_arms(those, lambda code: True)]
     for it, codes in calls(ops, group).items():
         if it != "TypedSelectMulti":
@@ -668,11 +668,11 @@ def kinds_proofs(those, takes):
     for part in those:
         found = runs([op.code for op in part.ops if takes(op.code)])
         # the first goal of a call bears no place: that of a code by itself, where there is one
-        alone = [run for run in found if run[0] == run[1]] + found
+        in_order = [run for run in found if run[0] == run[1]] + found
         for run in found:
             first, last = run
             if first < last:
-                place = "" if run == alone[0] else f"-{run_name(run)}"
+                place = "" if run == in_order[0] else f"-{run_name(run)}"
                 goal = f"{part.function}-requires{place}-clause-kinds"
                 whole = [it for it in runs([op.code for op in part.ops]) if it[0] <= first and last <= it[1]]
                 lemmas.append(f"{part_lemma(part)}_{whole[0][0]:02x}")

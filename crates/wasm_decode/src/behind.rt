@@ -74,6 +74,7 @@ fn gc_behind<V: VisitFixed>(
     }
 }
 
+/// The subopcode behind the byte fb, and the operator's visit.
 #[inline(never)]
 fn gc_out_of_line<V: VisitFixed>(
     v: &mut V,
@@ -105,6 +106,7 @@ fn misc_behind<V: VisitFixed>(
     }
 }
 
+/// The subopcode behind the byte fc, and the operator's visit.
 #[inline(never)]
 fn misc_out_of_line<V: VisitFixed>(
     v: &mut V,
@@ -136,6 +138,7 @@ fn atomic_behind<V: VisitFixed>(
     }
 }
 
+/// The subopcode behind the byte fe, and the operator's visit.
 #[inline(never)]
 fn atomic_out_of_line<V: VisitFixed>(
     v: &mut V,
@@ -167,6 +170,7 @@ pub fn simd_behind<V: VisitSimdOperator>(
     }
 }
 
+/// The subopcode behind the byte fd, and the operator's visit.
 #[inline(never)]
 fn simd_out_of_line<V: VisitSimdOperator>(
     v: &mut V,

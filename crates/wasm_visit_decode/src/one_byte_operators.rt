@@ -110,7 +110,7 @@ fn out_of_line<V: VisitOneByte>(
     any_one_byte(v, alloc, reader, start, frame, code)
 }
 
-/// Reads what stands behind the opcode of one of the operators of one byte, and visits the operator. All of it inline.
+/// Reads what stands behind the opcode of one of the operators of one byte, and visits the operator. Each of them is an arm here.
 #[inline(always)]
 pub fn any_one_byte<V: VisitOneByte>(
     v: &mut V,
