@@ -50,106 +50,53 @@ pub fn fixed_behind<V: VisitFixed>(
     ensures { Decodes V.visits (EncodesAllowed reader.old.features frame) (OperatorFault reader.old.features frame) result (at_position reader.old start) reader.new v.old v.new }
 {
     match code {
+        0xfb => prefixed_behind(v, reader, start, 0xfb),
+        0xfc => prefixed_behind(v, reader, start, 0xfc),
+        0xfe => prefixed_behind(v, reader, start, 0xfe),
         0x45..=0xc4 => Ok(v.decode_numeric(code)),
-        0xfb => gc_behind(v, reader, start),
-        0xfc => misc_behind(v, reader, start),
-        0xfe => atomic_behind(v, reader, start),
         _ => v.decode_one_byte(alloc, reader, start, frame, code),
     }
 }
 
-/// An operator behind the byte fb.
+/// An operator behind one of the prefix bytes fb, fc and fe.
 #[inline(always)]
-fn gc_behind<V: VisitFixed>(
+fn prefixed_behind<V: VisitFixed>(
     v: &mut V,
     reader: &mut BinaryReader<'_>,
     start: usize,
+    prefix: u8,
 ) -> Result<V::Output>
-    requires { StandsBehind start None 0xfb reader.old }
+    requires behind { StandsBehind start None prefix reader.old }
+    requires prefix { entry_at None prefix ≡ prefixes }
+    requires vector { prefix ≢ 0xfd }
     ensures { (frame : FrameKind) → Decodes V.visits (EncodesAllowed reader.old.features frame) (OperatorFault reader.old.features frame) result (at_position reader.old start) reader.new v.old v.new }
 {
-    match gc_out_of_line(v, reader, start) {
+    match prefixed_out_of_line(v, reader, start, prefix) {
         Ok(answer) => Ok(answer),
         Err(e) => Err(e),
     }
 }
 
-/// The subopcode behind the byte fb, and the operator's visit.
+/// The subopcode behind such a prefix byte, and the operator's visit.
 #[inline(never)]
-fn gc_out_of_line<V: VisitFixed>(
+fn prefixed_out_of_line<V: VisitFixed>(
     v: &mut V,
     reader: &mut BinaryReader<'_>,
     start: usize,
+    prefix: u8,
 ) -> Result<V::Output>
-    requires { StandsBehind start None 0xfb reader.old }
+    requires behind { StandsBehind start None prefix reader.old }
+    requires prefix { entry_at None prefix ≡ prefixes }
+    requires vector { prefix ≢ 0xfd }
     ensures { (frame : FrameKind) → Decodes V.visits (EncodesAllowed reader.old.features frame) (OperatorFault reader.old.features frame) result (at_position reader.old start) reader.new v.old v.new }
 {
-    match subopcode(reader, start, 0xfb) {
-        Ok(code) => v.decode_gc(reader, start, code),
-        Err(e) => Err(e),
-    }
-}
-
-/// An operator behind the byte fc.
-#[inline(always)]
-fn misc_behind<V: VisitFixed>(
-    v: &mut V,
-    reader: &mut BinaryReader<'_>,
-    start: usize,
-) -> Result<V::Output>
-    requires { StandsBehind start None 0xfc reader.old }
-    ensures { (frame : FrameKind) → Decodes V.visits (EncodesAllowed reader.old.features frame) (OperatorFault reader.old.features frame) result (at_position reader.old start) reader.new v.old v.new }
-{
-    match misc_out_of_line(v, reader, start) {
-        Ok(answer) => Ok(answer),
-        Err(e) => Err(e),
-    }
-}
-
-/// The subopcode behind the byte fc, and the operator's visit.
-#[inline(never)]
-fn misc_out_of_line<V: VisitFixed>(
-    v: &mut V,
-    reader: &mut BinaryReader<'_>,
-    start: usize,
-) -> Result<V::Output>
-    requires { StandsBehind start None 0xfc reader.old }
-    ensures { (frame : FrameKind) → Decodes V.visits (EncodesAllowed reader.old.features frame) (OperatorFault reader.old.features frame) result (at_position reader.old start) reader.new v.old v.new }
-{
-    match subopcode(reader, start, 0xfc) {
-        Ok(code) => v.decode_misc(reader, start, code),
-        Err(e) => Err(e),
-    }
-}
-
-/// An operator behind the byte fe.
-#[inline(always)]
-fn atomic_behind<V: VisitFixed>(
-    v: &mut V,
-    reader: &mut BinaryReader<'_>,
-    start: usize,
-) -> Result<V::Output>
-    requires { StandsBehind start None 0xfe reader.old }
-    ensures { (frame : FrameKind) → Decodes V.visits (EncodesAllowed reader.old.features frame) (OperatorFault reader.old.features frame) result (at_position reader.old start) reader.new v.old v.new }
-{
-    match atomic_out_of_line(v, reader, start) {
-        Ok(answer) => Ok(answer),
-        Err(e) => Err(e),
-    }
-}
-
-/// The subopcode behind the byte fe, and the operator's visit.
-#[inline(never)]
-fn atomic_out_of_line<V: VisitFixed>(
-    v: &mut V,
-    reader: &mut BinaryReader<'_>,
-    start: usize,
-) -> Result<V::Output>
-    requires { StandsBehind start None 0xfe reader.old }
-    ensures { (frame : FrameKind) → Decodes V.visits (EncodesAllowed reader.old.features frame) (OperatorFault reader.old.features frame) result (at_position reader.old start) reader.new v.old v.new }
-{
-    match subopcode(reader, start, 0xfe) {
-        Ok(code) => v.decode_atomic(reader, start, code),
+    match subopcode(reader, start, prefix) {
+        Ok(code) => match prefix {
+            0xfb => v.decode_gc(reader, start, code),
+            0xfc => v.decode_misc(reader, start, code),
+            0xfe => v.decode_atomic(reader, start, code),
+            _ => unreachable!(),
+        },
         Err(e) => Err(e),
     }
 }

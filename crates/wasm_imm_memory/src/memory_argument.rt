@@ -91,7 +91,10 @@ impl MemArg {
             Err(e) => return Err(e),
         };
         if flags >= ORDERING {
-            return read_announced(reader, start, flags, max_align, kind);
+            return match read_announced(reader, start, flags, max_align, kind) {
+                Ok(argument) => Ok(argument),
+                Err(e) => Err(e),
+            };
         }
         match read_offset(reader) {
             Ok(offset) => Ok(MemArg {

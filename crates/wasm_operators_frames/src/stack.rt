@@ -150,7 +150,7 @@ impl ControlStack {
         ensures room { self.old.room ≤ self.new.room + 1 }
     {
         if let Some(outer) = self.current {
-            self.around.push(outer).unwrap();
+            self.around.push_reserved(outer);
         }
         self.current = Some(frame);
     }

@@ -1,14 +1,11 @@
-use Rattle.std.proofs.Common.{◌≡◌, ℕ, inl, Result, Ok, Err, refl, ap, subst, arith}
-use Rattle.std.specs.Prelude.{IfErr}
-use Rattle.wasm_below.specs.bytes.error.Error.{Error}
+use Rattle.std.proofs.Common.{◌≡◌, inl, Ok, refl, ap, subst, arith}
 use Rattle.wasm_below.specs.Number.{EncodesUnsigned}
 use Rattle.wasm_below.specs.bytes.features.WasmFeatures.{WasmFeatures}
 use Rattle.wasm_below.specs.Source.{Reader, offset_of, at_position, IsRefusal, Reads}
 use Rattle.wasm_below.proofs.Blocks.{refused_now}
-use Rattle.wasm_imm_memory.specs.declared.memory_argument.MemArg.{MemArg}
-use Rattle.wasm_imm_memory.specs.declared.memory_argument.MemArgKind.{MemArgKind}
-use Rattle.wasm_imm_memory.specs.MemoryArgument.{EncodesOffset}
-use Rattle.wasm_imm_memory.specs.MemoryArgumentFaults.{OffsetFault, FlagsFault, MemArgFault}
+use Rattle.wasm_below.proofs.TakesLemmas.{back}
+use Rattle.wasm_imm_memory.specs.MemoryArgument.{EncodesOffset, EncodesMemArg}
+use Rattle.wasm_imm_memory.specs.MemoryArgumentFaults.{OffsetFault, MemArgFault}
 use Rattle.wasm_imm_memory.proofs.FlagsNumber.{short_refused, short_read}
 use Rattle.wasm_imm_memory.proofs.MemoryArgumentFaults.{short_fault, behind_fault}
 use Rattle.wasm_imm_memory.proofs.memory_argument.MemArg.read.Goals as goal
@@ -33,29 +30,33 @@ returns-in-Ok-read_offset-clause-reads c =
     short_read f c.args.kind c.args.max_align c.in-Ok.flags c.args.reader.now c.read_var_u32.new.self r (omega arith) c.read_offset.new.reader
     c.in-Ok-read_offset.offset c.in-Ok.flags refl h
 
+pub returns-in-Err-read_announced-clause-reads : goal.returns-in-Err-read_announced-clause-reads
+returns-in-Err-read_announced-clause-reads c =
+    let r = c.in-Ok.ensures.reads in
+    let old = c.args.reader.now in
+    let mid = c.read_var_u32.new.self in
+    let start = c.current_position-start.result in
+    subst (λ (z : Reader). (c.read_announced.new.reader ≡ z) ×
+    IsRefusal (EncodesMemArg z.features c.args.kind c.args.max_align) c.in-Err-read_announced.e z)
+    (back old mid (at_position mid start) r.0 start r.2 c.current_position-start.ensures refl) c.in-Err-read_announced.ensures.reads
+
 -- ---- which refusal, and where
 
 pub returns-in-Err-clause-fault : goal.returns-in-Err-clause-fault
 returns-in-Err-clause-fault c =
     inl (refused_now (EncodesUnsigned 32) c.in-Err.e c.args.reader.now c.in-Err.ensures.reads.1, c.in-Err.ensures.fault)
 
--- the answer behind the flags number, where the number began
-abbrev Announced : WasmFeatures → MemArgKind → ℕ → Reader → ℕ → Result MemArg Error → Type 0
-Announced f k flags mid position result = IfErr result (λ e. FlagsFault f k flags (offset_of (at_position mid position)) e.message mid e.offset)
-
-announced : (k : MemArgKind) (flags : ℕ) (old mid : Reader) (position : ℕ) (result : Result MemArg Error) → Reads (EncodesUnsigned 32) (Ok flags) old mid →
-    position ≡ old.position → Announced mid.features k flags mid position result → IfErr result (λ e. MemArgFault old.features k e.message old e.offset)
-announced k flags old mid position (Ok m) r at h = tt
-announced k flags old mid position (Err e) r at h =
-    let place : offset_of (at_position mid position) ≡ offset_of old = cc (ap (λ (r : Reader). r.start) r.2.moved, at) in
-    let same : mid.features ≡ old.features = ap (λ (r : Reader). r.features) r.2.moved in
-    subst (λ z. MemArgFault z k e.message old e.offset) same
-    (behind_fault mid.features k flags (offset_of (at_position mid position)) old mid r place e.message e.offset h)
-
-pub returns-then-flags-ge-ORDERING-clause-fault : goal.returns-then-flags-ge-ORDERING-clause-fault
-returns-then-flags-ge-ORDERING-clause-fault c =
-    announced c.args.kind c.in-Ok.flags c.args.reader.now c.read_var_u32.new.self c.current_position-start.result c.read_announced.result
-    c.in-Ok.ensures.reads c.current_position-start.ensures c.read_announced.ensures.fault
+pub returns-in-Err-read_announced-clause-fault : goal.returns-in-Err-read_announced-clause-fault
+returns-in-Err-read_announced-clause-fault c =
+    let r = c.in-Ok.ensures.reads in
+    let e = c.in-Err-read_announced.e in
+    let old = c.args.reader.now in
+    let mid = c.read_var_u32.new.self in
+    let start = c.current_position-start.result in
+    let home = back old mid (at_position mid start) r.0 start r.2 c.current_position-start.ensures refl in
+    subst (λ (z : Reader). MemArgFault z.features c.args.kind e.message old e.offset) home
+    (behind_fault mid.features c.args.kind c.in-Ok.flags (offset_of (at_position mid start)) old mid r (ap offset_of home) e.message e.offset
+    c.in-Err-read_announced.ensures.fault)
 
 pub returns-in-Err-read_offset-clause-fault : goal.returns-in-Err-read_offset-clause-fault
 returns-in-Err-read_offset-clause-fault c =
