@@ -13,14 +13,12 @@ use wasm_below::{BinaryReader, Error, Message, Result};
 use wasm_grammar::FrameKind;
 use wasm_operators_frames::{ControlStack, FrameStep};
 
-/// The innermost frame, the position at which the operator began, its opcode, and what it does to
-/// the frames.
+/// The innermost frame, the position at which the operator began, and its opcode.
 #[derive(Clone, Copy, Debug)]
 pub struct Begun {
     pub frame: FrameKind,
     pub start: usize,
     pub code: u8,
-    pub step: FrameStep,
 }
 
 /// Reads the opcode of the next operator, and makes room for the frame that it opens, if it opens
@@ -30,7 +28,7 @@ pub struct Begun {
 /// where no room could be made. The reader and the frames are unchanged then.
 #[inline(always)]
 pub fn begin(reader: &mut BinaryReader<'_>, control: &mut ControlStack) -> Result<Begun>
-    ensures begun { IfOk result (λ at. BeginsOperator (state_of reader.old control.old) (state_of reader.new control.new) at.frame at.start at.code at.step) }
+    ensures begun { IfOk result (λ at. BeginsOperator (state_of reader.old control.old) (state_of reader.new control.new) at.frame at.start at.code (step_at at.code)) }
     ensures refused { IfErr result (λ e. StopsNext EncodesAllowed OperatorFault e (state_of reader.old control.old) (state_of reader.new control.new)) }
     ensures plain { IfErr result (λ e. StopsNext EncodesPlain PlainOperatorFault e (state_of reader.old control.old) (state_of reader.new control.new)) }
 {
@@ -42,21 +40,10 @@ pub fn begin(reader: &mut BinaryReader<'_>, control: &mut ControlStack) -> Resul
         Ok(code) => {
             // No opcode from 20 on does anything to the frames.
             if code >= 0x20 {
-                return Ok(Begun {
-                    frame,
-                    start,
-                    code,
-                    step: FrameStep::Stays,
-                });
+                return Ok(Begun { frame, start, code });
             }
-            let step = FrameStep::at(code);
-            match control.make_room(step) {
-                Ok(()) => Ok(Begun {
-                    frame,
-                    start,
-                    code,
-                    step,
-                }),
+            match control.make_room(FrameStep::at(code)) {
+                Ok(()) => Ok(Begun { frame, start, code }),
                 Err(_) => Err(reader.refuse(start, Message::OutOfMemory)),
             }
         }
@@ -75,17 +62,19 @@ fn no_frame(reader: &BinaryReader<'_>) -> Error
 }
 
 /// Makes the step of an operator that was read. No opcode from 20 on does anything to the frames.
+///
+/// The step is found again from the opcode, which is known where the operator was decoded; a step
+/// that was kept would be told apart by a jump of its own.
 #[inline(always)]
-pub fn advance(control: &mut ControlStack, at: Begun)
-    requires step { at.step ≡ step_at at.code }
-    requires allowed { IsSome (frames_after control.old.frames (role_of_step at.step)) }
-    requires room { Opens at.step → HasRoom control.old }
-    ensures frames { frames_after control.old.frames (role_of_step at.step) ≡ Some control.new.frames }
+pub fn advance(control: &mut ControlStack, code: u8)
+    requires allowed { IsSome (frames_after control.old.frames (role_of_step (step_at code))) }
+    requires room { Opens (step_at code) → HasRoom control.old }
+    ensures frames { frames_after control.old.frames (role_of_step (step_at code)) ≡ Some control.new.frames }
     ensures opened { control.old.room ≤ control.new.room + 1 }
-    ensures other { (Opens at.step → ⊥) → control.old.room ≤ control.new.room }
+    ensures other { (Opens (step_at code) → ⊥) → control.old.room ≤ control.new.room }
 {
-    if at.code >= 0x20 {
+    if code >= 0x20 {
         return;
     }
-    control.advance(at.step);
+    control.advance(FrameStep::at(code));
 }

@@ -115,7 +115,7 @@ impl<'a> OperatorsReader<'a> {
             Ok(at) => {
                 match read_behind(self.alloc, &mut self.reader, at.start, at.frame, at.code) {
                     Ok(operator) => {
-                        advance(&mut self.control, at);
+                        advance(&mut self.control, at.code);
                         Ok(operator)
                     }
                     Err(e) => Err(e),
@@ -145,7 +145,7 @@ impl<'a> OperatorsReader<'a> {
                     at.code,
                 ) {
                     Ok(answer) => {
-                        advance(&mut self.control, at);
+                        advance(&mut self.control, at.code);
                         Ok(answer)
                     }
                     Err(e) => Err(e),
@@ -166,7 +166,7 @@ impl<'a> OperatorsReader<'a> {
             Ok(at) => {
                 match visit_behind(v, self.alloc, &mut self.reader, at.start, at.frame, at.code) {
                     Ok(answer) => {
-                        advance(&mut self.control, at);
+                        advance(&mut self.control, at.code);
                         Ok(answer)
                     }
                     Err(e) => Err(e),

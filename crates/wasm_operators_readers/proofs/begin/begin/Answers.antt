@@ -7,12 +7,12 @@ pub returns-in-Err-make_room-clause-refused : goal.returns-in-Err-make_room-clau
 returns-in-Err-make_room-clause-refused c =
     let refused = c.in-Err-make_room.ensures.refused in
     begun_without_room EncodesAllowed OperatorFault c.args.reader.now c.read_u8.new.self c.refuse.new.self c.args.control.now c.make_room.new.self c.in-Ok.code
-    c.current_position-start.result c.at-step.result c.refuse.result c.in-Ok.ensures.reads c.current_position-start.ensures c.at-step.ensures refused.1 refused.2
+    c.current_position-start.result c.at.result c.refuse.result c.in-Ok.ensures.reads c.current_position-start.ensures c.at.ensures refused.1 refused.2
     refused.3 c.refuse.ensures.rewound c.refuse.ensures.message c.refuse.ensures.offset
 
 pub returns-in-Err-make_room-clause-plain : goal.returns-in-Err-make_room-clause-plain
 returns-in-Err-make_room-clause-plain c =
     let refused = c.in-Err-make_room.ensures.refused in
     begun_without_room EncodesPlain PlainOperatorFault c.args.reader.now c.read_u8.new.self c.refuse.new.self c.args.control.now c.make_room.new.self c.in-Ok.code
-    c.current_position-start.result c.at-step.result c.refuse.result c.in-Ok.ensures.reads c.current_position-start.ensures c.at-step.ensures refused.1 refused.2
+    c.current_position-start.result c.at.result c.refuse.result c.in-Ok.ensures.reads c.current_position-start.ensures c.at.ensures refused.1 refused.2
     refused.3 c.refuse.ensures.rewound c.refuse.ensures.message c.refuse.ensures.offset

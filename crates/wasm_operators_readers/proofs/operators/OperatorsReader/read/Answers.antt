@@ -1,6 +1,7 @@
 use Rattle.std.proofs.Common.{refl, subst}
 use Rattle.wasm_opcodes.specs.Allowed.{EncodesAllowed}
 use Rattle.wasm_opcodes.specs.OperatorFaults.{OperatorFault}
+use Rattle.wasm_operators_frames.specs.Step.{step_at}
 use Rattle.wasm_operators_runs.specs.Reading.{State, TakesOperator}
 use Rattle.wasm_operators_decoding.specs.Next.{StopsNext, state_of}
 use Rattle.wasm_operators_decoding.proofs.Decoder.{sound}
@@ -13,7 +14,7 @@ advance-requires-clause-allowed c =
     let r = c.in-Ok-read_behind.ensures in
     let old = state_of c.self.inside.reader c.self.inside.control in
     let mid = state_of c.begin.new.reader c.begin.new.control in
-    begun_allows EncodesAllowed sound (λ f kind text op h. h.1) old mid at.frame at.code at.start at.step c.in-Ok-read_behind.operator r.0
+    begun_allows EncodesAllowed sound (λ f kind text op h. h.1) old mid at.frame at.code at.start (step_at at.code) c.in-Ok-read_behind.operator r.0
     c.read_behind.new.reader c.in-Ok.ensures.begun r.1 r.2
 
 pub returns-in-Ok-read_behind : goal.returns-in-Ok-read_behind
@@ -25,7 +26,7 @@ returns-in-Ok-read_behind c =
     let new = state_of c.read_behind.new.reader c.advance.new.control in
     let op = c.in-Ok-read_behind.operator in
     let step = c.advance.ensures in
-    let taken = begun_took EncodesAllowed sound old mid new at.frame at.code at.start at.step op r.0 c.in-Ok.ensures.begun r.1 r.2 step.frames step.opened
+    let taken = begun_took EncodesAllowed sound old mid new at.frame at.code at.start (step_at at.code) op r.0 c.in-Ok.ensures.begun r.1 r.2 step.frames step.opened
     step.other in
     subst (λ (s : State). TakesOperator EncodesAllowed op s new) c.self.view_is taken
 
@@ -36,6 +37,6 @@ returns-in-Err-read_behind c =
     let mid = state_of c.begin.new.reader c.begin.new.control in
     let new = state_of c.read_behind.new.reader c.begin.new.control in
     let e = c.in-Err-read_behind.e in
-    let stopped = begun_stopped EncodesAllowed OperatorFault old mid new at.frame at.code at.start at.step e c.in-Ok.ensures.begun c.in-Err-read_behind.ensures
+    let stopped = begun_stopped EncodesAllowed OperatorFault old mid new at.frame at.code at.start (step_at at.code) e c.in-Ok.ensures.begun c.in-Err-read_behind.ensures
     refl refl in
     subst (λ (s : State). StopsNext EncodesAllowed OperatorFault e s new) c.self.view_is stopped

@@ -1,4 +1,4 @@
-use Rattle.std.proofs.Common.{true, is_ok, ℕ, ◌≡◌, ◌∙◌, ◌++◌, ◌∷◌, [], refl, ap, rules, inl}
+use Rattle.std.proofs.Common.{true, is_ok, ℕ, ◌≡◌, ◌∙◌, ◌++◌, ◌∷◌, [], refl, rules, inl}
 use Rattle.wasm_below.specs.Source.{rest, offset_of}
 use Rattle.wasm_instr.specs.declared.operator.Operator.{Operator}
 use Rattle.wasm_operators_expressions.proofs.LayoutLemmas.{same_place}

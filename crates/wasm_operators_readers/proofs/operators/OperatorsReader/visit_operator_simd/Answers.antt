@@ -1,6 +1,7 @@
 use Rattle.std.proofs.Common.{refl, subst}
 use Rattle.wasm_opcodes.specs.Allowed.{EncodesAllowed}
 use Rattle.wasm_opcodes.specs.OperatorFaults.{OperatorFault}
+use Rattle.wasm_operators_frames.specs.Step.{step_at}
 use Rattle.wasm_operators_runs.specs.Reading.{State, TakesOperator}
 use Rattle.wasm_operators_decoding.specs.Next.{StopsNext, state_of}
 use Rattle.wasm_operators_decoding.proofs.Decoder.{sound}
@@ -13,7 +14,7 @@ advance-requires-clause-allowed g c =
     let r = c.in-Ok-visit_behind_simd.ensures in
     let old = state_of c.self.inside.reader c.self.inside.control in
     let mid = state_of c.begin.new.reader c.begin.new.control in
-    begun_allows EncodesAllowed sound (λ f kind text op h. h.1) old mid at.frame at.code at.start at.step r.1 r.0
+    begun_allows EncodesAllowed sound (λ f kind text op h. h.1) old mid at.frame at.code at.start (step_at at.code) r.1 r.0
     c.visit_behind_simd.new.reader c.in-Ok.ensures.begun r.2 r.3
 
 pub returns-in-Ok-visit_behind_simd : goal.returns-in-Ok-visit_behind_simd
@@ -24,7 +25,7 @@ returns-in-Ok-visit_behind_simd g c =
     let mid = state_of c.begin.new.reader c.begin.new.control in
     let new = state_of c.visit_behind_simd.new.reader c.advance.new.control in
     let step = c.advance.ensures in
-    let taken = begun_took EncodesAllowed sound old mid new at.frame at.code at.start at.step r.1 r.0 c.in-Ok.ensures.begun r.2 r.3 step.frames step.opened
+    let taken = begun_took EncodesAllowed sound old mid new at.frame at.code at.start (step_at at.code) r.1 r.0 c.in-Ok.ensures.begun r.2 r.3 step.frames step.opened
     step.other in
     (r.1, subst (λ (s : State). TakesOperator EncodesAllowed r.1 s new) c.self.view_is taken, r.4)
 
@@ -36,6 +37,6 @@ returns-in-Err-visit_behind_simd g c =
     let mid = state_of c.begin.new.reader c.begin.new.control in
     let new = state_of c.visit_behind_simd.new.reader c.begin.new.control in
     let e = c.in-Err-visit_behind_simd.e in
-    let stopped = begun_stopped EncodesAllowed OperatorFault old mid new at.frame at.code at.start at.step e c.in-Ok.ensures.begun h.1 refl refl in
+    let stopped = begun_stopped EncodesAllowed OperatorFault old mid new at.frame at.code at.start (step_at at.code) e c.in-Ok.ensures.begun h.1 refl refl in
     let stops = subst (λ (s : State). StopsNext EncodesAllowed OperatorFault e s new) c.self.view_is stopped in
     (stops.0, h.0, stops.1)

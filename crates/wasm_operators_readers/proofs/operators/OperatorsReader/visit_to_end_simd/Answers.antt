@@ -1,6 +1,5 @@
-use Rattle.std.proofs.Common.{◌≡◌, ◌++◌, ◌∷◌, [], refl, sym, subst, rules}
+use Rattle.std.proofs.Common.{◌≡◌, ◌++◌, ◌∷◌, [], sym, subst, rules}
 use Rattle.wasm_below.specs.Source.{rest, offset_of}
-use Rattle.wasm_instr.specs.declared.operator.Operator.{Operator}
 use Rattle.wasm_opcodes.specs.Allowed.{EncodesAllowed}
 use Rattle.wasm_opcodes.specs.OperatorFaults.{OperatorFault}
 use Rattle.wasm_operators_expressions.specs.Visiting.{Visited}
