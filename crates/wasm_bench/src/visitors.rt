@@ -106,6 +106,18 @@ impl VisitFixed for CountSome {
     ) -> Result<()> {
         decode::one_byte(self, alloc, reader, start, frame, code)
     }
+
+    #[inline(always)]
+    fn decode_control(
+        &mut self,
+        alloc: Global,
+        reader: &mut BinaryReader<'_>,
+        start: usize,
+        frame: FrameKind,
+        code: u8,
+    ) -> Result<()> {
+        decode::one_byte(self, alloc, reader, start, frame, code)
+    }
 }
 
 impl<'a> VisitOperator<'a> for CountSome {

@@ -12,4 +12,6 @@ mod refusals;
 mod visit;
 
 pub use read::{read_behind, read_operator};
-pub use visit::{visit_behind, visit_behind_simd, visit_operator, visit_operator_simd};
+pub use visit::{
+    control_behind, visit_behind, visit_behind_simd, visit_operator, visit_operator_simd,
+};

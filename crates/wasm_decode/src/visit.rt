@@ -1,5 +1,5 @@
 //! An operator is read and visited.
-ghost use Rattle.std.specs.Prelude.{◌≡◌, None};
+ghost use Rattle.std.specs.Prelude.{◌≡◌, ◌<◌, None};
 ghost use Rattle.wasm_below.specs.Source.{at_position};
 ghost use Rattle.wasm_grammar.specs.declared.frame_kind.FrameKind.{FrameKind};
 ghost use Rattle.wasm_opcodes.specs.Allowed.{EncodesAllowed, EncodesPlain, EncodesIn};
@@ -110,6 +110,30 @@ pub fn visit_behind<'a, V: VisitOperator<'a>>(
         0x0e => table_behind(v, reader, start),
         0xfd => Err(unexpected_simd(reader, start)),
         _ => fixed_behind(v, alloc, reader, start, frame, code),
+    }
+}
+
+/// Visits the operator of this opcode below 20, which was read at the position `start`: of one of the
+/// control and parametric instructions.
+///
+/// Refusals are those of `visit_behind_simd`.
+#[inline(always)]
+pub fn control_behind<'a, V: VisitOperator<'a>>(
+    v: &mut V,
+    alloc: Global,
+    reader: &mut BinaryReader<'a>,
+    start: usize,
+    frame: FrameKind,
+    code: u8,
+) -> Result<V::Output>
+    requires behind { StandsBehind start None code reader.old }
+    requires low { code < 0x20 }
+    ensures allowed { Decodes V.visits (EncodesAllowed reader.old.features frame) (OperatorFault reader.old.features frame) result (at_position reader.old start) reader.new v.old v.new }
+    ensures plain { Decodes V.visits (EncodesPlain reader.old.features frame) (PlainOperatorFault reader.old.features frame) result (at_position reader.old start) reader.new v.old v.new }
+{
+    match code {
+        0x0e => table_behind(v, reader, start),
+        _ => v.decode_control(alloc, reader, start, frame, code),
     }
 }
 

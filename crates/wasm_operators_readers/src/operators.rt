@@ -10,7 +10,7 @@ use crate::begin::{advance, begin};
 use std::alloc::Global;
 use std::marker::Model;
 use wasm_below::{BinaryReader, Error, Message, Result};
-use wasm_decode::{read_behind, visit_behind, visit_behind_simd};
+use wasm_decode::{control_behind, read_behind, visit_behind, visit_behind_simd};
 use wasm_grammar::FrameKind;
 use wasm_instr::Operator;
 use wasm_operators_frames::{ControlStack, OperatorsReaderAllocations};
@@ -136,14 +136,18 @@ impl<'a> OperatorsReader<'a> {
     {
         match begin(&mut self.reader, &mut self.control) {
             Ok(at) => {
-                match visit_behind_simd(
-                    v,
-                    self.alloc,
-                    &mut self.reader,
-                    at.start,
-                    at.frame,
-                    at.code,
-                ) {
+                // No opcode from 20 on does anything to the frames.
+                if at.code >= 0x20 {
+                    return visit_behind_simd(
+                        v,
+                        self.alloc,
+                        &mut self.reader,
+                        at.start,
+                        at.frame,
+                        at.code,
+                    );
+                }
+                match control_behind(v, self.alloc, &mut self.reader, at.start, at.frame, at.code) {
                     Ok(answer) => {
                         advance(&mut self.control, at.code);
                         Ok(answer)
@@ -164,7 +168,18 @@ impl<'a> OperatorsReader<'a> {
     {
         match begin(&mut self.reader, &mut self.control) {
             Ok(at) => {
-                match visit_behind(v, self.alloc, &mut self.reader, at.start, at.frame, at.code) {
+                // No opcode from 20 on does anything to the frames.
+                if at.code >= 0x20 {
+                    return visit_behind(
+                        v,
+                        self.alloc,
+                        &mut self.reader,
+                        at.start,
+                        at.frame,
+                        at.code,
+                    );
+                }
+                match control_behind(v, self.alloc, &mut self.reader, at.start, at.frame, at.code) {
                     Ok(answer) => {
                         advance(&mut self.control, at.code);
                         Ok(answer)

@@ -43,6 +43,18 @@ impl<V: VisitFixed> VisitFixed for &mut V {
     }
 
     #[inline(always)]
+    fn decode_control(
+        &mut self,
+        alloc: Global,
+        reader: &mut BinaryReader<'_>,
+        start: usize,
+        frame: FrameKind,
+        code: u8,
+    ) -> Result<Self::Output> {
+        (**self).decode_control(alloc, reader, start, frame, code)
+    }
+
+    #[inline(always)]
     fn decode_numeric(&mut self, code: u8) -> Self::Output {
         (**self).decode_numeric(code)
     }

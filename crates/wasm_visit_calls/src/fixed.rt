@@ -1,5 +1,5 @@
 //! Visitors of the operators that are neither vector operators nor branch tables.
-ghost use Rattle.std.specs.Prelude.{◌≡◌, ◌≤◌, [], Some, None};
+ghost use Rattle.std.specs.Prelude.{◌≡◌, ◌≤◌, ◌<◌, [], Some, None};
 ghost use Rattle.wasm_below.specs.Source.{at_position};
 ghost use Rattle.wasm_grammar.specs.declared.frame_kind.FrameKind.{FrameKind};
 ghost use Rattle.wasm_instr.specs.declared.operator.Operator.{Operator};
@@ -91,6 +91,38 @@ pub trait VisitFixed: Visitor {
         Self: Sized,
         requires behind { StandsBehind start None code reader.old }
         requires apart { IsOneByteCode code }
+        ensures { Decodes Self.visits (EncodesAllowed reader.old.features frame) (OperatorFault reader.old.features frame) result (at_position reader.old start) reader.new self.old self.new }
+    {
+        decode::one_byte(
+            &mut ByAny { visitor: self },
+            alloc,
+            reader,
+            start,
+            frame,
+            code,
+        )
+    }
+
+    /// The same of an opcode below 20, which is one of the control and parametric instructions. Only
+    /// they do anything to the frames, so a reader that keeps those goes on apart from them, and each
+    /// of the two calls stands once where operators are visited.
+    ///
+    /// A visitor with visits in `VisitOneByte` says
+    /// `decode::one_byte(self, alloc, reader, start, frame, code)` here too.
+    #[inline(always)]
+    fn decode_control(
+        &mut self,
+        alloc: Global,
+        reader: &mut BinaryReader<'_>,
+        start: usize,
+        frame: FrameKind,
+        code: u8,
+    ) -> Result<Self::Output>
+    where
+        Self: Sized,
+        requires behind { StandsBehind start None code reader.old }
+        requires apart { IsOneByteCode code }
+        requires low { code < 0x20 }
         ensures { Decodes Self.visits (EncodesAllowed reader.old.features frame) (OperatorFault reader.old.features frame) result (at_position reader.old start) reader.new self.old self.new }
     {
         decode::one_byte(

@@ -21,6 +21,18 @@ impl VisitFixed for Factory {
     }
 
     #[inline(always)]
+    fn decode_control(
+        &mut self,
+        alloc: Global,
+        reader: &mut BinaryReader<'_>,
+        start: usize,
+        frame: FrameKind,
+        code: u8,
+    ) -> Result<Self::Output> {
+        decode::any_one_byte(self, alloc, reader, start, frame, code)
+    }
+
+    #[inline(always)]
     fn decode_numeric(&mut self, code: u8) -> Self::Output {
         decode::numeric(self, code)
     }
