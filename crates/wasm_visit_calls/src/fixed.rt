@@ -103,9 +103,9 @@ pub trait VisitFixed: Visitor {
         )
     }
 
-    /// The same of an opcode below 20, which is one of the control and parametric instructions. Only
-    /// they do anything to the frames, so a reader that keeps those goes on apart from them, and each
-    /// of the two calls stands once where operators are visited.
+    /// The same of an opcode below 20, where control and parametric instructions stand. No other does
+    /// anything to the frames: so a reader that keeps frames calls this for them, and
+    /// `decode_one_byte` for opcodes from 20 on.
     ///
     /// A visitor with visits in `VisitOneByte` says
     /// `decode::one_byte(self, alloc, reader, start, frame, code)` here too.
