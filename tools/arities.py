@@ -71,9 +71,9 @@ def fixed_arity_specs(ops):
         "-- How many operands an operator takes and how many values it leaves, where that is fixed.",
         "-- WebAssembly Core Specification 3.0: Appendix, Index of Instructions. An access that may reach an array takes that array too: proposal multibyte array access.",
         "use Rattle.std.specs.Prelude.{ℕ, ◌+◌, Option, Some, None}",
-        "use Rattle.wasm_imm.specs.memory.memory_argument.MemArg.{MemArg}",
-        "use Rattle.wasm_imm.specs.memory.memory_argument.MemArgTarget.{MemArgTarget}",
-        "use Rattle.wasm_imm.specs.memory.memory_argument.MemArgTarget.TheVariants as target",
+        "use Rattle.wasm_imm.specs.declared.memory_argument.MemArg.{MemArg}",
+        "use Rattle.wasm_imm.specs.declared.memory_argument.MemArgTarget.{MemArgTarget}",
+        "use Rattle.wasm_imm.specs.declared.memory_argument.MemArgTarget.TheVariants as target",
     ]
     for enum in held():
         head += enum_uses(enum)

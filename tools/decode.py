@@ -102,7 +102,7 @@ def unread(ops):
     """The operators that the decoder would leave out."""
     wanting = [op for op in ops if op.name not in APART and op.name != "BrTable" and not is_read(op)]
     return [
-        f"{op.place}: no call of wasm_opcodes reads the immediates {', '.join(op.immediates)}: add it, and its form to tools/decode.py"
+        f"{op.place}: no call of wasm_decode_opcodes reads the immediates {', '.join(op.immediates)}: add it, and its form to tools/decode.py"
         for op in wanting
     ]
 
@@ -401,19 +401,19 @@ def group_decode(ops, group):
         "ghost use Rattle.wasm_below.specs.Source.{at_position};",
         "ghost use Rattle.wasm_grammar.specs.declared.frame_kind.FrameKind.{FrameKind};",
         f"ghost use Rattle.wasm_instr.specs.Immediate.{{{', '.join(words)}}};",
-        "ghost use Rattle.wasm_opcodes.specs.Allowed.{EncodesAllowed};",
-        "ghost use Rattle.wasm_opcodes.specs.Decoding.{Decodes, StandsBehind, VisitsRow};",
-        f"ghost use Rattle.wasm_opcodes.specs.Entries.{{{', '.join(entries)}}};",
-        "ghost use Rattle.wasm_opcodes.specs.Entry.{free};",
-        "ghost use Rattle.wasm_opcodes.specs.OperatorFaults.{OperatorFault};",
-        *(["ghost use Rattle.wasm_visit_decode.specs.OneByte.{IsOneByteCode};"] if is_own else []),
+        "ghost use Rattle.wasm_decode_opcodes.specs.Allowed.{EncodesAllowed};",
+        "ghost use Rattle.wasm_decode_opcodes.specs.Decoding.{Decodes, StandsBehind, VisitsRow};",
+        f"ghost use Rattle.wasm_decode_opcodes.specs.Entries.{{{', '.join(entries)}}};",
+        "ghost use Rattle.wasm_decode_opcodes.specs.Entry.{free};",
+        "ghost use Rattle.wasm_decode_opcodes.specs.OperatorFaults.{OperatorFault};",
+        *(["ghost use Rattle.wasm_decode_groups.specs.OneByte.{IsOneByteCode};"] if is_own else []),
         "",
         *(["use crate::control::{%s};" % ", ".join(sorted(set(APART.values())))] if is_own else []),
         *(["use std::alloc::Global;"] if is_own else []),
         f"use wasm_below::{{{', '.join(below)}}};",
         *(["use wasm_grammar::FrameKind;"] if is_own else []),
         *([f"use wasm_imm::{{{', '.join(types)}}};"] if types else []),
-        f"use wasm_opcodes::{{immediates, {'unknown_opcode' if is_own else 'unknown_subopcode'}}};",
+        f"use wasm_decode_opcodes::{{immediates, {'unknown_opcode' if is_own else 'unknown_subopcode'}}};",
         f"use wasm_visit_groups::{group.trait};",
         "",
     ]
@@ -426,7 +426,7 @@ def numeric_decode(ops, group):
     return "\n".join([
         f"//! Decoding of {group.short}. {HEAD}",
         "ghost use Rattle.std.specs.Prelude.{◌≡◌, ◌≤◌, [], None};",
-        "ghost use Rattle.wasm_opcodes.specs.Decoding.{VisitsRow};",
+        "ghost use Rattle.wasm_decode_opcodes.specs.Decoding.{VisitsRow};",
         "",
         f"use wasm_visit_groups::{group.trait};",
         "",
@@ -516,7 +516,7 @@ def answers(part):
 def answer_file(part):
     body = answers(part)
     text = "\n".join(body)
-    path = f"Rattle.wasm_visit_decode.proofs.{part.group.module}_operators.{part.function}.Goals"
+    path = f"Rattle.wasm_decode_groups.proofs.{part.group.module}_operators.{part.function}.Goals"
     common = [it for it in ("[]", "Some", "None", "refl", "sym", "subst", "ap", "arith") if it in imported(text, [it]) or it in text and it == "[]"] + [f"◌{it}◌" for it in ("∷", "∙") if it in text]
     lemmas = [it for it in ("refuses_free", "visited_free", "visited_plain") if it in text]
     words = [it for it in imported(text, ROW_WORDS + KIND_WORDS) if f"{it} " in text.replace("c.", "@")]
@@ -527,7 +527,7 @@ def answer_file(part):
     if "to_z" in text:
         uses += ["use Rattle.std.proofs.lemmas.Int.{to_z-of_z}", "use mir.Val.{SFits}"]
     if "kind." in text:
-        uses.append("use Rattle.wasm_imm.specs.memory.memory_argument.MemArgKind.TheVariants as kind")
+        uses.append("use Rattle.wasm_imm.specs.declared.memory_argument.MemArgKind.TheVariants as kind")
     if "operator." in text:
         uses.append("use Rattle.wasm_instr.specs.declared.operator.Operator.TheVariants as operator")
     if f"{enum.lower()}." in text and enum != "Own":
@@ -536,10 +536,10 @@ def answer_file(part):
     if words:
         uses.append(f"use Rattle.wasm_instr.specs.Immediate.{{{', '.join(words)}}}")
     if "VisitsRow" in text:
-        uses += ["use Rattle.wasm_opcodes.specs.Decoding.{VisitsRow}", "use Rattle.wasm_opcodes.specs.Entry.{free}"]
+        uses += ["use Rattle.wasm_decode_opcodes.specs.Decoding.{VisitsRow}", "use Rattle.wasm_decode_opcodes.specs.Entry.{free}"]
     if "OperatorFault" in text:
-        uses.append("use Rattle.wasm_opcodes.specs.OperatorFaults.{OperatorFault}")
-    uses += [f"use Rattle.wasm_opcodes.proofs.OperatorLemmas.{{{', '.join(lemmas)}}}", f"use {path} as goal"]
+        uses.append("use Rattle.wasm_decode_opcodes.specs.OperatorFaults.{OperatorFault}")
+    uses += [f"use Rattle.wasm_decode_opcodes.proofs.OperatorLemmas.{{{', '.join(lemmas)}}}", f"use {path} as goal"]
     return "\n".join([f"-- {HEAD}", *uses, "", text, ""])
 
 
@@ -632,11 +632,11 @@ def codes_file(ops):
         f"-- {HEAD}",
         "-- Where the entries of some kinds stand, by the groups of visits.",
         "use Rattle.std.proofs.Common.{◌≡◌, ℕ, ◌≤◌, Bool, true, false, [], ◌∷◌, Some, None, refl, ap, arith}",
-        "use Rattle.wasm_imm.specs.memory.memory_argument.MemArgKind.TheVariants as kind",
+        "use Rattle.wasm_imm.specs.declared.memory_argument.MemArgKind.TheVariants as kind",
         f"use Rattle.wasm_instr.specs.Immediate.{{{', '.join(imported(text, KIND_WORDS))}}}",
-        "use Rattle.wasm_opcodes.specs.Entry.{Entry, unknown, prefixes, free}",
-        f"use Rattle.wasm_opcodes.specs.Entries.{{{', '.join(lists)}, entry_at, align_at}}",
-        "use Rattle.wasm_visit_decode.proofs.Ranges.{InRanges, codes_in, unknown_outside, unknown_byte, in_run}",
+        "use Rattle.wasm_decode_opcodes.specs.Entry.{Entry, unknown, prefixes, free}",
+        f"use Rattle.wasm_decode_opcodes.specs.Entries.{{{', '.join(lists)}, entry_at, align_at}}",
+        "use Rattle.wasm_decode_groups.proofs.Ranges.{InRanges, codes_in, unknown_outside, unknown_byte, in_run}",
     ]
     return "\n".join([*uses, "", text.rstrip(), ""])
 
@@ -649,9 +649,9 @@ def unreachable_file(part, function):
     uses = [
         f"-- {HEAD}",
         f"use Rattle.std.proofs.Common.{{{', '.join(common)}}}",
-        *(["use Rattle.wasm_opcodes.specs.Entries.{align_at}"] if align else []),
-        f"use Rattle.wasm_visit_decode.proofs.Codes.{{{name}_codes}}",
-        f"use Rattle.wasm_visit_decode.proofs.{part.group.module}_operators.{function}.Goals as goal",
+        *(["use Rattle.wasm_decode_opcodes.specs.Entries.{align_at}"] if align else []),
+        f"use Rattle.wasm_decode_groups.proofs.Codes.{{{name}_codes}}",
+        f"use Rattle.wasm_decode_groups.proofs.{part.group.module}_operators.{function}.Goals as goal",
     ]
     given = "c" if function.startswith("align_of") else "g c"
     body = [
@@ -690,8 +690,8 @@ def proof_head(group, name, words, lemmas):
     return [
         f"-- {HEAD}",
         f"use Rattle.std.proofs.Common.{{{words}}}",
-        f"use Rattle.wasm_visit_decode.proofs.Codes.{{{', '.join(lemmas)}}}",
-        f"use Rattle.wasm_visit_decode.proofs.{group.module}_operators.{name}.Goals as goal",
+        f"use Rattle.wasm_decode_groups.proofs.Codes.{{{', '.join(lemmas)}}}",
+        f"use Rattle.wasm_decode_groups.proofs.{group.module}_operators.{name}.Goals as goal",
         "",
     ]
 
@@ -724,12 +724,12 @@ def decode_files(ops):
     """Each file over the decoding with its text."""
     out = {}
     for group in GROUPS:
-        at = f"crates/wasm_visit_decode/src/{group.module}_operators.rt"
+        at = f"crates/wasm_decode_groups/src/{group.module}_operators.rt"
         if group.module == "numeric":
             out[at] = numeric_decode(ops, group)
             continue
         out[at] = group_decode(ops, group)
-        at = f"crates/wasm_visit_decode/proofs/{group.module}_operators"
+        at = f"crates/wasm_decode_groups/proofs/{group.module}_operators"
         out[f"{at}/{ALL.get(group.module, group.module)}/Answers.antt"] = group_file(ops, group)
         if group.module in ALL:
             out[f"{at}/{group.module}/Answers.antt"] = common_file(ops, group, group.module, lambda code: code >= FIRST_HIGH)
@@ -742,5 +742,5 @@ def decode_files(ops):
                 out[f"{at}/visit_{part.title}/Answers.antt"] = unreachable_file(part, f"visit_{part.title}")
             if part.has_align:
                 out[f"{at}/align_of_{part.title}/Answers.antt"] = unreachable_file(part, f"align_of_{part.title}")
-    out["crates/wasm_visit_decode/proofs/Codes.antt"] = codes_file(ops)
+    out["crates/wasm_decode_groups/proofs/Codes.antt"] = codes_file(ops)
     return out

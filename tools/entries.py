@@ -21,8 +21,8 @@ KIND_NAMES = {
     "try_table": "is_try_clauses", "resume_table": "is_resume_clauses",
 }
 KIND_WORDS = [*dict.fromkeys(KIND_NAMES.values()), "is_memory_argument"]
-ENTRY = "Rattle.wasm_opcodes.specs.Entry"
-GUARD = "Rattle.wasm_opcodes.specs.declared.guard.Guard"
+ENTRY = "Rattle.wasm_decode_opcodes.specs.Entry"
+GUARD = "Rattle.wasm_decode_opcodes.specs.declared.guard.Guard"
 OPERATOR = "Rattle.wasm_instr.specs.declared.operator.Operator"
 
 
@@ -89,7 +89,7 @@ def entry_lists(ops):
         "-- What stands behind each opcode and each subopcode.",
         "-- WebAssembly Core Specification 3.0: Binary Format, Instructions; Appendix, Index of Instructions.",
         "use Rattle.std.specs.Prelude.{ℕ, cond, eqb, List, [], ◌∷◌, get_or, Option, Some, None}",
-        "use Rattle.wasm_imm.specs.memory.memory_argument.MemArgKind.TheVariants as kind",
+        "use Rattle.wasm_imm.specs.declared.memory_argument.MemArgKind.TheVariants as kind",
         f"use Rattle.wasm_instr.specs.Immediate.{{{', '.join(imported(text, KIND_WORDS))}}}",
         f"use {GUARD}.TheVariants as guard",
         f"use {ENTRY}.{{Entry, unknown, prefixes, free, guarded, align_in}}",
@@ -134,13 +134,13 @@ def entries_told(ops):
         uses.append(f"use Rattle.wasm_instr.specs.{enum.group}.{{{enum.opcode}, {enum.module}_immediates}}")
     uses.append("use Rattle.wasm_instr.specs.Immediate.{kind_of}")
     uses.append(f"use {ENTRY}.{{prefixes, free, entry_of}}")
-    uses.append("use Rattle.wasm_opcodes.specs.Entries.{entry_at}")
+    uses.append("use Rattle.wasm_decode_opcodes.specs.Entries.{entry_at}")
     return "\n".join([*uses, "", text, ""])
 
 
 def entry_files(ops):
     """Each file over the entries with its text."""
     return {
-        "crates/wasm_opcodes/specs/Entries.antt": entry_lists(ops),
-        "crates/wasm_opcodes/proofs/Told.antt": entries_told(ops),
+        "crates/wasm_decode_opcodes/specs/Entries.antt": entry_lists(ops),
+        "crates/wasm_decode_opcodes/proofs/Told.antt": entries_told(ops),
     }

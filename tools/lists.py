@@ -18,6 +18,7 @@ from decode import decode_files, unread
 from entries import entry_files
 from layout import laid_out
 from original import differences
+from paths import by_listed
 from printed import made_source, values_source
 from printed_fields import printed_field_files
 from rows import enum_by_opcode, enum_rows, operator_rows, operators_by_opcode
@@ -48,7 +49,7 @@ def files(ops):
     out["crates/wasm_tests_lists/src/values.rt"] = values_source(ops)
     out["crates/wasm_tests_lists/src/made.rt"] = made_source(ops)
     out |= printed_field_files(ops)
-    return laid_out(out)
+    return laid_out(by_listed(out))
 
 
 def stale(wanted, top=TOP):

@@ -16,11 +16,11 @@ from table import (
     pattern,
 )
 
-IMMEDIATE = "Rattle.wasm_instr_rows.specs.Immediate"
-VALUES = "Rattle.wasm_instr_rows.proofs.Values"
+IMMEDIATE = "Rattle.wasm_instr_ops.specs.Immediate"
+VALUES = "Rattle.wasm_instr_ops.proofs.Values"
 # What a file brings in where its text has the alias.
 ALIASES = {
-    "kind": "use Rattle.wasm_imm.specs.memory.memory_argument.MemArgKind.TheVariants as kind",
+    "kind": "use Rattle.wasm_imm.specs.declared.memory_argument.MemArgKind.TheVariants as kind",
     "select": "use Rattle.wasm_imm.specs.control.select.Select.TheVariants as select",
 }
 OPERATOR_USES = [

@@ -122,7 +122,7 @@ def enum_head(enum, ops, shape):
         out.append("use std::alloc::Global;")
     if not shape.derives_debug:
         out.append("use std::fmt::{self, Debug, Formatter};")
-    more = [("wasm_instr_rows", "OperatorInfo")] + ([("wasm_below", "Result")] if shape.holds_list else [])
+    more = [("wasm_instr_ops", "OperatorInfo")] + ([("wasm_below", "Result")] if shape.holds_list else [])
     return out + uses(ops, more) + [""]
 
 
@@ -252,7 +252,7 @@ OWN = Enum("Own", "wasm_instr", "operator", "the other operators of one byte", [
 def operator_head(ops):
     """What the file of all operators brings in."""
     more = [(enum.crate, enum.type) for enum in ENUMS]
-    more += [("wasm_instr_rows", "OperatorInfo"), ("wasm_below", "Result")]
+    more += [("wasm_instr_ops", "OperatorInfo"), ("wasm_below", "Result")]
     return [
         f"//! All operators as one type. {HEAD}",
         "ghost use Rattle.std.specs.Prelude.{◌≡◌, ◌↔◌, IsTrue, IfOk, IfErr};",

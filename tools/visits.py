@@ -195,6 +195,6 @@ def visit_files(ops):
     for group in GROUPS:
         out[f"crates/wasm_visit_groups/src/{group.module}.rt"] = group_trait(ops, group)
         out[f"crates/wasm_visit_factory/src/{group.module}.rt"] = group_factory(ops, group)
-    out["crates/wasm_visit_dispatch/src/fixed.rt"] = dispatch(ops, FIXED)
-    out["crates/wasm_visit_dispatch/src/vectors.rt"] = dispatch(ops, VECTORS)
+    out["crates/wasm_visit/src/dispatch/fixed.rt"] = dispatch(ops, FIXED)
+    out["crates/wasm_visit/src/dispatch/vectors.rt"] = dispatch(ops, VECTORS)
     return out

@@ -10,7 +10,7 @@ pub use Rattle.wasm_below_bytes.proofs.Sequences
 pub use Rattle.wasm_below_bytes.proofs.SignedNumbers
 pub use Rattle.wasm_below_bytes.proofs.Steps
 pub use Rattle.wasm_below_bytes.proofs.TakesLemmas
-pub use Rattle.wasm_below_types.proofs.DeterminedTypeRefusals
-pub use Rattle.wasm_below_types.proofs.TypeEncodings
-pub use Rattle.wasm_below_types.proofs.TypeFaults
-pub use Rattle.wasm_below_types.proofs.TypePrefixCodes
+pub mod DeterminedTypeRefusals
+pub mod TypeEncodings
+pub mod TypeFaults
+pub mod TypePrefixCodes

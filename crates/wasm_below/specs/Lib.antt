@@ -8,6 +8,5 @@ pub use Rattle.wasm_below_bytes.specs.Refusal
 pub use Rattle.wasm_below_bytes.specs.Sequence
 pub use Rattle.wasm_below_bytes.specs.Source
 pub use Rattle.wasm_below_bytes.specs.declared as bytes
-pub use Rattle.wasm_below_types.specs.Reference
-pub use Rattle.wasm_below_types.specs.TypeEncoding
-pub use Rattle.wasm_below_types.specs.declared as types
+pub mod Reference
+pub mod TypeEncoding

@@ -1,10 +1,10 @@
 -- Sums over the values that bytes encode.
 use Rattle.std.specs.Prelude.{◌≡◌, ℕ, ◌+◌, ◌%◌, ◌^◌, List, sum_by}
-use Rattle.wasm_imm.specs.memory.memory_argument.MemArg.{MemArg}
-use Rattle.wasm_imm.specs.control.block_type.BlockType.{BlockType}
-use Rattle.wasm_imm.specs.control.block_type.BlockType.TheVariants as block
-use Rattle.wasm_imm.specs.BranchTables.{BranchTable}
-use Rattle.wasm_imm.specs.Lists.{EncodesEach}
+use Rattle.wasm_operators_readers.specs.imm.declared.memory_argument.MemArg.{MemArg}
+use Rattle.wasm_operators_readers.specs.imm.control.block_type.BlockType.{BlockType}
+use Rattle.wasm_operators_readers.specs.imm.control.block_type.BlockType.TheVariants as block
+use Rattle.wasm_operators_readers.specs.imm.BranchTables.{BranchTable}
+use Rattle.wasm_operators_readers.specs.imm.Lists.{EncodesEach}
 
 -- Where the bytes are the encodings of values, one after another, the answer is the sum of what each counts, in 64 bits.
 abbrev pub IsSumOf : {X : Type 0} → (List ℕ → X → Type 0) → (X → ℕ) → List ℕ → ℕ → Type 0

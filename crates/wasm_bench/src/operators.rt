@@ -1,9 +1,9 @@
 //! The operators of a function body, visited and read.
 use crate::visitors::{CountAny, CountSome};
 use std::alloc::Global;
-use wasm_below::{BinaryReader, ValType};
-use wasm_instr::Operator;
 use wasm_operators_readers::OperatorsReader;
+use wasm_operators_readers::below::{BinaryReader, ValType};
+use wasm_operators_readers::instr::Operator;
 
 /// The operators behind the locals of a body. Code Section.
 fn operators_of(alloc: Global, body: &[u8]) -> Option<OperatorsReader<'_>> {

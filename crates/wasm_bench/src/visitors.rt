@@ -2,10 +2,10 @@
 ghost use Rattle.std.specs.Prelude.{◌≡◌, ◌+◌, ◌-◌, ◌^◌, ◌<◌};
 
 use std::alloc::Global;
-use wasm_below::{BinaryReader, Result};
-use wasm_imm::{BrTable, MemArg};
-use wasm_instr::{FrameKind, Operator};
-use wasm_visit::{
+use wasm_operators_readers::below::{BinaryReader, Result};
+use wasm_operators_readers::imm::{BrTable, MemArg};
+use wasm_operators_readers::instr::{FrameKind, Operator};
+use wasm_operators_readers::visitors::{
     VisitFixed, VisitOneByte, VisitOperator, VisitSimdOperator, Visitor, decode, dispatch,
 };
 

@@ -1,10 +1,10 @@
 -- A call that reads an operator and answers it.
 use Rattle.std.specs.Prelude.{◌≡◌, ℕ, List, Result, Ok, Err}
-use Rattle.wasm_below.specs.bytes.error.Error.{Error}
-use Rattle.wasm_below.specs.bytes.message.Message.{Message}
-use Rattle.wasm_below.specs.Source.{Reader, Takes}
-use Rattle.wasm_instr.specs.declared.operator.Operator.{Operator}
-use Rattle.wasm_opcodes.specs.Decoding.{RefusesOperator}
+use Rattle.wasm_visit.specs.below.bytes.error.Error.{Error}
+use Rattle.wasm_visit.specs.below.bytes.message.Message.{Message}
+use Rattle.wasm_visit.specs.below.Source.{Reader, Takes}
+use Rattle.wasm_visit.specs.instr.declared.operator.Operator.{Operator}
+use Rattle.wasm_visit.specs.opcodes.Decoding.{RefusesOperator}
 
 -- The call answers Ok exactly where a prefix of the rest encodes an operator, memory aside: it then takes that prefix, and answers the operator. Else nothing changes, and the refusal is one of this fault.
 abbrev pub DecodesOperator : (List ℕ → Operator → Type 0) → (Message → Reader → ℕ → Type 0) → Result Operator Error → Reader → Reader → Type 0

@@ -2,17 +2,17 @@
 //! out of line, so that the code for all others stays small; what these calls answer is matched and
 //! made again where they are made, so that it is not held in memory where the others end.
 ghost use Rattle.std.specs.Prelude.{◌≡◌, ◌≢◌, Some, None, IfOk, IfErr};
-ghost use Rattle.wasm_below.specs.Source.{at_position};
-ghost use Rattle.wasm_grammar.specs.declared.frame_kind.FrameKind.{FrameKind};
-ghost use Rattle.wasm_opcodes.specs.Allowed.{EncodesAllowed};
-ghost use Rattle.wasm_opcodes.specs.Decoding.{Decodes, RefusesOperator, StandsBehind};
-ghost use Rattle.wasm_opcodes.specs.Entries.{entry_at};
-ghost use Rattle.wasm_opcodes.specs.Entry.{prefixes};
-ghost use Rattle.wasm_opcodes.specs.OperatorFaults.{OperatorFault};
+ghost use Rattle.wasm_visit.specs.below.Source.{at_position};
+ghost use Rattle.wasm_visit.specs.grammar.declared.frame_kind.FrameKind.{FrameKind};
+ghost use Rattle.wasm_visit.specs.opcodes.Allowed.{EncodesAllowed};
+ghost use Rattle.wasm_visit.specs.opcodes.Decoding.{Decodes, RefusesOperator, StandsBehind};
+ghost use Rattle.wasm_visit.specs.opcodes.Entries.{entry_at};
+ghost use Rattle.wasm_visit.specs.opcodes.Entry.{prefixes};
+ghost use Rattle.wasm_visit.specs.opcodes.OperatorFaults.{OperatorFault};
 
 use std::alloc::Global;
-use wasm_below::{BinaryReader, Result};
-use wasm_grammar::FrameKind;
+use wasm_visit::below::{BinaryReader, Result};
+use wasm_visit::grammar::FrameKind;
 use wasm_visit::{VisitFixed, VisitSimdOperator};
 
 /// The subopcode behind a prefix byte that was read at the position `start`: a LEB128 number of 32

@@ -2,7 +2,7 @@
 //!
 //! The opcode is read, and what stands behind it by the call of the visitor for its group, so that
 //! no `Operator` is built but by a visitor that makes one. What these calls promise stands in
-//! `specs/` of `wasm_opcodes`: `Decodes`, `EncodesAllowed` and `OperatorFault`.
+//! `specs/` of `wasm_decode_opcodes`: `Decodes`, `EncodesAllowed` and `OperatorFault`.
 #![tactic(auto)]
 
 mod behind;
@@ -15,3 +15,5 @@ pub use read::{read_behind, read_operator};
 pub use visit::{
     control_behind, visit_behind, visit_behind_simd, visit_operator, visit_operator_simd,
 };
+pub use wasm_visit as visitors;
+pub use wasm_visit::{below, grammar, imm, instr};

@@ -1,20 +1,20 @@
 //! An operator is read, by the visitor that makes it in place.
 ghost use Rattle.std.specs.Prelude.{◌≡◌, ◌≢◌, None};
-ghost use Rattle.wasm_below.specs.Source.{at_position};
+ghost use Rattle.wasm_visit.specs.below.Source.{at_position};
 ghost use Rattle.wasm_decode.specs.Reading.{DecodesOperator};
-ghost use Rattle.wasm_grammar.specs.declared.frame_kind.FrameKind.{FrameKind};
-ghost use Rattle.wasm_opcodes.specs.Allowed.{EncodesAllowed, EncodesIn};
-ghost use Rattle.wasm_opcodes.specs.Decoding.{StandsBehind};
-ghost use Rattle.wasm_opcodes.specs.OperatorFaults.{OperatorFault, FaultIn};
+ghost use Rattle.wasm_visit.specs.grammar.declared.frame_kind.FrameKind.{FrameKind};
+ghost use Rattle.wasm_visit.specs.opcodes.Allowed.{EncodesAllowed, EncodesIn};
+ghost use Rattle.wasm_visit.specs.opcodes.Decoding.{StandsBehind};
+ghost use Rattle.wasm_visit.specs.opcodes.OperatorFaults.{OperatorFault, FaultIn};
 
 use crate::behind::{fixed_behind, simd_behind};
 use crate::refusals::no_frame;
 use std::alloc::Global;
-use wasm_below::{BinaryReader, Result};
-use wasm_grammar::FrameKind;
-use wasm_instr::Operator;
-use wasm_opcodes::immediates;
-use wasm_visit_factory::Factory;
+use wasm_visit::below::{BinaryReader, Result};
+use wasm_visit::grammar::FrameKind;
+use wasm_visit::instr::Operator;
+use wasm_visit::layer_factory::Factory;
+use wasm_visit::opcodes::immediates;
 
 /// The operator at the start of the rest, a vector operator too, where `frame` is the innermost
 /// frame: what a visit by `OperatorFactory` answers.

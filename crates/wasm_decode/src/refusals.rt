@@ -1,12 +1,12 @@
 //! Refusals at the start of an operator.
 ghost use Rattle.std.specs.Prelude.{◌≡◌, ◌≤◌, None};
-ghost use Rattle.wasm_below.specs.Source.{at_position, offset_of, end_of};
-ghost use Rattle.wasm_grammar.specs.declared.frame_kind.FrameKind.{FrameKind};
-ghost use Rattle.wasm_opcodes.specs.Allowed.{EncodesPlain};
-ghost use Rattle.wasm_opcodes.specs.Decoding.{RefusesOperator, StandsBehind};
-ghost use Rattle.wasm_opcodes.specs.OperatorFaults.{PlainOperatorFault};
+ghost use Rattle.wasm_visit.specs.below.Source.{at_position, offset_of, end_of};
+ghost use Rattle.wasm_visit.specs.grammar.declared.frame_kind.FrameKind.{FrameKind};
+ghost use Rattle.wasm_visit.specs.opcodes.Allowed.{EncodesPlain};
+ghost use Rattle.wasm_visit.specs.opcodes.Decoding.{RefusesOperator, StandsBehind};
+ghost use Rattle.wasm_visit.specs.opcodes.OperatorFaults.{PlainOperatorFault};
 
-use wasm_below::{BinaryReader, Error, Message};
+use wasm_visit::below::{BinaryReader, Error, Message};
 
 /// No frame is open, so that no operator may stand there.
 #[cold]

@@ -1,17 +1,17 @@
 //! An operator is read and visited.
 ghost use Rattle.std.specs.Prelude.{◌≡◌, ◌<◌, None};
-ghost use Rattle.wasm_below.specs.Source.{at_position};
-ghost use Rattle.wasm_grammar.specs.declared.frame_kind.FrameKind.{FrameKind};
-ghost use Rattle.wasm_opcodes.specs.Allowed.{EncodesAllowed, EncodesPlain, EncodesIn};
-ghost use Rattle.wasm_opcodes.specs.Decoding.{Decodes, StandsBehind};
-ghost use Rattle.wasm_opcodes.specs.OperatorFaults.{OperatorFault, PlainOperatorFault, FaultIn};
+ghost use Rattle.wasm_visit.specs.below.Source.{at_position};
+ghost use Rattle.wasm_visit.specs.grammar.declared.frame_kind.FrameKind.{FrameKind};
+ghost use Rattle.wasm_visit.specs.opcodes.Allowed.{EncodesAllowed, EncodesPlain, EncodesIn};
+ghost use Rattle.wasm_visit.specs.opcodes.Decoding.{Decodes, StandsBehind};
+ghost use Rattle.wasm_visit.specs.opcodes.OperatorFaults.{OperatorFault, PlainOperatorFault, FaultIn};
 
 use crate::behind::{fixed_behind, simd_behind};
 use crate::refusals::{no_frame, unexpected_simd};
 use std::alloc::Global;
-use wasm_below::{BinaryReader, Result};
-use wasm_grammar::FrameKind;
-use wasm_opcodes::immediates;
+use wasm_visit::below::{BinaryReader, Result};
+use wasm_visit::grammar::FrameKind;
+use wasm_visit::opcodes::immediates;
 use wasm_visit::{VisitOperator, VisitSimdOperator};
 
 /// Visits the operator at the start of the rest, a vector operator too, where `frame` is the

@@ -1,26 +1,14 @@
 //! Prints the operators of a function body that stands on standard input: a line for each, with the
 //! offset at which it begins and its name.
 //!
-//! The theorem stands on [`dump::run`], over any reader and writer.
+//! The theorem stands on `run` of `wasm_listing`, over any reader and writer.
 #![tactic(auto)]
 
-mod census;
-mod counting;
-mod dump;
-mod fault;
-mod input;
-mod lines;
-#[cfg(test)]
-mod tests;
-mod words;
-
-use crate::dump::run;
-use crate::fault::DumpFault;
-use crate::words::features_of;
 use std::env::Env;
 use std::process::ExitCode;
 use std::{env, io};
-use wasm_operators::WasmFeatures;
+use wasm_listing::operators::WasmFeatures;
+use wasm_listing::{DumpFault, features_of, run};
 
 fn main(rt: HostRuntime) -> ExitCode {
     let ended = match read_features(&rt) {

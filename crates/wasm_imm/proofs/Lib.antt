@@ -1,9 +1,3 @@
-pub use Rattle.wasm_imm_memory.proofs.DeterminedMemoryArgumentRefusals
-pub use Rattle.wasm_imm_memory.proofs.FlagsNumber
-pub use Rattle.wasm_imm_memory.proofs.MemoryArgumentFaults
-pub use Rattle.wasm_imm_memory.proofs.ShortPrefixCodes
-pub use Rattle.wasm_imm_constants.proofs.Sixteen
-pub use Rattle.wasm_imm_constants.proofs.VectorPrefixCodes
 pub use Rattle.wasm_imm_control.proofs.BlockTypes
 pub use Rattle.wasm_imm_control.proofs.Casts
 pub use Rattle.wasm_imm_control.proofs.Faults
@@ -12,6 +6,13 @@ pub use Rattle.wasm_imm_control.proofs.HandlerTables
 pub use Rattle.wasm_imm_control.proofs.ListLemmas
 pub use Rattle.wasm_imm_control.proofs.ListRefusals
 pub use Rattle.wasm_imm_control.proofs.BranchTables
-pub use Rattle.wasm_imm_memory.proofs.DeterminedRefusals as DeterminedMemoryRefusals
-pub use Rattle.wasm_imm_constants.proofs.DeterminedRefusals as DeterminedConstantRefusals
 pub use Rattle.wasm_imm_control.proofs.DeterminedRefusals as DeterminedControlRefusals
+pub mod DeterminedMemoryArgumentRefusals
+pub mod DeterminedRefusals
+pub mod FlagsNumber
+pub mod MemoryArgumentFaults
+pub mod ShortPrefixCodes
+pub mod ConstantDeterminedRefusals
+pub mod Sixteen
+pub mod VectorPrefixCodes
+pub use Rattle.wasm_imm_control.proofs.of_below as of_below

@@ -1,11 +1,3 @@
-pub use Rattle.wasm_imm_memory.specs.FlagsNumber
-pub use Rattle.wasm_imm_memory.specs.Indices
-pub use Rattle.wasm_imm_memory.specs.MemoryArgumentFaults
-pub use Rattle.wasm_imm_memory.specs.MemoryArgument
-pub use Rattle.wasm_imm_memory.specs.Orderings
-pub use Rattle.wasm_imm_memory.specs.declared as memory
-pub use Rattle.wasm_imm_constants.specs.Vectors
-pub use Rattle.wasm_imm_constants.specs.declared as constants
 pub use Rattle.wasm_imm_control.specs.BlockTypeFaults
 pub use Rattle.wasm_imm_control.specs.BlockTypes
 pub use Rattle.wasm_imm_control.specs.BranchTableFaults
@@ -20,3 +12,10 @@ pub use Rattle.wasm_imm_control.specs.Lists
 pub use Rattle.wasm_imm_control.specs.OutOfMemory
 pub use Rattle.wasm_imm_control.specs.BranchTableEquality
 pub use Rattle.wasm_imm_control.specs.declared as control
+pub mod FlagsNumber
+pub mod Indices
+pub mod MemoryArgument
+pub mod MemoryArgumentFaults
+pub mod Orderings
+pub mod Vectors
+pub use Rattle.wasm_imm_control.specs.below as below

@@ -7,8 +7,8 @@ use Rattle.std.proofs.Math.Dec.{T}
 use lib.Signed.{non_neg, lt_z}
 use lib.IntN.{nat_abs}
 use Rattle.wasm_below.specs.bytes.error.Error.{Error}
-use Rattle.wasm_below.specs.types.types.ValType.{ValType}
-use Rattle.wasm_below.specs.types.types.ValType.TheVariants as value
+use Rattle.wasm_below.specs.declared.types.ValType.{ValType}
+use Rattle.wasm_below.specs.declared.types.ValType.TheVariants as value
 use Rattle.wasm_below.specs.Number.{EncodesSigned, FitsWidth}
 use Rattle.wasm_below.specs.Refusal.{IsReadFault}
 use Rattle.wasm_below.specs.Sequence.{PrefixCode}

@@ -1,7 +1,7 @@
 -- Casts.
 use Rattle.std.proofs.Common.{◌≡◌, ℕ, zero, suc, ◌≤◌, Bool, true, false, List, [], ◌∷◌, ◌++◌, Ok, refl, sym, ap, ◌∙◌, arith}
 use Rattle.wasm_below.specs.bytes.error.Error.{Error}
-use Rattle.wasm_below.specs.types.types.HeapType.{HeapType}
+use Rattle.wasm_below.specs.declared.types.HeapType.{HeapType}
 use Rattle.wasm_below.specs.Number.{EncodesUnsigned}
 use Rattle.wasm_below.specs.Reference.{Reference}
 use Rattle.wasm_below.specs.Sequence.{Then, PrefixCode}

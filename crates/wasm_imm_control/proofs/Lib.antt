@@ -7,3 +7,4 @@ pub mod HandlerTables
 pub mod HandlerLemmas
 pub mod ListRefusals
 pub mod ListLemmas
+pub use Rattle.wasm_below.proofs as of_below

@@ -11,3 +11,4 @@ pub mod Handlers
 pub mod ListFaults
 pub mod Lists
 pub mod OutOfMemory
+pub use Rattle.wasm_below.specs as below

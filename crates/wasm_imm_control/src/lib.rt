@@ -19,3 +19,4 @@ pub use handler_tables::{ResumeTable, TryTable};
 pub use handlers::{Catch, Handle};
 pub use members::{Catches, Handles, Members, SelectTypes};
 pub use select::Select;
+pub use wasm_below as below;

@@ -1,12 +1,12 @@
 -- Written by tools/lists.py from tools/operators.tsv.
 -- The operators of one byte by their opcode, but for the numeric ones.
 use Rattle.std.proofs.Common.{ℕ, List, [], ◌∷◌, get_or}
-use Rattle.wasm_imm.specs.control.select.Select.{Select}
-use Rattle.wasm_imm.specs.control.select.Select.TheVariants as select
+use Rattle.wasm_instr_simd.specs.imm.control.select.Select.{Select}
+use Rattle.wasm_instr_simd.specs.imm.control.select.Select.TheVariants as select
 use Rattle.wasm_instr.specs.declared.operator.Operator.{Operator}
 use Rattle.wasm_instr.specs.declared.operator.Operator.TheVariants as operator
-use Rattle.wasm_instr_rows.specs.Immediate.{Immediate}
-use Rattle.wasm_instr_rows.proofs.Values.{behind, number_in, integer_in, argument_in, heap_type_in, block_type_in, branch_table_in, select_in, try_table_in, resume_table_in}
+use Rattle.wasm_instr_simd.specs.instr_ops.Immediate.{Immediate}
+use Rattle.wasm_instr_simd.proofs.of_instr_ops.Values.{behind, number_in, integer_in, argument_in, heap_type_in, block_type_in, branch_table_in, select_in, try_table_in, resume_table_in}
 
 abbrev select_at : Select → Operator
 select_at (select.One ty) = operator.TypedSelect ty

@@ -1,16 +1,16 @@
 -- Under one set of features no encoding of an operator begins another, and an encoding is that of one operator.
 use Rattle.std.proofs.Common.{◌≡◌, ℕ, Bool, true, false, cond, eqb, ltb, List, [], ◌∷◌, ◌++◌, Option, Some, None, map, refl, sym, ap, subst, ◌∙◌, append_assoc}
-use Rattle.wasm_below.specs.bytes.features.WasmFeatures.{WasmFeatures}
-use Rattle.wasm_below.specs.Number.{EncodesUnsigned}
-use Rattle.wasm_below.proofs.PrefixCode.{unsigned_prefix_code}
-use Rattle.wasm_below.proofs.TakesLemmas.{same_rest}
-use Rattle.wasm_instr_rows.specs.Immediate.{Immediate, Kind, kind_of}
-use Rattle.wasm_instr_rows.proofs.ImmediatePrefixCodes.{immediates_prefix_code}
-use Rattle.wasm_instr_ops.specs.Numeric.{numeric_opcode, numeric_immediates}
-use Rattle.wasm_instr_ops.proofs.NumericByOpcode.{numeric_at, numeric_by_opcode, numeric_kinds, numeric_range, numeric_short, is_numeric}
-use Rattle.wasm_instr_ops.proofs.GcByOpcode.{gc_at, gc_by_opcode, gc_kinds}
-use Rattle.wasm_instr_ops.proofs.MiscByOpcode.{misc_at, misc_by_opcode, misc_kinds}
-use Rattle.wasm_instr_ops.proofs.AtomicByOpcode.{atomic_at, atomic_by_opcode, atomic_kinds}
+use Rattle.wasm_instr_simd.specs.below.bytes.features.WasmFeatures.{WasmFeatures}
+use Rattle.wasm_instr_simd.specs.below.Number.{EncodesUnsigned}
+use Rattle.wasm_instr_simd.proofs.of_below.PrefixCode.{unsigned_prefix_code}
+use Rattle.wasm_instr_simd.proofs.of_below.TakesLemmas.{same_rest}
+use Rattle.wasm_instr_simd.specs.instr_ops.Immediate.{Immediate, Kind, kind_of}
+use Rattle.wasm_instr_simd.proofs.of_instr_ops.ImmediatePrefixCodes.{immediates_prefix_code}
+use Rattle.wasm_instr_simd.specs.instr_ops.Numeric.{numeric_opcode, numeric_immediates}
+use Rattle.wasm_instr_simd.proofs.of_instr_ops.NumericByOpcode.{numeric_at, numeric_by_opcode, numeric_kinds, numeric_range, numeric_short, is_numeric}
+use Rattle.wasm_instr_simd.proofs.of_instr_ops.GcByOpcode.{gc_at, gc_by_opcode, gc_kinds}
+use Rattle.wasm_instr_simd.proofs.of_instr_ops.MiscByOpcode.{misc_at, misc_by_opcode, misc_kinds}
+use Rattle.wasm_instr_simd.proofs.of_instr_ops.AtomicByOpcode.{atomic_at, atomic_by_opcode, atomic_kinds}
 use Rattle.wasm_instr_simd.proofs.SimdByOpcode.{simd_at, simd_by_opcode, simd_kinds}
 use Rattle.wasm_instr.specs.declared.operator.Operator.{Operator}
 use Rattle.wasm_instr.specs.declared.operator.Operator.TheVariants as operator

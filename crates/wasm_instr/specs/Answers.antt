@@ -1,7 +1,7 @@
 -- What a module answers to the questions on which arities depend.
 use Rattle.std.specs.Prelude.{ℕ, Option}
 use Rattle.wasm_grammar.specs.declared.frame_kind.FrameKind.{FrameKind}
-use Rattle.wasm_imm.specs.control.block_type.BlockType.{BlockType}
+use Rattle.wasm_instr_simd.specs.imm.control.block_type.BlockType.{BlockType}
 
 -- The answer of each call: a number, or a pair of numbers of which the first counts parameters and the second results.
 pub record Answers : Type 0 where

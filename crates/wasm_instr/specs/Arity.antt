@@ -5,10 +5,10 @@ use Rattle.std.specs.Prelude.{ℕ, ◌+◌, ◌-◌, ◌*◌, ◌^◌, cond, ltb
 use Rattle.std.specs.Option.{option_map, option_and_then}
 use Rattle.wasm_grammar.specs.declared.frame_kind.FrameKind.{FrameKind}
 use Rattle.wasm_grammar.specs.declared.frame_kind.FrameKind.TheVariants as frame
-use Rattle.wasm_imm.specs.control.block_type.BlockType.{BlockType}
-use Rattle.wasm_imm.specs.control.block_type.BlockType.TheVariants as block
-use Rattle.wasm_instr_ops.specs.declared.gc.GcOperator.{GcOperator}
-use Rattle.wasm_instr_ops.specs.declared.gc.GcOperator.TheVariants as gc
+use Rattle.wasm_instr_simd.specs.imm.control.block_type.BlockType.{BlockType}
+use Rattle.wasm_instr_simd.specs.imm.control.block_type.BlockType.TheVariants as block
+use Rattle.wasm_instr_simd.specs.instr_ops.declared.gc.GcOperator.{GcOperator}
+use Rattle.wasm_instr_simd.specs.instr_ops.declared.gc.GcOperator.TheVariants as gc
 use Rattle.wasm_instr.specs.declared.operator.Operator.{Operator}
 use Rattle.wasm_instr.specs.declared.operator.Operator.TheVariants as operator
 use Rattle.wasm_instr.specs.Answers.{Answers}

@@ -1,13 +1,13 @@
 -- The encodings of operators.
 -- WebAssembly Core Specification 3.0, Binary Format, Instructions; proposal legacy exception handling.
 use Rattle.std.specs.Prelude.{◌≡◌, ℕ, List, [], ◌∷◌, ◌++◌, Option, Some, None}
-use Rattle.wasm_below.specs.bytes.features.WasmFeatures.{WasmFeatures}
-use Rattle.wasm_below.specs.Features.{HasFeature, legacy_exceptions}
-use Rattle.wasm_below.specs.Number.{EncodesUnsigned}
+use Rattle.wasm_instr_simd.specs.below.bytes.features.WasmFeatures.{WasmFeatures}
+use Rattle.wasm_instr_simd.specs.below.Features.{HasFeature, legacy_exceptions}
+use Rattle.wasm_instr_simd.specs.below.Number.{EncodesUnsigned}
 use Rattle.wasm_instr.specs.declared.operator.Operator.{Operator}
 use Rattle.wasm_instr.specs.declared.operator.Operator.TheVariants as operator
 use Rattle.wasm_instr.specs.Row.{prefix_of, opcode_of, immediates_of}
-use Rattle.wasm_instr_rows.specs.Immediate.{EncodesImmediates}
+use Rattle.wasm_instr_simd.specs.instr_ops.Immediate.{EncodesImmediates}
 
 -- The opcode; or the prefix byte, and the subopcode as a u32.
 abbrev pub EncodesOpcode : Option ℕ → ℕ → List ℕ → Type 0

@@ -2,19 +2,19 @@
 -- How many operands an operator takes and how many values it leaves, where that is fixed.
 -- WebAssembly Core Specification 3.0: Appendix, Index of Instructions. An access that may reach an array takes that array too: proposal multibyte array access.
 use Rattle.std.specs.Prelude.{ℕ, ◌+◌, Option, Some, None}
-use Rattle.wasm_imm.specs.memory.memory_argument.MemArg.{MemArg}
-use Rattle.wasm_imm.specs.memory.memory_argument.MemArgTarget.{MemArgTarget}
-use Rattle.wasm_imm.specs.memory.memory_argument.MemArgTarget.TheVariants as target
-use Rattle.wasm_instr_ops.specs.declared.numeric.NumericOperator.{NumericOperator}
-use Rattle.wasm_instr_ops.specs.declared.numeric.NumericOperator.TheVariants as numeric
-use Rattle.wasm_instr_ops.specs.declared.gc.GcOperator.{GcOperator}
-use Rattle.wasm_instr_ops.specs.declared.gc.GcOperator.TheVariants as gc
-use Rattle.wasm_instr_ops.specs.declared.misc.MiscOperator.{MiscOperator}
-use Rattle.wasm_instr_ops.specs.declared.misc.MiscOperator.TheVariants as misc
+use Rattle.wasm_instr_simd.specs.imm.declared.memory_argument.MemArg.{MemArg}
+use Rattle.wasm_instr_simd.specs.imm.declared.memory_argument.MemArgTarget.{MemArgTarget}
+use Rattle.wasm_instr_simd.specs.imm.declared.memory_argument.MemArgTarget.TheVariants as target
+use Rattle.wasm_instr_simd.specs.instr_ops.declared.numeric.NumericOperator.{NumericOperator}
+use Rattle.wasm_instr_simd.specs.instr_ops.declared.numeric.NumericOperator.TheVariants as numeric
+use Rattle.wasm_instr_simd.specs.instr_ops.declared.gc.GcOperator.{GcOperator}
+use Rattle.wasm_instr_simd.specs.instr_ops.declared.gc.GcOperator.TheVariants as gc
+use Rattle.wasm_instr_simd.specs.instr_ops.declared.misc.MiscOperator.{MiscOperator}
+use Rattle.wasm_instr_simd.specs.instr_ops.declared.misc.MiscOperator.TheVariants as misc
 use Rattle.wasm_instr_simd.specs.declared.simd.SimdOperator.{SimdOperator}
 use Rattle.wasm_instr_simd.specs.declared.simd.SimdOperator.TheVariants as simd
-use Rattle.wasm_instr_ops.specs.declared.atomic.AtomicOperator.{AtomicOperator}
-use Rattle.wasm_instr_ops.specs.declared.atomic.AtomicOperator.TheVariants as atomic
+use Rattle.wasm_instr_simd.specs.instr_ops.declared.atomic.AtomicOperator.{AtomicOperator}
+use Rattle.wasm_instr_simd.specs.instr_ops.declared.atomic.AtomicOperator.TheVariants as atomic
 use Rattle.wasm_instr.specs.declared.operator.Operator.{Operator}
 use Rattle.wasm_instr.specs.declared.operator.Operator.TheVariants as operator
 

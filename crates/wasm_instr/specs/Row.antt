@@ -2,16 +2,16 @@
 -- The rows of all operators, by columns.
 -- WebAssembly Core Specification 3.0: Binary Format, Instructions; Appendix, Index of Instructions.
 use Rattle.std.specs.Prelude.{ℕ, List, [], ◌∷◌, Option, Some, None, codes}
-use Rattle.wasm_imm.specs.memory.memory_argument.MemArgKind.TheVariants as kind
-use Rattle.wasm_imm.specs.control.select.Select.TheVariants as select
+use Rattle.wasm_instr_simd.specs.imm.declared.memory_argument.MemArgKind.TheVariants as kind
+use Rattle.wasm_instr_simd.specs.imm.control.select.Select.TheVariants as select
 use Rattle.wasm_instr.specs.declared.operator.Operator.{Operator}
 use Rattle.wasm_instr.specs.declared.operator.Operator.TheVariants as operator
-use Rattle.wasm_instr_ops.specs.Numeric.{numeric_proposal, numeric_name, numeric_opcode, numeric_immediates}
-use Rattle.wasm_instr_ops.specs.Gc.{gc_proposal, gc_name, gc_subopcode, gc_immediates}
-use Rattle.wasm_instr_ops.specs.Misc.{misc_proposal, misc_name, misc_subopcode, misc_immediates}
+use Rattle.wasm_instr_simd.specs.instr_ops.Numeric.{numeric_proposal, numeric_name, numeric_opcode, numeric_immediates}
+use Rattle.wasm_instr_simd.specs.instr_ops.Gc.{gc_proposal, gc_name, gc_subopcode, gc_immediates}
+use Rattle.wasm_instr_simd.specs.instr_ops.Misc.{misc_proposal, misc_name, misc_subopcode, misc_immediates}
 use Rattle.wasm_instr_simd.specs.Simd.{simd_proposal, simd_name, simd_subopcode, simd_immediates}
-use Rattle.wasm_instr_ops.specs.Atomic.{atomic_proposal, atomic_name, atomic_subopcode, atomic_immediates}
-use Rattle.wasm_instr_rows.specs.Immediate.{Immediate, unsigned_32, signed_32, signed_64, float_32, float_64, memory_argument, memory_index, table_index_32, heap_type, block_type, branch_table, select_types, try_clauses, resume_clauses}
+use Rattle.wasm_instr_simd.specs.instr_ops.Atomic.{atomic_proposal, atomic_name, atomic_subopcode, atomic_immediates}
+use Rattle.wasm_instr_simd.specs.instr_ops.Immediate.{Immediate, unsigned_32, signed_32, signed_64, float_32, float_64, memory_argument, memory_index, table_index_32, heap_type, block_type, branch_table, select_types, try_clauses, resume_clauses}
 
 abbrev pub proposal_of : Operator → List ℕ
 proposal_of operator.RefEq = codes "gc"

@@ -6,8 +6,8 @@ ghost use Rattle.wasm_instr.specs.Arity.{arity_of, sum_within, taking_more, arit
 use crate::fixed_arity::gc_fixed_arity;
 use crate::operator::Operator;
 use wasm_grammar::FrameKind;
-use wasm_imm::BlockType;
-use wasm_instr_ops::GcOperator;
+use wasm_instr_simd::imm::BlockType;
+use wasm_instr_simd::instr_ops::GcOperator;
 
 /// What a module answers to the questions on which arities depend.
 ///

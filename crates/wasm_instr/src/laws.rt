@@ -5,7 +5,7 @@ ghost use Rattle.wasm_instr.specs.Kinds.{IsTypedSelect};
 ghost use Rattle.wasm_instr.specs.Row.{prefix_of, opcode_of, name_of};
 ghost use Rattle.wasm_instr.specs.Encoding.{EncodesOperator};
 
-use wasm_below::WasmFeatures;
+use wasm_instr_simd::below::WasmFeatures;
 
 /// Under one set of features no encoding of an operator is a proper prefix of another's, and one
 /// encoding belongs to one operator.

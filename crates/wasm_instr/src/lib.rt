@@ -12,13 +12,15 @@ mod operator;
 pub use arity::ModuleArity;
 pub use frame_stack::FrameStack;
 pub use operator::Operator;
+pub use wasm_grammar as grammar;
 pub use wasm_grammar::FrameKind;
-pub use wasm_imm::{
+pub use wasm_instr_simd::imm::{
     BlockType, BrTable, BrTableTargets, Cast, Catch, Catches, Handle, Handles, Ieee32, Ieee64,
     MemArg, MemArgKind, MemArgOrdering, MemArgTarget, Members, Ordering, ReadImmediates,
     ResumeTable, Select, SelectTypes, TryTable, V128, read_lane, read_lanes, read_memory_index,
     read_table_index,
 };
-pub use wasm_instr_ops::{AtomicOperator, GcOperator, MiscOperator, NumericOperator};
-pub use wasm_instr_rows::OperatorInfo;
-pub use wasm_instr_simd::SimdOperator;
+pub use wasm_instr_simd::instr_ops::{
+    AtomicOperator, GcOperator, MiscOperator, NumericOperator, OperatorInfo,
+};
+pub use wasm_instr_simd::{SimdOperator, below, imm};

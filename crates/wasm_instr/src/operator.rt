@@ -1,15 +1,18 @@
 //! All operators as one type. Written by tools/lists.py from tools/operators.tsv.
 ghost use Rattle.std.specs.Prelude.{◌≡◌, ◌↔◌, IsTrue, IfOk, IfErr};
-ghost use Rattle.wasm_imm.specs.OutOfMemory.{IsOutOfMemoryAt};
+ghost use Rattle.wasm_instr_simd.specs.imm.OutOfMemory.{IsOutOfMemoryAt};
 ghost use Rattle.wasm_instr.specs.Row.{proposal_of, name_of, prefix_of, opcode_of};
 ghost use Rattle.wasm_instr.specs.Kinds.{IsSimd, IsVector, HoldsList};
 
 use std::alloc::Global;
-use wasm_below::{HeapType, Result, ValType};
-use wasm_imm::{BlockType, BrTable, Ieee32, Ieee64, MemArg, ResumeTable, SelectTypes, TryTable};
-use wasm_instr_ops::{AtomicOperator, GcOperator, MiscOperator, NumericOperator};
-use wasm_instr_rows::OperatorInfo;
 use wasm_instr_simd::SimdOperator;
+use wasm_instr_simd::below::{HeapType, Result, ValType};
+use wasm_instr_simd::imm::{
+    BlockType, BrTable, Ieee32, Ieee64, MemArg, ResumeTable, SelectTypes, TryTable,
+};
+use wasm_instr_simd::instr_ops::{
+    AtomicOperator, GcOperator, MiscOperator, NumericOperator, OperatorInfo,
+};
 
 /// An operator with its immediates. Instructions.
 ///

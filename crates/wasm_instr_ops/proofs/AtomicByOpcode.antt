@@ -4,8 +4,8 @@ use Rattle.std.proofs.Common.{◌≡◌, ℕ, List, [], ◌∷◌, map, get_or, 
 use Rattle.wasm_instr_ops.specs.declared.atomic.AtomicOperator.{AtomicOperator}
 use Rattle.wasm_instr_ops.specs.declared.atomic.AtomicOperator.TheVariants as atomic
 use Rattle.wasm_instr_ops.specs.Atomic.{atomic_name, atomic_subopcode, atomic_immediates}
-use Rattle.wasm_instr_rows.specs.Immediate.{Immediate, kind_of}
-use Rattle.wasm_instr_rows.proofs.Values.{behind, number_in, argument_in, order_in}
+use Rattle.wasm_instr_ops.specs.Immediate.{Immediate, kind_of}
+use Rattle.wasm_instr_ops.proofs.Values.{behind, number_in, argument_in, order_in}
 
 abbrev makers : List (List Immediate → AtomicOperator)
 makers =

@@ -4,8 +4,8 @@ use Rattle.std.proofs.Common.{◌≡◌, ℕ, List, [], ◌∷◌, map, get_or, 
 use Rattle.wasm_instr_ops.specs.declared.gc.GcOperator.{GcOperator}
 use Rattle.wasm_instr_ops.specs.declared.gc.GcOperator.TheVariants as gc
 use Rattle.wasm_instr_ops.specs.Gc.{gc_name, gc_subopcode, gc_immediates}
-use Rattle.wasm_instr_rows.specs.Immediate.{Immediate, kind_of}
-use Rattle.wasm_instr_rows.proofs.Values.{behind, number_in, heap_type_in, depth_in, from_in, to_in}
+use Rattle.wasm_instr_ops.specs.Immediate.{Immediate, kind_of}
+use Rattle.wasm_instr_ops.proofs.Values.{behind, number_in, heap_type_in, depth_in, from_in, to_in}
 
 abbrev makers : List (List Immediate → GcOperator)
 makers =

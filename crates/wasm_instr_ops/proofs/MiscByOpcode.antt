@@ -4,8 +4,8 @@ use Rattle.std.proofs.Common.{◌≡◌, ℕ, List, [], ◌∷◌, map, get_or, 
 use Rattle.wasm_instr_ops.specs.declared.misc.MiscOperator.{MiscOperator}
 use Rattle.wasm_instr_ops.specs.declared.misc.MiscOperator.TheVariants as misc
 use Rattle.wasm_instr_ops.specs.Misc.{misc_name, misc_subopcode, misc_immediates}
-use Rattle.wasm_instr_rows.specs.Immediate.{Immediate, kind_of}
-use Rattle.wasm_instr_rows.proofs.Values.{behind, number_in}
+use Rattle.wasm_instr_ops.specs.Immediate.{Immediate, kind_of}
+use Rattle.wasm_instr_ops.proofs.Values.{behind, number_in}
 
 abbrev makers : List (List Immediate → MiscOperator)
 makers =

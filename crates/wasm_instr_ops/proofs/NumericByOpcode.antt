@@ -4,7 +4,7 @@ use Rattle.std.proofs.Common.{◌≡◌, ℕ, ◌-◌, List, [], ◌∷◌, map,
 use Rattle.wasm_instr_ops.specs.declared.numeric.NumericOperator.{NumericOperator}
 use Rattle.wasm_instr_ops.specs.declared.numeric.NumericOperator.TheVariants as numeric
 use Rattle.wasm_instr_ops.specs.Numeric.{numeric_name, numeric_opcode, numeric_immediates}
-use Rattle.wasm_instr_rows.specs.Immediate.{Immediate, kind_of}
+use Rattle.wasm_instr_ops.specs.Immediate.{Immediate, kind_of}
 
 abbrev operators : List NumericOperator
 operators =

@@ -2,10 +2,10 @@
 -- The rows of the operators behind the byte fe, by columns.
 -- WebAssembly Core Specification 3.0, Binary Format, proposals threads, shared-everything threads and acquire-release atomics.
 use Rattle.std.specs.Prelude.{ℕ, List, [], ◌∷◌, codes}
-use Rattle.wasm_imm.specs.memory.memory_argument.MemArgKind.TheVariants as kind
+use Rattle.wasm_imm.specs.declared.memory_argument.MemArgKind.TheVariants as kind
 use Rattle.wasm_instr_ops.specs.declared.atomic.AtomicOperator.{AtomicOperator}
 use Rattle.wasm_instr_ops.specs.declared.atomic.AtomicOperator.TheVariants as atomic
-use Rattle.wasm_instr_rows.specs.Immediate.{Immediate, unsigned_32, memory_argument, order, fence_order}
+use Rattle.wasm_instr_ops.specs.Immediate.{Immediate, unsigned_32, memory_argument, order, fence_order}
 
 abbrev pub atomic_proposal : AtomicOperator → List ℕ
 atomic_proposal (atomic.GlobalAtomicGet _ _) = codes "shared_everything_threads"

@@ -4,7 +4,7 @@
 use Rattle.std.specs.Prelude.{ℕ, List, [], ◌∷◌, codes}
 use Rattle.wasm_instr_ops.specs.declared.gc.GcOperator.{GcOperator}
 use Rattle.wasm_instr_ops.specs.declared.gc.GcOperator.TheVariants as gc
-use Rattle.wasm_instr_rows.specs.Immediate.{Immediate, unsigned_32, heap_type, cast}
+use Rattle.wasm_instr_ops.specs.Immediate.{Immediate, unsigned_32, heap_type, cast}
 
 abbrev pub gc_proposal : GcOperator → List ℕ
 gc_proposal (gc.StructNewDesc _) = codes "custom_descriptors"

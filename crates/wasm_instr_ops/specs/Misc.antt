@@ -4,7 +4,7 @@
 use Rattle.std.specs.Prelude.{ℕ, List, [], ◌∷◌, codes}
 use Rattle.wasm_instr_ops.specs.declared.misc.MiscOperator.{MiscOperator}
 use Rattle.wasm_instr_ops.specs.declared.misc.MiscOperator.TheVariants as misc
-use Rattle.wasm_instr_rows.specs.Immediate.{Immediate, unsigned_32}
+use Rattle.wasm_instr_ops.specs.Immediate.{Immediate, unsigned_32}
 
 abbrev pub misc_proposal : MiscOperator → List ℕ
 misc_proposal (misc.MemoryInit _ _) = codes "bulk_memory"

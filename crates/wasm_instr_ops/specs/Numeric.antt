@@ -4,7 +4,7 @@
 use Rattle.std.specs.Prelude.{ℕ, List, [], codes}
 use Rattle.wasm_instr_ops.specs.declared.numeric.NumericOperator.{NumericOperator}
 use Rattle.wasm_instr_ops.specs.declared.numeric.NumericOperator.TheVariants as numeric
-use Rattle.wasm_instr_rows.specs.Immediate.{Immediate}
+use Rattle.wasm_instr_ops.specs.Immediate.{Immediate}
 
 abbrev pub numeric_proposal : NumericOperator → List ℕ
 numeric_proposal numeric.I32Extend8S = codes "sign_extension"

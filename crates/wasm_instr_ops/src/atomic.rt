@@ -2,8 +2,8 @@
 ghost use Rattle.std.specs.Prelude.{◌≡◌};
 ghost use Rattle.wasm_instr_ops.specs.Atomic.{atomic_proposal, atomic_name, atomic_subopcode};
 
+use crate::OperatorInfo;
 use wasm_imm::{MemArg, Ordering};
-use wasm_instr_rows::OperatorInfo;
 
 /// The operators behind the byte fe. Proposals threads, shared-everything threads and
 /// acquire-release atomics.

@@ -2,8 +2,8 @@
 ghost use Rattle.std.specs.Prelude.{◌≡◌};
 ghost use Rattle.wasm_instr_ops.specs.Gc.{gc_proposal, gc_name, gc_subopcode};
 
-use wasm_below::{HeapType, RefType};
-use wasm_instr_rows::OperatorInfo;
+use crate::OperatorInfo;
+use wasm_imm::below::{HeapType, RefType};
 
 /// The operators behind the byte fb: structures, arrays and casts. Aggregate Instructions, and the
 /// proposal custom descriptors.

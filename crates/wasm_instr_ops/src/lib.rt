@@ -1,13 +1,29 @@
 //! The operators of WebAssembly behind the bytes fb, fc and fe, and the numeric ones of one byte,
-//! each with its row. The rows stand in `specs/`, by columns.
+//! each with its row in the one table of all operators. The rows stand in `specs/`, by columns.
 #![tactic(auto)]
 
 mod atomic;
 mod gc;
 mod misc;
 mod numeric;
+pub mod row_laws;
 
 pub use atomic::AtomicOperator;
 pub use gc::GcOperator;
 pub use misc::MiscOperator;
 pub use numeric::NumericOperator;
+pub use wasm_imm as imm;
+pub use wasm_imm::below;
+
+/// The row of an operator in the table of all operators.
+#[derive(Clone, Copy, Debug, PartialEq, Eq)]
+pub struct OperatorInfo {
+    /// The proposal that brought the operator.
+    pub proposal: &'static str,
+    /// The name of the operator's variant.
+    pub name: &'static str,
+    /// The prefix byte, if there is one.
+    pub prefix: Option<u8>,
+    /// The opcode, or the subopcode.
+    pub code: u32,
+}

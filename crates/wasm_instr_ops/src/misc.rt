@@ -2,7 +2,7 @@
 ghost use Rattle.std.specs.Prelude.{◌≡◌};
 ghost use Rattle.wasm_instr_ops.specs.Misc.{misc_proposal, misc_name, misc_subopcode};
 
-use wasm_instr_rows::OperatorInfo;
+use crate::OperatorInfo;
 
 /// The operators behind the byte fc: saturating truncations, bulk memory and tables, and wide
 /// arithmetic. Numeric, Memory and Table Instructions, and the proposals memory control and wide

@@ -2,8 +2,8 @@
 ghost use Rattle.std.specs.Prelude.{◌≡◌};
 ghost use Rattle.wasm_instr_ops.specs.Numeric.{numeric_proposal, numeric_name, numeric_opcode};
 
+use crate::OperatorInfo;
 use std::fmt::{self, Debug, Formatter};
-use wasm_instr_rows::OperatorInfo;
 
 /// The numeric operators of one byte, 45 to c4, which have no immediates. Numeric Instructions.
 #[derive(Clone, Copy, PartialEq, Eq)]

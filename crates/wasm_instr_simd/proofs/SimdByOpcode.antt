@@ -4,8 +4,8 @@ use Rattle.std.proofs.Common.{◌≡◌, ℕ, List, [], ◌∷◌, map, get_or, 
 use Rattle.wasm_instr_simd.specs.declared.simd.SimdOperator.{SimdOperator}
 use Rattle.wasm_instr_simd.specs.declared.simd.SimdOperator.TheVariants as simd
 use Rattle.wasm_instr_simd.specs.Simd.{simd_name, simd_subopcode, simd_immediates}
-use Rattle.wasm_instr_rows.specs.Immediate.{Immediate, kind_of}
-use Rattle.wasm_instr_rows.proofs.Values.{behind, number_in, bytes_in, vector_in, argument_in}
+use Rattle.wasm_instr_ops.specs.Immediate.{Immediate, kind_of}
+use Rattle.wasm_instr_ops.proofs.Values.{behind, number_in, bytes_in, vector_in, argument_in}
 
 abbrev makers : List (List Immediate → SimdOperator)
 makers =

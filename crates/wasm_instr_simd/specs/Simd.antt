@@ -2,10 +2,10 @@
 -- The rows of the operators behind the byte fd, by columns.
 -- WebAssembly Core Specification 3.0, Binary Format, Vector Instructions.
 use Rattle.std.specs.Prelude.{ℕ, List, [], ◌∷◌, codes}
-use Rattle.wasm_imm.specs.memory.memory_argument.MemArgKind.TheVariants as kind
+use Rattle.wasm_instr_ops.specs.imm.declared.memory_argument.MemArgKind.TheVariants as kind
 use Rattle.wasm_instr_simd.specs.declared.simd.SimdOperator.{SimdOperator}
 use Rattle.wasm_instr_simd.specs.declared.simd.SimdOperator.TheVariants as simd
-use Rattle.wasm_instr_rows.specs.Immediate.{Immediate, vector, one_lane, sixteen_lanes, memory_argument}
+use Rattle.wasm_instr_ops.specs.Immediate.{Immediate, vector, one_lane, sixteen_lanes, memory_argument}
 
 abbrev pub simd_proposal : SimdOperator → List ℕ
 simd_proposal simd.I8x16RelaxedSwizzle = codes "relaxed_simd"

@@ -5,3 +5,5 @@
 mod simd;
 
 pub use simd::SimdOperator;
+pub use wasm_instr_ops as instr_ops;
+pub use wasm_instr_ops::{below, imm};

@@ -3,8 +3,8 @@ ghost use Rattle.std.specs.Prelude.{◌≡◌, ◌⊎◌, ◌<◌, ◌≤◌, Ma
 ghost use Rattle.wasm_instr_simd.specs.Simd.{simd_proposal, simd_name, simd_subopcode};
 
 use std::fmt::{self, Debug, Formatter};
-use wasm_imm::{MemArg, V128};
-use wasm_instr_rows::OperatorInfo;
+use wasm_instr_ops::OperatorInfo;
+use wasm_instr_ops::imm::{MemArg, V128};
 
 /// The operators behind the byte fd. Vector Instructions, relaxed ones too.
 #[derive(Clone, Copy, PartialEq, Eq)]

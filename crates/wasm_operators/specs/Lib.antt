@@ -1,18 +1,22 @@
-pub use Rattle.wasm_operators_expressions.specs.Expression
-pub use Rattle.wasm_operators_expressions.specs.Flat
-pub use Rattle.wasm_operators_expressions.specs.Openings
-pub use Rattle.wasm_operators_expressions.specs.Visiting
-pub use Rattle.wasm_operators_frames.specs.Stack
-pub use Rattle.wasm_operators_frames.specs.Step
-pub use Rattle.wasm_operators_runs.specs.Reading
-pub use Rattle.wasm_operators_runs.specs.Headline
-pub use Rattle.wasm_operators_decoding.specs.Next
+pub use Rattle.wasm_operators_readers.specs.Expression
+pub use Rattle.wasm_operators_readers.specs.Flat
+pub use Rattle.wasm_operators_readers.specs.Openings
+pub use Rattle.wasm_operators_readers.specs.Visiting
+pub use Rattle.wasm_operators_readers.specs.Stack
+pub use Rattle.wasm_operators_readers.specs.Step
+pub use Rattle.wasm_operators_readers.specs.Reading
+pub use Rattle.wasm_operators_readers.specs.Headline
+pub use Rattle.wasm_operators_readers.specs.Next
 pub use Rattle.wasm_operators_readers.specs.Iterating
-pub use Rattle.wasm_operators_bodies.specs.Locals
-pub use Rattle.wasm_operators_bodies.specs.Body
-pub use Rattle.wasm_operators_constants.specs.Constant
-pub use Rattle.wasm_operators_constants.specs.Equality
-pub use Rattle.wasm_operators_constants.specs.ConstantFaults
-pub use Rattle.wasm_operators_constants.specs.Passing
-pub use Rattle.wasm_operators_single.specs.Single
-pub use Rattle.wasm_operators_sections.specs.Section
+pub mod Locals
+pub mod Body
+pub mod Constant
+pub mod Equality
+pub mod ConstantFaults
+pub mod Passing
+pub mod Section
+pub mod Single
+pub use Rattle.wasm_operators_readers.specs.below as below
+pub use Rattle.wasm_operators_readers.specs.instr as instr
+pub use Rattle.wasm_operators_readers.specs.opcodes as opcodes
+pub use Rattle.wasm_operators_readers.specs as readers

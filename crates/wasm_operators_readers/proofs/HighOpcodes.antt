@@ -1,20 +1,20 @@
 -- A visit of an operator whose opcode is 20 or more: nothing is left to do to the frames.
 use Rattle.std.proofs.Common.{◌≡◌, ℕ, ◌≤◌, List, Some, Result, Ok, Err, sym, subst, ap, arith}
-use Rattle.wasm_below.specs.bytes.error.Error.{Error}
-use Rattle.wasm_below.specs.bytes.features.WasmFeatures.{WasmFeatures}
-use Rattle.wasm_below.specs.Source.{at_position}
-use Rattle.wasm_grammar.specs.declared.frame_kind.FrameKind.{FrameKind}
-use Rattle.wasm_grammar.specs.Frames.{Allows, frames_after}
-use Rattle.wasm_grammar.proofs.Innermost.{steps_stay}
-use Rattle.wasm_instr.specs.declared.operator.Operator.{Operator}
-use Rattle.wasm_instr.specs.Roles.{role_of}
-use Rattle.wasm_opcodes.specs.Decoding.{Decodes}
-use Rattle.wasm_operators_frames.specs.Step.{role_of_step, step_at}
-use Rattle.wasm_operators_frames.proofs.Bytes.{stays_from_20}
-use Rattle.wasm_operators_runs.specs.Reading.{Taking, Refusing, State, VisitsOperator}
-use Rattle.wasm_operators_runs.proofs.Premises.{IsSound}
-use Rattle.wasm_operators_decoding.specs.Next.{NeedsNext, BeginsOperator}
-use Rattle.wasm_operators_decoding.proofs.Taken.{begun_allows, begun_took, begun_stopped}
+use Rattle.wasm_decode.specs.below.bytes.error.Error.{Error}
+use Rattle.wasm_decode.specs.below.bytes.features.WasmFeatures.{WasmFeatures}
+use Rattle.wasm_decode.specs.below.Source.{at_position}
+use Rattle.wasm_decode.specs.grammar.declared.frame_kind.FrameKind.{FrameKind}
+use Rattle.wasm_decode.specs.grammar.Frames.{Allows, frames_after}
+use Rattle.wasm_decode.proofs.of_grammar.Innermost.{steps_stay}
+use Rattle.wasm_decode.specs.instr.declared.operator.Operator.{Operator}
+use Rattle.wasm_decode.specs.instr.Roles.{role_of}
+use Rattle.wasm_decode.specs.opcodes.Decoding.{Decodes}
+use Rattle.wasm_operators_readers.specs.Step.{role_of_step, step_at}
+use Rattle.wasm_operators_readers.proofs.Bytes.{stays_from_20}
+use Rattle.wasm_operators_readers.specs.Reading.{Taking, Refusing, State, VisitsOperator}
+use Rattle.wasm_operators_readers.proofs.Premises.{IsSound}
+use Rattle.wasm_operators_readers.specs.Next.{NeedsNext, BeginsOperator}
+use Rattle.wasm_operators_readers.proofs.Taken.{begun_allows, begun_took, begun_stopped}
 
 -- the opcode was read, and what stands behind it decoded or refused; the frames stayed
 pub high_visited : {V A : Type 0} (visits : V → Operator → A → V → Type 0) (Encodes : Taking) (Fault : Refusing) → IsSound Encodes →

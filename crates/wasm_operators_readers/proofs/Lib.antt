@@ -1,2 +1,24 @@
 pub mod MemoryLemmas
 pub mod HighOpcodes
+pub mod LayoutLemmas
+pub mod FlatLemmas
+pub mod VisitLemmas
+pub mod OpeningLemmas
+pub mod Roles
+pub mod Bytes
+pub mod Premises
+pub mod OneRead
+pub mod Runs
+pub mod Ends
+pub mod Plain
+pub mod Clauses
+pub mod StepLemmas
+pub mod Messages
+pub mod Decoder
+pub mod Taken
+pub mod Begins
+pub use Rattle.wasm_decode.proofs.of_below as of_below
+pub use Rattle.wasm_decode.proofs.of_imm as of_imm
+pub use Rattle.wasm_decode.proofs.of_grammar as of_grammar
+pub use Rattle.wasm_decode.proofs.of_instr as of_instr
+pub use Rattle.wasm_decode.proofs as of_decoder

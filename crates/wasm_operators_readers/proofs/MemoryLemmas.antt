@@ -1,10 +1,10 @@
 -- Where memory is refused.
 use Rattle.std.proofs.Common.{◌≡◌, inl, inr, subst}
-use Rattle.wasm_below.specs.bytes.error.Error.{Error}
-use Rattle.wasm_below.specs.bytes.message.Message.TheVariants as message
-use Rattle.wasm_below.specs.Refusal.{IsReadFault}
-use Rattle.wasm_operators_runs.specs.Reading.{Taking, Refusing, Needing, State, StopsRead}
-use Rattle.wasm_operators_runs.proofs.Premises.{IsReading}
+use Rattle.wasm_decode.specs.below.bytes.error.Error.{Error}
+use Rattle.wasm_decode.specs.below.bytes.message.Message.TheVariants as message
+use Rattle.wasm_decode.specs.below.Refusal.{IsReadFault}
+use Rattle.wasm_operators_readers.specs.Reading.{Taking, Refusing, Needing, State, StopsRead}
+use Rattle.wasm_operators_readers.proofs.Premises.{IsReading}
 
 -- A read that is refused by memory stands where it may be.
 pub memory_needs : (Encodes : Taking) (Fault : Refusing) (Needs : Needing) → IsReading Fault → (e : Error) (s : State) → StopsRead Encodes Fault Needs e s →

@@ -1,11 +1,11 @@
 -- Reading operators one after another by iterators.
 use Rattle.std.specs.Prelude.{◌≡◌, ℕ, cond, Bool, true, false, [], length, Option, None, Some, Result, Ok, Err, is_err, ◌⊎◌}
 use Rattle.std.specs.Iterator.{Count, at_most}
-use Rattle.wasm_below.specs.bytes.error.Error.{Error}
-use Rattle.wasm_below.specs.Source.{rest, offset_of}
-use Rattle.wasm_instr.specs.declared.operator.Operator.{Operator}
-use Rattle.wasm_operators_runs.specs.Reading.{State}
-use Rattle.wasm_operators_decoding.specs.Next.{ReadsNext}
+use Rattle.wasm_decode.specs.below.bytes.error.Error.{Error}
+use Rattle.wasm_decode.specs.below.Source.{rest, offset_of}
+use Rattle.wasm_decode.specs.instr.declared.operator.Operator.{Operator}
+use Rattle.wasm_operators_readers.specs.Reading.{State}
+use Rattle.wasm_operators_readers.specs.Next.{ReadsNext}
 
 -- One read that answers the operator with the offset at which it began.
 abbrev pub ReadsNextPlaced : Result (Operator × ℕ) Error → State → State → Type 0

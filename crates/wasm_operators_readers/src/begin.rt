@@ -1,17 +1,17 @@
 //! What comes before the immediates of an operator: its frame, its opcode, and room for its step; and
 //! the step, behind them.
 ghost use Rattle.std.specs.Prelude.{◌≡◌, ◌+◌, ◌≤◌, Some, IsSome, IfOk, IfErr};
-ghost use Rattle.wasm_grammar.specs.Frames.{frames_after};
-ghost use Rattle.wasm_below.specs.Source.{offset_of};
-ghost use Rattle.wasm_opcodes.specs.Allowed.{EncodesAllowed, EncodesPlain};
-ghost use Rattle.wasm_opcodes.specs.OperatorFaults.{OperatorFault, PlainOperatorFault};
-ghost use Rattle.wasm_operators_frames.specs.Stack.{HasRoom};
-ghost use Rattle.wasm_operators_frames.specs.Step.{Opens, role_of_step, step_at};
-ghost use Rattle.wasm_operators_decoding.specs.Next.{BeginsOperator, StopsNext, state_of};
+ghost use Rattle.wasm_decode.specs.grammar.Frames.{frames_after};
+ghost use Rattle.wasm_decode.specs.below.Source.{offset_of};
+ghost use Rattle.wasm_decode.specs.opcodes.Allowed.{EncodesAllowed, EncodesPlain};
+ghost use Rattle.wasm_decode.specs.opcodes.OperatorFaults.{OperatorFault, PlainOperatorFault};
+ghost use Rattle.wasm_operators_readers.specs.Stack.{HasRoom};
+ghost use Rattle.wasm_operators_readers.specs.Step.{Opens, role_of_step, step_at};
+ghost use Rattle.wasm_operators_readers.specs.Next.{BeginsOperator, StopsNext, state_of};
 
-use wasm_below::{BinaryReader, Error, Message, Result};
-use wasm_grammar::FrameKind;
-use wasm_operators_frames::{ControlStack, FrameStep};
+use crate::{ControlStack, FrameStep};
+use wasm_decode::below::{BinaryReader, Error, Message, Result};
+use wasm_decode::grammar::FrameKind;
 
 /// The innermost frame, the position at which the operator began, and its opcode.
 #[derive(Clone, Copy, Debug)]

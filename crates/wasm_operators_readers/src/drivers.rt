@@ -1,19 +1,19 @@
 //! Reading and visiting to the end of the data.
 ghost use Rattle.std.specs.Prelude.{◌≡◌, ◌+◌, ◌<◌, [], List, ◌++◌, ◌⊎◌, OnOk, IfErr, vec_capacity, vec_len};
-ghost use Rattle.wasm_below.specs.Source.{rest, source_of};
-ghost use Rattle.wasm_instr.specs.declared.operator.Operator.{Operator};
-ghost use Rattle.wasm_opcodes.specs.Allowed.{EncodesAllowed, EncodesPlain};
-ghost use Rattle.wasm_opcodes.specs.OperatorFaults.{OperatorFault, PlainOperatorFault};
-ghost use Rattle.wasm_operators_decoding.specs.Next.{NeedsNext};
-ghost use Rattle.wasm_operators_expressions.specs.Expression.{Placed, EncodesRest, EncodesExpression, IsLongestBehind, IsLongestBeginning};
-ghost use Rattle.wasm_operators_expressions.specs.Visiting.{IsPlain};
-ghost use Rattle.wasm_operators_runs.specs.Reading.{RunsToEnd, VisitsToEnd, VisitsPlainToEnd, Anywhere, IsFresh};
-ghost use Rattle.wasm_operators_runs.specs.Headline.{StoodBefore, ReadsTree, ReadsBeginning, ReadsPlainBeginning, Appends, VisitsAlong, ReadsFlat, VisitsFlat, VisitsPlainFlat, IsCut, IsCompletedIfCut, CutFault, IsWithinDepth};
+ghost use Rattle.wasm_decode.specs.below.Source.{rest, source_of};
+ghost use Rattle.wasm_decode.specs.instr.declared.operator.Operator.{Operator};
+ghost use Rattle.wasm_decode.specs.opcodes.Allowed.{EncodesAllowed, EncodesPlain};
+ghost use Rattle.wasm_decode.specs.opcodes.OperatorFaults.{OperatorFault, PlainOperatorFault};
+ghost use Rattle.wasm_operators_readers.specs.Next.{NeedsNext};
+ghost use Rattle.wasm_operators_readers.specs.Expression.{Placed, EncodesRest, EncodesExpression, IsLongestBehind, IsLongestBeginning};
+ghost use Rattle.wasm_operators_readers.specs.Visiting.{IsPlain};
+ghost use Rattle.wasm_operators_readers.specs.Reading.{RunsToEnd, VisitsToEnd, VisitsPlainToEnd, Anywhere, IsFresh};
+ghost use Rattle.wasm_operators_readers.specs.Headline.{StoodBefore, ReadsTree, ReadsBeginning, ReadsPlainBeginning, Appends, VisitsAlong, ReadsFlat, VisitsFlat, VisitsPlainFlat, IsCut, IsCompletedIfCut, CutFault, IsWithinDepth};
 
 use crate::operators::OperatorsReader;
-use wasm_below::{Error, Message, Result};
-use wasm_instr::Operator;
-use wasm_visit::{VisitOperator, VisitSimdOperator};
+use wasm_decode::below::{Error, Message, Result};
+use wasm_decode::instr::Operator;
+use wasm_decode::visitors::{VisitOperator, VisitSimdOperator};
 
 impl<'a> OperatorsReader<'a> {
     /// Reads up to the end of the data or a refusal, and finishes.

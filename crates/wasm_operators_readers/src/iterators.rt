@@ -1,13 +1,13 @@
 //! Operators by iterators, alone and with the offsets at which they begin.
 ghost use Rattle.std.specs.Prelude.{◌≡◌, ◌≤◌};
-ghost use Rattle.wasm_operators_decoding.specs.Next.{ReadsNext};
+ghost use Rattle.wasm_operators_readers.specs.Next.{ReadsNext};
 ghost use Rattle.wasm_operators_readers.specs.Iterating.{ReadsNextPlaced, StepsBy, items_to_come, iterating_over};
 
+use crate::OperatorsReaderAllocations;
 use crate::operators::OperatorsReader;
 use std::marker::Model;
-use wasm_below::Result;
-use wasm_instr::Operator;
-use wasm_operators_frames::OperatorsReaderAllocations;
+use wasm_decode::below::Result;
+use wasm_decode::instr::Operator;
 
 impl<'a> OperatorsReader<'a> {
     /// The next operator, with the original position at which it begins. It is read as by `read`,

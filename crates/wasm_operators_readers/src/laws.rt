@@ -1,15 +1,15 @@
 //! Laws of reads, visits and drivers. Each is the contract of a function that does nothing.
 ghost use Rattle.std.specs.Prelude.{◌≡◌, ◌≢◌, List};
-ghost use Rattle.wasm_below.specs.bytes.error.Error.{Error};
-ghost use Rattle.wasm_instr.specs.declared.operator.Operator.{Operator};
-ghost use Rattle.wasm_opcodes.specs.Allowed.{EncodesAllowed, EncodesPlain};
-ghost use Rattle.wasm_opcodes.specs.OperatorFaults.{OperatorFault, PlainOperatorFault};
-ghost use Rattle.wasm_operators_decoding.specs.Next.{NeedsNext, StopsNext};
-ghost use Rattle.wasm_operators_expressions.specs.Expression.{Placed};
-ghost use Rattle.wasm_operators_runs.specs.Reading.{State, TakesOperator, Anywhere};
-ghost use Rattle.wasm_operators_runs.specs.Headline.{ReadsBeginning};
+ghost use Rattle.wasm_decode.specs.below.bytes.error.Error.{Error};
+ghost use Rattle.wasm_decode.specs.instr.declared.operator.Operator.{Operator};
+ghost use Rattle.wasm_decode.specs.opcodes.Allowed.{EncodesAllowed, EncodesPlain};
+ghost use Rattle.wasm_decode.specs.opcodes.OperatorFaults.{OperatorFault, PlainOperatorFault};
+ghost use Rattle.wasm_operators_readers.specs.Next.{NeedsNext, StopsNext};
+ghost use Rattle.wasm_operators_readers.specs.Expression.{Placed};
+ghost use Rattle.wasm_operators_readers.specs.Reading.{State, TakesOperator, Anywhere};
+ghost use Rattle.wasm_operators_readers.specs.Headline.{ReadsBeginning};
 
-use wasm_below::Message;
+use wasm_decode::below::Message;
 
 /// A read or a visit that was refused is refused again, by the same message and at the same offset,
 /// allocation failure aside.

@@ -1,15 +1,27 @@
 //! The reader of operators: one read or visit after another, with the stack of open frames, the
 //! calls that read or visit to the end of the data, and iterators over operators.
 //!
-//! What one read does stands in `specs/` of `wasm_operators_decoding`, what several do in those of
-//! `wasm_operators_runs`.
+//! `specs/` has what an expression is (`Expression`), what one read does (`Next`), what several do
+//! (`Reading`), and what that says of the recursive grammar (`Headline`).
 #![tactic(auto)]
 
+mod allocations;
 mod begin;
+pub mod decoding_laws;
 mod drivers;
+pub mod expression_laws;
+pub mod frame_laws;
 mod iterators;
 pub mod laws;
 mod operators;
+pub mod run_laws;
+mod stack;
+mod step;
 
+pub use allocations::OperatorsReaderAllocations;
 pub use iterators::{OperatorsIterator, OperatorsIteratorWithOffsets};
 pub use operators::OperatorsReader;
+pub use stack::ControlStack;
+pub use step::FrameStep;
+pub use wasm_decode as decoder;
+pub use wasm_decode::{below, grammar, imm, instr, visitors};

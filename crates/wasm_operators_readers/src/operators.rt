@@ -1,20 +1,20 @@
 //! The reader of operators.
 ghost use Rattle.std.specs.Prelude.{◌≡◌, ◌↔◌, ◌≤◌, ◌∷◌, [], IsTrue, IfOk, IfErr};
-ghost use Rattle.wasm_below.specs.Source.{rest, offset_of};
-ghost use Rattle.wasm_operators_runs.specs.Reading.{Finishes, IsFresh};
-ghost use Rattle.wasm_operators_decoding.specs.Next.{ReadsNext, VisitsNext, VisitsNextPlain};
+ghost use Rattle.wasm_decode.specs.below.Source.{rest, offset_of};
+ghost use Rattle.wasm_operators_readers.specs.Reading.{Finishes, IsFresh};
+ghost use Rattle.wasm_operators_readers.specs.Next.{ReadsNext, VisitsNext, VisitsNextPlain};
 
 mod stack;
 
 use crate::begin::{advance, begin};
+use crate::{ControlStack, OperatorsReaderAllocations};
 use std::alloc::Global;
 use std::marker::Model;
-use wasm_below::{BinaryReader, Error, Message, Result};
+use wasm_decode::below::{BinaryReader, Error, Message, Result};
+use wasm_decode::grammar::FrameKind;
+use wasm_decode::instr::Operator;
+use wasm_decode::visitors::{VisitOperator, VisitSimdOperator};
 use wasm_decode::{control_behind, read_behind, visit_behind, visit_behind_simd};
-use wasm_grammar::FrameKind;
-use wasm_instr::Operator;
-use wasm_operators_frames::{ControlStack, OperatorsReaderAllocations};
-use wasm_visit::{VisitOperator, VisitSimdOperator};
 
 /// Reads the operators of an expression one after another, and keeps the kinds of the open frames.
 ///
@@ -28,7 +28,7 @@ pub struct OperatorsReader<'a> {
 }
 
 impl<'a> Model for OperatorsReader<'a> {
-    ghost use Rattle.wasm_operators_runs.specs.Reading.{State};
+    ghost use Rattle.wasm_operators_readers.specs.Reading.{State};
 
     ghost Value = { State };
 

@@ -1,9 +1,12 @@
-//! Compares the readers of numbers and of types with slow functions that are written from the
-//! definitions, over all short strings and over the boundary values of each width.
+//! Compares the readers of numbers, of types and of memory arguments with slow functions that are
+//! written from the definitions, over all short strings, over the boundary values of each width, and
+//! under all sets of features.
 #![tactic(auto)]
 
+use crate::memory_arguments::print_memory_arguments;
 use std::io;
 
+mod memory_arguments;
 mod numbers;
 mod types;
 
@@ -22,7 +25,8 @@ fn main(rt: HostRuntime) -> io::Result<()> {
     println!(rt;
         "types of up to three bytes: {} read, {} differ",
         types.read, types.differ
-    )
+    )?;
+    print_memory_arguments(&rt)
 }
 
 #[cfg(test)]

@@ -1,5 +1,5 @@
 //! Numbers, read slowly from their definitions.
-use wasm_below::{BinaryReader, Error, Message, NumberName};
+use wasm_imm::below::{BinaryReader, Error, Message, NumberName};
 
 /// How many strings were read, and at how many the answers differ.
 #[derive(Clone, Copy)]

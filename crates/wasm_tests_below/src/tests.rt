@@ -1,15 +1,16 @@
 //! What no clause says: texts, and each public function once on its happy path.
 ghost use Rattle.std.specs.Prelude.{◌≡◌, ◌↔◌, IsTrue};
-ghost use Rattle.wasm_below.specs.Features.{HasFeature, memory64};
-ghost use Rattle.wasm_below.specs.Source.{Reader};
+ghost use Rattle.wasm_imm.specs.below.Features.{HasFeature, memory64};
+ghost use Rattle.wasm_imm.specs.below.Source.{Reader};
 
 use bitflags::Flags;
 use std::test::Fail;
-use wasm_below::{
+use wasm_imm::below::{
     AbstractHeapType, BinaryReader, Error, ErrorKind, FrameName, HeapType, Message, RefType,
     ValType, WasmFeatures,
 };
 
+mod immediates;
 mod messages;
 mod numbers;
 mod values;

@@ -1,6 +1,6 @@
 //! Types, read slowly from their definitions.
 use crate::numbers::{Tally, slow_signed, slow_unsigned};
-use wasm_below::{AbstractHeapType, BinaryReader, HeapType, RefType, ValType};
+use wasm_imm::below::{AbstractHeapType, BinaryReader, HeapType, RefType, ValType};
 
 /// The abstract heap types, from the byte 68 on.
 const ABSTRACT: [AbstractHeapType; 14] = [

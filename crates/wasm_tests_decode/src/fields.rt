@@ -8,7 +8,7 @@ mod shapes;
 pub mod simd;
 
 use crate::values::Written;
-use wasm_instr::Operator;
+use wasm_decode::instr::Operator;
 
 /// The operator's name, and its fields.
 pub fn operator(out: &mut String, op: &Operator<'_>) -> Written {

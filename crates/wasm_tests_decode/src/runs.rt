@@ -5,10 +5,10 @@ use crate::task::Task;
 use crate::teller::{Call, Teller};
 use crate::values::Written;
 use std::alloc::{AllocError, Global};
-use wasm_below::{BinaryReader, Error, Result};
+use wasm_decode::below::{BinaryReader, Error, Result};
+use wasm_decode::instr::Operator;
+use wasm_decode::visitors::OperatorFactory;
 use wasm_decode::{read_operator, visit_operator, visit_operator_simd};
-use wasm_instr::Operator;
-use wasm_visit::OperatorFactory;
 
 /// A reader that stands at the operator of a task, or at the end of data that are too short.
 fn reader_at<'a>(task: Task, bytes: &'a [u8]) -> BinaryReader<'a> {

@@ -1,8 +1,8 @@
 //! What a line of the input asks for.
 
 use bitflags::Flags;
-use wasm_below::WasmFeatures;
-use wasm_instr::FrameKind;
+use wasm_decode::below::WasmFeatures;
+use wasm_decode::instr::FrameKind;
 
 /// How one operator is read.
 #[derive(Clone, Copy, Debug)]

@@ -2,9 +2,9 @@
 
 use crate::fields::operator;
 use std::alloc::{AllocError, Global};
-use wasm_below::{BinaryReader, Result};
-use wasm_instr::{BrTable, MiscOperator, Operator};
-use wasm_visit::{
+use wasm_decode::below::{BinaryReader, Result};
+use wasm_decode::instr::{BrTable, MiscOperator, Operator};
+use wasm_decode::visitors::{
     VisitFixed, VisitMisc, VisitOperator, VisitSimdOperator, Visitor, decode, dispatch,
 };
 

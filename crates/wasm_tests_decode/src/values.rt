@@ -1,8 +1,8 @@
 //! The values of fields, in the words of `tools/original/samples.tsv`.
 
 use std::alloc::AllocError;
-use wasm_below::{HeapType, RefType, ValType};
-use wasm_imm::{
+use wasm_decode::below::{HeapType, RefType, ValType};
+use wasm_decode::imm::{
     BlockType, BrTable, Catch, Handle, Ieee32, Ieee64, MemArg, MemArgOrdering, MemArgTarget,
     Ordering, ResumeTable, SelectTypes, TryTable, V128,
 };

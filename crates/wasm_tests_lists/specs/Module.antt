@@ -1,8 +1,8 @@
 -- What the module answers in which arities are printed.
 use Rattle.std.specs.Prelude.{ℕ, cond, eqb, Option, Some, None}
-use Rattle.wasm_grammar.specs.declared.frame_kind.FrameKind.TheVariants as frame
-use Rattle.wasm_imm.specs.control.block_type.BlockType.TheVariants as block
-use Rattle.wasm_instr.specs.Answers.{Answers}
+use Rattle.wasm_visit.specs.grammar.declared.frame_kind.FrameKind.TheVariants as frame
+use Rattle.wasm_visit.specs.imm.control.block_type.BlockType.TheVariants as block
+use Rattle.wasm_visit.specs.instr.Answers.{Answers}
 use Rattle.wasm_tests_lists.specs.declared.uniform.Uniform.{Uniform}
 
 -- This answer at one index, another elsewhere.

@@ -4,7 +4,7 @@ use crate::parts::{
     vector,
 };
 use std::alloc::Global;
-use wasm_instr::{GcOperator, Operator, SimdOperator};
+use wasm_visit::instr::{GcOperator, Operator, SimdOperator};
 
 /// How many operators are made here.
 pub const COUNT: u32 = 13;

@@ -1,6 +1,7 @@
 //! Prints each of the operators: its row, what it takes and leaves in one module, whether it is a
 //! vector operator, whether its clone equals it, whether a visit finds it to be an end, whether a
-//! visit by the factory gives it back, and itself.
+//! visit by the factory gives it back, and itself; and which of its calls each of several visitors
+//! gets.
 #![tactic(auto)]
 
 mod made;
@@ -9,6 +10,7 @@ mod parts;
 mod rows;
 mod uniform;
 mod values;
+mod visitors;
 
 use crate::made::{COUNT, made};
 use crate::module::Module;
@@ -17,9 +19,10 @@ use crate::values::{
     atomic, fifth_own, first_own, fourth_own, gc, misc, numeric, second_own, simd, sixth_own,
     third_own,
 };
+use crate::visitors::print_visitors;
 use std::alloc::Global;
 use std::io::{self, Print};
-use wasm_instr::Operator;
+use wasm_visit::instr::Operator;
 use wasm_visit::{
     IsEndOperatorVisitor, OperatorFactory, visit_operator_with_simd, visit_owned_simd,
 };
@@ -64,7 +67,8 @@ fn main(rt: HostRuntime) -> io::Result<()> {
             None => println!(rt; "not made")?,
         }
     }
-    print_rows(&rt)
+    print_rows(&rt)?;
+    print_visitors(&rt, rt.alloc())
 }
 
 /// The line of an operator.

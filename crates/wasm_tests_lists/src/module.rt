@@ -1,6 +1,6 @@
 //! A module whose answers the printed arities rest on.
-use wasm_imm::BlockType;
-use wasm_instr::{FrameKind, ModuleArity};
+use wasm_visit::imm::BlockType;
+use wasm_visit::instr::{FrameKind, ModuleArity};
 
 /// A module in which each question has an answer for the index 0, or for the other indices named.
 ///

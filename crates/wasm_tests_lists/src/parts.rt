@@ -1,8 +1,8 @@
 //! The values of fields that no constant has.
 
 use std::alloc::Global;
-use wasm_below::{BinaryReader, HeapType, RefType, ValType};
-use wasm_imm::{
+use wasm_visit::below::{BinaryReader, HeapType, RefType, ValType};
+use wasm_visit::imm::{
     BlockType, BrTable, Catch, Catches, Handle, Handles, Ieee32, Ieee64, ResumeTable, SelectTypes,
     TryTable, V128,
 };

@@ -2,8 +2,8 @@
 use crate::module::Module;
 use crate::uniform::Uniform;
 use std::io::{self, Print};
-use wasm_imm::{BlockType, MemArg, MemArgTarget};
-use wasm_instr::{AtomicOperator, GcOperator, ModuleArity, Operator, SimdOperator};
+use wasm_visit::imm::{BlockType, MemArg, MemArgTarget};
+use wasm_visit::instr::{AtomicOperator, GcOperator, ModuleArity, Operator, SimdOperator};
 
 /// Prints what operators take and leave at the edges: a question without an answer, numbers that
 /// are too large or too small, and targets that are arrays.

@@ -1,6 +1,6 @@
 //! A module that answers a question alike at all indices.
-use wasm_imm::BlockType;
-use wasm_instr::{FrameKind, ModuleArity};
+use wasm_visit::imm::BlockType;
+use wasm_visit::instr::{FrameKind, ModuleArity};
 
 /// A module that answers a question alike at all indices.
 #[derive(Drop)]

@@ -1,7 +1,7 @@
 //! The operators that constants make. Written by tools/lists.py from tools/operators.tsv.
-use wasm_below::{HeapType, ValType};
-use wasm_imm::{BlockType, MemArg, MemArgTarget, Ordering};
-use wasm_instr::{
+use wasm_visit::below::{HeapType, ValType};
+use wasm_visit::imm::{BlockType, MemArg, MemArgTarget, Ordering};
+use wasm_visit::instr::{
     AtomicOperator, GcOperator, MiscOperator, NumericOperator, Operator, SimdOperator,
 };
 

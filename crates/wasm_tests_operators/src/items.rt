@@ -2,9 +2,8 @@
 
 use crate::told::{Listed, Told};
 use std::alloc::Global;
-use wasm_below::BinaryReader;
-use wasm_operators_frames::OperatorsReaderAllocations;
-use wasm_operators_readers::OperatorsReader;
+use wasm_operators_readers::below::BinaryReader;
+use wasm_operators_readers::{OperatorsReader, OperatorsReaderAllocations};
 
 /// The items of `OperatorsIterator`. Where memory was refused they are taken again.
 pub fn items<'a>(alloc: Global, reader: &BinaryReader<'a>, list: Listed<'_, 'a>) -> Told {

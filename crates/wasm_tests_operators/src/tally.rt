@@ -2,10 +2,10 @@
 
 use std::alloc::Global;
 use std::io::{self, Print};
-use wasm_below::{BinaryReader, Result};
-use wasm_instr::{BrTable, MiscOperator, Operator};
 use wasm_operators_readers::OperatorsReader;
-use wasm_visit::{
+use wasm_operators_readers::below::{BinaryReader, Result};
+use wasm_operators_readers::instr::{BrTable, MiscOperator, Operator};
+use wasm_operators_readers::visitors::{
     VisitFixed, VisitMisc, VisitOperator, VisitSimdOperator, Visitor, decode, dispatch,
 };
 

@@ -2,13 +2,29 @@
 //! one.
 #![tactic(auto)]
 
-pub use wasm_visit_calls::{
-    HoldFixed, HoldTable, IsEndOperatorVisitor, OperatorFactory, OperatorMaker, VisitFixed,
-    VisitOperator, VisitSimdOperator, visit_operator, visit_operator_with_simd, visit_owned,
-    visit_owned_simd,
-};
-pub use wasm_visit_decode as decode;
-pub use wasm_visit_dispatch as dispatch;
+mod any;
+mod borrowed;
+mod by_box;
+mod by_reference;
+pub mod dispatch;
+mod factory;
+mod fixed;
+mod is_end;
+mod maker;
+mod operator;
+mod owned;
+mod vectors;
+
+pub use borrowed::{visit_operator, visit_operator_with_simd};
+pub use fixed::VisitFixed;
+pub use is_end::IsEndOperatorVisitor;
+pub use maker::{HoldFixed, HoldTable, OperatorFactory, OperatorMaker};
+pub use operator::VisitOperator;
+pub use owned::{visit_owned, visit_owned_simd};
+pub use vectors::VisitSimdOperator;
+pub use wasm_decode_groups as decode;
+pub use wasm_decode_groups::{below, grammar, imm, instr, opcodes};
+pub use wasm_visit_factory as layer_factory;
 pub use wasm_visit_groups::{
     VisitAtomic, VisitGc, VisitMisc, VisitNumeric, VisitOneByte, VisitSimdHigh, VisitSimdLow,
     Visitor,

@@ -1,8 +1,8 @@
 //! Makes the operators behind fe. Written by tools/lists.py from tools/operators.tsv.
 use crate::factory::Factory;
-use wasm_imm::{MemArg, Ordering};
-use wasm_instr::{AtomicOperator, Operator};
 use wasm_visit_groups::VisitAtomic;
+use wasm_visit_groups::imm::{MemArg, Ordering};
+use wasm_visit_groups::instr::{AtomicOperator, Operator};
 
 impl VisitAtomic for Factory {
     #[inline(always)]

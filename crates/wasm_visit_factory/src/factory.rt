@@ -1,9 +1,9 @@
 //! A visitor that answers the operator itself, made in its visit.
 ghost use Rattle.std.specs.Prelude.{◌≡◌};
-ghost use Rattle.wasm_instr.specs.declared.operator.Operator.{Operator};
+ghost use Rattle.wasm_visit_groups.specs.instr.declared.operator.Operator.{Operator};
 
-use wasm_instr::Operator;
 use wasm_visit_groups::Visitor;
+use wasm_visit_groups::instr::Operator;
 
 /// Answers the operator itself: each of its visits makes that operator, and hands it to no other
 /// call.

@@ -1,8 +1,8 @@
 //! Makes the operators behind fb. Written by tools/lists.py from tools/operators.tsv.
 use crate::factory::Factory;
-use wasm_below::{HeapType, RefType};
-use wasm_instr::{GcOperator, Operator};
 use wasm_visit_groups::VisitGc;
+use wasm_visit_groups::below::{HeapType, RefType};
+use wasm_visit_groups::instr::{GcOperator, Operator};
 
 impl VisitGc for Factory {
     #[inline(always)]

@@ -1,7 +1,7 @@
 //! Makes the operators behind fc. Written by tools/lists.py from tools/operators.tsv.
 use crate::factory::Factory;
-use wasm_instr::{MiscOperator, Operator};
 use wasm_visit_groups::VisitMisc;
+use wasm_visit_groups::instr::{MiscOperator, Operator};
 
 impl VisitMisc for Factory {
     #[inline(always)]

@@ -1,7 +1,7 @@
 //! Makes the numeric operators. Written by tools/lists.py from tools/operators.tsv.
 use crate::factory::Factory;
-use wasm_instr::{NumericOperator, Operator};
 use wasm_visit_groups::VisitNumeric;
+use wasm_visit_groups::instr::{NumericOperator, Operator};
 
 impl VisitNumeric for Factory {
     #[inline(always)]

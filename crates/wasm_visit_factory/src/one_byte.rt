@@ -1,9 +1,11 @@
 //! Makes the operators of one byte. Written by tools/lists.py from tools/operators.tsv.
 use crate::factory::Factory;
-use wasm_below::{HeapType, ValType};
-use wasm_imm::{BlockType, Ieee32, Ieee64, MemArg, ResumeTable, SelectTypes, TryTable};
-use wasm_instr::Operator;
 use wasm_visit_groups::VisitOneByte;
+use wasm_visit_groups::below::{HeapType, ValType};
+use wasm_visit_groups::imm::{
+    BlockType, Ieee32, Ieee64, MemArg, ResumeTable, SelectTypes, TryTable,
+};
+use wasm_visit_groups::instr::Operator;
 
 impl VisitOneByte for Factory {
     #[inline(always)]

@@ -1,7 +1,7 @@
 //! Makes the vector operators from 80 on. Written by tools/lists.py from tools/operators.tsv.
 use crate::factory::Factory;
-use wasm_instr::{Operator, SimdOperator};
 use wasm_visit_groups::VisitSimdHigh;
+use wasm_visit_groups::instr::{Operator, SimdOperator};
 
 impl VisitSimdHigh for Factory {
     #[inline(always)]

@@ -1,8 +1,8 @@
 //! Makes the vector operators below 80. Written by tools/lists.py from tools/operators.tsv.
 use crate::factory::Factory;
-use wasm_imm::{MemArg, V128};
-use wasm_instr::{Operator, SimdOperator};
 use wasm_visit_groups::VisitSimdLow;
+use wasm_visit_groups::imm::{MemArg, V128};
+use wasm_visit_groups::instr::{Operator, SimdOperator};
 
 impl VisitSimdLow for Factory {
     #[inline(always)]

@@ -3,7 +3,7 @@ ghost use Rattle.wasm_instr.specs.declared.operator.Operator.{Operator};
 ghost use Rattle.wasm_instr.specs.ops.atomic.AtomicOperator.{AtomicOperator};
 
 use crate::visitor::Visitor;
-use wasm_imm::{MemArg, Ordering};
+use wasm_instr::imm::{MemArg, Ordering};
 use wasm_instr::{AtomicOperator, Operator};
 
 /// Visits of the operators behind the byte fe. Proposal threads.

@@ -3,7 +3,7 @@ ghost use Rattle.wasm_instr.specs.declared.operator.Operator.{Operator};
 ghost use Rattle.wasm_instr.specs.ops.gc.GcOperator.{GcOperator};
 
 use crate::visitor::Visitor;
-use wasm_below::{HeapType, RefType};
+use wasm_instr::below::{HeapType, RefType};
 use wasm_instr::{GcOperator, Operator};
 
 /// Visits of the operators behind the byte fb. Aggregate Instructions.

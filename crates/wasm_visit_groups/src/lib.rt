@@ -18,3 +18,5 @@ pub use one_byte::VisitOneByte;
 pub use simd_high::VisitSimdHigh;
 pub use simd_low::VisitSimdLow;
 pub use visitor::Visitor;
+pub use wasm_instr as instr;
+pub use wasm_instr::{below, grammar, imm};

@@ -2,9 +2,9 @@
 ghost use Rattle.wasm_instr.specs.declared.operator.Operator.{Operator};
 
 use crate::visitor::Visitor;
-use wasm_below::{HeapType, ValType};
-use wasm_imm::{BlockType, Ieee32, Ieee64, MemArg, ResumeTable, SelectTypes, TryTable};
 use wasm_instr::Operator;
+use wasm_instr::below::{HeapType, ValType};
+use wasm_instr::imm::{BlockType, Ieee32, Ieee64, MemArg, ResumeTable, SelectTypes, TryTable};
 
 /// Visits of the operators of one byte that are not numeric, but for the branch table. Instructions.
 ///

@@ -3,7 +3,7 @@ ghost use Rattle.wasm_instr.specs.declared.operator.Operator.{Operator};
 ghost use Rattle.wasm_instr.specs.simd.simd.SimdOperator.{SimdOperator};
 
 use crate::visitor::Visitor;
-use wasm_imm::{MemArg, V128};
+use wasm_instr::imm::{MemArg, V128};
 use wasm_instr::{Operator, SimdOperator};
 
 /// Visits of the vector operators of a subopcode below 80. Vector Instructions.

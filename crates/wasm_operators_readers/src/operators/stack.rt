@@ -1,11 +1,11 @@
 //! The open frames of a reader: the innermost of them, and a clone of the reader with all of them.
 ghost use Rattle.std.specs.Prelude.{◌≡◌, ◌<◌, length, IfOk, IfErr};
-ghost use Rattle.wasm_operators_frames.specs.Stack.{IsOutOfMemory};
+ghost use Rattle.wasm_operators_readers.specs.Stack.{IsOutOfMemory};
 
 use super::OperatorsReader;
-use wasm_below::Result;
-use wasm_grammar::FrameKind;
-use wasm_instr::FrameStack;
+use wasm_decode::below::Result;
+use wasm_decode::grammar::FrameKind;
+use wasm_decode::instr::FrameStack;
 
 impl<'a> OperatorsReader<'a> {
     /// A reader of its own that stands where this one does, with the same open frames, in memory of
@@ -30,7 +30,7 @@ impl<'a> OperatorsReader<'a> {
 
 /// The open frames are those of the reader.
 impl<'a> FrameStack for OperatorsReader<'a> {
-    ghost use Rattle.wasm_grammar.specs.Frames.{innermost};
+    ghost use Rattle.wasm_decode.specs.grammar.Frames.{innermost};
 
     ghost frame = { λ r. innermost r.frames };
 

@@ -2,7 +2,7 @@
 use std::alloc::Global;
 use std::process::Abort;
 use std::test::Fail;
-use wasm_below::{
+use wasm_imm::below::{
     Error, ErrorKind, FrameName, InstructionName, LeadingByteName, Message, NumberName, SizeName,
     TypeName,
 };

@@ -1,6 +1,6 @@
 //! Numbers, blocks and counts: the rows.
 use std::test::Fail;
-use wasm_below::{BinaryReader, Error, Message, NumberName, SizeName};
+use wasm_imm::below::{BinaryReader, Error, Message, NumberName, SizeName};
 
 /// A signed number of 33 bits, and how many bytes it took.
 fn s33(bytes: &[u8]) -> (Result<i64, Error>, usize) {

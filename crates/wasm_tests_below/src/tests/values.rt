@@ -1,7 +1,7 @@
 //! Types, and lists of items: the rows.
 use super::value_type;
 use std::test::Fail;
-use wasm_below::{
+use wasm_imm::below::{
     AbstractHeapType, BinaryReader, Error, FromReader, HeapType, Message, RefType, SizeName,
     TypeName, ValType,
 };

@@ -1,7 +1,7 @@
 //! The fields of the operators behind the byte fe, printed. Written by tools/lists.py from tools/operators.tsv.
 use crate::fields::shapes;
 use crate::values::{self, Written};
-use wasm_instr::AtomicOperator;
+use wasm_decode::instr::AtomicOperator;
 
 /// Prints the fields of the operators behind the byte fe, none where an operator has none.
 pub fn atomic(out: &mut String, op: &AtomicOperator) -> Written {

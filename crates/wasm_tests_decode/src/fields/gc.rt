@@ -1,7 +1,7 @@
 //! The fields of the operators behind the byte fb, printed. Written by tools/lists.py from tools/operators.tsv.
 use crate::fields::shapes;
 use crate::values::{self, Written};
-use wasm_instr::GcOperator;
+use wasm_decode::instr::GcOperator;
 
 /// Prints the fields of the operators behind the byte fb, none where an operator has none.
 pub fn gc(out: &mut String, op: &GcOperator) -> Written {

@@ -1,7 +1,7 @@
 //! The fields of the operators behind the byte fc, printed. Written by tools/lists.py from tools/operators.tsv.
 use crate::fields::shapes;
 use crate::values::{self, Written};
-use wasm_instr::MiscOperator;
+use wasm_decode::instr::MiscOperator;
 
 /// Prints the fields of the operators behind the byte fc, none where an operator has none.
 pub fn misc(out: &mut String, op: &MiscOperator) -> Written {

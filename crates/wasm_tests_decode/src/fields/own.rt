@@ -5,7 +5,7 @@ use crate::fields::misc::misc;
 use crate::fields::shapes;
 use crate::fields::simd::simd;
 use crate::values::{self, Written};
-use wasm_instr::Operator;
+use wasm_decode::instr::Operator;
 
 /// Prints the fields of an operator, none where an operator has none.
 pub fn own(out: &mut String, op: &Operator<'_>) -> Written {

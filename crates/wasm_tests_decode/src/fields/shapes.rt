@@ -1,7 +1,7 @@
 //! The lists of several fields that operators have, each by its names. Written by tools/lists.py from tools/operators.tsv.
 use crate::values::{self, Written};
-use wasm_below::RefType;
-use wasm_imm::{MemArg, Ordering, ResumeTable};
+use wasm_decode::below::RefType;
+use wasm_decode::imm::{MemArg, Ordering, ResumeTable};
 
 pub fn write_type_index_and_table_index(
     out: &mut String,

@@ -1,7 +1,7 @@
 //! The fields of the operators behind the byte fd, printed. Written by tools/lists.py from tools/operators.tsv.
 use crate::fields::shapes;
 use crate::values::{self, Written};
-use wasm_instr::SimdOperator;
+use wasm_decode::instr::SimdOperator;
 
 /// Prints the fields of the operators behind the byte fd, none where an operator has none.
 pub fn simd(out: &mut String, op: &SimdOperator) -> Written {

@@ -1,5 +1,5 @@
 use Rattle.std.proofs.Common.{arith}
-use Rattle.wasm_visit_decode.specs.OneByte.{IsOneByteCode}
+use Rattle.wasm_visit.specs.decode.OneByte.{IsOneByteCode}
 use Rattle.wasm_decode.proofs.DecodingLemmas.{prefix_bytes}
 use Rattle.wasm_decode.proofs.behind.fixed_behind.Goals as goal
 

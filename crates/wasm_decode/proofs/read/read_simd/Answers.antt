@@ -1,6 +1,6 @@
-use Rattle.wasm_below.specs.Source.{at_position}
-use Rattle.wasm_opcodes.specs.Allowed.{EncodesAllowed}
-use Rattle.wasm_opcodes.specs.OperatorFaults.{OperatorFault}
+use Rattle.wasm_visit.specs.below.Source.{at_position}
+use Rattle.wasm_visit.specs.opcodes.Allowed.{EncodesAllowed}
+use Rattle.wasm_visit.specs.opcodes.OperatorFaults.{OperatorFault}
 use Rattle.wasm_decode.proofs.DecodingLemmas.{as_read}
 use Rattle.wasm_decode.proofs.read.read_simd.Goals as goal
 

@@ -1,5 +1,5 @@
 use Rattle.std.proofs.Common.{arith}
-use Rattle.wasm_visit_decode.specs.OneByte.{IsOneByteCode}
+use Rattle.wasm_visit.specs.decode.OneByte.{IsOneByteCode}
 use Rattle.wasm_decode.proofs.DecodingLemmas.{prefix_bytes, to_plain}
 use Rattle.wasm_decode.proofs.visit.control_behind.Goals as goal
 

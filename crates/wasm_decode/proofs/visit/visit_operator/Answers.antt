@@ -1,7 +1,7 @@
 use Rattle.std.proofs.Common.{sym, subst}
-use Rattle.wasm_opcodes.specs.Allowed.{EncodesPlain, EncodesIn}
-use Rattle.wasm_opcodes.specs.Decoding.{Decodes}
-use Rattle.wasm_opcodes.specs.OperatorFaults.{PlainOperatorFault, FaultIn}
+use Rattle.wasm_visit.specs.opcodes.Allowed.{EncodesPlain, EncodesIn}
+use Rattle.wasm_visit.specs.opcodes.Decoding.{Decodes}
+use Rattle.wasm_visit.specs.opcodes.OperatorFaults.{PlainOperatorFault, FaultIn}
 use Rattle.wasm_decode.proofs.DecodingLemmas.{stands, from_start, visited_in}
 use Rattle.wasm_decode.proofs.visit.visit_operator.Goals as goal
 

@@ -1,7 +1,7 @@
 use Rattle.std.proofs.Common.{ap, arith}
-use Rattle.wasm_grammar.proofs.Innermost.{steps_stay}
-use Rattle.wasm_operators_frames.specs.Step.{role_of_step, step_at}
-use Rattle.wasm_operators_frames.proofs.Bytes.{stays_from_20}
+use Rattle.wasm_decode.proofs.of_grammar.Innermost.{steps_stay}
+use Rattle.wasm_operators_readers.specs.Step.{role_of_step, step_at}
+use Rattle.wasm_operators_readers.proofs.Bytes.{stays_from_20}
 use Rattle.wasm_operators_readers.proofs.begin.advance.Goals as goal
 
 pub returns-then-code-ge32-clause-frames : goal.returns-then-code-ge32-clause-frames

@@ -1,6 +1,6 @@
-use Rattle.wasm_opcodes.specs.Allowed.{EncodesAllowed, EncodesPlain}
-use Rattle.wasm_opcodes.specs.OperatorFaults.{OperatorFault, PlainOperatorFault}
-use Rattle.wasm_operators_decoding.proofs.Begins.{begun_without_room}
+use Rattle.wasm_decode.specs.opcodes.Allowed.{EncodesAllowed, EncodesPlain}
+use Rattle.wasm_decode.specs.opcodes.OperatorFaults.{OperatorFault, PlainOperatorFault}
+use Rattle.wasm_operators_readers.proofs.Begins.{begun_without_room}
 use Rattle.wasm_operators_readers.proofs.begin.begin.Goals as goal
 
 pub returns-in-Err-make_room-clause-refused : goal.returns-in-Err-make_room-clause-refused

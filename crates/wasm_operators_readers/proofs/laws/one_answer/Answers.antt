@@ -1,9 +1,9 @@
-use Rattle.wasm_opcodes.specs.Allowed.{EncodesAllowed}
-use Rattle.wasm_opcodes.specs.OperatorFaults.{OperatorFault}
+use Rattle.wasm_decode.specs.opcodes.Allowed.{EncodesAllowed}
+use Rattle.wasm_decode.specs.opcodes.OperatorFaults.{OperatorFault}
 use Rattle.wasm_decode.proofs.DeterminedOperatorRefusals.{operator_determines}
-use Rattle.wasm_operators_decoding.specs.Next.{NeedsNext}
-use Rattle.wasm_operators_runs.specs.Reading.{Anywhere}
-use Rattle.wasm_operators_runs.proofs.Ends.{beginnings_same}
+use Rattle.wasm_operators_readers.specs.Next.{NeedsNext}
+use Rattle.wasm_operators_readers.specs.Reading.{Anywhere}
+use Rattle.wasm_operators_readers.proofs.Ends.{beginnings_same}
 use Rattle.wasm_operators_readers.proofs.laws.one_answer.Goals as goal
 
 pub returns-clause-reads : goal.returns-clause-reads

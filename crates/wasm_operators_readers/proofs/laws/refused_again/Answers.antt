@@ -1,8 +1,8 @@
-use Rattle.wasm_opcodes.specs.Allowed.{EncodesAllowed, EncodesPlain}
-use Rattle.wasm_opcodes.specs.OperatorFaults.{OperatorFault, PlainOperatorFault}
+use Rattle.wasm_decode.specs.opcodes.Allowed.{EncodesAllowed, EncodesPlain}
+use Rattle.wasm_decode.specs.opcodes.OperatorFaults.{OperatorFault, PlainOperatorFault}
 use Rattle.wasm_decode.proofs.DeterminedOperatorRefusals.{operator_determines, plain_determines}
-use Rattle.wasm_operators_decoding.specs.Next.{NeedsNext}
-use Rattle.wasm_operators_runs.proofs.OneRead.{one_refusal}
+use Rattle.wasm_operators_readers.specs.Next.{NeedsNext}
+use Rattle.wasm_operators_readers.proofs.OneRead.{one_refusal}
 use Rattle.wasm_operators_readers.proofs.laws.refused_again.Goals as goal
 
 pub returns-clause-any : goal.returns-clause-any

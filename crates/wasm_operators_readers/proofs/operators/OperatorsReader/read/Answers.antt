@@ -1,11 +1,11 @@
 use Rattle.std.proofs.Common.{refl, subst}
-use Rattle.wasm_opcodes.specs.Allowed.{EncodesAllowed}
-use Rattle.wasm_opcodes.specs.OperatorFaults.{OperatorFault}
-use Rattle.wasm_operators_frames.specs.Step.{step_at}
-use Rattle.wasm_operators_runs.specs.Reading.{State, TakesOperator}
-use Rattle.wasm_operators_decoding.specs.Next.{StopsNext, state_of}
-use Rattle.wasm_operators_decoding.proofs.Decoder.{sound}
-use Rattle.wasm_operators_decoding.proofs.Taken.{begun_allows, begun_took, begun_stopped}
+use Rattle.wasm_decode.specs.opcodes.Allowed.{EncodesAllowed}
+use Rattle.wasm_decode.specs.opcodes.OperatorFaults.{OperatorFault}
+use Rattle.wasm_operators_readers.specs.Step.{step_at}
+use Rattle.wasm_operators_readers.specs.Reading.{State, TakesOperator}
+use Rattle.wasm_operators_readers.specs.Next.{StopsNext, state_of}
+use Rattle.wasm_operators_readers.proofs.Decoder.{sound}
+use Rattle.wasm_operators_readers.proofs.Taken.{begun_allows, begun_took, begun_stopped}
 use Rattle.wasm_operators_readers.proofs.operators.OperatorsReader.read.Goals as goal
 
 pub advance-requires-clause-allowed : goal.advance-requires-clause-allowed

@@ -1,10 +1,10 @@
 use Rattle.std.proofs.Common.{[]}
-use Rattle.wasm_opcodes.specs.Allowed.{EncodesAllowed}
-use Rattle.wasm_opcodes.specs.OperatorFaults.{OperatorFault}
-use Rattle.wasm_operators_runs.specs.Reading.{Anywhere}
-use Rattle.wasm_operators_runs.proofs.Runs.{fresh_before}
-use Rattle.wasm_operators_runs.proofs.Clauses.{reads_tree, reads_only, reads_beginning, reads_flat, reads_cut, reads_completed, reads_within_depth}
-use Rattle.wasm_operators_decoding.proofs.Decoder.{takes_all, is_reading}
+use Rattle.wasm_decode.specs.opcodes.Allowed.{EncodesAllowed}
+use Rattle.wasm_decode.specs.opcodes.OperatorFaults.{OperatorFault}
+use Rattle.wasm_operators_readers.specs.Reading.{Anywhere}
+use Rattle.wasm_operators_readers.proofs.Runs.{fresh_before}
+use Rattle.wasm_operators_readers.proofs.Clauses.{reads_tree, reads_only, reads_beginning, reads_flat, reads_cut, reads_completed, reads_within_depth}
+use Rattle.wasm_operators_readers.proofs.Decoder.{takes_all, is_reading}
 use Rattle.wasm_operators_readers.proofs.operators.OperatorsReader.read_all.Goals as goal
 
 pub returns-clause-rest_tree : goal.returns-clause-rest_tree

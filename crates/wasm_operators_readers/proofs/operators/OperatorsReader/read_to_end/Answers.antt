@@ -1,14 +1,14 @@
 use Rattle.std.proofs.Common.{true, is_ok, ℕ, ◌≡◌, ◌∙◌, ◌++◌, ◌∷◌, [], refl, rules, inl}
-use Rattle.wasm_below.specs.Source.{rest, offset_of}
-use Rattle.wasm_instr.specs.declared.operator.Operator.{Operator}
-use Rattle.wasm_operators_expressions.proofs.LayoutLemmas.{same_place}
-use Rattle.wasm_opcodes.specs.OperatorFaults.{OperatorFault}
-use Rattle.wasm_operators_runs.specs.Reading.{Anywhere}
-use Rattle.wasm_operators_runs.proofs.OneRead.{needs_more}
-use Rattle.wasm_operators_runs.proofs.Runs.{ran_push, ran_unchanged, run_stops, pushed}
-use Rattle.wasm_operators_decoding.specs.Next.{NeedsNext}
-use Rattle.wasm_opcodes.specs.Allowed.{EncodesAllowed}
-use Rattle.wasm_operators_decoding.proofs.Decoder.{sound, is_reading}
+use Rattle.wasm_decode.specs.below.Source.{rest, offset_of}
+use Rattle.wasm_decode.specs.instr.declared.operator.Operator.{Operator}
+use Rattle.wasm_operators_readers.proofs.LayoutLemmas.{same_place}
+use Rattle.wasm_decode.specs.opcodes.OperatorFaults.{OperatorFault}
+use Rattle.wasm_operators_readers.specs.Reading.{Anywhere}
+use Rattle.wasm_operators_readers.proofs.OneRead.{needs_more}
+use Rattle.wasm_operators_readers.proofs.Runs.{ran_push, ran_unchanged, run_stops, pushed}
+use Rattle.wasm_operators_readers.specs.Next.{NeedsNext}
+use Rattle.wasm_decode.specs.opcodes.Allowed.{EncodesAllowed}
+use Rattle.wasm_operators_readers.proofs.Decoder.{sound, is_reading}
 use Rattle.wasm_operators_readers.proofs.MemoryLemmas.{memory_needs}
 use Rattle.wasm_operators_readers.proofs.operators.OperatorsReader.read_to_end.Goals as goal
 

@@ -1,7 +1,7 @@
 use Rattle.std.proofs.Common.{◌≡◌, ◌++◌, length}
-use Rattle.wasm_below.specs.Source.{rest}
-use Rattle.wasm_operators_expressions.specs.Expression.{Placed}
-use Rattle.wasm_operators_runs.specs.Reading.{Ran}
+use Rattle.wasm_decode.specs.below.Source.{rest}
+use Rattle.wasm_operators_readers.specs.Expression.{Placed}
+use Rattle.wasm_operators_readers.specs.Reading.{Ran}
 use Rattle.wasm_operators_readers.proofs.operators.OperatorsReader.read_to_end.Given as goal
 
 -- the operators so far are those of the reads so far

@@ -1,10 +1,10 @@
 use Rattle.std.proofs.Common.{[]}
-use Rattle.wasm_opcodes.specs.Allowed.{EncodesPlain}
-use Rattle.wasm_opcodes.specs.OperatorFaults.{PlainOperatorFault}
-use Rattle.wasm_operators_runs.proofs.Runs.{fresh_before}
-use Rattle.wasm_operators_runs.proofs.Clauses.{plain_visits_tree, plain_visits_only, plain_visits_beginning, plain_visits_vector, plain_visits_completed, plain_visits_flat, plain_visits_within_depth}
-use Rattle.wasm_operators_decoding.specs.Next.{NeedsNext}
-use Rattle.wasm_operators_decoding.proofs.Decoder.{plain_is_reading, refuses_vectors, takes_plain}
+use Rattle.wasm_decode.specs.opcodes.Allowed.{EncodesPlain}
+use Rattle.wasm_decode.specs.opcodes.OperatorFaults.{PlainOperatorFault}
+use Rattle.wasm_operators_readers.proofs.Runs.{fresh_before}
+use Rattle.wasm_operators_readers.proofs.Clauses.{plain_visits_tree, plain_visits_only, plain_visits_beginning, plain_visits_vector, plain_visits_completed, plain_visits_flat, plain_visits_within_depth}
+use Rattle.wasm_operators_readers.specs.Next.{NeedsNext}
+use Rattle.wasm_operators_readers.proofs.Decoder.{plain_is_reading, refuses_vectors, takes_plain}
 use Rattle.wasm_operators_readers.proofs.operators.OperatorsReader.visit_all.Goals as goal
 
 pub returns-clause-rest_tree : goal.returns-clause-rest_tree

@@ -1,10 +1,10 @@
 use Rattle.std.proofs.Common.{[]}
-use Rattle.wasm_opcodes.specs.Allowed.{EncodesAllowed}
-use Rattle.wasm_opcodes.specs.OperatorFaults.{OperatorFault}
-use Rattle.wasm_operators_runs.proofs.Runs.{fresh_before}
-use Rattle.wasm_operators_runs.proofs.Clauses.{visits_tree, visits_only, visits_beginning, visits_cut, visits_completed, visits_flat, visits_within_depth}
-use Rattle.wasm_operators_decoding.specs.Next.{NeedsNext}
-use Rattle.wasm_operators_decoding.proofs.Decoder.{is_reading, takes_all}
+use Rattle.wasm_decode.specs.opcodes.Allowed.{EncodesAllowed}
+use Rattle.wasm_decode.specs.opcodes.OperatorFaults.{OperatorFault}
+use Rattle.wasm_operators_readers.proofs.Runs.{fresh_before}
+use Rattle.wasm_operators_readers.proofs.Clauses.{visits_tree, visits_only, visits_beginning, visits_cut, visits_completed, visits_flat, visits_within_depth}
+use Rattle.wasm_operators_readers.specs.Next.{NeedsNext}
+use Rattle.wasm_operators_readers.proofs.Decoder.{is_reading, takes_all}
 use Rattle.wasm_operators_readers.proofs.operators.OperatorsReader.visit_all_simd.Goals as goal
 
 pub returns-clause-rest_tree : goal.returns-clause-rest_tree

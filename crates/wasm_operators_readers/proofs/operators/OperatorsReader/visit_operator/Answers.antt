@@ -1,11 +1,11 @@
 use Rattle.std.proofs.Common.{refl, subst, arith}
-use Rattle.wasm_opcodes.specs.Allowed.{EncodesPlain}
-use Rattle.wasm_opcodes.specs.OperatorFaults.{PlainOperatorFault}
-use Rattle.wasm_operators_frames.specs.Step.{step_at}
-use Rattle.wasm_operators_runs.specs.Reading.{State, TakesOperator, VisitsOperator}
-use Rattle.wasm_operators_decoding.specs.Next.{NeedsNext, StopsNext, state_of}
-use Rattle.wasm_operators_decoding.proofs.Decoder.{plain_sound}
-use Rattle.wasm_operators_decoding.proofs.Taken.{begun_allows, begun_took, begun_stopped}
+use Rattle.wasm_decode.specs.opcodes.Allowed.{EncodesPlain}
+use Rattle.wasm_decode.specs.opcodes.OperatorFaults.{PlainOperatorFault}
+use Rattle.wasm_operators_readers.specs.Step.{step_at}
+use Rattle.wasm_operators_readers.specs.Reading.{State, TakesOperator, VisitsOperator}
+use Rattle.wasm_operators_readers.specs.Next.{NeedsNext, StopsNext, state_of}
+use Rattle.wasm_operators_readers.proofs.Decoder.{plain_sound}
+use Rattle.wasm_operators_readers.proofs.Taken.{begun_allows, begun_took, begun_stopped}
 use Rattle.wasm_operators_readers.proofs.HighOpcodes.{high_visited}
 use Rattle.wasm_operators_readers.proofs.operators.OperatorsReader.visit_operator.Goals as goal
 

@@ -1,12 +1,12 @@
 use Rattle.std.proofs.Common.{◌≡◌, ◌++◌, ◌∷◌, [], sym, subst, rules}
-use Rattle.wasm_below.specs.Source.{rest, offset_of}
-use Rattle.wasm_opcodes.specs.Allowed.{EncodesPlain}
-use Rattle.wasm_opcodes.specs.OperatorFaults.{PlainOperatorFault}
-use Rattle.wasm_operators_expressions.specs.Visiting.{Visited}
-use Rattle.wasm_operators_expressions.proofs.VisitLemmas.{visited_push, plain_push}
-use Rattle.wasm_operators_runs.proofs.Runs.{ran_push, ran_unchanged, run_stops}
-use Rattle.wasm_operators_decoding.specs.Next.{NeedsNext}
-use Rattle.wasm_operators_decoding.proofs.Decoder.{plain_sound, no_vector}
+use Rattle.wasm_decode.specs.below.Source.{rest, offset_of}
+use Rattle.wasm_decode.specs.opcodes.Allowed.{EncodesPlain}
+use Rattle.wasm_decode.specs.opcodes.OperatorFaults.{PlainOperatorFault}
+use Rattle.wasm_operators_readers.specs.Visiting.{Visited}
+use Rattle.wasm_operators_readers.proofs.VisitLemmas.{visited_push, plain_push}
+use Rattle.wasm_operators_readers.proofs.Runs.{ran_push, ran_unchanged, run_stops}
+use Rattle.wasm_operators_readers.specs.Next.{NeedsNext}
+use Rattle.wasm_operators_readers.proofs.Decoder.{plain_sound, no_vector}
 use Rattle.wasm_operators_readers.proofs.operators.OperatorsReader.visit_to_end.Goals as goal
 
 pub plain_visits-preserved : goal.plain_visits-preserved

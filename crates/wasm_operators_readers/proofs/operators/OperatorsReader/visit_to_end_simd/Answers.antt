@@ -1,12 +1,12 @@
 use Rattle.std.proofs.Common.{◌≡◌, ◌++◌, ◌∷◌, [], sym, subst, rules}
-use Rattle.wasm_below.specs.Source.{rest, offset_of}
-use Rattle.wasm_opcodes.specs.Allowed.{EncodesAllowed}
-use Rattle.wasm_opcodes.specs.OperatorFaults.{OperatorFault}
-use Rattle.wasm_operators_expressions.specs.Visiting.{Visited}
-use Rattle.wasm_operators_expressions.proofs.VisitLemmas.{visited_push}
-use Rattle.wasm_operators_runs.proofs.Runs.{ran_push, ran_unchanged, run_stops}
-use Rattle.wasm_operators_decoding.specs.Next.{NeedsNext}
-use Rattle.wasm_operators_decoding.proofs.Decoder.{sound}
+use Rattle.wasm_decode.specs.below.Source.{rest, offset_of}
+use Rattle.wasm_decode.specs.opcodes.Allowed.{EncodesAllowed}
+use Rattle.wasm_decode.specs.opcodes.OperatorFaults.{OperatorFault}
+use Rattle.wasm_operators_readers.specs.Visiting.{Visited}
+use Rattle.wasm_operators_readers.proofs.VisitLemmas.{visited_push}
+use Rattle.wasm_operators_readers.proofs.Runs.{ran_push, ran_unchanged, run_stops}
+use Rattle.wasm_operators_readers.specs.Next.{NeedsNext}
+use Rattle.wasm_operators_readers.proofs.Decoder.{sound}
 use Rattle.wasm_operators_readers.proofs.operators.OperatorsReader.visit_to_end_simd.Goals as goal
 
 pub visits-preserved : goal.visits-preserved

@@ -1,8 +1,8 @@
 use Rattle.std.proofs.Common.{length}
-use Rattle.wasm_below.specs.Source.{rest}
-use Rattle.wasm_operators_expressions.specs.Expression.{Placed}
-use Rattle.wasm_operators_expressions.specs.Visiting.{Visited}
-use Rattle.wasm_operators_runs.specs.Reading.{Ran}
+use Rattle.wasm_decode.specs.below.Source.{rest}
+use Rattle.wasm_operators_readers.specs.Expression.{Placed}
+use Rattle.wasm_operators_readers.specs.Visiting.{Visited}
+use Rattle.wasm_operators_readers.specs.Reading.{Ran}
 use Rattle.wasm_operators_readers.proofs.operators.OperatorsReader.visit_to_end_simd.Given as goal
 
 -- the visitor went along the operators of the visits so far

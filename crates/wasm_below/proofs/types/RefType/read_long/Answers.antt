@@ -1,0 +1,29 @@
+use Rattle.std.proofs.Common.{◌∷◌, [], refl, subst, ap, ◌∙◌}
+use Rattle.wasm_below_bytes.specs.Source.{at_position}
+use Rattle.wasm_below.specs.TypeEncoding.{ref_byte, HeapTypeFault, EncodesHeapType, EncodesLongRef}
+use Rattle.wasm_below_bytes.proofs.TakesLemmas.{takes_then, back}
+use Rattle.wasm_below_bytes.proofs.Prefixes.{advanced, behind_refused}
+use Rattle.wasm_below.proofs.TypeEncodings.{long_behind, long_empty}
+use Rattle.wasm_below.proofs.types.RefType.read_long.Goals as goal
+
+pub returns-in-Ok-clause-reads : goal.returns-in-Ok-clause-reads
+returns-in-Ok-clause-reads c =
+    let r = c.in-Ok.ensures.reads in
+    let code = ref_byte c.args.nullable in
+    let first = advanced c.args.reader.now c.advance.new.self code c.requires c.advance.ensures in
+    (code ∷ r.0, (r.0, refl, r.1), takes_then c.args.reader.now c.advance.new.self c.read.new.reader (code ∷ []) r.0 first r.2)
+
+pub returns-in-Err-clause-reads : goal.returns-in-Err-clause-reads
+returns-in-Err-clause-reads c =
+    let h = c.in-Err.ensures.reads in
+    let code = ref_byte c.args.nullable in
+    let first = advanced c.args.reader.now c.advance.new.self code c.requires c.advance.ensures in (
+      back c.args.reader.now c.advance.new.self c.rewind.new.self (code ∷ []) c.current_position-start.result first c.current_position-start.ensures
+          (c.rewind.ensures ∙ ap (λ r. at_position r c.current_position-start.result) h.0),
+      behind_refused EncodesHeapType EncodesLongRef c.in-Err.e c.args.reader.now c.advance.new.self code first long_empty (long_behind c.args.nullable) h.1,
+    )
+
+pub returns-in-Err-clause-fault : goal.returns-in-Err-clause-fault
+returns-in-Err-clause-fault c =
+    let e = c.in-Err.e in
+    subst (λ r. HeapTypeFault e.message r e.offset) c.advance.ensures c.in-Err.ensures.fault

@@ -1,0 +1,148 @@
+-- Types as bytes.
+-- WebAssembly Core Specification 3.0, Binary Format, Types: Heap Types, Reference Types, Value Types. Of proposals beyond it are the bytes 62 (exact), 65 (shared), 68 (cont) and 75 (nocont). Bytes in comments are hexadecimal.
+use Rattle.std.specs.Prelude.{◌≡◌, ◌≢◌, ℕ, ◌+◌, ◌≤◌, ◌⊎◌, Bool, true, false, List, [], ◌∷◌, pos}
+use Rattle.wasm_below_bytes.specs.declared.message.Message.{Message}
+use Rattle.wasm_below_bytes.specs.declared.message.Message.TheVariants as message
+use Rattle.wasm_below_bytes.specs.declared.message.TypeName.{TypeName}
+use Rattle.wasm_below_bytes.specs.declared.message.TypeName.TheVariants as type_name
+use Rattle.wasm_below.specs.declared.types.AbstractHeapType.{AbstractHeapType}
+use Rattle.wasm_below.specs.declared.types.AbstractHeapType.TheVariants as ty
+use Rattle.wasm_below.specs.declared.types.HeapType.{HeapType}
+use Rattle.wasm_below.specs.declared.types.HeapType.TheVariants as heap
+use Rattle.wasm_below.specs.declared.types.ValType.{ValType}
+use Rattle.wasm_below.specs.declared.types.ValType.TheVariants as value
+use Rattle.wasm_below.specs.Reference.{Reference, max_type_index}
+use Rattle.wasm_below_bytes.specs.Number.{EncodesUnsigned, EncodesSigned}
+use Rattle.wasm_below_bytes.specs.Source.{Reader, rest, offset_of, end_of, at_position, BeginsWith, U32Fault, S33Fault}
+use Rattle.wasm_below_bytes.specs.Fault.{ThenFault}
+
+-- The byte of an abstract heap type.
+abbrev pub heap_type_byte : AbstractHeapType → ℕ
+heap_type_byte ty.NoCont = 0x75
+heap_type_byte ty.NoExn = 0x74
+heap_type_byte ty.NoFunc = 0x73
+heap_type_byte ty.NoExtern = 0x72
+heap_type_byte ty.None = 0x71
+heap_type_byte ty.Func = 0x70
+heap_type_byte ty.Extern = 0x6f
+heap_type_byte ty.Any = 0x6e
+heap_type_byte ty.Eq = 0x6d
+heap_type_byte ty.I31 = 0x6c
+heap_type_byte ty.Struct = 0x6b
+heap_type_byte ty.Array = 0x6a
+heap_type_byte ty.Exn = 0x69
+heap_type_byte ty.Cont = 0x68
+
+-- A short form: the byte of an abstract heap type; where it is shared, behind the byte 65.
+--   absheaptype ::= 0x69 ⇒ exn | 0x6A ⇒ array | 0x6B ⇒ struct | 0x6C ⇒ i31 | 0x6D ⇒ eq | 0x6E ⇒ any | 0x6F ⇒ extern
+--                 | 0x70 ⇒ func | 0x71 ⇒ none | 0x72 ⇒ noextern | 0x73 ⇒ nofunc | 0x74 ⇒ noexn
+abbrev pub EncodesShort : List ℕ → HeapType → Type 0
+EncodesShort text (heap.Abstract false ty) = text ≡ heap_type_byte ty ∷ []
+EncodesShort text (heap.Abstract true ty) = text ≡ 0x65 ∷ heap_type_byte ty ∷ []
+EncodesShort text _ = ⊥
+
+-- An index of a type, as a signed number that is not negative.
+abbrev pub EncodesConcrete : List ℕ → HeapType → Type 0
+EncodesConcrete text (heap.Concrete index) = EncodesSigned 33 text (pos index) × (index ≤ max_type_index)
+EncodesConcrete text _ = ⊥
+
+-- The byte 62 and an index of a type.
+abbrev pub EncodesExact : List ℕ → HeapType → Type 0
+EncodesExact text (heap.Exact index) = (behind : List ℕ) × (text ≡ 0x62 ∷ behind) × EncodesUnsigned 32 behind index × (index ≤ max_type_index)
+EncodesExact text _ = ⊥
+
+-- Heap Types.
+--   heaptype ::= absheaptype | x33:s33 ⇒ x33, if x33 ≥ 0
+abbrev pub EncodesHeapType : List ℕ → HeapType → Type 0
+EncodesHeapType text (heap.Abstract shared ty) = EncodesShort text (heap.Abstract shared ty)
+EncodesHeapType text (heap.Concrete index) = EncodesConcrete text (heap.Concrete index)
+EncodesHeapType text (heap.Exact index) = EncodesExact text (heap.Exact index)
+
+-- The byte before a heap type: 63 where null is in the type, else 64.
+abbrev pub ref_byte : Bool → ℕ
+ref_byte true = 0x63
+ref_byte false = 0x64
+
+-- A short form, in which null is in the type.
+abbrev pub EncodesShortRef : List ℕ → Reference → Type 0
+EncodesShortRef text r = (r.nullable ≡ true) × EncodesShort text r.heap_type
+
+-- A heap type behind the byte that says whether null is in the type.
+abbrev pub EncodesLongRef : List ℕ → Reference → Type 0
+EncodesLongRef text r = (behind : List ℕ) × (text ≡ ref_byte r.nullable ∷ behind) × EncodesHeapType behind r.heap_type
+
+-- Reference Types.
+--   reftype ::= 0x63 ht:heaptype ⇒ ref null ht | 0x64 ht:heaptype ⇒ ref ht | ht:absheaptype ⇒ ref null ht
+abbrev pub EncodesRefType : List ℕ → Reference → Type 0
+EncodesRefType text r = EncodesShortRef text r ⊎ EncodesLongRef text r
+
+-- Number Types and Vector Types.
+--   numtype ::= 0x7C ⇒ f64 | 0x7D ⇒ f32 | 0x7E ⇒ i64 | 0x7F ⇒ i32      vectype ::= 0x7B ⇒ v128
+abbrev pub EncodesNumberType : List ℕ → ValType → Type 0
+EncodesNumberType text value.I32 = text ≡ 0x7f ∷ []
+EncodesNumberType text value.I64 = text ≡ 0x7e ∷ []
+EncodesNumberType text value.F32 = text ≡ 0x7d ∷ []
+EncodesNumberType text value.F64 = text ≡ 0x7c ∷ []
+EncodesNumberType text value.V128 = text ≡ 0x7b ∷ []
+EncodesNumberType text (value.Ref r) = ⊥
+
+-- Value Types.
+--   valtype ::= numtype | vectype | reftype
+abbrev pub EncodesValType : List ℕ → ValType → Type 0
+EncodesValType text (value.Ref r) = EncodesRefType text r
+EncodesValType text ty = EncodesNumberType text ty
+
+-- The reader behind its next byte.
+abbrev pub behind_byte : Reader → Reader
+behind_byte r = at_position r (r.position + 1)
+
+-- Bytes with which a short form begins.
+abbrev pub LeadsShort : ℕ → Type 0
+LeadsShort byte = (0x65 ≤ byte) × (byte ≤ 0x75) × (byte ≢ 0x66) × (byte ≢ 0x67)
+
+-- Bytes with which a reference type begins.
+abbrev pub LeadsRefType : ℕ → Type 0
+LeadsRefType byte = (0x63 ≤ byte) × (byte ≤ 0x75) × (byte ≢ 0x66) × (byte ≢ 0x67)
+
+-- Short forms whose bytes are missing: nothing, and the byte 65 alone.
+abbrev pub IsCutShort : List ℕ → Type 0
+IsCutShort bytes = (bytes ≡ []) ⊎ (bytes ≡ 0x65 ∷ [])
+
+-- Which refusal a short form has: the data ends where it begins or behind the byte 65, or no type of this name stands there.
+abbrev pub ShortFault : TypeName → Message → Reader → ℕ → Type 0
+ShortFault name message.EndOfData r offset = (offset ≡ end_of r) × IsCutShort (rest r)
+ShortFault name (message.InvalidType what) r offset = (what ≡ name) × (offset ≡ offset_of r) × (¬ IsCutShort (rest r))
+ShortFault name _ r offset = ⊥
+
+-- Which refusal a type of one byte has: the data ends, or the byte is none of this name.
+abbrev pub ByteFault : TypeName → Message → Reader → ℕ → Type 0
+ByteFault name message.EndOfData r offset = (offset ≡ end_of r) × (rest r ≡ [])
+ByteFault name (message.InvalidType what) r offset = (what ≡ name) × (offset ≡ offset_of r) × (rest r ≢ [])
+ByteFault name _ r offset = ⊥
+
+-- A number stands there that is no index of a heap type, which begins at this reader.
+abbrev pub NoIndex : Reader → Message → Reader → ℕ → Type 0
+NoIndex begin m r offset = (m ≡ message.InvalidType type_name.HeapType) × (offset ≡ offset_of begin)
+
+-- Which refusal an index behind the byte 62 has, and one by itself: that of its number, or the number is no index.
+abbrev pub ExactFault : Message → Reader → ℕ → Type 0
+ExactFault m r offset = ThenFault (EncodesUnsigned 32) U32Fault (λ n. NoIndex r) m (behind_byte r) offset
+
+abbrev pub ConcreteFault : Message → Reader → ℕ → Type 0
+ConcreteFault m r offset = ThenFault (EncodesSigned 33) S33Fault (λ n. NoIndex r) m r offset
+
+-- A byte of this kind stands first.
+abbrev pub LedBy : (ℕ → Type 0) → List ℕ → Type 0
+LedBy Leads bytes = (byte : ℕ) × Leads byte × BeginsWith byte bytes
+
+-- Which refusal a heap type has: behind the byte 62 that of an index, where a short form begins that of one, else that of an index by itself.
+abbrev pub HeapTypeFault : Message → Reader → ℕ → Type 0
+HeapTypeFault m r offset = (BeginsWith 0x62 (rest r) × ExactFault m r offset) ⊎ ((LedBy LeadsShort (rest r) × ShortFault type_name.HeapType m r offset) ⊎ ((¬ BeginsWith 0x62 (rest r)) × (¬ LedBy LeadsShort (rest r)) × ConcreteFault m r offset))
+
+-- Which refusal a reference type has: behind the byte 63 or 64 that of a heap type, else one of its own.
+abbrev pub RefTypeFault : Message → Reader → ℕ → Type 0
+RefTypeFault m r offset = ((nullable : Bool) × BeginsWith (ref_byte nullable) (rest r) × HeapTypeFault m (behind_byte r) offset) ⊎ (((nullable : Bool) → BeginsWith (ref_byte nullable) (rest r) → ⊥) × ShortFault type_name.ReferenceType m r offset)
+
+-- Which refusal a value type has: that of a reference type where one begins, else one of its own.
+abbrev pub ValTypeFault : Message → Reader → ℕ → Type 0
+ValTypeFault m r offset = ((byte : ℕ) × LeadsRefType byte × BeginsWith byte (rest r) × RefTypeFault m r offset) ⊎ (((byte : ℕ) → LeadsRefType byte → BeginsWith byte (rest r) → ⊥) × ByteFault type_name.ValueType m r offset)

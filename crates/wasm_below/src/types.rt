@@ -1,0 +1,113 @@
+//! Value types, reference types and heap types.
+ghost use Rattle.std.specs.Prelude.{◌≡◌, ℕ, ◌≤◌, IsTrue, ◌↔◌, IsSome, IfSome, IfNone, IfOk, IfErr, codes};
+ghost use Rattle.wasm_below.specs.Reference.{IsIndexed};
+
+use std::marker::Model;
+
+mod reading;
+
+/// The greatest index of a type that is read.
+const MAX_TYPE_INDEX: u32 = 1048575;
+
+/// A value type. Types, Value Types.
+#[derive(Clone, Copy, Debug, PartialEq, Eq)]
+pub enum ValType {
+    I32,
+    I64,
+    F32,
+    F64,
+    V128,
+    Ref(RefType),
+}
+
+/// A heap type that stands for many. Types, Heap Types.
+#[derive(Clone, Copy, Debug, PartialEq, Eq)]
+pub enum AbstractHeapType {
+    Func,
+    Extern,
+    Any,
+    None,
+    NoExtern,
+    NoFunc,
+    Eq,
+    Struct,
+    Array,
+    I31,
+    Exn,
+    NoExn,
+    Cont,
+    NoCont,
+}
+
+/// What a reference refers to. Types, Heap Types.
+#[derive(Clone, Copy, Debug, PartialEq, Eq)]
+pub enum HeapType {
+    /// An abstract heap type, shared between threads or not.
+    Abstract { shared: bool, ty: AbstractHeapType },
+    /// The type of this index, or one below it.
+    Concrete(u32),
+    /// The type of this index alone.
+    Exact(u32),
+}
+
+/// A reference type, whose index of a type is at most 1048575. Types, Reference Types.
+#[derive(Clone, Copy, Debug, PartialEq, Eq)]
+pub struct RefType {
+    nullable: bool,
+    heap_type: HeapType,
+}
+
+impl Model for RefType {
+    ghost use Rattle.wasm_below.specs.Reference.{Reference, IsIndexed};
+
+    ghost Value = { Reference };
+
+    ghost view = { λ r. record { nullable = r.nullable; heap_type = r.heap_type } };
+
+    ghost invariant = { λ r. IsIndexed r.heap_type };
+
+    ghost inverse = { λ r. record { nullable = r.nullable; heap_type = r.heap_type } };
+}
+
+impl RefType {
+    /// The type of references to this, with the null reference or without. `None` where an index
+    /// is above 1048575.
+    pub fn new(nullable: bool, heap_type: HeapType) -> Option<RefType>
+        ensures some { IsSome result ↔ IsIndexed heap_type }
+        ensures value { IfSome result (λ r. (r.nullable ≡ nullable) × (r.heap_type ≡ heap_type)) }
+    {
+        if is_indexed(heap_type) {
+            Some(RefType {
+                nullable,
+                heap_type,
+            })
+        } else {
+            None
+        }
+    }
+
+    /// Whether the null reference is in the type.
+    pub fn is_nullable(&self) -> bool
+        ensures { result ≡ self.now.nullable }
+    {
+        self.nullable
+    }
+
+    /// The type of what is referred to.
+    pub fn heap_type(&self) -> HeapType
+        ensures value { result ≡ self.now.heap_type }
+        ensures indexed { IsIndexed result }
+    {
+        self.heap_type
+    }
+}
+
+/// Whether an index keeps to the limit.
+fn is_indexed(heap_type: HeapType) -> bool
+    ensures { IsTrue result ↔ IsIndexed heap_type }
+{
+    match heap_type {
+        HeapType::Abstract { .. } => true,
+        HeapType::Concrete(index) | HeapType::Exact(index) => index <= MAX_TYPE_INDEX,
+    }
+}

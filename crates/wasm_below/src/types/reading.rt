@@ -1,0 +1,231 @@
+//! Reading types: each from its first byte.
+ghost use Rattle.std.specs.Prelude.{◌≡◌, ◌≢◌, ℕ, ◌+◌, ◌≤◌, ◌⊎◌, ◌∷◌, [], IsTrue, ◌↔◌, IfSome, IfNone, IfErr};
+ghost use Rattle.wasm_below.specs.declared.types.AbstractHeapType.{AbstractHeapType};
+ghost use Rattle.wasm_below_bytes.specs.Source.{Reads, BeginsWith, rest};
+ghost use Rattle.wasm_below.specs.TypeEncoding.{heap_type_byte, ref_byte, behind_byte, LeadsShort, LeadsRefType, EncodesShort, EncodesConcrete, EncodesExact, EncodesHeapType, EncodesShortRef, EncodesLongRef, EncodesRefType, EncodesNumberType, EncodesValType, ShortFault, ByteFault, ExactFault, ConcreteFault, HeapTypeFault, RefTypeFault, ValTypeFault};
+
+use super::{AbstractHeapType, HeapType, MAX_TYPE_INDEX, RefType, ValType};
+use wasm_below_bytes::{BinaryReader, Message, Result, TypeName};
+
+/// Before an abstract heap type that is shared.
+const SHARED: u8 = 0x65;
+
+/// Before the index of an exact heap type.
+const EXACT: u8 = 0x62;
+
+/// Before the heap type of a reference type with null.
+const REF_NULL: u8 = 0x63;
+
+/// Before the heap type of a reference type without null.
+const REF: u8 = 0x64;
+
+impl AbstractHeapType {
+    /// The abstract heap type of this byte.
+    fn from_byte(code: u8) -> Option<AbstractHeapType>
+        ensures some { IfSome result (λ ty. heap_type_byte ty ≡ code) }
+        ensures none { IfNone result ((ty : AbstractHeapType) → heap_type_byte ty ≢ code) }
+    {
+        match code {
+            0x68 => Some(AbstractHeapType::Cont),
+            0x69 => Some(AbstractHeapType::Exn),
+            0x6a => Some(AbstractHeapType::Array),
+            0x6b => Some(AbstractHeapType::Struct),
+            0x6c => Some(AbstractHeapType::I31),
+            0x6d => Some(AbstractHeapType::Eq),
+            0x6e => Some(AbstractHeapType::Any),
+            0x6f => Some(AbstractHeapType::Extern),
+            0x70 => Some(AbstractHeapType::Func),
+            0x71 => Some(AbstractHeapType::None),
+            0x72 => Some(AbstractHeapType::NoExtern),
+            0x73 => Some(AbstractHeapType::NoFunc),
+            0x74 => Some(AbstractHeapType::NoExn),
+            0x75 => Some(AbstractHeapType::NoCont),
+            _ => None,
+        }
+    }
+}
+
+impl HeapType {
+    /// A heap type. Types, Heap Types.
+    ///
+    /// `InvalidType` of `heap type` where it begins: a byte behind 65 that is no abstract heap
+    /// type, a negative index, or one above 1048575.
+    #[inline(never)]
+    pub fn read(reader: &mut BinaryReader<'_>) -> Result<HeapType>
+        ensures reads { Reads EncodesHeapType result reader.old reader.new }
+        ensures fault { IfErr result (λ e. HeapTypeFault e.message reader.old e.offset) }
+    {
+        let byte = reader.peek()?;
+        if leads_short(byte) {
+            return HeapType::read_short(reader, TypeName::HeapType);
+        }
+        if byte == EXACT {
+            return HeapType::read_exact(reader);
+        }
+        HeapType::read_concrete(reader)
+    }
+
+    /// A short form, refused as a type of this name.
+    fn read_short(reader: &mut BinaryReader<'_>, name: TypeName) -> Result<HeapType>
+        ensures reads { Reads EncodesShort result reader.old reader.new }
+        ensures fault { IfErr result (λ e. ShortFault name e.message reader.old e.offset) }
+    {
+        let start = reader.current_position();
+        let byte = reader.read_u8()?;
+        if byte != SHARED {
+            return match AbstractHeapType::from_byte(byte) {
+                Some(ty) => Ok(HeapType::Abstract { shared: false, ty }),
+                None => Err(reader.refuse(start, Message::InvalidType(name))),
+            };
+        }
+        match reader.read_u8() {
+            Ok(code) => match AbstractHeapType::from_byte(code) {
+                Some(ty) => Ok(HeapType::Abstract { shared: true, ty }),
+                None => Err(reader.refuse(start, Message::InvalidType(name))),
+            },
+            Err(e) => {
+                reader.rewind(start);
+                Err(e)
+            }
+        }
+    }
+
+    /// An index of a type.
+    fn read_concrete(reader: &mut BinaryReader<'_>) -> Result<HeapType>
+        ensures reads { Reads EncodesConcrete result reader.old reader.new }
+        ensures fault { IfErr result (λ e. ConcreteFault e.message reader.old e.offset) }
+    {
+        let start = reader.current_position();
+        let index = reader.read_var_s33()?;
+        if index < 0 || index > i64::from(MAX_TYPE_INDEX) {
+            return Err(reader.refuse(start, Message::InvalidType(TypeName::HeapType)));
+        }
+        Ok(HeapType::Concrete(index as u32))
+    }
+
+    /// An index of a type behind the byte 62.
+    fn read_exact(reader: &mut BinaryReader<'_>) -> Result<HeapType>
+        requires { BeginsWith 0x62 (rest reader.old) }
+        ensures reads { Reads EncodesExact result reader.old reader.new }
+        ensures fault { IfErr result (λ e. ExactFault e.message reader.old e.offset) }
+    {
+        let start = reader.current_position();
+        reader.advance();
+        match reader.read_var_u32() {
+            Ok(index) => {
+                if index > MAX_TYPE_INDEX {
+                    return Err(reader.refuse(start, Message::InvalidType(TypeName::HeapType)));
+                }
+                Ok(HeapType::Exact(index))
+            }
+            Err(e) => {
+                reader.rewind(start);
+                Err(e)
+            }
+        }
+    }
+}
+
+impl RefType {
+    /// A reference type. Types, Reference Types.
+    ///
+    /// `InvalidType` of `reference type` where it begins: no reference type begins with this byte,
+    /// or a byte behind 65 is no abstract heap type. Else as its heap type.
+    #[inline(never)]
+    pub fn read(reader: &mut BinaryReader<'_>) -> Result<RefType>
+        ensures reads { Reads EncodesRefType result reader.old reader.new }
+        ensures fault { IfErr result (λ e. RefTypeFault e.message reader.old e.offset) }
+    {
+        let byte = reader.peek()?;
+        if byte == REF_NULL {
+            return RefType::read_long(reader, true);
+        }
+        if byte == REF {
+            return RefType::read_long(reader, false);
+        }
+        RefType::read_short(reader)
+    }
+
+    /// A short form.
+    fn read_short(reader: &mut BinaryReader<'_>) -> Result<RefType>
+        ensures reads { Reads EncodesShortRef result reader.old reader.new }
+        ensures fault { IfErr result (λ e. ShortFault TypeName.ReferenceType e.message reader.old e.offset) }
+    {
+        let heap_type = HeapType::read_short(reader, TypeName::ReferenceType)?;
+        Ok(RefType {
+            nullable: true,
+            heap_type,
+        })
+    }
+
+    /// A heap type behind the byte 63 or 64.
+    fn read_long(reader: &mut BinaryReader<'_>, nullable: bool) -> Result<RefType>
+        requires { BeginsWith (ref_byte nullable) (rest reader.old) }
+        ensures reads { Reads EncodesLongRef result reader.old reader.new }
+        ensures fault { IfErr result (λ e. HeapTypeFault e.message (behind_byte reader.old) e.offset) }
+    {
+        let start = reader.current_position();
+        reader.advance();
+        match HeapType::read(reader) {
+            Ok(heap_type) => Ok(RefType {
+                nullable,
+                heap_type,
+            }),
+            Err(e) => {
+                reader.rewind(start);
+                Err(e)
+            }
+        }
+    }
+}
+
+impl ValType {
+    /// A value type. Types, Value Types.
+    ///
+    /// `InvalidType` of `value type` where it begins: no value type begins with this byte. Else as
+    /// its reference type.
+    #[inline(never)]
+    pub fn read(reader: &mut BinaryReader<'_>) -> Result<ValType>
+        ensures reads { Reads EncodesValType result reader.old reader.new }
+        ensures fault { IfErr result (λ e. ValTypeFault e.message reader.old e.offset) }
+    {
+        let byte = reader.peek()?;
+        if leads_ref_type(byte) {
+            return match RefType::read(reader) {
+                Ok(ty) => Ok(ValType::Ref(ty)),
+                Err(e) => Err(e),
+            };
+        }
+        ValType::read_number(reader)
+    }
+
+    /// A value type that is no reference type.
+    fn read_number(reader: &mut BinaryReader<'_>) -> Result<ValType>
+        ensures reads { Reads EncodesNumberType result reader.old reader.new }
+        ensures fault { IfErr result (λ e. ByteFault TypeName.ValueType e.message reader.old e.offset) }
+    {
+        let start = reader.current_position();
+        match reader.read_u8()? {
+            0x7f => Ok(ValType::I32),
+            0x7e => Ok(ValType::I64),
+            0x7d => Ok(ValType::F32),
+            0x7c => Ok(ValType::F64),
+            0x7b => Ok(ValType::V128),
+            _ => Err(reader.refuse(start, Message::InvalidType(TypeName::ValueType))),
+        }
+    }
+}
+
+/// Whether a short form begins with this byte.
+fn leads_short(byte: u8) -> bool
+    ensures { IsTrue result ↔ LeadsShort byte }
+{
+    byte == SHARED || matches!(byte, 0x68..=0x75)
+}
+
+/// Whether a reference type begins with this byte.
+fn leads_ref_type(byte: u8) -> bool
+    ensures { IsTrue result ↔ LeadsRefType byte }
+{
+    byte == REF_NULL || byte == REF || leads_short(byte)
+}

@@ -1,4 +1,0 @@
-pub mod DeterminedTypeRefusals
-pub mod TypeEncodings
-pub mod TypeFaults
-pub mod TypePrefixCodes

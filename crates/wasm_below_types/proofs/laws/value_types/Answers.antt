@@ -1,5 +1,0 @@
-use Rattle.wasm_below_types.proofs.TypePrefixCodes.{value_prefix_code}
-use Rattle.wasm_below_types.proofs.laws.value_types.Goals as goal
-
-pub returns : goal.returns
-returns c = value_prefix_code

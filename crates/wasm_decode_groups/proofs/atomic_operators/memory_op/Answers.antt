@@ -1,0 +1,21 @@
+-- Written by tools/lists.py from tools/operators.tsv.
+use Rattle.std.proofs.Common.{[], Some, refl, sym, subst, ap, arith, ◌∷◌, ◌∙◌}
+use Rattle.wasm_visit_groups.specs.imm.declared.memory_argument.MemArgKind.TheVariants as kind
+use Rattle.wasm_visit_groups.specs.instr.Immediate.{memory_argument, is_memory_argument}
+use Rattle.wasm_decode_opcodes.specs.Decoding.{VisitsRow}
+use Rattle.wasm_decode_opcodes.specs.Entry.{free}
+use Rattle.wasm_decode_opcodes.specs.OperatorFaults.{OperatorFault}
+use Rattle.wasm_decode_opcodes.proofs.OperatorLemmas.{refuses_free, visited_free}
+use Rattle.wasm_decode_groups.proofs.atomic_operators.memory_op.Goals as goal
+
+pub returns-in-Ok : goal.returns-in-Ok
+returns-in-Ok g c k =
+    let r = c.args.reader.now in
+    let is = c.requires.kinds ∙ ap (λ z. free (is_memory_argument kind.Op z ∷ [])) (sym c.align_of_memory_op.ensures) in
+    visited_free g.V.Visitor.visits (OperatorFault r.features k) k (Some 0xfe) c.args.code (is_memory_argument kind.Op c.align_of_memory_op.result ∷ []) (memory_argument kind.Op c.align_of_memory_op.result c.in-Ok.it ∷ []) c.args.start r c.memory.new.reader c.args.v.now c.visit_memory_op.new.v c.visit_memory_op.result is c.requires.behind (subst (λ z. VisitsRow g.V.Visitor.visits (Some 0xfe) c.args.code (memory_argument kind.Op z c.in-Ok.it ∷ []) c.args.v.now c.visit_memory_op.result c.visit_memory_op.new.v) (sym c.align_of_memory_op.ensures) c.visit_memory_op.ensures) c.in-Ok.ensures
+
+pub returns-in-Err : goal.returns-in-Err
+returns-in-Err g c k =
+    let r = c.args.reader.now in
+    let is = c.requires.kinds ∙ ap (λ z. free (is_memory_argument kind.Op z ∷ [])) (sym c.align_of_memory_op.ensures) in
+    refuses_free g.V.Visitor.visits k (Some 0xfe) c.args.code (is_memory_argument kind.Op c.align_of_memory_op.result ∷ []) c.args.start c.in-Err.e r c.memory.new.reader c.args.v.now (refl, omega arith) is c.requires.behind c.in-Err.ensures

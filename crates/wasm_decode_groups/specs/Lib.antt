@@ -1,0 +1,7 @@
+pub mod OneByte
+pub use Rattle.wasm_visit_groups.specs.below as below
+pub use Rattle.wasm_visit_groups.specs.imm as imm
+pub use Rattle.wasm_visit_groups.specs.grammar as grammar
+pub use Rattle.wasm_visit_groups.specs.instr as instr
+pub use Rattle.wasm_decode_opcodes.specs as opcodes
+pub use Rattle.wasm_visit_groups.specs as groups

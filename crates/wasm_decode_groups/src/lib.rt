@@ -1,0 +1,23 @@
+//! The decoding of each group of visits: from an opcode or a subopcode that was read, over the
+//! immediates behind it, to the visitor's own visit.
+#![tactic(auto)]
+
+mod atomic_operators;
+mod control;
+mod gc_operators;
+mod misc_operators;
+mod numeric_operators;
+mod one_byte_operators;
+mod simd_high_operators;
+mod simd_low_operators;
+
+pub use atomic_operators::atomic;
+pub use gc_operators::gc;
+pub use misc_operators::misc;
+pub use numeric_operators::numeric;
+pub use one_byte_operators::{any_one_byte, one_byte};
+pub use simd_high_operators::simd_high;
+pub use simd_low_operators::simd_low;
+pub use wasm_decode_opcodes as opcodes;
+pub use wasm_visit_groups as groups;
+pub use wasm_visit_groups::{below, grammar, imm, instr};

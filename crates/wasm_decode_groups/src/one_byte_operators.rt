@@ -1,0 +1,658 @@
+//! Decoding of the operators of one byte. Written by tools/lists.py from tools/operators.tsv.
+ghost use Rattle.std.specs.Prelude.{◌≡◌, ◌≤◌, ◌<◌, [], ◌∷◌, Some, None};
+ghost use Rattle.wasm_visit_groups.specs.below.Source.{at_position};
+ghost use Rattle.wasm_visit_groups.specs.grammar.declared.frame_kind.FrameKind.{FrameKind};
+ghost use Rattle.wasm_visit_groups.specs.instr.Immediate.{unsigned_32, signed_32, memory_argument, memory_index, block_type, is_unsigned_32, is_memory_index, is_block_type, is_memory_argument};
+ghost use Rattle.wasm_decode_opcodes.specs.Allowed.{EncodesAllowed};
+ghost use Rattle.wasm_decode_opcodes.specs.Decoding.{Decodes, StandsBehind, VisitsRow};
+ghost use Rattle.wasm_decode_opcodes.specs.Entries.{entry_at, align_at};
+ghost use Rattle.wasm_decode_opcodes.specs.Entry.{free};
+ghost use Rattle.wasm_decode_opcodes.specs.OperatorFaults.{OperatorFault};
+ghost use Rattle.wasm_decode_groups.specs.OneByte.{IsOneByteCode};
+
+use crate::control::{
+    else_in_if, legacy_catch, legacy_catch_all, legacy_delegate, legacy_try, resume, resume_throw,
+    resume_throw_ref, try_table, typed_select,
+};
+use std::alloc::Global;
+use wasm_decode_opcodes::{immediates, unknown_opcode};
+use wasm_visit_groups::VisitOneByte;
+use wasm_visit_groups::below::{BinaryReader, Result};
+use wasm_visit_groups::grammar::FrameKind;
+use wasm_visit_groups::imm::{BlockType, MemArg, MemArgKind};
+
+/// Reads what stands behind the opcode of one of the operators of one byte, and visits the operator. Common ones inline, the others out of line.
+#[inline(always)]
+pub fn one_byte<V: VisitOneByte>(
+    v: &mut V,
+    alloc: Global,
+    reader: &mut BinaryReader<'_>,
+    start: usize,
+    frame: FrameKind,
+    code: u8,
+) -> Result<V::Output>
+    requires behind { StandsBehind start None code reader.old }
+    requires apart { IsOneByteCode code }
+    ensures { Decodes V.visits (EncodesAllowed reader.old.features frame) (OperatorFault reader.old.features frame) result (at_position reader.old start) reader.new v.old v.new }
+{
+    match code {
+        0x20..=0x26 => unsigned(v, reader, start, code),
+        0x28..=0x3e => memory(v, reader, start, code),
+        0x41 => i32_const(v, reader, start),
+        0x42 => i64_const(v, reader, start),
+        _ => control_or_parametric(v, alloc, reader, start, frame, code),
+    }
+}
+
+/// Reads what stands behind the opcode of one of the operators of one byte, and visits the operator. The common ones of them inline, the others out of line.
+#[inline(always)]
+fn control_or_parametric<V: VisitOneByte>(
+    v: &mut V,
+    alloc: Global,
+    reader: &mut BinaryReader<'_>,
+    start: usize,
+    frame: FrameKind,
+    code: u8,
+) -> Result<V::Output>
+    requires behind { StandsBehind start None code reader.old }
+    requires apart { IsOneByteCode code }
+    ensures { Decodes V.visits (EncodesAllowed reader.old.features frame) (OperatorFault reader.old.features frame) result (at_position reader.old start) reader.new v.old v.new }
+{
+    match code {
+        0x02..=0x04 => block_type(v, reader, start, code),
+        0x00 => unreachable_alone(v, reader, start),
+        0x01 => nop_alone(v, reader, start),
+        0x0b => end_alone(v, reader, start),
+        0x0c => br_alone(v, reader, start),
+        0x0d => br_if_alone(v, reader, start),
+        0x0f => return_alone(v, reader, start),
+        0x10 => call_alone(v, reader, start),
+        0x1a => drop_alone(v, reader, start),
+        0x1b => select_alone(v, reader, start),
+        _ => others(v, alloc, reader, start, frame, code),
+    }
+}
+
+/// Reads what stands behind the opcode of one of the operators of one byte, and visits the operator. What the call out of line answers is matched and made again, so that it is not held in memory where the common operators end.
+#[inline(always)]
+fn others<V: VisitOneByte>(
+    v: &mut V,
+    alloc: Global,
+    reader: &mut BinaryReader<'_>,
+    start: usize,
+    frame: FrameKind,
+    code: u8,
+) -> Result<V::Output>
+    requires behind { StandsBehind start None code reader.old }
+    requires apart { IsOneByteCode code }
+    ensures { Decodes V.visits (EncodesAllowed reader.old.features frame) (OperatorFault reader.old.features frame) result (at_position reader.old start) reader.new v.old v.new }
+{
+    match out_of_line(v, alloc, reader, start, frame, code) {
+        Ok(answer) => Ok(answer),
+        Err(e) => Err(e),
+    }
+}
+
+/// Reads what stands behind the opcode of one of the operators of one byte, and visits the operator. All of it out of line.
+#[inline(never)]
+fn out_of_line<V: VisitOneByte>(
+    v: &mut V,
+    alloc: Global,
+    reader: &mut BinaryReader<'_>,
+    start: usize,
+    frame: FrameKind,
+    code: u8,
+) -> Result<V::Output>
+    requires behind { StandsBehind start None code reader.old }
+    requires apart { IsOneByteCode code }
+    ensures { Decodes V.visits (EncodesAllowed reader.old.features frame) (OperatorFault reader.old.features frame) result (at_position reader.old start) reader.new v.old v.new }
+{
+    any_one_byte(v, alloc, reader, start, frame, code)
+}
+
+/// Reads what stands behind the opcode of one of the operators of one byte, and visits the operator. Each of them is an arm here.
+#[inline(always)]
+pub fn any_one_byte<V: VisitOneByte>(
+    v: &mut V,
+    alloc: Global,
+    reader: &mut BinaryReader<'_>,
+    start: usize,
+    frame: FrameKind,
+    code: u8,
+) -> Result<V::Output>
+    requires behind { StandsBehind start None code reader.old }
+    requires apart { IsOneByteCode code }
+    ensures { Decodes V.visits (EncodesAllowed reader.old.features frame) (OperatorFault reader.old.features frame) result (at_position reader.old start) reader.new v.old v.new }
+{
+    match code {
+        0x00..=0x01 => plain(v, reader, start, code),
+        0x0a..=0x0b => plain(v, reader, start, code),
+        0x0f => plain(v, reader, start, code),
+        0x1a..=0x1b => plain(v, reader, start, code),
+        0xd1 => plain(v, reader, start, code),
+        0xd3..=0xd4 => plain(v, reader, start, code),
+        0x02..=0x04 => block_type(v, reader, start, code),
+        0x08..=0x09 => unsigned(v, reader, start, code),
+        0x0c..=0x0d => unsigned(v, reader, start, code),
+        0x10 => unsigned(v, reader, start, code),
+        0x12 => unsigned(v, reader, start, code),
+        0x14..=0x15 => unsigned(v, reader, start, code),
+        0x20..=0x26 => unsigned(v, reader, start, code),
+        0xd2 => unsigned(v, reader, start, code),
+        0xd5..=0xd6 => unsigned(v, reader, start, code),
+        0xe0 => unsigned(v, reader, start, code),
+        0xe2 => unsigned(v, reader, start, code),
+        0x11 => call_indirect(v, reader, start),
+        0x28..=0x3e => memory(v, reader, start, code),
+        0x3f..=0x40 => memory_index(v, reader, start, code),
+        0x41 => i32_const(v, reader, start),
+        0x42 => i64_const(v, reader, start),
+        0x43 => f32_const(v, reader, start),
+        0x44 => f64_const(v, reader, start),
+        0xd0 => ref_null(v, reader, start),
+        0x13 => two_unsigned(v, reader, start, code),
+        0xe1 => two_unsigned(v, reader, start, code),
+        0xe6 => two_unsigned(v, reader, start, code),
+        0x05 => else_in_if(v, reader, start, frame),
+        0x1c => typed_select(v, alloc, reader, start),
+        0x1f => try_table(v, alloc, reader, start),
+        0x06 => legacy_try(v, reader, start, frame),
+        0x07 => legacy_catch(v, reader, start, frame),
+        0x18 => legacy_delegate(v, reader, start, frame),
+        0x19 => legacy_catch_all(v, reader, start, frame),
+        0xe3 => resume(v, alloc, reader, start),
+        0xe4 => resume_throw(v, alloc, reader, start),
+        0xe5 => resume_throw_ref(v, alloc, reader, start),
+        _ => Err(unknown_opcode(reader, start, code)),
+    }
+}
+
+/// The operators with such immediates.
+#[inline(always)]
+fn plain<V: VisitOneByte>(
+    v: &mut V,
+    reader: &mut BinaryReader<'_>,
+    start: usize,
+    code: u8,
+) -> Result<V::Output>
+    requires behind { StandsBehind start None code reader.old }
+    requires kinds { entry_at None code ≡ free ([]) }
+    requires bound { 0x45 ≤ code → code ≤ 0xc4 → ⊥ }
+    ensures { (frame : FrameKind) → Decodes V.visits (EncodesAllowed reader.old.features frame) (OperatorFault reader.old.features frame) result (at_position reader.old start) reader.new v.old v.new }
+{
+    Ok(visit_plain(v, code))
+}
+
+/// The visits of the operators with such immediates.
+#[inline(always)]
+fn visit_plain<V: VisitOneByte>(v: &mut V, code: u8) -> V::Output
+    requires kinds { entry_at None code ≡ free ([]) }
+    requires bound { 0x45 ≤ code → code ≤ 0xc4 → ⊥ }
+    ensures { VisitsRow V.visits None code ([]) v.old result v.new }
+{
+    match code {
+        0x00 => v.visit_unreachable(),
+        0x01 => v.visit_nop(),
+        0x0a => v.visit_throw_ref(),
+        0x0b => v.visit_end(),
+        0x0f => v.visit_return(),
+        0x1a => v.visit_drop(),
+        0x1b => v.visit_select(),
+        0xd1 => v.visit_ref_is_null(),
+        0xd3 => v.visit_ref_eq(),
+        0xd4 => v.visit_ref_as_non_null(),
+        _ => unreachable!(),
+    }
+}
+
+/// The operators with such immediates.
+#[inline(always)]
+fn block_type<V: VisitOneByte>(
+    v: &mut V,
+    reader: &mut BinaryReader<'_>,
+    start: usize,
+    code: u8,
+) -> Result<V::Output>
+    requires behind { StandsBehind start None code reader.old }
+    requires kinds { entry_at None code ≡ free (is_block_type ∷ []) }
+    ensures { (frame : FrameKind) → Decodes V.visits (EncodesAllowed reader.old.features frame) (OperatorFault reader.old.features frame) result (at_position reader.old start) reader.new v.old v.new }
+{
+    match immediates::block_type(reader, start) {
+        Ok(it) => Ok(visit_block_type(v, code, it)),
+        Err(e) => Err(e),
+    }
+}
+
+/// The visits of the operators with such immediates.
+#[inline(always)]
+fn visit_block_type<V: VisitOneByte>(v: &mut V, code: u8, it: BlockType) -> V::Output
+    requires { entry_at None code ≡ free (is_block_type ∷ []) }
+    ensures { VisitsRow V.visits None code (block_type it ∷ []) v.old result v.new }
+{
+    match code {
+        0x02 => v.visit_block(it),
+        0x03 => v.visit_loop(it),
+        0x04 => v.visit_if(it),
+        _ => unreachable!(),
+    }
+}
+
+/// The operators with such immediates.
+#[inline(always)]
+fn unsigned<V: VisitOneByte>(
+    v: &mut V,
+    reader: &mut BinaryReader<'_>,
+    start: usize,
+    code: u8,
+) -> Result<V::Output>
+    requires behind { StandsBehind start None code reader.old }
+    requires kinds { entry_at None code ≡ free (is_unsigned_32 ∷ []) }
+    ensures { (frame : FrameKind) → Decodes V.visits (EncodesAllowed reader.old.features frame) (OperatorFault reader.old.features frame) result (at_position reader.old start) reader.new v.old v.new }
+{
+    match immediates::unsigned(reader, start) {
+        Ok(it) => Ok(visit_unsigned(v, code, it)),
+        Err(e) => Err(e),
+    }
+}
+
+/// The visits of the operators with such immediates.
+#[inline(always)]
+fn visit_unsigned<V: VisitOneByte>(v: &mut V, code: u8, it: u32) -> V::Output
+    requires { entry_at None code ≡ free (is_unsigned_32 ∷ []) }
+    ensures { VisitsRow V.visits None code (unsigned_32 it ∷ []) v.old result v.new }
+{
+    match code {
+        0x08 => v.visit_throw(it),
+        0x09 => v.visit_rethrow(it),
+        0x0c => v.visit_br(it),
+        0x0d => v.visit_br_if(it),
+        0x10 => v.visit_call(it),
+        0x12 => v.visit_return_call(it),
+        0x14 => v.visit_call_ref(it),
+        0x15 => v.visit_return_call_ref(it),
+        0x20 => v.visit_local_get(it),
+        0x21 => v.visit_local_set(it),
+        0x22 => v.visit_local_tee(it),
+        0x23 => v.visit_global_get(it),
+        0x24 => v.visit_global_set(it),
+        0x25 => v.visit_table_get(it),
+        0x26 => v.visit_table_set(it),
+        0xd2 => v.visit_ref_func(it),
+        0xd5 => v.visit_br_on_null(it),
+        0xd6 => v.visit_br_on_non_null(it),
+        0xe0 => v.visit_cont_new(it),
+        0xe2 => v.visit_suspend(it),
+        _ => unreachable!(),
+    }
+}
+
+/// `CallIndirect`.
+#[inline(always)]
+fn call_indirect<V: VisitOneByte>(
+    v: &mut V,
+    reader: &mut BinaryReader<'_>,
+    start: usize,
+) -> Result<V::Output>
+    requires behind { StandsBehind start None 0x11 reader.old }
+    ensures { (frame : FrameKind) → Decodes V.visits (EncodesAllowed reader.old.features frame) (OperatorFault reader.old.features frame) result (at_position reader.old start) reader.new v.old v.new }
+{
+    match immediates::call_indirect(reader, start) {
+        Ok(it) => Ok(v.visit_call_indirect(it.0, it.1)),
+        Err(e) => Err(e),
+    }
+}
+
+/// The operators with such immediates.
+#[inline(always)]
+fn memory<V: VisitOneByte>(
+    v: &mut V,
+    reader: &mut BinaryReader<'_>,
+    start: usize,
+    code: u8,
+) -> Result<V::Output>
+    requires behind { StandsBehind start None code reader.old }
+    requires kinds { entry_at None code ≡ free (is_memory_argument MemArgKind.Plain (align_at None code) ∷ []) }
+    ensures { (frame : FrameKind) → Decodes V.visits (EncodesAllowed reader.old.features frame) (OperatorFault reader.old.features frame) result (at_position reader.old start) reader.new v.old v.new }
+{
+    match immediates::memory(reader, start, align_of_memory(code), MemArgKind::Plain) {
+        Ok(it) => Ok(visit_memory(v, code, it)),
+        Err(e) => Err(e),
+    }
+}
+
+/// The exponent of an operator's own alignment.
+#[inline(always)]
+fn align_of_memory(code: u8) -> u8
+    requires { entry_at None code ≡ free (is_memory_argument MemArgKind.Plain (align_at None code) ∷ []) }
+    ensures { result ≡ align_at None code }
+{
+    match code {
+        0x28 => 2,
+        0x29 => 3,
+        0x2a => 2,
+        0x2b => 3,
+        0x2c => 0,
+        0x2d => 0,
+        0x2e => 1,
+        0x2f => 1,
+        0x30 => 0,
+        0x31 => 0,
+        0x32 => 1,
+        0x33 => 1,
+        0x34 => 2,
+        0x35 => 2,
+        0x36 => 2,
+        0x37 => 3,
+        0x38 => 2,
+        0x39 => 3,
+        0x3a => 0,
+        0x3b => 1,
+        0x3c => 0,
+        0x3d => 1,
+        0x3e => 2,
+        _ => unreachable!(),
+    }
+}
+
+/// The visits of the operators with such immediates.
+#[inline(always)]
+fn visit_memory<V: VisitOneByte>(v: &mut V, code: u8, it: MemArg) -> V::Output
+    requires { entry_at None code ≡ free (is_memory_argument MemArgKind.Plain (align_at None code) ∷ []) }
+    ensures { VisitsRow V.visits None code (memory_argument MemArgKind.Plain (align_at None code) it ∷ []) v.old result v.new }
+{
+    match code {
+        0x28 => v.visit_i32_load(it),
+        0x29 => v.visit_i64_load(it),
+        0x2a => v.visit_f32_load(it),
+        0x2b => v.visit_f64_load(it),
+        0x2c => v.visit_i32_load8_s(it),
+        0x2d => v.visit_i32_load8_u(it),
+        0x2e => v.visit_i32_load16_s(it),
+        0x2f => v.visit_i32_load16_u(it),
+        0x30 => v.visit_i64_load8_s(it),
+        0x31 => v.visit_i64_load8_u(it),
+        0x32 => v.visit_i64_load16_s(it),
+        0x33 => v.visit_i64_load16_u(it),
+        0x34 => v.visit_i64_load32_s(it),
+        0x35 => v.visit_i64_load32_u(it),
+        0x36 => v.visit_i32_store(it),
+        0x37 => v.visit_i64_store(it),
+        0x38 => v.visit_f32_store(it),
+        0x39 => v.visit_f64_store(it),
+        0x3a => v.visit_i32_store8(it),
+        0x3b => v.visit_i32_store16(it),
+        0x3c => v.visit_i64_store8(it),
+        0x3d => v.visit_i64_store16(it),
+        0x3e => v.visit_i64_store32(it),
+        _ => unreachable!(),
+    }
+}
+
+/// The operators with such immediates.
+#[inline(always)]
+fn memory_index<V: VisitOneByte>(
+    v: &mut V,
+    reader: &mut BinaryReader<'_>,
+    start: usize,
+    code: u8,
+) -> Result<V::Output>
+    requires behind { StandsBehind start None code reader.old }
+    requires kinds { entry_at None code ≡ free (is_memory_index ∷ []) }
+    ensures { (frame : FrameKind) → Decodes V.visits (EncodesAllowed reader.old.features frame) (OperatorFault reader.old.features frame) result (at_position reader.old start) reader.new v.old v.new }
+{
+    match immediates::memory_index(reader, start) {
+        Ok(it) => Ok(visit_memory_index(v, code, it)),
+        Err(e) => Err(e),
+    }
+}
+
+/// The visits of the operators with such immediates.
+#[inline(always)]
+fn visit_memory_index<V: VisitOneByte>(v: &mut V, code: u8, it: u32) -> V::Output
+    requires { entry_at None code ≡ free (is_memory_index ∷ []) }
+    ensures { VisitsRow V.visits None code (memory_index it ∷ []) v.old result v.new }
+{
+    match code {
+        0x3f => v.visit_memory_size(it),
+        0x40 => v.visit_memory_grow(it),
+        _ => unreachable!(),
+    }
+}
+
+/// `I32Const`.
+#[inline(always)]
+fn i32_const<V: VisitOneByte>(
+    v: &mut V,
+    reader: &mut BinaryReader<'_>,
+    start: usize,
+) -> Result<V::Output>
+    requires behind { StandsBehind start None 0x41 reader.old }
+    ensures { (frame : FrameKind) → Decodes V.visits (EncodesAllowed reader.old.features frame) (OperatorFault reader.old.features frame) result (at_position reader.old start) reader.new v.old v.new }
+{
+    match immediates::signed_32(reader, start) {
+        Ok(it) => Ok(v.visit_i32_const(it)),
+        Err(e) => Err(e),
+    }
+}
+
+/// `I64Const`.
+#[inline(always)]
+fn i64_const<V: VisitOneByte>(
+    v: &mut V,
+    reader: &mut BinaryReader<'_>,
+    start: usize,
+) -> Result<V::Output>
+    requires behind { StandsBehind start None 0x42 reader.old }
+    ensures { (frame : FrameKind) → Decodes V.visits (EncodesAllowed reader.old.features frame) (OperatorFault reader.old.features frame) result (at_position reader.old start) reader.new v.old v.new }
+{
+    match immediates::signed_64(reader, start) {
+        Ok(it) => Ok(v.visit_i64_const(it)),
+        Err(e) => Err(e),
+    }
+}
+
+/// `F32Const`.
+#[inline(always)]
+fn f32_const<V: VisitOneByte>(
+    v: &mut V,
+    reader: &mut BinaryReader<'_>,
+    start: usize,
+) -> Result<V::Output>
+    requires behind { StandsBehind start None 0x43 reader.old }
+    ensures { (frame : FrameKind) → Decodes V.visits (EncodesAllowed reader.old.features frame) (OperatorFault reader.old.features frame) result (at_position reader.old start) reader.new v.old v.new }
+{
+    match immediates::float_32(reader, start) {
+        Ok(it) => Ok(v.visit_f32_const(it)),
+        Err(e) => Err(e),
+    }
+}
+
+/// `F64Const`.
+#[inline(always)]
+fn f64_const<V: VisitOneByte>(
+    v: &mut V,
+    reader: &mut BinaryReader<'_>,
+    start: usize,
+) -> Result<V::Output>
+    requires behind { StandsBehind start None 0x44 reader.old }
+    ensures { (frame : FrameKind) → Decodes V.visits (EncodesAllowed reader.old.features frame) (OperatorFault reader.old.features frame) result (at_position reader.old start) reader.new v.old v.new }
+{
+    match immediates::float_64(reader, start) {
+        Ok(it) => Ok(v.visit_f64_const(it)),
+        Err(e) => Err(e),
+    }
+}
+
+/// `RefNull`.
+#[inline(always)]
+fn ref_null<V: VisitOneByte>(
+    v: &mut V,
+    reader: &mut BinaryReader<'_>,
+    start: usize,
+) -> Result<V::Output>
+    requires behind { StandsBehind start None 0xd0 reader.old }
+    ensures { (frame : FrameKind) → Decodes V.visits (EncodesAllowed reader.old.features frame) (OperatorFault reader.old.features frame) result (at_position reader.old start) reader.new v.old v.new }
+{
+    match immediates::heap_type(reader, start) {
+        Ok(it) => Ok(v.visit_ref_null(it)),
+        Err(e) => Err(e),
+    }
+}
+
+/// The operators with such immediates.
+#[inline(always)]
+fn two_unsigned<V: VisitOneByte>(
+    v: &mut V,
+    reader: &mut BinaryReader<'_>,
+    start: usize,
+    code: u8,
+) -> Result<V::Output>
+    requires behind { StandsBehind start None code reader.old }
+    requires kinds { entry_at None code ≡ free (is_unsigned_32 ∷ is_unsigned_32 ∷ []) }
+    ensures { (frame : FrameKind) → Decodes V.visits (EncodesAllowed reader.old.features frame) (OperatorFault reader.old.features frame) result (at_position reader.old start) reader.new v.old v.new }
+{
+    match immediates::two_unsigned(reader, start) {
+        Ok(it) => Ok(visit_two_unsigned(v, code, it)),
+        Err(e) => Err(e),
+    }
+}
+
+/// The visits of the operators with such immediates.
+#[inline(always)]
+fn visit_two_unsigned<V: VisitOneByte>(v: &mut V, code: u8, it: (u32, u32)) -> V::Output
+    requires { entry_at None code ≡ free (is_unsigned_32 ∷ is_unsigned_32 ∷ []) }
+    ensures { VisitsRow V.visits None code (unsigned_32 it.0 ∷ unsigned_32 it.1 ∷ []) v.old result v.new }
+{
+    match code {
+        0x13 => v.visit_return_call_indirect(it.0, it.1),
+        0xe1 => v.visit_cont_bind(it.0, it.1),
+        0xe6 => v.visit_switch(it.0, it.1),
+        _ => unreachable!(),
+    }
+}
+
+/// `Unreachable`.
+#[inline(always)]
+fn unreachable_alone<V: VisitOneByte>(
+    v: &mut V,
+    reader: &mut BinaryReader<'_>,
+    start: usize,
+) -> Result<V::Output>
+    requires behind { StandsBehind start None 0x00 reader.old }
+    ensures { (frame : FrameKind) → Decodes V.visits (EncodesAllowed reader.old.features frame) (OperatorFault reader.old.features frame) result (at_position reader.old start) reader.new v.old v.new }
+{
+    Ok(v.visit_unreachable())
+}
+
+/// `Nop`.
+#[inline(always)]
+fn nop_alone<V: VisitOneByte>(
+    v: &mut V,
+    reader: &mut BinaryReader<'_>,
+    start: usize,
+) -> Result<V::Output>
+    requires behind { StandsBehind start None 0x01 reader.old }
+    ensures { (frame : FrameKind) → Decodes V.visits (EncodesAllowed reader.old.features frame) (OperatorFault reader.old.features frame) result (at_position reader.old start) reader.new v.old v.new }
+{
+    Ok(v.visit_nop())
+}
+
+/// `End`.
+#[inline(always)]
+fn end_alone<V: VisitOneByte>(
+    v: &mut V,
+    reader: &mut BinaryReader<'_>,
+    start: usize,
+) -> Result<V::Output>
+    requires behind { StandsBehind start None 0x0b reader.old }
+    ensures { (frame : FrameKind) → Decodes V.visits (EncodesAllowed reader.old.features frame) (OperatorFault reader.old.features frame) result (at_position reader.old start) reader.new v.old v.new }
+{
+    Ok(v.visit_end())
+}
+
+/// `Br`.
+#[inline(always)]
+fn br_alone<V: VisitOneByte>(
+    v: &mut V,
+    reader: &mut BinaryReader<'_>,
+    start: usize,
+) -> Result<V::Output>
+    requires behind { StandsBehind start None 0x0c reader.old }
+    ensures { (frame : FrameKind) → Decodes V.visits (EncodesAllowed reader.old.features frame) (OperatorFault reader.old.features frame) result (at_position reader.old start) reader.new v.old v.new }
+{
+    match immediates::unsigned(reader, start) {
+        Ok(it) => Ok(v.visit_br(it)),
+        Err(e) => Err(e),
+    }
+}
+
+/// `BrIf`.
+#[inline(always)]
+fn br_if_alone<V: VisitOneByte>(
+    v: &mut V,
+    reader: &mut BinaryReader<'_>,
+    start: usize,
+) -> Result<V::Output>
+    requires behind { StandsBehind start None 0x0d reader.old }
+    ensures { (frame : FrameKind) → Decodes V.visits (EncodesAllowed reader.old.features frame) (OperatorFault reader.old.features frame) result (at_position reader.old start) reader.new v.old v.new }
+{
+    match immediates::unsigned(reader, start) {
+        Ok(it) => Ok(v.visit_br_if(it)),
+        Err(e) => Err(e),
+    }
+}
+
+/// `Return`.
+#[inline(always)]
+fn return_alone<V: VisitOneByte>(
+    v: &mut V,
+    reader: &mut BinaryReader<'_>,
+    start: usize,
+) -> Result<V::Output>
+    requires behind { StandsBehind start None 0x0f reader.old }
+    ensures { (frame : FrameKind) → Decodes V.visits (EncodesAllowed reader.old.features frame) (OperatorFault reader.old.features frame) result (at_position reader.old start) reader.new v.old v.new }
+{
+    Ok(v.visit_return())
+}
+
+/// `Call`.
+#[inline(always)]
+fn call_alone<V: VisitOneByte>(
+    v: &mut V,
+    reader: &mut BinaryReader<'_>,
+    start: usize,
+) -> Result<V::Output>
+    requires behind { StandsBehind start None 0x10 reader.old }
+    ensures { (frame : FrameKind) → Decodes V.visits (EncodesAllowed reader.old.features frame) (OperatorFault reader.old.features frame) result (at_position reader.old start) reader.new v.old v.new }
+{
+    match immediates::unsigned(reader, start) {
+        Ok(it) => Ok(v.visit_call(it)),
+        Err(e) => Err(e),
+    }
+}
+
+/// `Drop`.
+#[inline(always)]
+fn drop_alone<V: VisitOneByte>(
+    v: &mut V,
+    reader: &mut BinaryReader<'_>,
+    start: usize,
+) -> Result<V::Output>
+    requires behind { StandsBehind start None 0x1a reader.old }
+    ensures { (frame : FrameKind) → Decodes V.visits (EncodesAllowed reader.old.features frame) (OperatorFault reader.old.features frame) result (at_position reader.old start) reader.new v.old v.new }
+{
+    Ok(v.visit_drop())
+}
+
+/// `Select`.
+#[inline(always)]
+fn select_alone<V: VisitOneByte>(
+    v: &mut V,
+    reader: &mut BinaryReader<'_>,
+    start: usize,
+) -> Result<V::Output>
+    requires behind { StandsBehind start None 0x1b reader.old }
+    ensures { (frame : FrameKind) → Decodes V.visits (EncodesAllowed reader.old.features frame) (OperatorFault reader.old.features frame) result (at_position reader.old start) reader.new v.old v.new }
+{
+    Ok(v.visit_select())
+}

@@ -1,0 +1,62 @@
+-- Written by tools/lists.py from tools/operators.tsv.
+-- The entries are those of the operators' rows.
+use Rattle.std.proofs.Common.{◌≡◌, ℕ, Option, Some, None, map, refl, sym, ap}
+use Rattle.wasm_instr.specs.declared.operator.Operator.{Operator}
+use Rattle.wasm_instr.specs.declared.operator.Operator.TheVariants as operator
+use Rattle.wasm_instr.specs.Row.{prefix_of, opcode_of}
+use Rattle.wasm_instr.specs.ops.numeric.NumericOperator.{NumericOperator}
+use Rattle.wasm_instr.specs.ops.numeric.NumericOperator.TheVariants as numeric
+use Rattle.wasm_instr.specs.Numeric.{numeric_opcode, numeric_immediates}
+use Rattle.wasm_instr.specs.ops.gc.GcOperator.{GcOperator}
+use Rattle.wasm_instr.specs.ops.gc.GcOperator.TheVariants as gc
+use Rattle.wasm_instr.specs.Gc.{gc_subopcode, gc_immediates}
+use Rattle.wasm_instr.specs.ops.misc.MiscOperator.{MiscOperator}
+use Rattle.wasm_instr.specs.ops.misc.MiscOperator.TheVariants as misc
+use Rattle.wasm_instr.specs.Misc.{misc_subopcode, misc_immediates}
+use Rattle.wasm_instr.specs.simd.simd.SimdOperator.{SimdOperator}
+use Rattle.wasm_instr.specs.simd.simd.SimdOperator.TheVariants as simd
+use Rattle.wasm_instr.specs.Simd.{simd_subopcode, simd_immediates}
+use Rattle.wasm_instr.specs.ops.atomic.AtomicOperator.{AtomicOperator}
+use Rattle.wasm_instr.specs.ops.atomic.AtomicOperator.TheVariants as atomic
+use Rattle.wasm_instr.specs.Atomic.{atomic_subopcode, atomic_immediates}
+use Rattle.wasm_instr.specs.Immediate.{kind_of}
+use Rattle.wasm_decode_opcodes.specs.Entry.{prefixes, free, entry_of}
+use Rattle.wasm_decode_opcodes.specs.Entries.{entry_at}
+
+numeric_told : (op : NumericOperator) → entry_at None (numeric_opcode op) ≡ free (map kind_of (numeric_immediates op))
+numeric_told numeric.I32Eqz = refl
+numeric_told op = refl
+
+gc_told : (op : GcOperator) → entry_at (Some 0xfb) (gc_subopcode op) ≡ free (map kind_of (gc_immediates op))
+gc_told (gc.StructNew struct_type_index) = refl
+gc_told op = refl
+
+misc_told : (op : MiscOperator) → entry_at (Some 0xfc) (misc_subopcode op) ≡ free (map kind_of (misc_immediates op))
+misc_told misc.I32TruncSatF32S = refl
+misc_told op = refl
+
+simd_told : (op : SimdOperator) → entry_at (Some 0xfd) (simd_subopcode op) ≡ free (map kind_of (simd_immediates op))
+simd_told (simd.V128Load memarg) = refl
+simd_told op = refl
+
+atomic_told : (op : AtomicOperator) → entry_at (Some 0xfe) (atomic_subopcode op) ≡ free (map kind_of (atomic_immediates op))
+atomic_told (atomic.MemoryAtomicNotify memarg) = refl
+atomic_told op = refl
+
+-- the entry of an operator's opcode is the operator's
+pub told : (op : Operator) → entry_at (prefix_of op) (opcode_of op) ≡ entry_of op
+told (operator.Numeric op) = numeric_told op
+told (operator.Gc op) = gc_told op
+told (operator.Misc op) = misc_told op
+told (operator.Simd op) = simd_told op
+told (operator.Atomic op) = atomic_told op
+told op = refl
+
+-- a byte before a subopcode is a prefix byte
+pub prefix_told : (op : Operator) (p : ℕ) → prefix_of op ≡ Some p → entry_at None p ≡ prefixes
+prefix_told (operator.Gc op) p e = let h : 0xfb ≡ p = cc e in ap (entry_at None) (sym h)
+prefix_told (operator.Misc op) p e = let h : 0xfc ≡ p = cc e in ap (entry_at None) (sym h)
+prefix_told (operator.Simd op) p e = let h : 0xfd ≡ p = cc e in ap (entry_at None) (sym h)
+prefix_told (operator.Atomic op) p e = let h : 0xfe ≡ p = cc e in ap (entry_at None) (sym h)
+prefix_told operator.Unreachable p e = absurd (cc e)
+prefix_told op p e = absurd (cc e)

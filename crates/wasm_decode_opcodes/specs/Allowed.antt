@@ -1,0 +1,22 @@
+-- The encodings of the operators that a frame allows.
+use Rattle.std.specs.Prelude.{ℕ, List, Option, Some, None}
+use Rattle.wasm_instr.specs.below.bytes.features.WasmFeatures.{WasmFeatures}
+use Rattle.wasm_instr.specs.grammar.declared.frame_kind.FrameKind.{FrameKind}
+use Rattle.wasm_instr.specs.grammar.Frames.{Allows}
+use Rattle.wasm_instr.specs.declared.operator.Operator.{Operator}
+use Rattle.wasm_instr.specs.Encoding.{EncodesOperator}
+use Rattle.wasm_instr.specs.Kinds.{IsVector}
+use Rattle.wasm_instr.specs.Roles.{role_of}
+
+-- The text encodes the operator, and a frame of this kind allows it.
+abbrev pub EncodesAllowed : WasmFeatures → FrameKind → List ℕ → Operator → Type 0
+EncodesAllowed f k text op = EncodesOperator f op text × Allows k (role_of op)
+
+-- The same of an operator that is no vector operator.
+abbrev pub EncodesPlain : WasmFeatures → FrameKind → List ℕ → Operator → Type 0
+EncodesPlain f k text op = EncodesAllowed f k text op × ¬ IsVector op
+
+-- Where a frame is open that is the innermost; where none is, nothing is an operator.
+abbrev pub EncodesIn : (FrameKind → List ℕ → Operator → Type 0) → Option FrameKind → List ℕ → Operator → Type 0
+EncodesIn Encodes None text op = ⊥
+EncodesIn Encodes (Some k) text op = Encodes k text op

@@ -1,0 +1,43 @@
+-- Calls that read an operator and have it visited, and the calls for their parts.
+use Rattle.std.specs.Prelude.{◌≡◌, ℕ, ◌+◌, ◌≤◌, Bool, true, List, Option, Result, Ok, Err}
+use Rattle.wasm_instr.specs.below.bytes.error.Error.{Error}
+use Rattle.wasm_instr.specs.below.bytes.message.Message.{Message}
+use Rattle.wasm_instr.specs.below.bytes.message.Message.TheVariants as message
+use Rattle.wasm_instr.specs.below.Fault.{HasFault}
+use Rattle.wasm_instr.specs.below.Source.{Reader, rest, at_position, Takes, Refuses, IsAhead, Reads}
+use Rattle.wasm_instr.specs.declared.operator.Operator.{Operator}
+use Rattle.wasm_instr.specs.Encoding.{EncodesOpcode}
+use Rattle.wasm_instr.specs.Immediate.{Immediate, Kind}
+use Rattle.wasm_instr.specs.Row.{prefix_of, opcode_of, immediates_of}
+use Rattle.wasm_decode_opcodes.specs.Kinds.{EncodesKinds}
+use Rattle.wasm_decode_opcodes.specs.OperatorFaults.{KindsFault}
+use Rattle.wasm_decode_opcodes.specs.Refused.{IsRefusedOperator}
+
+-- The call refuses what stands there: nothing is taken, and the refusal is one of this fault.
+abbrev pub RefusesOperator : (List ℕ → Operator → Type 0) → (Message → Reader → ℕ → Type 0) → Error → Reader → Reader → Type 0
+RefusesOperator Encodes Fault e old new = (new ≡ old) × IsRefusedOperator Encodes e old × HasFault Fault e old
+
+-- The call answers Ok exactly where a prefix of the rest encodes an operator, memory aside: it then takes that prefix, and the answer is that of a visit at the operator. Else nothing changes, and the refusal is one of this fault.
+abbrev pub Decodes : {V A : Type 0} → (V → Operator → A → V → Type 0) → (List ℕ → Operator → Type 0) → (Message → Reader → ℕ → Type 0) → Result A Error → Reader → Reader → V → V → Type 0
+Decodes visits Encodes Fault (Ok a) old new v w = (text : List ℕ) × (op : Operator) × Encodes text op × Takes old new text × visits v op a w
+Decodes visits Encodes Fault (Err e) old new v w = (w ≡ v) × RefusesOperator Encodes Fault e old new
+
+-- The reader stands behind this opcode, or behind this prefix byte and subopcode, which were read from the position `start` on.
+pub record StandsBehind (start : ℕ) (prefix : Option ℕ) (code : ℕ) (r : Reader) : Type 0 where
+  pub begun : start ≤ r.position
+  pub opcode : Reads (λ text c. EncodesOpcode prefix c text) (Ok code) (at_position r start) r
+
+-- The answer is that of a visit at an operator of this opcode, or of this prefix byte and subopcode, with these immediates.
+abbrev pub VisitsRow : {V A : Type 0} → (V → Operator → A → V → Type 0) → Option ℕ → ℕ → List Immediate → V → A → V → Type 0
+VisitsRow visits prefix code is v a w = (op : Operator) × (prefix_of op ≡ prefix) × (opcode_of op ≡ code) × (immediates_of op ≡ is) × visits v op a w
+
+-- A refusal of what stands behind an opcode, of an operator that began at the position `start`.
+pub record IsRefusedBehind {X : Type 0} (Encodes : List ℕ → X → Type 0) (takes_memory : Bool) (start : ℕ) (e : Error) (old : Reader) : Type 0 where
+  pub refuses : Refuses Encodes (rest old) e.message
+  pub ahead : IsAhead (at_position old start) e.offset
+  pub memory : e.message ≡ message.OutOfMemory → (takes_memory ≡ true) × (e.offset ≡ old.start + start)
+
+-- The call answers Ok exactly where immediates of these kinds stand behind the opcode, memory aside: it then takes them. Else the reader goes back to where the operator began, and the refusal is that of the first immediate that is none.
+abbrev pub ReadsKinds : {X : Type 0} → List Kind → (X → List Immediate) → Bool → ℕ → Result X Error → Reader → Reader → Type 0
+ReadsKinds ks immediates takes_memory start (Ok x) old new = (text : List ℕ) × EncodesKinds old.features ks text (immediates x) × Takes old new text
+ReadsKinds ks immediates takes_memory start (Err e) old new = (new ≡ at_position old start) × IsRefusedBehind (EncodesKinds old.features ks) takes_memory start e old × HasFault (KindsFault old.features (old.start + start) ks) e old

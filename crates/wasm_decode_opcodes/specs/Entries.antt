@@ -1,0 +1,759 @@
+-- Written by tools/lists.py from tools/operators.tsv.
+-- What stands behind each opcode and each subopcode.
+-- WebAssembly Core Specification 3.0: Binary Format, Instructions; Appendix, Index of Instructions.
+use Rattle.std.specs.Prelude.{ℕ, cond, eqb, List, [], ◌∷◌, get_or, Option, Some, None}
+use Rattle.wasm_instr.specs.imm.declared.memory_argument.MemArgKind.TheVariants as kind
+use Rattle.wasm_instr.specs.Immediate.{is_unsigned_32, is_signed_32, is_signed_64, is_float_32, is_float_64, is_one_lane, is_sixteen_lanes, is_vector, is_memory_index, is_table_index, is_order, is_fence_order, is_heap_type, is_cast, is_block_type, is_branch_table, is_select_types, is_try_clauses, is_resume_clauses, is_memory_argument}
+use Rattle.wasm_decode_opcodes.specs.declared.guard.Guard.TheVariants as guard
+use Rattle.wasm_decode_opcodes.specs.Entry.{Entry, unknown, prefixes, free, guarded, align_in}
+
+-- Behind an opcode.
+abbrev pub opcode_entries : List Entry
+opcode_entries =
+    (free []) ∷
+    (free []) ∷
+    (free (is_block_type ∷ [])) ∷
+    (free (is_block_type ∷ [])) ∷
+    (free (is_block_type ∷ [])) ∷
+    (guarded guard.Else []) ∷
+    (guarded guard.Try (is_block_type ∷ [])) ∷
+    (guarded guard.Catch (is_unsigned_32 ∷ [])) ∷
+    (free (is_unsigned_32 ∷ [])) ∷
+    (free (is_unsigned_32 ∷ [])) ∷
+    (free []) ∷
+    (free []) ∷
+    (free (is_unsigned_32 ∷ [])) ∷
+    (free (is_unsigned_32 ∷ [])) ∷
+    (free (is_branch_table ∷ [])) ∷
+    (free []) ∷
+    (free (is_unsigned_32 ∷ [])) ∷
+    (free (is_unsigned_32 ∷ is_table_index ∷ [])) ∷
+    (free (is_unsigned_32 ∷ [])) ∷
+    (free (is_unsigned_32 ∷ is_unsigned_32 ∷ [])) ∷
+    (free (is_unsigned_32 ∷ [])) ∷
+    (free (is_unsigned_32 ∷ [])) ∷
+    unknown ∷
+    unknown ∷
+    (guarded guard.Delegate (is_unsigned_32 ∷ [])) ∷
+    (guarded guard.CatchAll []) ∷
+    (free []) ∷
+    (free []) ∷
+    (free (is_select_types ∷ [])) ∷
+    unknown ∷
+    unknown ∷
+    (free (is_try_clauses ∷ [])) ∷
+    (free (is_unsigned_32 ∷ [])) ∷
+    (free (is_unsigned_32 ∷ [])) ∷
+    (free (is_unsigned_32 ∷ [])) ∷
+    (free (is_unsigned_32 ∷ [])) ∷
+    (free (is_unsigned_32 ∷ [])) ∷
+    (free (is_unsigned_32 ∷ [])) ∷
+    (free (is_unsigned_32 ∷ [])) ∷
+    unknown ∷
+    (free (is_memory_argument kind.Plain 2 ∷ [])) ∷
+    (free (is_memory_argument kind.Plain 3 ∷ [])) ∷
+    (free (is_memory_argument kind.Plain 2 ∷ [])) ∷
+    (free (is_memory_argument kind.Plain 3 ∷ [])) ∷
+    (free (is_memory_argument kind.Plain 0 ∷ [])) ∷
+    (free (is_memory_argument kind.Plain 0 ∷ [])) ∷
+    (free (is_memory_argument kind.Plain 1 ∷ [])) ∷
+    (free (is_memory_argument kind.Plain 1 ∷ [])) ∷
+    (free (is_memory_argument kind.Plain 0 ∷ [])) ∷
+    (free (is_memory_argument kind.Plain 0 ∷ [])) ∷
+    (free (is_memory_argument kind.Plain 1 ∷ [])) ∷
+    (free (is_memory_argument kind.Plain 1 ∷ [])) ∷
+    (free (is_memory_argument kind.Plain 2 ∷ [])) ∷
+    (free (is_memory_argument kind.Plain 2 ∷ [])) ∷
+    (free (is_memory_argument kind.Plain 2 ∷ [])) ∷
+    (free (is_memory_argument kind.Plain 3 ∷ [])) ∷
+    (free (is_memory_argument kind.Plain 2 ∷ [])) ∷
+    (free (is_memory_argument kind.Plain 3 ∷ [])) ∷
+    (free (is_memory_argument kind.Plain 0 ∷ [])) ∷
+    (free (is_memory_argument kind.Plain 1 ∷ [])) ∷
+    (free (is_memory_argument kind.Plain 0 ∷ [])) ∷
+    (free (is_memory_argument kind.Plain 1 ∷ [])) ∷
+    (free (is_memory_argument kind.Plain 2 ∷ [])) ∷
+    (free (is_memory_index ∷ [])) ∷
+    (free (is_memory_index ∷ [])) ∷
+    (free (is_signed_32 ∷ [])) ∷
+    (free (is_signed_64 ∷ [])) ∷
+    (free (is_float_32 ∷ [])) ∷
+    (free (is_float_64 ∷ [])) ∷
+    (free []) ∷
+    (free []) ∷
+    (free []) ∷
+    (free []) ∷
+    (free []) ∷
+    (free []) ∷
+    (free []) ∷
+    (free []) ∷
+    (free []) ∷
+    (free []) ∷
+    (free []) ∷
+    (free []) ∷
+    (free []) ∷
+    (free []) ∷
+    (free []) ∷
+    (free []) ∷
+    (free []) ∷
+    (free []) ∷
+    (free []) ∷
+    (free []) ∷
+    (free []) ∷
+    (free []) ∷
+    (free []) ∷
+    (free []) ∷
+    (free []) ∷
+    (free []) ∷
+    (free []) ∷
+    (free []) ∷
+    (free []) ∷
+    (free []) ∷
+    (free []) ∷
+    (free []) ∷
+    (free []) ∷
+    (free []) ∷
+    (free []) ∷
+    (free []) ∷
+    (free []) ∷
+    (free []) ∷
+    (free []) ∷
+    (free []) ∷
+    (free []) ∷
+    (free []) ∷
+    (free []) ∷
+    (free []) ∷
+    (free []) ∷
+    (free []) ∷
+    (free []) ∷
+    (free []) ∷
+    (free []) ∷
+    (free []) ∷
+    (free []) ∷
+    (free []) ∷
+    (free []) ∷
+    (free []) ∷
+    (free []) ∷
+    (free []) ∷
+    (free []) ∷
+    (free []) ∷
+    (free []) ∷
+    (free []) ∷
+    (free []) ∷
+    (free []) ∷
+    (free []) ∷
+    (free []) ∷
+    (free []) ∷
+    (free []) ∷
+    (free []) ∷
+    (free []) ∷
+    (free []) ∷
+    (free []) ∷
+    (free []) ∷
+    (free []) ∷
+    (free []) ∷
+    (free []) ∷
+    (free []) ∷
+    (free []) ∷
+    (free []) ∷
+    (free []) ∷
+    (free []) ∷
+    (free []) ∷
+    (free []) ∷
+    (free []) ∷
+    (free []) ∷
+    (free []) ∷
+    (free []) ∷
+    (free []) ∷
+    (free []) ∷
+    (free []) ∷
+    (free []) ∷
+    (free []) ∷
+    (free []) ∷
+    (free []) ∷
+    (free []) ∷
+    (free []) ∷
+    (free []) ∷
+    (free []) ∷
+    (free []) ∷
+    (free []) ∷
+    (free []) ∷
+    (free []) ∷
+    (free []) ∷
+    (free []) ∷
+    (free []) ∷
+    (free []) ∷
+    (free []) ∷
+    (free []) ∷
+    (free []) ∷
+    (free []) ∷
+    (free []) ∷
+    (free []) ∷
+    (free []) ∷
+    (free []) ∷
+    (free []) ∷
+    (free []) ∷
+    (free []) ∷
+    (free []) ∷
+    (free []) ∷
+    (free []) ∷
+    (free []) ∷
+    (free []) ∷
+    (free []) ∷
+    (free []) ∷
+    (free []) ∷
+    (free []) ∷
+    (free []) ∷
+    (free []) ∷
+    (free []) ∷
+    (free []) ∷
+    unknown ∷
+    unknown ∷
+    unknown ∷
+    unknown ∷
+    unknown ∷
+    unknown ∷
+    unknown ∷
+    unknown ∷
+    unknown ∷
+    unknown ∷
+    unknown ∷
+    (free (is_heap_type ∷ [])) ∷
+    (free []) ∷
+    (free (is_unsigned_32 ∷ [])) ∷
+    (free []) ∷
+    (free []) ∷
+    (free (is_unsigned_32 ∷ [])) ∷
+    (free (is_unsigned_32 ∷ [])) ∷
+    unknown ∷
+    unknown ∷
+    unknown ∷
+    unknown ∷
+    unknown ∷
+    unknown ∷
+    unknown ∷
+    unknown ∷
+    unknown ∷
+    (free (is_unsigned_32 ∷ [])) ∷
+    (free (is_unsigned_32 ∷ is_unsigned_32 ∷ [])) ∷
+    (free (is_unsigned_32 ∷ [])) ∷
+    (free (is_unsigned_32 ∷ is_resume_clauses ∷ [])) ∷
+    (free (is_unsigned_32 ∷ is_unsigned_32 ∷ is_resume_clauses ∷ [])) ∷
+    (free (is_unsigned_32 ∷ is_resume_clauses ∷ [])) ∷
+    (free (is_unsigned_32 ∷ is_unsigned_32 ∷ [])) ∷
+    unknown ∷
+    unknown ∷
+    unknown ∷
+    unknown ∷
+    unknown ∷
+    unknown ∷
+    unknown ∷
+    unknown ∷
+    unknown ∷
+    unknown ∷
+    unknown ∷
+    unknown ∷
+    unknown ∷
+    unknown ∷
+    unknown ∷
+    unknown ∷
+    unknown ∷
+    unknown ∷
+    unknown ∷
+    unknown ∷
+    prefixes ∷
+    prefixes ∷
+    prefixes ∷
+    prefixes ∷
+    []
+
+-- Behind the byte fb and a subopcode.
+abbrev pub gc_entries : List Entry
+gc_entries =
+    (free (is_unsigned_32 ∷ [])) ∷
+    (free (is_unsigned_32 ∷ [])) ∷
+    (free (is_unsigned_32 ∷ is_unsigned_32 ∷ [])) ∷
+    (free (is_unsigned_32 ∷ is_unsigned_32 ∷ [])) ∷
+    (free (is_unsigned_32 ∷ is_unsigned_32 ∷ [])) ∷
+    (free (is_unsigned_32 ∷ is_unsigned_32 ∷ [])) ∷
+    (free (is_unsigned_32 ∷ [])) ∷
+    (free (is_unsigned_32 ∷ [])) ∷
+    (free (is_unsigned_32 ∷ is_unsigned_32 ∷ [])) ∷
+    (free (is_unsigned_32 ∷ is_unsigned_32 ∷ [])) ∷
+    (free (is_unsigned_32 ∷ is_unsigned_32 ∷ [])) ∷
+    (free (is_unsigned_32 ∷ [])) ∷
+    (free (is_unsigned_32 ∷ [])) ∷
+    (free (is_unsigned_32 ∷ [])) ∷
+    (free (is_unsigned_32 ∷ [])) ∷
+    (free []) ∷
+    (free (is_unsigned_32 ∷ [])) ∷
+    (free (is_unsigned_32 ∷ is_unsigned_32 ∷ [])) ∷
+    (free (is_unsigned_32 ∷ is_unsigned_32 ∷ [])) ∷
+    (free (is_unsigned_32 ∷ is_unsigned_32 ∷ [])) ∷
+    (free (is_heap_type ∷ [])) ∷
+    (free (is_heap_type ∷ [])) ∷
+    (free (is_heap_type ∷ [])) ∷
+    (free (is_heap_type ∷ [])) ∷
+    (free (is_cast ∷ [])) ∷
+    (free (is_cast ∷ [])) ∷
+    (free []) ∷
+    (free []) ∷
+    (free []) ∷
+    (free []) ∷
+    (free []) ∷
+    unknown ∷
+    (free (is_unsigned_32 ∷ [])) ∷
+    (free (is_unsigned_32 ∷ [])) ∷
+    (free (is_unsigned_32 ∷ [])) ∷
+    (free (is_heap_type ∷ [])) ∷
+    (free (is_heap_type ∷ [])) ∷
+    (free (is_cast ∷ [])) ∷
+    (free (is_cast ∷ [])) ∷
+    []
+
+-- Behind the byte fc and a subopcode.
+abbrev pub misc_entries : List Entry
+misc_entries =
+    (free []) ∷
+    (free []) ∷
+    (free []) ∷
+    (free []) ∷
+    (free []) ∷
+    (free []) ∷
+    (free []) ∷
+    (free []) ∷
+    (free (is_unsigned_32 ∷ is_unsigned_32 ∷ [])) ∷
+    (free (is_unsigned_32 ∷ [])) ∷
+    (free (is_unsigned_32 ∷ is_unsigned_32 ∷ [])) ∷
+    (free (is_unsigned_32 ∷ [])) ∷
+    (free (is_unsigned_32 ∷ is_unsigned_32 ∷ [])) ∷
+    (free (is_unsigned_32 ∷ [])) ∷
+    (free (is_unsigned_32 ∷ is_unsigned_32 ∷ [])) ∷
+    (free (is_unsigned_32 ∷ [])) ∷
+    (free (is_unsigned_32 ∷ [])) ∷
+    (free (is_unsigned_32 ∷ [])) ∷
+    (free (is_unsigned_32 ∷ [])) ∷
+    (free []) ∷
+    (free []) ∷
+    (free []) ∷
+    (free []) ∷
+    []
+
+-- Behind the byte fd and a subopcode.
+abbrev pub simd_entries : List Entry
+simd_entries =
+    (free (is_memory_argument kind.Plain 4 ∷ [])) ∷
+    (free (is_memory_argument kind.Plain 3 ∷ [])) ∷
+    (free (is_memory_argument kind.Plain 3 ∷ [])) ∷
+    (free (is_memory_argument kind.Plain 3 ∷ [])) ∷
+    (free (is_memory_argument kind.Plain 3 ∷ [])) ∷
+    (free (is_memory_argument kind.Plain 3 ∷ [])) ∷
+    (free (is_memory_argument kind.Plain 3 ∷ [])) ∷
+    (free (is_memory_argument kind.Plain 0 ∷ [])) ∷
+    (free (is_memory_argument kind.Plain 1 ∷ [])) ∷
+    (free (is_memory_argument kind.Plain 2 ∷ [])) ∷
+    (free (is_memory_argument kind.Plain 3 ∷ [])) ∷
+    (free (is_memory_argument kind.Plain 4 ∷ [])) ∷
+    (free (is_vector ∷ [])) ∷
+    (free (is_sixteen_lanes ∷ [])) ∷
+    (free []) ∷
+    (free []) ∷
+    (free []) ∷
+    (free []) ∷
+    (free []) ∷
+    (free []) ∷
+    (free []) ∷
+    (free (is_one_lane ∷ [])) ∷
+    (free (is_one_lane ∷ [])) ∷
+    (free (is_one_lane ∷ [])) ∷
+    (free (is_one_lane ∷ [])) ∷
+    (free (is_one_lane ∷ [])) ∷
+    (free (is_one_lane ∷ [])) ∷
+    (free (is_one_lane ∷ [])) ∷
+    (free (is_one_lane ∷ [])) ∷
+    (free (is_one_lane ∷ [])) ∷
+    (free (is_one_lane ∷ [])) ∷
+    (free (is_one_lane ∷ [])) ∷
+    (free (is_one_lane ∷ [])) ∷
+    (free (is_one_lane ∷ [])) ∷
+    (free (is_one_lane ∷ [])) ∷
+    (free []) ∷
+    (free []) ∷
+    (free []) ∷
+    (free []) ∷
+    (free []) ∷
+    (free []) ∷
+    (free []) ∷
+    (free []) ∷
+    (free []) ∷
+    (free []) ∷
+    (free []) ∷
+    (free []) ∷
+    (free []) ∷
+    (free []) ∷
+    (free []) ∷
+    (free []) ∷
+    (free []) ∷
+    (free []) ∷
+    (free []) ∷
+    (free []) ∷
+    (free []) ∷
+    (free []) ∷
+    (free []) ∷
+    (free []) ∷
+    (free []) ∷
+    (free []) ∷
+    (free []) ∷
+    (free []) ∷
+    (free []) ∷
+    (free []) ∷
+    (free []) ∷
+    (free []) ∷
+    (free []) ∷
+    (free []) ∷
+    (free []) ∷
+    (free []) ∷
+    (free []) ∷
+    (free []) ∷
+    (free []) ∷
+    (free []) ∷
+    (free []) ∷
+    (free []) ∷
+    (free []) ∷
+    (free []) ∷
+    (free []) ∷
+    (free []) ∷
+    (free []) ∷
+    (free []) ∷
+    (free []) ∷
+    (free (is_memory_argument kind.Plain 0 ∷ is_one_lane ∷ [])) ∷
+    (free (is_memory_argument kind.Plain 1 ∷ is_one_lane ∷ [])) ∷
+    (free (is_memory_argument kind.Plain 2 ∷ is_one_lane ∷ [])) ∷
+    (free (is_memory_argument kind.Plain 3 ∷ is_one_lane ∷ [])) ∷
+    (free (is_memory_argument kind.Plain 0 ∷ is_one_lane ∷ [])) ∷
+    (free (is_memory_argument kind.Plain 1 ∷ is_one_lane ∷ [])) ∷
+    (free (is_memory_argument kind.Plain 2 ∷ is_one_lane ∷ [])) ∷
+    (free (is_memory_argument kind.Plain 3 ∷ is_one_lane ∷ [])) ∷
+    (free (is_memory_argument kind.Plain 2 ∷ [])) ∷
+    (free (is_memory_argument kind.Plain 3 ∷ [])) ∷
+    (free []) ∷
+    (free []) ∷
+    (free []) ∷
+    (free []) ∷
+    (free []) ∷
+    (free []) ∷
+    (free []) ∷
+    (free []) ∷
+    (free []) ∷
+    (free []) ∷
+    (free []) ∷
+    (free []) ∷
+    (free []) ∷
+    (free []) ∷
+    (free []) ∷
+    (free []) ∷
+    (free []) ∷
+    (free []) ∷
+    (free []) ∷
+    (free []) ∷
+    (free []) ∷
+    (free []) ∷
+    (free []) ∷
+    (free []) ∷
+    (free []) ∷
+    (free []) ∷
+    (free []) ∷
+    (free []) ∷
+    (free []) ∷
+    (free []) ∷
+    (free []) ∷
+    (free []) ∷
+    (free []) ∷
+    (free []) ∷
+    (free []) ∷
+    (free []) ∷
+    (free []) ∷
+    (free []) ∷
+    (free []) ∷
+    (free []) ∷
+    (free []) ∷
+    (free []) ∷
+    (free []) ∷
+    (free []) ∷
+    (free []) ∷
+    (free []) ∷
+    (free []) ∷
+    (free []) ∷
+    (free []) ∷
+    (free []) ∷
+    (free []) ∷
+    (free []) ∷
+    (free []) ∷
+    (free []) ∷
+    (free []) ∷
+    (free []) ∷
+    (free []) ∷
+    (free []) ∷
+    (free []) ∷
+    (free []) ∷
+    unknown ∷
+    (free []) ∷
+    (free []) ∷
+    (free []) ∷
+    (free []) ∷
+    (free []) ∷
+    (free []) ∷
+    (free []) ∷
+    unknown ∷
+    (free []) ∷
+    (free []) ∷
+    unknown ∷
+    unknown ∷
+    (free []) ∷
+    (free []) ∷
+    (free []) ∷
+    (free []) ∷
+    (free []) ∷
+    (free []) ∷
+    (free []) ∷
+    (free []) ∷
+    unknown ∷
+    unknown ∷
+    (free []) ∷
+    unknown ∷
+    unknown ∷
+    unknown ∷
+    (free []) ∷
+    (free []) ∷
+    (free []) ∷
+    (free []) ∷
+    (free []) ∷
+    (free []) ∷
+    unknown ∷
+    (free []) ∷
+    (free []) ∷
+    (free []) ∷
+    (free []) ∷
+    (free []) ∷
+    (free []) ∷
+    unknown ∷
+    (free []) ∷
+    (free []) ∷
+    unknown ∷
+    unknown ∷
+    (free []) ∷
+    (free []) ∷
+    (free []) ∷
+    (free []) ∷
+    (free []) ∷
+    (free []) ∷
+    (free []) ∷
+    (free []) ∷
+    unknown ∷
+    unknown ∷
+    (free []) ∷
+    unknown ∷
+    unknown ∷
+    unknown ∷
+    (free []) ∷
+    (free []) ∷
+    (free []) ∷
+    (free []) ∷
+    (free []) ∷
+    (free []) ∷
+    (free []) ∷
+    (free []) ∷
+    (free []) ∷
+    (free []) ∷
+    (free []) ∷
+    (free []) ∷
+    (free []) ∷
+    unknown ∷
+    (free []) ∷
+    (free []) ∷
+    (free []) ∷
+    (free []) ∷
+    (free []) ∷
+    (free []) ∷
+    (free []) ∷
+    (free []) ∷
+    (free []) ∷
+    (free []) ∷
+    (free []) ∷
+    unknown ∷
+    (free []) ∷
+    (free []) ∷
+    (free []) ∷
+    (free []) ∷
+    (free []) ∷
+    (free []) ∷
+    (free []) ∷
+    (free []) ∷
+    (free []) ∷
+    (free []) ∷
+    (free []) ∷
+    (free []) ∷
+    (free []) ∷
+    (free []) ∷
+    (free []) ∷
+    (free []) ∷
+    (free []) ∷
+    (free []) ∷
+    (free []) ∷
+    (free []) ∷
+    (free []) ∷
+    (free []) ∷
+    (free []) ∷
+    (free []) ∷
+    (free []) ∷
+    (free []) ∷
+    (free []) ∷
+    (free []) ∷
+    (free []) ∷
+    (free []) ∷
+    (free []) ∷
+    (free []) ∷
+    (free []) ∷
+    (free []) ∷
+    (free []) ∷
+    (free []) ∷
+    (free []) ∷
+    []
+
+-- Behind the byte fe and a subopcode.
+abbrev pub atomic_entries : List Entry
+atomic_entries =
+    (free (is_memory_argument kind.Plain 2 ∷ [])) ∷
+    (free (is_memory_argument kind.Plain 2 ∷ [])) ∷
+    (free (is_memory_argument kind.Plain 3 ∷ [])) ∷
+    (free (is_fence_order ∷ [])) ∷
+    (free []) ∷
+    unknown ∷
+    unknown ∷
+    unknown ∷
+    unknown ∷
+    unknown ∷
+    unknown ∷
+    unknown ∷
+    unknown ∷
+    unknown ∷
+    unknown ∷
+    unknown ∷
+    (free (is_memory_argument kind.Op 2 ∷ [])) ∷
+    (free (is_memory_argument kind.Op 3 ∷ [])) ∷
+    (free (is_memory_argument kind.Op 0 ∷ [])) ∷
+    (free (is_memory_argument kind.Op 1 ∷ [])) ∷
+    (free (is_memory_argument kind.Op 0 ∷ [])) ∷
+    (free (is_memory_argument kind.Op 1 ∷ [])) ∷
+    (free (is_memory_argument kind.Op 2 ∷ [])) ∷
+    (free (is_memory_argument kind.Op 2 ∷ [])) ∷
+    (free (is_memory_argument kind.Op 3 ∷ [])) ∷
+    (free (is_memory_argument kind.Op 0 ∷ [])) ∷
+    (free (is_memory_argument kind.Op 1 ∷ [])) ∷
+    (free (is_memory_argument kind.Op 0 ∷ [])) ∷
+    (free (is_memory_argument kind.Op 1 ∷ [])) ∷
+    (free (is_memory_argument kind.Op 2 ∷ [])) ∷
+    (free (is_memory_argument kind.Rmw 2 ∷ [])) ∷
+    (free (is_memory_argument kind.Rmw 3 ∷ [])) ∷
+    (free (is_memory_argument kind.Rmw 0 ∷ [])) ∷
+    (free (is_memory_argument kind.Rmw 1 ∷ [])) ∷
+    (free (is_memory_argument kind.Rmw 0 ∷ [])) ∷
+    (free (is_memory_argument kind.Rmw 1 ∷ [])) ∷
+    (free (is_memory_argument kind.Rmw 2 ∷ [])) ∷
+    (free (is_memory_argument kind.Rmw 2 ∷ [])) ∷
+    (free (is_memory_argument kind.Rmw 3 ∷ [])) ∷
+    (free (is_memory_argument kind.Rmw 0 ∷ [])) ∷
+    (free (is_memory_argument kind.Rmw 1 ∷ [])) ∷
+    (free (is_memory_argument kind.Rmw 0 ∷ [])) ∷
+    (free (is_memory_argument kind.Rmw 1 ∷ [])) ∷
+    (free (is_memory_argument kind.Rmw 2 ∷ [])) ∷
+    (free (is_memory_argument kind.Rmw 2 ∷ [])) ∷
+    (free (is_memory_argument kind.Rmw 3 ∷ [])) ∷
+    (free (is_memory_argument kind.Rmw 0 ∷ [])) ∷
+    (free (is_memory_argument kind.Rmw 1 ∷ [])) ∷
+    (free (is_memory_argument kind.Rmw 0 ∷ [])) ∷
+    (free (is_memory_argument kind.Rmw 1 ∷ [])) ∷
+    (free (is_memory_argument kind.Rmw 2 ∷ [])) ∷
+    (free (is_memory_argument kind.Rmw 2 ∷ [])) ∷
+    (free (is_memory_argument kind.Rmw 3 ∷ [])) ∷
+    (free (is_memory_argument kind.Rmw 0 ∷ [])) ∷
+    (free (is_memory_argument kind.Rmw 1 ∷ [])) ∷
+    (free (is_memory_argument kind.Rmw 0 ∷ [])) ∷
+    (free (is_memory_argument kind.Rmw 1 ∷ [])) ∷
+    (free (is_memory_argument kind.Rmw 2 ∷ [])) ∷
+    (free (is_memory_argument kind.Rmw 2 ∷ [])) ∷
+    (free (is_memory_argument kind.Rmw 3 ∷ [])) ∷
+    (free (is_memory_argument kind.Rmw 0 ∷ [])) ∷
+    (free (is_memory_argument kind.Rmw 1 ∷ [])) ∷
+    (free (is_memory_argument kind.Rmw 0 ∷ [])) ∷
+    (free (is_memory_argument kind.Rmw 1 ∷ [])) ∷
+    (free (is_memory_argument kind.Rmw 2 ∷ [])) ∷
+    (free (is_memory_argument kind.Rmw 2 ∷ [])) ∷
+    (free (is_memory_argument kind.Rmw 3 ∷ [])) ∷
+    (free (is_memory_argument kind.Rmw 0 ∷ [])) ∷
+    (free (is_memory_argument kind.Rmw 1 ∷ [])) ∷
+    (free (is_memory_argument kind.Rmw 0 ∷ [])) ∷
+    (free (is_memory_argument kind.Rmw 1 ∷ [])) ∷
+    (free (is_memory_argument kind.Rmw 2 ∷ [])) ∷
+    (free (is_memory_argument kind.Rmw 2 ∷ [])) ∷
+    (free (is_memory_argument kind.Rmw 3 ∷ [])) ∷
+    (free (is_memory_argument kind.Rmw 0 ∷ [])) ∷
+    (free (is_memory_argument kind.Rmw 1 ∷ [])) ∷
+    (free (is_memory_argument kind.Rmw 0 ∷ [])) ∷
+    (free (is_memory_argument kind.Rmw 1 ∷ [])) ∷
+    (free (is_memory_argument kind.Rmw 2 ∷ [])) ∷
+    (free (is_order ∷ is_unsigned_32 ∷ [])) ∷
+    (free (is_order ∷ is_unsigned_32 ∷ [])) ∷
+    (free (is_order ∷ is_unsigned_32 ∷ [])) ∷
+    (free (is_order ∷ is_unsigned_32 ∷ [])) ∷
+    (free (is_order ∷ is_unsigned_32 ∷ [])) ∷
+    (free (is_order ∷ is_unsigned_32 ∷ [])) ∷
+    (free (is_order ∷ is_unsigned_32 ∷ [])) ∷
+    (free (is_order ∷ is_unsigned_32 ∷ [])) ∷
+    (free (is_order ∷ is_unsigned_32 ∷ [])) ∷
+    (free (is_order ∷ is_unsigned_32 ∷ [])) ∷
+    (free (is_order ∷ is_unsigned_32 ∷ [])) ∷
+    (free (is_order ∷ is_unsigned_32 ∷ [])) ∷
+    (free (is_order ∷ is_unsigned_32 ∷ [])) ∷
+    (free (is_order ∷ is_unsigned_32 ∷ is_unsigned_32 ∷ [])) ∷
+    (free (is_order ∷ is_unsigned_32 ∷ is_unsigned_32 ∷ [])) ∷
+    (free (is_order ∷ is_unsigned_32 ∷ is_unsigned_32 ∷ [])) ∷
+    (free (is_order ∷ is_unsigned_32 ∷ is_unsigned_32 ∷ [])) ∷
+    (free (is_order ∷ is_unsigned_32 ∷ is_unsigned_32 ∷ [])) ∷
+    (free (is_order ∷ is_unsigned_32 ∷ is_unsigned_32 ∷ [])) ∷
+    (free (is_order ∷ is_unsigned_32 ∷ is_unsigned_32 ∷ [])) ∷
+    (free (is_order ∷ is_unsigned_32 ∷ is_unsigned_32 ∷ [])) ∷
+    (free (is_order ∷ is_unsigned_32 ∷ is_unsigned_32 ∷ [])) ∷
+    (free (is_order ∷ is_unsigned_32 ∷ is_unsigned_32 ∷ [])) ∷
+    (free (is_order ∷ is_unsigned_32 ∷ is_unsigned_32 ∷ [])) ∷
+    (free (is_order ∷ is_unsigned_32 ∷ [])) ∷
+    (free (is_order ∷ is_unsigned_32 ∷ [])) ∷
+    (free (is_order ∷ is_unsigned_32 ∷ [])) ∷
+    (free (is_order ∷ is_unsigned_32 ∷ [])) ∷
+    (free (is_order ∷ is_unsigned_32 ∷ [])) ∷
+    (free (is_order ∷ is_unsigned_32 ∷ [])) ∷
+    (free (is_order ∷ is_unsigned_32 ∷ [])) ∷
+    (free (is_order ∷ is_unsigned_32 ∷ [])) ∷
+    (free (is_order ∷ is_unsigned_32 ∷ [])) ∷
+    (free (is_order ∷ is_unsigned_32 ∷ [])) ∷
+    (free (is_order ∷ is_unsigned_32 ∷ [])) ∷
+    (free []) ∷
+    []
+
+-- The entries behind a prefix byte.
+abbrev pub entries_behind : ℕ → List Entry
+entries_behind prefix =
+    cond (eqb prefix 0xfb) gc_entries (
+    cond (eqb prefix 0xfc) misc_entries (
+    cond (eqb prefix 0xfd) simd_entries (
+    cond (eqb prefix 0xfe) atomic_entries (
+    []))))
+
+-- What stands behind an opcode, or behind a prefix byte and a subopcode.
+abbrev pub entry_at : Option ℕ → ℕ → Entry
+entry_at None code = get_or opcode_entries code unknown
+entry_at (Some prefix) code = get_or (entries_behind prefix) code unknown
+
+-- The exponent of the alignment of the operator that has it, where that has a memory argument.
+abbrev pub align_at : Option ℕ → ℕ → ℕ
+align_at prefix code = align_in (entry_at prefix code)

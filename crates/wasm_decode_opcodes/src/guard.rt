@@ -1,0 +1,124 @@
+//! The operators that are looked at before their immediates: `else`, and those of the legacy exceptions.
+ghost use Rattle.std.specs.Prelude.{◌≡◌, ◌≤◌, ◌<◌, ◌+◌, ℕ, List, IsTrue, ◌↔◌, false, None, IfOk, IfErr};
+ghost use Rattle.wasm_instr.specs.below.Features.{HasFeature, legacy_exceptions};
+ghost use Rattle.wasm_instr.specs.below.Source.{at_position};
+ghost use Rattle.wasm_instr.specs.grammar.Frames.{Allows};
+ghost use Rattle.wasm_instr.specs.Immediate.{Kind};
+ghost use Rattle.wasm_decode_opcodes.specs.Allowed.{EncodesAllowed};
+ghost use Rattle.wasm_decode_opcodes.specs.Decoding.{RefusesOperator, StandsBehind};
+ghost use Rattle.wasm_decode_opcodes.specs.Entries.{entry_at};
+ghost use Rattle.wasm_decode_opcodes.specs.Entry.{guarded, role_behind, instruction_behind, frame_behind, NeedsLegacy};
+ghost use Rattle.wasm_decode_opcodes.specs.OperatorFaults.{GuardFault, OperatorFault, LacksFeature};
+
+use wasm_instr::below::{
+    BinaryReader, Error, FrameName, InstructionName, Message, Result, WasmFeatures,
+};
+use wasm_instr::grammar::FrameKind;
+
+/// An operator whose feature and frame are looked at before its immediates.
+#[derive(Clone, Copy, Debug, PartialEq, Eq)]
+pub enum Guard {
+    /// `else`, in an `if` alone.
+    Else,
+    /// `try` of the legacy exceptions, in any frame.
+    Try,
+    /// `catch`, in a `try` or behind another `catch`.
+    Catch,
+    /// `catch_all`, likewise.
+    CatchAll,
+    /// `delegate`, in a `try` alone. No feature is asked for.
+    Delegate,
+}
+
+impl Guard {
+    /// Looks at the feature and at the frame, and takes nothing.
+    ///
+    /// `FeatureRequired` at the operator's start; `WrongFrame` behind its opcode. The reader then
+    /// goes back to the position `start`.
+    #[inline(always)]
+    pub fn check(self, reader: &mut BinaryReader<'_>, start: usize, frame: FrameKind) -> Result<()>
+        requires { start ≤ reader.old.position }
+        ensures stays { IfOk result (λ u. reader.new ≡ reader.old) }
+        ensures feature { IfOk result (λ u. NeedsLegacy self → HasFeature legacy_exceptions reader.old.features) }
+        ensures allows { IfOk result (λ u. Allows frame (role_behind self)) }
+        ensures back { IfErr result (λ e. reader.new ≡ at_position reader.old start) }
+        ensures fault { IfErr result (λ e. GuardFault reader.old.features frame (reader.old.start + start) self (λ m r offset. ⊥) e.message reader.old e.offset) }
+        ensures refuses { IfErr result (λ e. (code : ℕ) (ks : List Kind) → code < 256 → StandsBehind start None code reader.old → entry_at None code ≡ guarded self ks
+            → RefusesOperator (EncodesAllowed reader.old.features frame) (OperatorFault reader.old.features frame) e (at_position reader.old start) reader.new) }
+    {
+        if self.lacks_feature(reader) {
+            return Err(reader.refuse(start, Message::FeatureRequired(self.instruction())));
+        }
+        if !self.allows(frame) {
+            return Err(self.wrong_frame(reader, start));
+        }
+        Ok(())
+    }
+
+    /// Whether the feature is wanting that the operator is read with.
+    #[inline(always)]
+    fn lacks_feature(self, reader: &BinaryReader<'_>) -> bool
+        ensures lacks { IsTrue result → LacksFeature reader.now.features self }
+        ensures has { result ≡ false → NeedsLegacy self → HasFeature legacy_exceptions reader.now.features }
+    {
+        match self {
+            Guard::Else | Guard::Delegate => false,
+            Guard::Try | Guard::Catch | Guard::CatchAll => !reader
+                .features()
+                .contains(WasmFeatures::LEGACY_EXCEPTIONS),
+        }
+    }
+
+    /// Whether this frame allows it.
+    #[inline(always)]
+    fn allows(self, frame: FrameKind) -> bool
+        ensures { IsTrue result ↔ Allows frame (role_behind self) }
+    {
+        match self {
+            Guard::Else => matches!(frame, FrameKind::If),
+            Guard::Try => true,
+            Guard::Catch | Guard::CatchAll => {
+                matches!(frame, FrameKind::LegacyTry | FrameKind::LegacyCatch)
+            }
+            Guard::Delegate => matches!(frame, FrameKind::LegacyTry),
+        }
+    }
+
+    /// The frame does not allow it: said behind the opcode, and the reader goes back.
+    #[cold]
+    #[inline(never)]
+    fn wrong_frame(self, reader: &mut BinaryReader<'_>, start: usize) -> Error
+        requires { start ≤ reader.old.position }
+        ensures back { reader.new ≡ at_position reader.old start }
+        ensures message { result.message ≡ Message.WrongFrame (instruction_behind self) (frame_behind self) }
+        ensures offset { result.offset ≡ reader.old.start + reader.old.position }
+    {
+        let message = Message::WrongFrame(self.instruction(), self.wanted());
+        let offset = reader.original_position();
+        reader.rewind(start);
+        Error::new(message, offset)
+    }
+
+    /// Its name in the texts of refusals.
+    fn instruction(self) -> InstructionName
+        ensures { result ≡ instruction_behind self }
+    {
+        match self {
+            Guard::Else => InstructionName::Else,
+            Guard::Try => InstructionName::Try,
+            Guard::Catch => InstructionName::Catch,
+            Guard::CatchAll => InstructionName::CatchAll,
+            Guard::Delegate => InstructionName::Delegate,
+        }
+    }
+
+    /// The frame that it wants, in the texts of refusals.
+    fn wanted(self) -> FrameName
+        ensures { result ≡ frame_behind self }
+    {
+        match self {
+            Guard::Else => FrameName::If,
+            _ => FrameName::LegacyTry,
+        }
+    }
+}

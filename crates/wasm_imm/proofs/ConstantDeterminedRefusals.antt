@@ -1,0 +1,7 @@
+-- What the fault of lanes says determines its refusal.
+use Rattle.std.proofs.Common.{sym, ◌∙◌}
+use Rattle.wasm_imm_control.specs.below.Fault.{DeterminesRefusal}
+use Rattle.wasm_imm.specs.Vectors.{LanesFault}
+
+pub lanes_determines : DeterminesRefusal LanesFault
+lanes_determines m k r a b h q = (h.0 ∙ sym q.0, h.1 ∙ sym q.1)

@@ -1,0 +1,28 @@
+-- What the fault of an index, an ordering or a fence says determines its refusal.
+use Rattle.std.proofs.Common.{◌≢◌, ℕ, false}
+use Rattle.wasm_imm_control.specs.below.bytes.features.WasmFeatures.{WasmFeatures}
+use Rattle.wasm_imm_control.specs.below.bytes.message.Message.TheVariants as message
+use Rattle.wasm_imm_control.specs.below.Fault.{DeterminesRefusal}
+use Rattle.wasm_imm_control.specs.below.Features.{HasFeature, acquire_release_atomics}
+use Rattle.wasm_imm_control.specs.below.Source.{offset_of, U32Fault}
+use Rattle.wasm_imm_control.proofs.of_below.DeterminedRefusals.{u32_determines}
+use Rattle.wasm_imm.specs.declared.ordering.Ordering.{Ordering}
+use Rattle.wasm_imm.specs.MemoryArgument.{ordering_byte}
+use Rattle.wasm_imm_control.specs.below.PartFaults.{ZeroFault}
+use Rattle.wasm_imm.specs.Indices.{IndexFault}
+use Rattle.wasm_imm.specs.Orderings.{OrderingByteFault, FenceFault}
+use Rattle.wasm_imm_control.proofs.of_below.DeterminedRefusals.{either_determines}
+use Rattle.wasm_imm_control.proofs.of_below.DeterminedRefusals.{checked_determines}
+use Rattle.wasm_imm_control.proofs.of_below.DeterminedRefusals.{zero_determines}
+
+pub index_determines : (feature f : WasmFeatures) → DeterminesRefusal (IndexFault feature f)
+index_determines feature f m k r a b = either_determines (HasFeature feature f) U32Fault (ZeroFault message.ZeroByteExpected (offset_of r)) u32_determines
+    (zero_determines message.ZeroByteExpected (offset_of r)) m k r a b
+
+pub ordering_byte_determines : DeterminesRefusal OrderingByteFault
+ordering_byte_determines m k r a b = checked_determines (λ byte. (o : Ordering) →
+    byte ≢ ordering_byte o) (λ byte. message.InvalidOrdering byte false) (offset_of r) m k r a b
+
+pub fence_determines : (f : WasmFeatures) (start : ℕ) → DeterminesRefusal (FenceFault f start)
+fence_determines f start = either_determines (HasFeature acquire_release_atomics f) OrderingByteFault (ZeroFault message.NonzeroAfterFence start)
+    ordering_byte_determines (zero_determines message.NonzeroAfterFence start)

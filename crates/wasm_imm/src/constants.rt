@@ -1,0 +1,133 @@
+//! Floating-point constants and vectors, as their bits.
+ghost use Rattle.std.specs.Prelude.{◌≡◌, ℕ, List, IfErr};
+ghost use Rattle.wasm_imm_control.specs.below.Source.{Reads, IsShort};
+ghost use Rattle.wasm_imm.specs.Vectors.{EncodesVector};
+ghost use Rattle.std.specs.Int.{w128, to_le_bytes, from_le_bytes, cast_signed, cast_unsigned};
+
+use crate::lanes::read_sixteen;
+use std::marker::Model;
+use wasm_imm_control::below::{BinaryReader, Result};
+
+/// The bits of a number in the binary32 format of IEEE 754. Every pattern is allowed.
+#[derive(Clone, Copy, Debug, PartialEq, Eq, Hash)]
+pub struct Ieee32(u32);
+
+impl Model for Ieee32 {
+    ghost Value = { ℕ };
+
+    ghost view = { λ x. x.0 };
+
+    ghost inverse = { λ bits. record { 0 = bits } };
+}
+
+impl Ieee32 {
+    /// The number of these bits.
+    pub fn from_bits(bits: u32) -> Ieee32
+        ensures { result ≡ bits }
+    {
+        Ieee32(bits)
+    }
+
+    /// The bits.
+    pub fn bits(self) -> u32
+        ensures { result ≡ self }
+    {
+        let Ieee32(bits) = self;
+        bits
+    }
+}
+
+/// The bits of a number in the binary64 format of IEEE 754. Every pattern is allowed.
+#[derive(Clone, Copy, Debug, PartialEq, Eq, Hash)]
+pub struct Ieee64(u64);
+
+impl Model for Ieee64 {
+    ghost Value = { ℕ };
+
+    ghost view = { λ x. x.0 };
+
+    ghost inverse = { λ bits. record { 0 = bits } };
+}
+
+impl Ieee64 {
+    /// The number of these bits.
+    pub fn from_bits(bits: u64) -> Ieee64
+        ensures { result ≡ bits }
+    {
+        Ieee64(bits)
+    }
+
+    /// The bits.
+    pub fn bits(self) -> u64
+        ensures { result ≡ self }
+    {
+        let Ieee64(bits) = self;
+        bits
+    }
+}
+
+/// A vector of 128 bits: sixteen bytes, the lowest first.
+#[derive(Clone, Copy, Debug, PartialEq, Eq, Hash)]
+pub struct V128(pub [u8; 16]);
+
+impl V128 {
+    /// The constant of `v128.const`: sixteen bytes, the lowest first. Vector Instructions.
+    ///
+    /// `EndOfData` where they begin.
+    #[inline(always)]
+    pub fn read(reader: &mut BinaryReader<'_>) -> Result<V128>
+        ensures reads { Reads EncodesVector result reader.old reader.new }
+        ensures end { IfErr result (λ e. IsShort 16 e reader.old) }
+    {
+        match read_sixteen(reader) {
+            Ok(bytes) => Ok(V128(bytes)),
+            Err(e) => Err(e),
+        }
+    }
+
+    /// The bytes, the lowest first.
+    pub fn bytes(&self) -> &[u8; 16]
+        ensures { result.now ≡ self.now.0 }
+    {
+        &self.0
+    }
+
+    /// The bytes as a number with a sign.
+    pub fn i128(&self) -> i128
+        ensures { result ≡ cast_signed w128 (from_le_bytes w128 self.now.0) }
+    {
+        i128::from_le_bytes(self.0)
+    }
+}
+
+impl From<V128> for i128 {
+    ghost from_gives = { λ v n. n ≡ cast_signed w128 (from_le_bytes w128 v.0) };
+
+    fn from(vector: V128) -> i128 {
+        vector.i128()
+    }
+}
+
+impl From<V128> for u128 {
+    ghost from_gives = { λ v n. n ≡ from_le_bytes w128 v.0 };
+
+    fn from(vector: V128) -> u128 {
+        u128::from_le_bytes(vector.0)
+    }
+}
+
+impl From<i128> for V128 {
+    ghost from_gives = { λ n v. v.0 ≡ to_le_bytes w128 (cast_unsigned w128 n) };
+
+    fn from(value: i128) -> V128 {
+        V128(value.to_le_bytes())
+    }
+}
+
+impl From<u128> for V128 {
+    ghost from_gives = { λ n v. v.0 ≡ to_le_bytes w128 n };
+
+    fn from(value: u128) -> V128 {
+        V128(value.to_le_bytes())
+    }
+}

@@ -1,0 +1,51 @@
+//! Indices of memories and tables, which a feature announces.
+ghost use Rattle.std.specs.Prelude.{IfErr};
+ghost use Rattle.wasm_imm_control.specs.below.Source.{Reads};
+ghost use Rattle.wasm_imm.specs.Indices.{EncodesIndex, EncodesMemoryIndex, EncodesTableIndex};
+ghost use Rattle.wasm_imm.specs.Indices.{IndexFault, MemoryIndexFault, TableIndexFault};
+
+use wasm_imm_control::below::{BinaryReader, Message, Result, WasmFeatures};
+
+/// The memory of `memory.size` or `memory.grow`. Memory Instructions.
+///
+/// With multi_memory refused as `read_var_u32` is; without it, `EndOfData` at the end of the data,
+/// and `ZeroByteExpected` at a byte that is not 0.
+#[inline(never)]
+pub fn read_memory_index(reader: &mut BinaryReader<'_>) -> Result<u32>
+    ensures reads { Reads (EncodesMemoryIndex reader.old.features) result reader.old reader.new }
+    ensures fault { IfErr result (λ e. MemoryIndexFault reader.old.features
+        e.message reader.old e.offset) }
+{
+    read_index(reader, WasmFeatures::MULTI_MEMORY)
+}
+
+/// The table of `call_indirect`. Control Instructions.
+///
+/// With call_indirect_overlong refused as `read_var_u32` is; without it, `EndOfData` at the end of
+/// the data, and `ZeroByteExpected` at a byte that is not 0.
+#[inline(never)]
+pub fn read_table_index(reader: &mut BinaryReader<'_>) -> Result<u32>
+    ensures reads { Reads (EncodesTableIndex reader.old.features) result reader.old reader.new }
+    ensures fault { IfErr result (λ e. TableIndexFault reader.old.features
+        e.message reader.old e.offset) }
+{
+    read_index(reader, WasmFeatures::CALL_INDIRECT_OVERLONG)
+}
+
+/// A number with this feature; without it, the byte 0.
+#[inline(always)]
+fn read_index(reader: &mut BinaryReader<'_>, feature: WasmFeatures) -> Result<u32>
+    ensures reads { Reads (EncodesIndex feature reader.old.features) result reader.old reader.new }
+    ensures fault { IfErr result (λ e. IndexFault feature reader.old.features
+        e.message reader.old e.offset) }
+{
+    if reader.features().contains(feature) {
+        return reader.read_var_u32();
+    }
+    let start = reader.current_position();
+    match reader.read_u8() {
+        Ok(0) => Ok(0),
+        Ok(_) => Err(reader.refuse(start, Message::ZeroByteExpected)),
+        Err(e) => Err(e),
+    }
+}

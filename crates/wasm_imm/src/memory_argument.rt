@@ -1,0 +1,365 @@
+//! Memory arguments.
+ghost use Rattle.std.specs.Prelude.{◌≡◌, ◌+◌, ◌/◌, ◌%◌, ◌<◌, ◌≤◌, ◌↔◌, IsTrue, IfSome, IfNone, IfErr};
+ghost use Rattle.wasm_imm_control.specs.below.Source.{Reads, at_position, offset_of};
+ghost use Rattle.wasm_imm_control.specs.below.Number.{EncodesUnsigned};
+ghost use Rattle.wasm_imm.specs.MemoryArgument.{EncodesMemArg, EncodesOffset, IsOrderingByte};
+ghost use Rattle.wasm_imm.specs.FlagsNumber.{Announces, NamesBoth, OrdersPlain, IsReserved, IsTarget, IsOrdering};
+ghost use Rattle.wasm_imm.specs.MemoryArgumentFaults.{TargetFault, OrderingFault, OffsetFault, FlagsFault, MemArgFault};
+
+use crate::ordering::Ordering;
+use wasm_imm_control::below::{BinaryReader, Error, Message, Result, WasmFeatures};
+
+/// The memory argument of a load, a store or an atomic access: its alignment, its static offset, and
+/// what it accesses. Memory Instructions.
+#[derive(Clone, Copy, Debug, PartialEq, Eq)]
+pub struct MemArg {
+    /// The alignment that the argument gives, as the exponent of a power of two, at most 15.
+    pub align: u8,
+    /// The operator's natural alignment, as the exponent of a power of two; not read from the format.
+    pub max_align: u8,
+    /// The static offset in bytes, added to the address.
+    pub offset: u64,
+    /// The memory or the array that is accessed.
+    pub target: MemArgTarget,
+    /// The memory ordering, where the argument announces one.
+    pub ordering: Option<MemArgOrdering>,
+}
+
+/// What a memory operator accesses.
+#[derive(Clone, Copy, Debug, PartialEq, Eq, Hash)]
+pub enum MemArgTarget {
+    /// The memory of this index.
+    Memory(u32),
+    /// An array whose type has this index.
+    Array(u32),
+}
+
+impl Default for MemArgTarget {
+    fn default() -> MemArgTarget
+        ensures { result ≡ MemArgTarget.Memory 0 }
+    {
+        MemArgTarget::Memory(0)
+    }
+}
+
+/// The ordering that a memory argument gives.
+#[derive(Clone, Copy, Debug, PartialEq, Eq, Hash)]
+pub enum MemArgOrdering {
+    /// Of an atomic load or store.
+    Op(Ordering),
+    /// Of an atomic read-modify-write.
+    Rmw(Ordering),
+}
+
+/// What sort of operator a memory argument is of: it decides which orderings may stand there.
+#[derive(Clone, Copy, Debug, PartialEq, Eq)]
+pub enum MemArgKind {
+    /// Not atomic: none.
+    Plain,
+    /// An atomic load or store.
+    Op,
+    /// An atomic read-modify-write.
+    Rmw,
+}
+
+/// The bits of the flags number that announce something.
+const ORDERING: u32 = 16;
+
+const ARRAY_INDEX: u32 = 32;
+
+const MEMORY_INDEX: u32 = 64;
+
+impl MemArg {
+    /// A memory argument of an operator of this kind, whose natural alignment is `max_align`. Binary
+    /// Format, Memory Instructions.
+    ///
+    /// The first that applies of: what `read_var_u32` refuses in the flags number; `MemoryAndArray` at
+    /// the flags number; what `read_var_u32` refuses in the index that is announced; `OrderingOnPlain`
+    /// at the flags number; `EndOfData` or `InvalidOrdering` at the ordering's byte; `ReservedFlags` at
+    /// the flags number; and what the offset's number is refused for, by `read_var_u64` with memory64
+    /// and else by `read_var_u32`.
+    #[inline(always)]
+    pub fn read(reader: &mut BinaryReader<'_>, max_align: u8, kind: MemArgKind) -> Result<MemArg>
+        ensures reads { Reads (EncodesMemArg reader.old.features kind max_align)
+            result reader.old reader.new }
+        ensures fault { IfErr result (λ e. MemArgFault reader.old.features kind
+            e.message reader.old e.offset) }
+    {
+        let start = reader.current_position();
+        let flags = match reader.read_var_u32() {
+            Ok(flags) => flags,
+            Err(e) => return Err(e),
+        };
+        if flags >= ORDERING {
+            return match read_announced(reader, start, flags, max_align, kind) {
+                Ok(argument) => Ok(argument),
+                Err(e) => Err(e),
+            };
+        }
+        match read_offset(reader) {
+            Ok(offset) => Ok(MemArg {
+                align: flags as u8,
+                max_align,
+                offset,
+                target: MemArgTarget::Memory(0),
+                ordering: None,
+            }),
+            Err(e) => {
+                reader.rewind(start);
+                Err(e)
+            }
+        }
+    }
+}
+
+/// The rest of a memory argument that began at `start`, whose flags number announces something.
+///
+/// What reads it stands twice in the built code: where a memory's index alone is announced, the
+/// compiler drops the checks of all else.
+fn read_announced(
+    reader: &mut BinaryReader<'_>,
+    start: usize,
+    flags: u32,
+    max_align: u8,
+    kind: MemArgKind,
+) -> Result<MemArg>
+    requires begun { start ≤ reader.old.position }
+    requires flagged { Reads (EncodesUnsigned 32) (Ok flags)
+        (at_position reader.old start) reader.old }
+    ensures reads { Reads (EncodesMemArg reader.old.features kind max_align)
+        result (at_position reader.old start) reader.new }
+    ensures fault { IfErr result (λ e. FlagsFault reader.old.features kind flags
+        (offset_of (at_position reader.old start)) e.message reader.old e.offset) }
+{
+    if names_memory_alone(reader.features(), flags) {
+        return read_rest(reader, start, flags, max_align, kind);
+    }
+    match read_other(reader, start, flags, max_align, kind) {
+        Ok(argument) => Ok(argument),
+        Err(e) => Err(e),
+    }
+}
+
+/// The rest of one that announces anything else.
+#[inline(never)]
+fn read_other(
+    reader: &mut BinaryReader<'_>,
+    start: usize,
+    flags: u32,
+    max_align: u8,
+    kind: MemArgKind,
+) -> Result<MemArg>
+    requires begun { start ≤ reader.old.position }
+    requires flagged { Reads (EncodesUnsigned 32) (Ok flags)
+        (at_position reader.old start) reader.old }
+    ensures reads { Reads (EncodesMemArg reader.old.features kind max_align)
+        result (at_position reader.old start) reader.new }
+    ensures fault { IfErr result (λ e. FlagsFault reader.old.features kind flags
+        (offset_of (at_position reader.old start)) e.message reader.old e.offset) }
+{
+    read_rest(reader, start, flags, max_align, kind)
+}
+
+/// The rest of a memory argument behind its flags number: the index, the ordering and the offset.
+#[inline(always)]
+fn read_rest(
+    reader: &mut BinaryReader<'_>,
+    start: usize,
+    flags: u32,
+    max_align: u8,
+    kind: MemArgKind,
+) -> Result<MemArg>
+    requires begun { start ≤ reader.old.position }
+    requires flagged { Reads (EncodesUnsigned 32) (Ok flags)
+        (at_position reader.old start) reader.old }
+    ensures reads { Reads (EncodesMemArg reader.old.features kind max_align)
+        result (at_position reader.old start) reader.new }
+    ensures fault { IfErr result (λ e. FlagsFault reader.old.features kind flags
+        (offset_of (at_position reader.old start)) e.message reader.old e.offset) }
+{
+    let features = reader.features();
+    if names_both(features, flags) {
+        return Err(reader.refuse(start, Message::MemoryAndArray));
+    }
+    let target = match read_target(reader, features, flags) {
+        Ok(target) => target,
+        Err(e) => {
+            reader.rewind(start);
+            return Err(e);
+        }
+    };
+    if orders_plain(features, kind, flags) {
+        return Err(reader.refuse(start, Message::OrderingOnPlain));
+    }
+    let ordering = match read_ordering(reader, features, flags, kind) {
+        Ok(ordering) => ordering,
+        Err(e) => {
+            reader.rewind(start);
+            return Err(e);
+        }
+    };
+    if is_reserved(features, flags) {
+        return Err(reader.refuse(start, Message::ReservedFlags));
+    }
+    match read_offset(reader) {
+        Ok(offset) => Ok(MemArg {
+            align: (flags % ORDERING) as u8,
+            max_align,
+            offset,
+            target,
+            ordering,
+        }),
+        Err(e) => {
+            reader.rewind(start);
+            Err(e)
+        }
+    }
+}
+
+/// Whether the flags number has this bit, and the feature that gives it a meaning is on.
+#[inline(always)]
+fn announces(features: WasmFeatures, feature: WasmFeatures, flags: u32, bit: u32) -> bool
+    requires { 0 < bit }
+    ensures { IsTrue result ↔ Announces features feature flags bit }
+{
+    features.contains(feature) && flags / bit % 2 == 1
+}
+
+/// Whether the flags number announces a memory's index and nothing else.
+#[inline(always)]
+fn names_memory_alone(features: WasmFeatures, flags: u32) -> bool {
+    flags / ORDERING == MEMORY_INDEX / ORDERING && features.contains(WasmFeatures::MULTI_MEMORY)
+}
+
+/// Whether a memory and an array are named at once.
+#[inline(always)]
+fn names_both(features: WasmFeatures, flags: u32) -> bool
+    ensures { IsTrue result ↔ NamesBoth features flags }
+{
+    announces(
+        features,
+        WasmFeatures::MULTIBYTE_ARRAY_ACCESS,
+        flags,
+        ARRAY_INDEX,
+    ) && flags / MEMORY_INDEX % 2 == 1
+}
+
+/// Whether an ordering is announced where none may stand.
+#[inline(always)]
+fn orders_plain(features: WasmFeatures, kind: MemArgKind, flags: u32) -> bool
+    ensures { IsTrue result ↔ OrdersPlain features kind flags }
+{
+    kind == MemArgKind::Plain
+        && announces(
+            features,
+            WasmFeatures::ACQUIRE_RELEASE_ATOMICS,
+            flags,
+            ORDERING,
+        )
+}
+
+/// Whether a bit is set that has no meaning under these features.
+#[inline(always)]
+fn is_reserved(features: WasmFeatures, flags: u32) -> bool
+    ensures { IsTrue result ↔ IsReserved features flags }
+{
+    flags >= 2 * MEMORY_INDEX
+        || flags / MEMORY_INDEX % 2 == 1 && !features.contains(WasmFeatures::MULTI_MEMORY)
+        || flags / ARRAY_INDEX % 2 == 1 && !features.contains(WasmFeatures::MULTIBYTE_ARRAY_ACCESS)
+        || flags / ORDERING % 2 == 1 && !features.contains(WasmFeatures::ACQUIRE_RELEASE_ATOMICS)
+}
+
+/// What is reached, by the index that the flags number announces.
+#[inline(always)]
+fn read_target(
+    reader: &mut BinaryReader<'_>,
+    features: WasmFeatures,
+    flags: u32,
+) -> Result<MemArgTarget>
+    ensures reads { Reads (IsTarget features flags) result reader.old reader.new }
+    ensures fault { IfErr result (λ e. TargetFault features flags
+        e.message reader.old e.offset) }
+{
+    if announces(features, WasmFeatures::MULTI_MEMORY, flags, MEMORY_INDEX) {
+        return match reader.read_var_u32() {
+            Ok(index) => Ok(MemArgTarget::Memory(index)),
+            Err(e) => Err(e),
+        };
+    }
+    if announces(
+        features,
+        WasmFeatures::MULTIBYTE_ARRAY_ACCESS,
+        flags,
+        ARRAY_INDEX,
+    ) {
+        return match reader.read_var_u32() {
+            Ok(index) => Ok(MemArgTarget::Array(index)),
+            Err(e) => Err(e),
+        };
+    }
+    Ok(MemArgTarget::Memory(0))
+}
+
+/// The ordering, where the flags number announces one.
+///
+/// `EndOfData` or `InvalidOrdering` at its byte.
+#[inline(always)]
+fn read_ordering(
+    reader: &mut BinaryReader<'_>,
+    features: WasmFeatures,
+    flags: u32,
+    kind: MemArgKind,
+) -> Result<Option<MemArgOrdering>>
+    requires { ¬ OrdersPlain features kind flags }
+    ensures reads { Reads (IsOrdering features kind flags) result reader.old reader.new }
+    ensures fault { IfErr result (λ e. OrderingFault features kind flags
+        e.message reader.old e.offset) }
+{
+    if !announces(
+        features,
+        WasmFeatures::ACQUIRE_RELEASE_ATOMICS,
+        flags,
+        ORDERING,
+    ) {
+        return Ok(None);
+    }
+    let start = reader.current_position();
+    let byte = match reader.read_u8() {
+        Ok(byte) => byte,
+        Err(e) => return Err(e),
+    };
+    match ordering_of(kind, byte) {
+        Some(ordering) => Ok(Some(ordering)),
+        None => Err(reader.refuse(start, Message::InvalidOrdering { byte, hex: true })),
+    }
+}
+
+/// The ordering of this byte in an argument of this kind, if it is one.
+fn ordering_of(kind: MemArgKind, byte: u8) -> Option<MemArgOrdering>
+    ensures some { IfSome result (IsOrderingByte kind byte) }
+    ensures none { IfNone result ((o : _) → ¬ IsOrderingByte kind byte o) }
+{
+    match (kind, byte) {
+        (MemArgKind::Op, 0x00) => Some(MemArgOrdering::Op(Ordering::SeqCst)),
+        (MemArgKind::Op, 0x01) => Some(MemArgOrdering::Op(Ordering::AcqRel)),
+        (MemArgKind::Rmw, 0x00) => Some(MemArgOrdering::Rmw(Ordering::SeqCst)),
+        (MemArgKind::Rmw, 0x11) => Some(MemArgOrdering::Rmw(Ordering::AcqRel)),
+        _ => None,
+    }
+}
+
+/// An offset: 64 bits with memory64, else 32.
+#[inline(always)]
+fn read_offset(reader: &mut BinaryReader<'_>) -> Result<u64>
+    ensures reads { Reads (EncodesOffset reader.old.features) result reader.old reader.new }
+    ensures fault { IfErr result (λ e. OffsetFault reader.old.features
+        e.message reader.old e.offset) }
+{
+    if reader.features().contains(WasmFeatures::MEMORY64) {
+        return reader.read_var_u64();
+    }
+    match reader.read_var_u32() {
+        Ok(offset) => Ok(u64::from(offset)),
+        Err(e) => Err(e),
+    }
+}

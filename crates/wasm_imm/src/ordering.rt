@@ -1,0 +1,65 @@
+//! Orderings of atomic operators.
+ghost use Rattle.std.specs.Prelude.{◌≡◌, ◌≤◌, IfErr};
+ghost use Rattle.wasm_imm_control.specs.below.Source.{Reads, offset_of};
+ghost use Rattle.wasm_imm.specs.Orderings.{EncodesOrderingByte, EncodesFence};
+ghost use Rattle.wasm_imm_control.specs.below.Source.{ReadsFrom};
+ghost use Rattle.wasm_imm.specs.Orderings.{OrderingByteFault, FenceFault};
+
+use wasm_imm_control::below::{BinaryReader, Error, Message, Result, WasmFeatures};
+
+/// In which order an atomic operation is seen.
+#[derive(Clone, Copy, Debug, PartialEq, Eq, Hash)]
+pub enum Ordering {
+    /// A load acquires, a store releases.
+    AcqRel,
+    /// As `AcqRel`, and all threads see all such operations in one order.
+    SeqCst,
+}
+
+impl Ordering {
+    /// An ordering byte. Proposal shared-everything threads.
+    ///
+    /// `EndOfData` at the end of the data, `InvalidOrdering` at the byte.
+    #[inline(never)]
+    pub fn read(reader: &mut BinaryReader<'_>) -> Result<Ordering>
+        ensures reads { Reads EncodesOrderingByte result reader.old reader.new }
+        ensures fault { IfErr result (λ e. OrderingByteFault e.message reader.old e.offset) }
+    {
+        let start = reader.current_position();
+        match reader.read_u8() {
+            Ok(0x00) => Ok(Ordering::SeqCst),
+            Ok(0x01) => Ok(Ordering::AcqRel),
+            Ok(byte) => Err(reader.refuse(start, Message::InvalidOrdering { byte, hex: false })),
+            Err(e) => Err(e),
+        }
+    }
+
+    /// The byte of an `atomic.fence` that began at the offset `start`. Proposal threads.
+    ///
+    /// With acquire-release atomics an ordering byte, refused as in `read`; without them 0, and
+    /// else `NonzeroAfterFence` at `start`. `EndOfData` at the end of the data.
+    #[inline(never)]
+    pub fn read_fence(reader: &mut BinaryReader<'_>, start: u64) -> Result<Ordering>
+        requires { start ≤ offset_of reader.old }
+        ensures reads { ReadsFrom start (EncodesFence reader.old.features)
+            result reader.old reader.new }
+        ensures fault { IfErr result (λ e. FenceFault reader.old.features start
+            e.message reader.old e.offset) }
+    {
+        if reader
+            .features()
+            .contains(WasmFeatures::ACQUIRE_RELEASE_ATOMICS)
+        {
+            return Ordering::read(reader);
+        }
+        let position = reader.current_position();
+        match reader.read_u8() {
+            Ok(0x00) => Ok(Ordering::SeqCst),
+            Ok(_) => {
+                reader.rewind(position);
+                Err(Error::new(Message::NonzeroAfterFence, start))
+            }
+            Err(e) => Err(e),
+        }
+    }
+}

@@ -1,0 +1,48 @@
+//! The constants that a reader reads.
+ghost use Rattle.std.specs.Prelude.{IfErr};
+ghost use Rattle.std.specs.Int.{w32, w64};
+ghost use Rattle.wasm_imm_control.specs.below.Source.{Reader, Reads, IsShort};
+ghost use Rattle.wasm_imm_control.specs.below.Number.{EncodesFixed};
+
+use crate::constants::{Ieee32, Ieee64};
+use wasm_imm_control::below::{BinaryReader, Result};
+
+/// The constants that a reader of bytes reads.
+pub trait ReadImmediates {
+    // The reader of bytes that it is.
+    ghost reader: { Self → Reader };
+
+    /// The constant of `f32.const`: four bytes, the lowest first. Values, Floating-Point.
+    ///
+    /// `EndOfData` where they begin.
+    fn read_f32(&mut self) -> Result<Ieee32>
+        ensures reads { Reads (EncodesFixed w32) result (reader self.old) (reader self.new) }
+        ensures end { IfErr result (λ e. IsShort 4 e (reader self.old)) };
+
+    /// The constant of `f64.const`: eight bytes, the lowest first. Values, Floating-Point.
+    ///
+    /// `EndOfData` where they begin.
+    fn read_f64(&mut self) -> Result<Ieee64>
+        ensures reads { Reads (EncodesFixed w64) result (reader self.old) (reader self.new) }
+        ensures end { IfErr result (λ e. IsShort 8 e (reader self.old)) };
+}
+
+impl ReadImmediates for BinaryReader<'_> {
+    ghost reader = { λ r. r };
+
+    #[inline(always)]
+    fn read_f32(&mut self) -> Result<Ieee32> {
+        match self.read_u32() {
+            Ok(bits) => Ok(Ieee32::from_bits(bits)),
+            Err(e) => Err(e),
+        }
+    }
+
+    #[inline(always)]
+    fn read_f64(&mut self) -> Result<Ieee64> {
+        match self.read_u64() {
+            Ok(bits) => Ok(Ieee64::from_bits(bits)),
+            Err(e) => Err(e),
+        }
+    }
+}

@@ -1,3 +1,0 @@
-pub mod DeterminedRefusals
-pub mod Sixteen
-pub mod VectorPrefixCodes

@@ -1,5 +1,0 @@
-use Rattle.wasm_imm_memory.proofs.DeterminedMemoryArgumentRefusals.{memarg_determines}
-use Rattle.wasm_imm_memory.proofs.laws.memory_argument_refusals.Goals as goal
-
-pub returns : goal.returns
-returns c = memarg_determines c.args.features c.args.kind

@@ -1,8 +1,0 @@
-use Rattle.wasm_imm_memory.proofs.ShortPrefixCodes.{ordering_byte_prefix_code, fence_prefix_code}
-use Rattle.wasm_imm_memory.proofs.laws.orderings.Goals as goal
-
-pub returns-clause-alone : goal.returns-clause-alone
-returns-clause-alone c = ordering_byte_prefix_code
-
-pub returns-clause-fence : goal.returns-clause-fence
-returns-clause-fence c = fence_prefix_code c.args.features

@@ -1,0 +1,104 @@
+-- Immediates with their values, and their encodings one behind the other.
+-- WebAssembly Core Specification 3.0, Binary Format, Instructions.
+use Rattle.std.specs.Prelude.{◌≡◌, ℕ, ℤ, List, [], ◌∷◌, ◌++◌}
+use Rattle.std.specs.Int.{w32, w64}
+use Rattle.wasm_imm.specs.below.bytes.features.WasmFeatures.{WasmFeatures}
+use Rattle.wasm_imm.specs.below.declared.types.HeapType.{HeapType}
+use Rattle.wasm_imm.specs.below.Number.{EncodesUnsigned, EncodesSigned, EncodesFixed}
+use Rattle.wasm_imm.specs.below.Source.{IsByte}
+use Rattle.wasm_imm.specs.below.TypeEncoding.{EncodesHeapType}
+use Rattle.wasm_imm.specs.control.block_type.BlockType.{BlockType}
+use Rattle.wasm_imm.specs.control.cast.Cast.{Cast}
+use Rattle.wasm_imm.specs.declared.constants.V128.{V128}
+use Rattle.wasm_imm.specs.control.handler_tables.ResumeTable.{ResumeTable}
+use Rattle.wasm_imm.specs.control.handler_tables.TryTable.{TryTable}
+use Rattle.wasm_imm.specs.declared.memory_argument.MemArg.{MemArg}
+use Rattle.wasm_imm.specs.declared.memory_argument.MemArgKind.{MemArgKind}
+use Rattle.wasm_imm.specs.declared.ordering.Ordering.{Ordering}
+use Rattle.wasm_imm.specs.control.select.Select.{Select}
+use Rattle.wasm_imm.specs.BlockTypes.{EncodesBlockType}
+use Rattle.wasm_imm.specs.BranchTables.{BranchTable, EncodesBranchTable}
+use Rattle.wasm_imm.specs.Casts.{EncodesCast}
+use Rattle.wasm_imm.specs.HandlerTables.{EncodesSelect, EncodesTryTable, EncodesResumeTable}
+use Rattle.wasm_imm.specs.Indices.{EncodesMemoryIndex, EncodesTableIndex}
+use Rattle.wasm_imm.specs.Orderings.{EncodesOrderingByte, EncodesFence}
+use Rattle.wasm_imm.specs.Vectors.{EncodesSixteen, EncodesVector}
+use Rattle.wasm_imm.specs.MemoryArgument.{EncodesMemArg}
+
+-- An immediate with its value. A memory argument has the kind of its operator and that operator's own alignment before.
+pub data Immediate : Type 0 where
+  unsigned_32 : ℕ → Immediate
+  signed_32 : ℤ → Immediate
+  signed_64 : ℤ → Immediate
+  float_32 : ℕ → Immediate
+  float_64 : ℕ → Immediate
+  vector : V128 → Immediate
+  one_lane : ℕ → Immediate
+  sixteen_lanes : List ℕ → Immediate
+  memory_argument : MemArgKind → ℕ → MemArg → Immediate
+  memory_index : ℕ → Immediate
+  table_index_32 : ℕ → Immediate
+  order : Ordering → Immediate
+  fence_order : Ordering → Immediate
+  heap_type : HeapType → Immediate
+  cast : Cast → Immediate
+  block_type : BlockType → Immediate
+  branch_table : BranchTable → Immediate
+  select_types : Select → Immediate
+  try_clauses : TryTable → Immediate
+  resume_clauses : ResumeTable → Immediate
+
+-- The kind of an immediate, without its value.
+pub data Kind : Type 0 where
+  is_unsigned_32 is_signed_32 is_signed_64 is_float_32 is_float_64 is_vector is_one_lane is_sixteen_lanes : Kind
+  is_memory_argument : MemArgKind → ℕ → Kind
+  is_memory_index is_table_index is_order is_fence_order is_heap_type is_cast is_block_type is_branch_table is_select_types is_try_clauses is_resume_clauses : Kind
+
+abbrev pub kind_of : Immediate → Kind
+kind_of (unsigned_32 _) = is_unsigned_32
+kind_of (signed_32 _) = is_signed_32
+kind_of (signed_64 _) = is_signed_64
+kind_of (float_32 _) = is_float_32
+kind_of (float_64 _) = is_float_64
+kind_of (vector _) = is_vector
+kind_of (one_lane _) = is_one_lane
+kind_of (sixteen_lanes _) = is_sixteen_lanes
+kind_of (memory_argument kind max _) = is_memory_argument kind max
+kind_of (memory_index _) = is_memory_index
+kind_of (table_index_32 _) = is_table_index
+kind_of (order _) = is_order
+kind_of (fence_order _) = is_fence_order
+kind_of (heap_type _) = is_heap_type
+kind_of (cast _) = is_cast
+kind_of (block_type _) = is_block_type
+kind_of (branch_table _) = is_branch_table
+kind_of (select_types _) = is_select_types
+kind_of (try_clauses _) = is_try_clauses
+kind_of (resume_clauses _) = is_resume_clauses
+
+abbrev pub EncodesImmediate : WasmFeatures → Immediate → List ℕ → Type 0
+EncodesImmediate f (unsigned_32 n) bytes = EncodesUnsigned 32 bytes n
+EncodesImmediate f (signed_32 n) bytes = EncodesSigned 32 bytes n
+EncodesImmediate f (signed_64 n) bytes = EncodesSigned 64 bytes n
+EncodesImmediate f (float_32 n) bytes = EncodesFixed w32 bytes n
+EncodesImmediate f (float_64 n) bytes = EncodesFixed w64 bytes n
+EncodesImmediate f (vector v) bytes = EncodesVector bytes v
+EncodesImmediate f (one_lane n) bytes = IsByte bytes n
+EncodesImmediate f (sixteen_lanes v) bytes = EncodesSixteen bytes v
+EncodesImmediate f (memory_argument kind max m) bytes = EncodesMemArg f kind max bytes m
+EncodesImmediate f (memory_index n) bytes = EncodesMemoryIndex f bytes n
+EncodesImmediate f (table_index_32 n) bytes = EncodesTableIndex f bytes n
+EncodesImmediate f (order o) bytes = EncodesOrderingByte bytes o
+EncodesImmediate f (fence_order o) bytes = EncodesFence f bytes o
+EncodesImmediate f (heap_type t) bytes = EncodesHeapType bytes t
+EncodesImmediate f (cast c) bytes = EncodesCast bytes c
+EncodesImmediate f (block_type t) bytes = EncodesBlockType bytes t
+EncodesImmediate f (branch_table t) bytes = EncodesBranchTable bytes t
+EncodesImmediate f (select_types types) bytes = EncodesSelect bytes types
+EncodesImmediate f (try_clauses t) bytes = EncodesTryTable bytes t
+EncodesImmediate f (resume_clauses t) bytes = EncodesResumeTable bytes t
+
+-- The immediates, one behind the other.
+abbrev pub EncodesImmediates : WasmFeatures → List Immediate → List ℕ → Type 0
+EncodesImmediates f [] bytes = bytes ≡ []
+EncodesImmediates f (i ∷ is) bytes = (first more : List ℕ) × (bytes ≡ first ++ more) × EncodesImmediate f i first × EncodesImmediates f is more

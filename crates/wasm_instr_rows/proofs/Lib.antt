@@ -1,2 +1,0 @@
-pub mod ImmediatePrefixCodes
-pub mod Values

@@ -1,0 +1,75 @@
+-- Counts of operators by the proposals that brought them.
+use Rattle.std.specs.Prelude.{◌≡◌, ◌≢◌, ℕ, ◌+◌, ◌-◌, ◌^◌, List, [], ◌∷◌, Result, Ok, Err, codes, nat_eq, if◌then◌else◌, map, min}
+use Rattle.std.specs.Cmp.Lexicographic.{pointwise}
+use Rattle.wasm_operators.specs.below.bytes.error.Error.{Error}
+use Rattle.wasm_operators.specs.below.bytes.message.Message.TheVariants as message
+use Rattle.wasm_operators.specs.below.Source.{Reader}
+use Rattle.wasm_operators.specs.instr.declared.operator.Operator.{Operator}
+use Rattle.wasm_operators.specs.instr.Row.{proposal_of}
+use Rattle.wasm_operators.specs.Expression.{Placed}
+use Rattle.wasm_operators.specs.Locals.{Declaration}
+use Rattle.wasm_operators.specs.Body.{StopsBody}
+use Rattle.wasm_operators.specs.Visiting.{Visited}
+use Rattle.wasm_listing.specs.declared.fault.DumpFault.{DumpFault}
+use Rattle.wasm_listing.specs.declared.fault.DumpFault.TheVariants as fault
+use Rattle.wasm_listing.specs.Dump.{IsBody, IsNoBody}
+
+-- The proposals, in the order of the counts.
+abbrev pub proposals : List (List ℕ)
+proposals =
+    codes "mvp"
+    ∷ codes "sign_extension"
+    ∷ codes "gc"
+    ∷ codes "custom_descriptors"
+    ∷ codes "saturating_float_to_int"
+    ∷ codes "bulk_memory"
+    ∷ codes "reference_types"
+    ∷ codes "tail_call"
+    ∷ codes "memory_control"
+    ∷ codes "threads"
+    ∷ codes "simd"
+    ∷ codes "relaxed_simd"
+    ∷ codes "exceptions"
+    ∷ codes "legacy_exceptions"
+    ∷ codes "shared_everything_threads"
+    ∷ codes "function_references"
+    ∷ codes "stack_switching"
+    ∷ codes "wide_arithmetic"
+    ∷ codes "acquire_release_atomics"
+    ∷ []
+
+-- How many of the operators this proposal brought.
+abbrev pub count_of : List ℕ → Placed → ℕ
+count_of proposal [] = 0
+count_of proposal (p ∷ ps) = (if pointwise nat_eq proposal (proposal_of p.0) then 1 else 0) + count_of proposal ps
+
+-- How many each brought.
+abbrev pub counts_of : Placed → List ℕ
+counts_of placed = map (λ proposal. count_of proposal placed) proposals
+
+-- A count after one more: it stays at the greatest u64.
+abbrev pub one_more : ℕ → ℕ
+one_more n = min (n + 1) (2 ^ 64 - 1)
+
+-- The counts of some proposals after one operator more of this one.
+abbrev pub counted : List ℕ → List (List ℕ) → List ℕ → List ℕ
+counted proposal (p ∷ ps) (n ∷ ns) = (if pointwise nat_eq p proposal then one_more n else n) ∷ counted proposal ps ns
+counted proposal _ _ = []
+
+-- A visit counts the operator at its proposal.
+abbrev pub CountsVisit : List ℕ → Operator → List ℕ → Type 0
+CountsVisit before op after = after ≡ counted (proposal_of op) proposals before
+
+-- Counting the operators of a body to its end, allocation failure aside.
+abbrev pub CountsBody : {X : Type 0} → Result X Error → Reader → List ℕ → List ℕ → Type 0
+CountsBody (Ok x) input before after =
+    (declarations : List Declaration) × (placed : Placed) × IsBody input declarations placed ×
+    Visited {A = Unit {0}} (λ s op answer t. CountsVisit s op t) before after placed
+CountsBody (Err e) input before after = e.message ≢ message.OutOfMemory → (placed : Placed) × StopsBody e input placed
+
+-- The counts of a body are those of its operators. Other bytes are refused as they are where they are listed. There is no fault of a reader or a writer.
+abbrev pub Counts : Reader → Result (List ℕ) DumpFault → Type 0
+Counts input (Ok counts) = (declarations : List Declaration) × (placed : Placed) × IsBody input declarations placed × (counts ≡ counts_of placed)
+Counts input (Err (fault.Refused e)) = (placed : Placed) × IsNoBody e input placed
+Counts input (Err fault.Memory) = Unit {0}
+Counts input (Err _) = ⊥

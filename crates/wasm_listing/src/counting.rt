@@ -1,0 +1,102 @@
+//! The visitor that counts the operators of each proposal.
+ghost use Rattle.std.specs.Prelude.{◌≡◌, ◌<◌, [], replicate, slice_index_or};
+ghost use Rattle.wasm_listing.specs.Census.{proposals, counted, CountsVisit};
+
+use std::marker::Model;
+use wasm_operators::{BrTable, Operator, VisitFixed, VisitOperator, VisitSimdOperator, Visitor};
+
+/// The proposals, in the order of the counts.
+static PROPOSALS: [&str; 19] = [
+    "mvp",
+    "sign_extension",
+    "gc",
+    "custom_descriptors",
+    "saturating_float_to_int",
+    "bulk_memory",
+    "reference_types",
+    "tail_call",
+    "memory_control",
+    "threads",
+    "simd",
+    "relaxed_simd",
+    "exceptions",
+    "legacy_exceptions",
+    "shared_everything_threads",
+    "function_references",
+    "stack_switching",
+    "wide_arithmetic",
+    "acquire_release_atomics",
+];
+
+/// The proposal of the count at this place.
+fn proposal_at(place: usize) -> &'static str
+    requires { place < 19 }
+    ensures { result.now ≡ slice_index_or proposals place [] }
+{
+    PROPOSALS[place]
+}
+
+/// A visitor that counts the operators of each proposal.
+///
+/// Contracts see it as the counts.
+#[derive(Debug, Drop)]
+pub struct Census {
+    counts: [u64; 19],
+}
+
+impl Model for Census {
+    ghost use Rattle.std.specs.Prelude.{List, ℕ};
+
+    ghost Value = { List ℕ };
+
+    ghost view = { λ census. census.counts };
+}
+
+impl Census {
+    /// One that has visited nothing.
+    pub fn new() -> Census
+        ensures { result ≡ replicate 19 0 }
+    {
+        Census { counts: [0; 19] }
+    }
+
+    /// How many operators of each proposal were visited, in the order of the proposals. A count that
+    /// came to the greatest u64 stayed there.
+    pub fn counts(&self) -> [u64; 19]
+        ensures { result ≡ self.now }
+    {
+        self.counts
+    }
+
+    /// Counts one more of a proposal.
+    fn count(&mut self, proposal: &str)
+        ensures { self.new ≡ counted proposal.now proposals self.old }
+    {
+        'places: for place in 0..19 {
+            if proposal_at(place) == proposal {
+                self.counts[place] = self.counts[place].saturating_add(1);
+            }
+        }
+    }
+}
+
+impl Visitor for Census {
+    type Output = ();
+
+    // A visit counts the operator at its proposal.
+    ghost visits = { λ before op answer after. CountsVisit before op after };
+
+    fn visit_any(&mut self, op: Operator<'static>) {
+        self.count(op.info().proposal);
+    }
+}
+
+impl VisitFixed for Census {}
+
+impl<'a> VisitOperator<'a> for Census {
+    fn visit_br_table(&mut self, targets: BrTable<'a>) {
+        self.count(Operator::BrTable { targets }.info().proposal);
+    }
+}
+
+impl VisitSimdOperator for Census {}

@@ -1,0 +1,104 @@
+//! The listing of a function body, over any reader and writer.
+ghost use Rattle.std.specs.Prelude.{◌≡◌, ◌↔◌, List, IsTrue, IsOk, IsErrAnd, IfOk, IfErr, IfSome, OnOk, string_bytes};
+ghost use Rattle.std.specs.Io.KnownBytes.{Appends};
+ghost use Rattle.wasm_operators.specs.Expression.{Placed};
+ghost use Rattle.wasm_operators.specs.Body.{ReadsBody};
+ghost use Rattle.wasm_operators.specs.Locals.{Declaration};
+ghost use Rattle.wasm_listing.specs.Dump.{input_of, IsBody, Lists, Dumps, WritesNothing, IsNotRefused};
+
+use crate::fault::DumpFault;
+use crate::input::read_input;
+use crate::lines::lines_of;
+use std::alloc::Global;
+use std::io::{Read, Write};
+use wasm_operators::{BinaryReader, Error, FunctionBody, Message, Operator, WasmFeatures};
+
+/// The lines of what was read of a body, and how reading it ended.
+#[derive(Drop)]
+struct Listing {
+    text: String,
+    end: Result<(), Error>,
+}
+
+/// Reads a body's operators.
+fn read_body<'a>(
+    alloc: Global,
+    features: WasmFeatures,
+    bytes: &'a [u8],
+    out: &mut Vec<(Operator<'a>, u64)>,
+) -> Result<(), Error>
+    ensures reads { ReadsBody result (input_of features bytes.now) out.old.items out.new.items }
+    ensures whole { (declarations : List Declaration) → (placed : Placed) → IsBody (input_of features bytes.now) declarations placed → IfErr result (λ e. e.message ≡ Message.OutOfMemory) }
+{
+    let reader = BinaryReader::new_features(bytes, 0, features);
+    let mut operators = FunctionBody::new(reader).get_operators_reader(alloc)?;
+    operators.read_all(out)
+}
+
+/// Makes the text for a body, of which only memory can keep it.
+fn list_body(alloc: Global, features: WasmFeatures, bytes: &[u8]) -> Result<Listing, DumpFault>
+    ensures lists { IfOk result (λ listing. Lists (input_of features bytes.now) listing.end (string_bytes listing.text)) }
+    ensures whole { (declarations : List Declaration) → (placed : Placed) → IsBody (input_of features bytes.now) declarations placed → IfOk result (λ listing. IsOk listing.end) }
+    ensures memory { IfErr result (λ fault. fault ≡ DumpFault.Memory) }
+{
+    let mut operators = Vec::new(alloc);
+    let end = read_body(alloc, features, bytes, &mut operators);
+    if is_memory(&end) {
+        return Err(DumpFault::Memory);
+    }
+    match lines_of(alloc, operators.as_slice()) {
+        Ok(text) => Ok(Listing { text, end }),
+        Err(_) => Err(DumpFault::Memory),
+    }
+}
+
+/// Whether reading ended for allocation failure.
+fn is_memory(end: &Result<(), Error>) -> bool
+    ensures { IsTrue result ↔ IsErrAnd end.now (λ e. e.message ≡ Message.OutOfMemory) }
+{
+    match end {
+        Ok(()) => false,
+        Err(error) => matches!(error.message(), Message::OutOfMemory),
+    }
+}
+
+/// Writes a text with one call, and flushes.
+fn write_text<W: Write>(writer: &mut W, text: &str) -> Result<(), DumpFault>
+    ensures ok { OnOk result (Appends (W.contents writer.old) (W.contents writer.new) text.now) }
+    ensures err { IfErr result (λ fault. fault ≡ DumpFault.Writing) }
+{
+    if writer.write_all(text.as_bytes()).is_err() {
+        return Err(DumpFault::Writing);
+    }
+    if writer.flush().is_err() {
+        return Err(DumpFault::Writing);
+    }
+    Ok(())
+}
+
+/// Reads a body from the reader, and writes a line for each of its operators.
+///
+/// The lines of what was read before a refusal are written too, and the answer is then `Refused`.
+/// On `Reading` and `Memory` nothing is written. Of `Writing` nothing is said of how much was.
+pub fn run<R: Read, W: Write>(
+    alloc: Global,
+    features: WasmFeatures,
+    reader: &mut R,
+    writer: &mut W,
+) -> Result<(), DumpFault>
+    // Over the bytes that the reader tells, the writer gets the lines of what the body holds.
+    ensures lines { IfSome (R.remaining reader.old) (λ bytes.
+        Dumps (input_of features bytes) result (W.contents writer.old) (W.contents writer.new)) }
+    // Where the bytes encode a body, it is not refused.
+    ensures whole { IfSome (R.remaining reader.old) (λ bytes.
+        (declarations : List Declaration) → (placed : Placed) → IsBody (input_of features bytes) declarations placed → IsNotRefused result) }
+    ensures nothing { IfErr result (λ fault. WritesNothing fault → writer.new ≡ writer.old) }
+{
+    let input = read_input(alloc, reader)?;
+    let listing = list_body(alloc, features, input.as_slice())?;
+    write_text(writer, listing.text.as_str())?;
+    match listing.end {
+        Ok(()) => Ok(()),
+        Err(error) => Err(DumpFault::Refused(error)),
+    }
+}

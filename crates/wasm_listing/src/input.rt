@@ -1,0 +1,28 @@
+//! All that a reader gives.
+ghost use Rattle.std.specs.Prelude.{◌≡◌, IfOk, IfErr, IfSome};
+ghost use Rattle.wasm_listing.specs.Dump.{WritesNothing};
+
+use crate::fault::DumpFault;
+use std::alloc::Global;
+use std::io::Read;
+
+/// All that the reader has left, by reads until one gives nothing. Any fault of a read, also one
+/// that was interrupted, is `Reading`.
+pub fn read_input<R: Read>(alloc: Global, reader: &mut R) -> Result<Vec<u8>, DumpFault>
+    ensures bytes { IfOk result (λ input. IfSome (R.remaining reader.old) (λ bytes. input.items ≡ bytes)) }
+    ensures fault { IfErr result (λ fault. WritesNothing fault) }
+{
+    let mut input = Vec::new(alloc);
+    let mut chunk = [0u8; 4096];
+    loop {
+        let Ok(count) = reader.read(&mut chunk) else {
+            return Err(DumpFault::Reading);
+        };
+        if count == 0 {
+            return Ok(input);
+        }
+        if input.extend_from_slice(&chunk[..count]).is_err() {
+            return Err(DumpFault::Memory);
+        }
+    }
+}

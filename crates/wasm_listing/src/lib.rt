@@ -1,0 +1,22 @@
+//! The operators of a function body as lines of text, and their census by proposal.
+//!
+//! The theorem stands on [`run`], over any reader and writer.
+#![tactic(auto)]
+
+mod census;
+mod counting;
+mod dump;
+mod fault;
+mod input;
+mod lines;
+#[cfg(test)]
+mod tests;
+mod words;
+
+pub use census::census;
+pub use counting::Census;
+pub use dump::run;
+pub use fault::DumpFault;
+pub use lines::lines_of;
+pub use wasm_operators as operators;
+pub use words::features_of;

@@ -1,0 +1,69 @@
+-- What determines bodies, and the refusals of locals.
+use Rattle.std.proofs.Common.{◌≡◌, ℕ, ◌+◌, List, [], ◌∷◌, ◌++◌, length, refl, sym, subst, ap, ◌∙◌, append_assoc, arith, inl, inr}
+use Rattle.wasm_operators_readers.specs.below.Fault.{DeterminesRefusal, ManyFault}
+use Rattle.wasm_operators_readers.specs.below.FromReader.{EncodesReader, SameReader}
+use Rattle.wasm_operators_readers.specs.below.Number.{EncodesUnsigned}
+use Rattle.wasm_operators_readers.specs.below.Sequence.{PrefixCodeUpTo}
+use Rattle.wasm_operators_readers.specs.below.Source.{Source, U32Fault}
+use Rattle.wasm_operators_readers.specs.below.TypeEncoding.{ValTypeFault}
+use Rattle.wasm_operators_readers.specs.below.bytes.features.WasmFeatures.{WasmFeatures}
+use Rattle.wasm_operators_readers.proofs.of_below.DeterminedRefusals.{u32_determines, then_determines}
+use Rattle.wasm_operators_readers.proofs.of_below.DeterminedTypeRefusals.{value_determines}
+use Rattle.wasm_operators_readers.proofs.of_below.Steps.{number_prefix_code}
+use Rattle.wasm_operators_readers.proofs.of_below.TakesLemmas.{same_rest}
+use Rattle.wasm_operators_readers.proofs.of_imm.DeterminedControlRefusals.{many_determines}
+use Rattle.wasm_operators_readers.specs.Expression.{Placed, EncodesExpression}
+use Rattle.wasm_operators_readers.proofs.LayoutLemmas.{one_whole}
+use Rattle.wasm_operators.specs.Body.{source_behind, EncodesBody}
+use Rattle.wasm_operators.specs.Locals.{Declaration, EncodesDeclaration, DeclarationFault, LocalsFault, NumberedFault, NextFault}
+use Rattle.wasm_operators.proofs.LocalsLemmas.{declaration_prefix_code, locals_prefix_code}
+
+pub declaration_determines : DeterminesRefusal DeclarationFault
+declaration_determines =
+    then_determines (EncodesUnsigned 32) U32Fault (λ number. ValTypeFault) (number_prefix_code 32) u32_determines (λ number. value_determines)
+
+pub locals_determine : DeterminesRefusal LocalsFault
+locals_determine =
+    then_determines (EncodesUnsigned 32) U32Fault (ManyFault EncodesDeclaration DeclarationFault) (number_prefix_code 32) u32_determines
+    (λ count. many_determines EncodesDeclaration DeclarationFault declaration_prefix_code declaration_determines count)
+
+numbered_determines : (total number : ℕ) → DeterminesRefusal (NumberedFault total number)
+numbered_determines total number m k r a b (inl h) (inl q) = (h.1 ∙ sym q.1, h.2 ∙ sym q.2)
+numbered_determines total number m k r a b (inl h) (inr q) = absurd (omega (arith, h.0, q.0))
+numbered_determines total number m k r a b (inr h) (inl q) = absurd (omega (arith, h.0, q.0))
+numbered_determines total number m k r a b (inr h) (inr q) = value_determines m k r a b h.1 q.1
+
+pub next_determines : (total : ℕ) → DeterminesRefusal (NextFault total)
+next_determines total =
+    then_determines (EncodesUnsigned 32) U32Fault (NumberedFault total) (number_prefix_code 32) u32_determines (numbered_determines total)
+
+-- of one list two parts of one length at its start are the same
+same_start : (a b x y : List ℕ) → length a ≡ length b → a ++ x ≡ b ++ y → a ≡ b
+same_start [] [] x y n e = refl
+same_start [] (c ∷ b) x y n e = absurd (omega (arith, n))
+same_start (c ∷ a) [] x y n e = absurd (omega (arith, n))
+same_start (c ∷ a) (d ∷ b) x y n e =
+    let fewer : length a ≡ length b = omega (arith, n) in
+    let same : a ≡ b = same_start a b x y fewer (cc e) in
+    cc (e, same)
+
+-- no encoding of a part with its length is a proper prefix of another, and each is that of the same bytes
+pub reader_prefix_code : (features : WasmFeatures) → PrefixCodeUpTo SameReader (EncodesReader features)
+reader_prefix_code features a b x y r s (a1, a2, n, ea, pa, (ra, ba, za, la)) (b1, b2, k, eb, pb, (rb, bb, zb, lb)) e =
+    let whole : a1 ++ (a2 ++ x) ≡ b1 ++ (b2 ++ y) = sym (append_assoc a1 a2 x) ∙ ap (λ z. z ++ x) (sym ea) ∙ e ∙ ap (λ z. z ++ y) eb ∙ append_assoc b1 b2 y in
+    let o = number_prefix_code 32 a1 b1 (a2 ++ x) (b2 ++ y) n k pa pb whole in
+    let same : a2 ≡ b2 = same_start a2 b2 x y (la ∙ o.1 ∙ sym lb) (same_rest a1 b1 (a2 ++ x) (b2 ++ y) o.0 whole) in
+    (ea ∙ cc (o.0, same) ∙ sym eb, (ra ∙ sym rb, ba ∙ same ∙ sym bb, za ∙ sym zb))
+
+-- some bytes are one body at most
+pub one_body_of : (s : Source) (declarations others : List Declaration) (first second : Placed) → EncodesBody s declarations first →
+    EncodesBody s others second → (declarations ≡ others) × (first ≡ second)
+one_body_of s declarations others first second p q =
+    let whole : p.locals ++ p.expression ≡ q.locals ++ q.expression = sym p.parts ∙ q.parts in
+    let same = locals_prefix_code p.locals q.locals p.expression q.expression declarations others p.encodes_locals q.encodes_locals whole in
+    let left = same_rest p.locals q.locals p.expression q.expression same.0 whole in
+    let moved : source_behind s q.locals q.expression ≡ source_behind s p.locals p.expression =
+    ap (λ t. source_behind s t q.expression) (sym same.0) ∙ ap (source_behind s p.locals) (sym left) in
+    let h : EncodesExpression (source_behind s p.locals p.expression) second = subst (λ z. EncodesExpression z second) moved q.encodes_expression in
+    let g = p.encodes_expression in
+    (same.1, (one_whole [] s.features (s.offset + length p.locals) first second p.expression p.expression [] [] g.0 h.0 g.1 h.1 refl).0)

@@ -1,0 +1,117 @@
+-- Readers of locals: one declaration with those before it, and all of them by the iterator.
+use Rattle.std.proofs.Common.{◌≡◌, ℕ, ◌+◌, ◌-◌, ◌<◌, ◌≤◌, List, [], ◌∷◌, ◌++◌, length, Ok, Err, refl, sym, subst, ap, ◌∙◌, append_assoc, length-append, length-drop, arith, inl, inr, false}
+use Rattle.wasm_operators_readers.specs.below.bytes.error.Error.{Error}
+use Rattle.wasm_operators_readers.specs.below.bytes.message.Message.TheVariants as message
+use Rattle.wasm_operators_readers.specs.below.declared.types.ValType.{ValType}
+use Rattle.wasm_operators_readers.specs.below.FromReader.{IsRefused, ReadsValue}
+use Rattle.wasm_operators_readers.specs.below.Number.{EncodesUnsigned}
+use Rattle.wasm_operators_readers.specs.below.Source.{Reader, rest, offset_of, at_position, Takes, IsRefusal, Reads, U32Fault}
+use Rattle.wasm_operators_readers.specs.below.TypeEncoding.{EncodesValType, ValTypeFault}
+use Rattle.wasm_operators_readers.proofs.of_below.Blocks.{refused_now}
+use Rattle.wasm_operators_readers.proofs.of_below.Steps.{number_prefix_code, unsigned_some}
+use Rattle.wasm_operators_readers.proofs.of_below.TakesLemmas.{takes_none, takes_then, back}
+use Rattle.wasm_operators_readers.specs.imm.Lists.{EncodesEach}
+use Rattle.wasm_operators_readers.proofs.of_imm.ListRefusals.{as_refused, refused_by}
+use Rattle.wasm_operators.specs.Locals.{Declaration, EncodesDeclaration, EncodesNext, max_locals, Locals, ReadsDeclaration, LocalsLeft, StepsAlong, HasStepped, IsPastLocals, IsAnswerPastLocals}
+use Rattle.wasm_operators.proofs.LocalsLemmas.{type_refused, locals_read, one_past}
+
+abbrev pub locals_of : Reader → ℕ → ℕ → Locals
+locals_of r count total = record { reader = r; count = count; total = total }
+
+same_locals : (r s : Reader) (count total : ℕ) → s ≡ r → locals_of s count total ≡ locals_of r count total
+same_locals r s count total e = ap (λ z. locals_of z count total) e
+
+-- where no declaration stands, none does with which there are not too many locals
+next_refused : (total : ℕ) (e : Error) (old : Reader) → IsRefusal EncodesDeclaration e old → IsRefused (EncodesNext total) false e old
+next_refused total e old h = refused_by EncodesDeclaration (EncodesNext total) false e old (λ text d p. (d, p.0)) (as_refused EncodesDeclaration false e old h)
+
+-- a declaration has a number
+numbered : (text : List ℕ) (d : Declaration) → EncodesDeclaration text d → (front more : List ℕ) × (text ≡ front ++ more) × EncodesUnsigned 32 front d.0
+numbered text d (a, b, e, p, q) = (a, b, e, p)
+
+no_number : (e : Error) (old : Reader) → IsRefusal (EncodesUnsigned 32) e old → IsRefusal EncodesDeclaration e old
+no_number e old h =
+    record {
+      refuses = λ more follow text behind d (a, b, eb, p, q) eq.
+          h.refuses more follow a (b ++ behind) d.0 p (eq ∙ ap (λ z. z ++ behind) eb ∙ append_assoc a b behind);
+      fault = h.fault;
+      ahead = h.ahead;
+    }
+
+-- the number of the next declaration is refused
+pub number_refused_next : (e : Error) (r new : Reader) (count total : ℕ) → (new ≡ r) × IsRefusal (EncodesUnsigned 32) e r → U32Fault e.message r e.offset →
+    ReadsDeclaration (Err e) (locals_of r count total) (locals_of new count total)
+number_refused_next e r new count total (same, h) fault =
+    (same_locals r new count total same, (same, next_refused total e r (no_number e r h)), inl (refused_now (EncodesUnsigned 32) e r h, fault))
+
+-- its type is refused, and the call went back
+pub type_refused_next : (e : Error) (r mid mid2 new : Reader) (count total number position : ℕ) → Reads (EncodesUnsigned 32) (Ok number) r mid →
+    total + number ≤ max_locals → (mid2 ≡ mid) × IsRefusal EncodesValType e mid → ValTypeFault e.message mid e.offset → position ≡ r.position →
+    new ≡ at_position mid2 position → ReadsDeclaration (Err e) (locals_of r count total) (locals_of new count total)
+type_refused_next e r mid mid2 new count total number position first fits h fault at went =
+    let b = type_refused e r mid mid2 new number position first h at went in
+    (same_locals r new count total b.0, (b.0, next_refused total e r b.1), inr (number, mid, first, inr (fits, fault)))
+
+-- there would be too many locals, and the call went back
+pub too_many_next : (e : Error) (r mid new : Reader) (count total number position : ℕ) → Reads (EncodesUnsigned 32) (Ok number) r mid →
+    max_locals < total + number → e.message ≡ message.TooManyLocals → e.offset ≡ offset_of mid → position ≡ r.position → new ≡ at_position mid position →
+    ReadsDeclaration (Err e) (locals_of r count total) (locals_of new count total)
+too_many_next e r mid new count total number position (text, p, t) many is at same went =
+    let here : new ≡ r = back r mid new text position t same went in
+    let some = unsigned_some 32 text number p in
+    let left : length r.buffer - r.position ≡ length text + length (rest mid) = sym (length-drop r.position r.buffer) ∙ ap length t.parts ∙
+    length-append text (rest mid) in
+    let offset : e.offset ≡ offset_of r + length text = at ∙ ap offset_of t.moved ∙ omega arith in
+    let refused : IsRefused (EncodesNext total) false e r = record {
+      refuses = λ more follow text2 behind d ((a, b, eb, q, ty), fits) eq.
+          let whole : text ++ (rest mid ++ more) ≡ a ++ (b ++ behind) = sym (append_assoc text (rest mid) more) ∙ ap (λ z. z ++ more) (sym t.parts) ∙ eq ∙
+          ap (λ z. z ++ behind) eb ∙ append_assoc a b behind in
+          let one : number ≡ d.0 = (number_prefix_code 32 text a (rest mid ++ more) (b ++ behind) number d.0 p q whole).1 in
+          omega (arith, one, fits, many);
+      ahead = (omega (arith, offset), omega (arith, offset, left, some));
+      memory = λ m. absurd (cc (is, m));
+    } in
+    (same_locals r new count total here, (here, refused), inr (number, mid, (text, p, t), inl (many, is, at)))
+
+-- the number and the type were read
+pub declaration_read : (r mid new : Reader) (total number : ℕ) (ty : ValType) → Reads (EncodesUnsigned 32) (Ok number) r mid →
+    Reads EncodesValType (Ok ty) mid new → total + number ≤ max_locals → ReadsValue (EncodesNext total) false (Ok (number, ty)) r new
+declaration_read r mid new total number ty (a, p, t) (b, q, u) fits = (a ++ b, ((a, b, refl, p, q), fits), takes_then r mid new a b t u)
+
+-- what steps without a refusal took
+record Stepped (declarations : List Declaration) (old new : LocalsLeft) : Type 0 where
+  text : List ℕ
+  encodes : EncodesEach EncodesDeclaration text declarations
+  takes : Takes old.locals.reader new.locals.reader text
+  left : old.left ≡ length declarations + new.left
+
+stepped : (declarations : List Declaration) (old new : LocalsLeft) → StepsAlong declarations old new → Stepped declarations old new
+stepped [] old new same =
+    record {
+      text = [];
+      encodes = refl;
+      takes = subst (λ (z : LocalsLeft). Takes old.locals.reader z.locals.reader []) (sym same) (takes_none old.locals.reader);
+      left = ap (λ (z : LocalsLeft). z.left) (sym same) ∙ omega arith;
+    }
+stepped (d ∷ ds) old new (mid, (left, ((text, encodes, takes), count, total)), steps) =
+    let h = stepped ds mid new steps in
+    record {
+      text = text ++ h.text;
+      encodes = (text, h.text, refl, encodes.0, h.encodes);
+      takes = takes_then old.locals.reader mid.locals.reader new.locals.reader text h.text takes h.takes;
+      left = omega (arith, left, h.left);
+    }
+
+-- the steps of the iterator over unread locals, once nothing is left
+pub stepped_past : (body : Reader) (declarations : List Declaration) (items : LocalsLeft) → HasStepped declarations body items → items.left ≡ 0 →
+    IsPastLocals declarations body items.locals.reader
+stepped_past body declarations items (unread, (first, p, t, none), steps) end =
+    let h = stepped declarations (record { locals = unread; left = unread.count }) items steps in
+    let all : length declarations ≡ unread.count = omega (arith, h.left, end) in
+    locals_read body unread.reader items.locals.reader unread.count h.text declarations (first, p, t) (all, h.encodes) h.takes
+
+-- going past the locals answers the reader that stands behind them
+pub answer_past : (r body : Reader) (declarations : List Declaration) → IsPastLocals declarations body r → IsAnswerPastLocals r body
+answer_past r body declarations past (Ok s) (others, h) = ap Ok (one_past r s body declarations others past h).0
+answer_past r body declarations (text, encodes, takes) (Err e) h =
+    absurd (refused_now _ e body h.refusal text (rest r) declarations encodes takes.parts)

@@ -1,0 +1,89 @@
+-- A body that is no body is refused in one way, allocation failure aside.
+use Rattle.std.proofs.Common.{◌≡◌, ◌≢◌, List, [], Ok, Err, sym, ap, ◌∙◌, arith, inl, inr}
+use Rattle.wasm_operators_readers.specs.below.bytes.error.Error.{Error}
+use Rattle.wasm_operators_readers.specs.below.bytes.message.Message.TheVariants as message
+use Rattle.wasm_operators_readers.specs.below.Source.{Reader, rest, source_of}
+use Rattle.wasm_operators_readers.proofs.of_below.Blocks.{refused_now}
+use Rattle.wasm_operators_readers.specs.grammar.declared.frame_kind.FrameKind.{FrameKind}
+use Rattle.wasm_operators_readers.specs.grammar.Frames.{frames_along}
+use Rattle.wasm_operators_readers.proofs.of_grammar.Paths.{run_path}
+use Rattle.wasm_operators_readers.specs.instr.Roles.{roles_of}
+use Rattle.wasm_operators_readers.specs.opcodes.Allowed.{EncodesAllowed}
+use Rattle.wasm_operators_readers.specs.opcodes.OperatorFaults.{OperatorFault}
+use Rattle.wasm_operators_readers.specs.Expression.{Placed, operators}
+use Rattle.wasm_operators_readers.specs.Reading.{State, StopsRun, Ran, Anywhere}
+use Rattle.wasm_operators_readers.proofs.Ends.{run_determined}
+use Rattle.wasm_operators_readers.proofs.Premises.{Everything}
+use Rattle.wasm_operators_readers.proofs.Runs.{run_only, fresh_before}
+use Rattle.wasm_operators_readers.proofs.Decoder.{takes_all}
+use Rattle.wasm_operators_readers.proofs.of_decoder.DeterminedOperatorRefusals.{operator_determines}
+use Rattle.wasm_operators.specs.Body.{EncodesBody, OpensBody, NoExpression, StopsBody}
+use Rattle.wasm_operators.specs.Locals.{Declaration, EncodesLocals, RefusesLocals}
+use Rattle.wasm_operators.proofs.Bodies.{no_body, expression_behind}
+use Rattle.wasm_operators.proofs.LocalsLemmas.{one_past}
+use Rattle.wasm_operators.proofs.Determined.{locals_determine}
+
+-- without the room, of which nothing is said
+abbrev roomless : State → State
+roomless s = record { reader = s.reader; frames = s.frames; room = 0 }
+
+stops_roomless : (e : Error) (s : State) → StopsRun EncodesAllowed OperatorFault Anywhere e s → StopsRun EncodesAllowed OperatorFault Anywhere e (roomless s)
+stops_roomless e s (inl left) = inl left
+stops_roomless e s (inr (some, inl none)) = inr (some, inl none)
+stops_roomless e s (inr (some, inr (inl there))) =
+    inr (
+      some,
+      inr (inl (record {
+        kind = there.kind;
+        open_frame = there.open_frame;
+        refuses = there.refuses;
+        ahead = there.ahead;
+        fault = there.fault;
+      })),
+    )
+stops_roomless e s (inr (some, inr (inr memory))) = inr (some, inr (inr memory))
+
+-- the reads behind the locals
+ran_behind : (e : Error) (body : Reader) (placed : Placed) (h : NoExpression e body placed) → Ran (roomless h.opened) (roomless h.stopped) placed
+ran_behind e body placed h =
+    record {
+      text = h.reads.text;
+      takes = h.reads.takes;
+      laid = h.reads.laid;
+      frames =
+          ap (λ (frames : List FrameKind). frames_along frames (roles_of (operators placed))) h.opens.1 ∙
+          run_path h.stopped.frames (roles_of (operators placed)) h.reads.stood.path;
+      room = omega arith;
+    }
+
+-- where the locals are refused, they were not read
+no_locals_read : (e : Error) (body : Reader) (opened : State) → RefusesLocals e body → OpensBody (Ok opened) body → ⊥
+no_locals_read e body opened h ((declarations, (text, encodes, takes)), fresh) =
+    refused_now EncodesLocals e body h.refusal text (rest opened.reader) declarations encodes takes.parts
+
+-- what is refused is no body
+pub stopped_none : (e : Error) (body : Reader) (placed whole : Placed) (declarations : List Declaration) → e.message ≢ message.OutOfMemory →
+    StopsBody e body placed → EncodesBody (source_of body) declarations whole → ⊥
+stopped_none e body placed whole declarations other (inl h) encodes = no_body e body declarations whole h.refused encodes
+stopped_none e body placed whole declarations other (inr h) encodes =
+    other (run_only EncodesAllowed OperatorFault Anywhere takes_all [] e (roomless h.opened) (roomless h.stopped) placed whole
+    (fresh_before (roomless h.opened) h.opens.1) (ran_behind e body placed h) (stops_roomless e h.stopped h.reads.stops)
+    (expression_behind body h.opened declarations whole h.opens encodes))
+
+-- which operators were read, and which refusal it is
+pub stopped_same : (d e : Error) (body : Reader)
+    (first second : Placed) → d.message ≢ message.OutOfMemory → e.message ≢ message.OutOfMemory → StopsBody d body first → StopsBody e body second →
+    (first ≡ second) × (d.message ≡ e.message) × (d.offset ≡ e.offset)
+stopped_same d e body first second other others (inl p) (inl q) =
+    let same = locals_determine d.message e.message body d.offset e.offset p.refused.fault q.refused.fault in
+    (p.nothing ∙ sym q.nothing, same.0, same.1)
+stopped_same d e body first second other others (inl p) (inr q) = absurd (no_locals_read d body q.opened p.refused q.opens)
+stopped_same d e body first second other others (inr p) (inl q) = absurd (no_locals_read e body p.opened q.refused p.opens)
+stopped_same d e body first second other others (inr p) (inr q) =
+    let reader : q.opened.reader ≡ p.opened.reader = (one_past p.opened.reader q.opened.reader body p.opens.0.0 q.opens.0.0 p.opens.0.1 q.opens.0.1).0 in
+    let frames : q.opened.frames ≡ p.opened.frames = q.opens.1 ∙ sym p.opens.1 in
+    let same = run_determined {X = Unit {0}} {Y = Unit {0}} EncodesAllowed OperatorFault Anywhere Everything takes_all operator_determines (Err d) (Err e)
+    (roomless p.opened) (roomless p.stopped) (roomless q.opened) (roomless q.stopped) first second reader frames (ran_behind d body first p)
+    (ran_behind e body second q) (λ before after at is. tt) (λ before after at is. tt) (stops_roomless d p.stopped p.reads.stops)
+    (stops_roomless e q.stopped q.reads.stops) other others in
+    (same.0, same.3.0, same.3.1)

@@ -1,0 +1,5 @@
+use Rattle.wasm_operators_readers.proofs.of_below.DeterminedRefusals.{reader_determines}
+use Rattle.wasm_operators.proofs.code.FunctionBodyFromReader.determines_refusal.Goals as goal
+
+pub returns : goal.returns
+returns c = reader_determines

@@ -1,0 +1,54 @@
+-- The body of a function: its locals, and its expression.
+-- WebAssembly Core Specification 3.0: Binary Format, Modules, Code Section.
+use Rattle.std.specs.Prelude.{◌≡◌, ◌≢◌, ℕ, ◌+◌, List, [], ◌++◌, length, Result, Ok, Err, ◌⊎◌}
+use Rattle.wasm_operators_readers.specs.below.bytes.error.Error.{Error}
+use Rattle.wasm_operators_readers.specs.below.bytes.message.Message.TheVariants as message
+use Rattle.wasm_operators_readers.specs.below.Source.{Source, Reader, source_of}
+use Rattle.wasm_operators_readers.specs.opcodes.Allowed.{EncodesAllowed}
+use Rattle.wasm_operators_readers.specs.opcodes.OperatorFaults.{OperatorFault}
+use Rattle.wasm_operators_readers.specs.Expression.{Placed, EncodesExpression}
+use Rattle.wasm_operators_readers.specs.Reading.{State, IsFresh, Anywhere}
+use Rattle.wasm_operators_readers.specs.Headline.{ReadsBeginning}
+use Rattle.wasm_operators.specs.Locals.{Declaration, EncodesLocals, RefusesLocals, ReadsPastLocals}
+
+-- What is left of a source behind a text of its prefix.
+abbrev pub source_behind : Source → List ℕ → List ℕ → Source
+source_behind s text more = record { features = s.features; offset = s.offset + length text; bytes = more }
+
+-- The bytes encode a body: the declarations of its locals, and an expression with these operators.
+--   func ::= loc**:list(locals) e:expr ⇒ concat(loc**) e
+pub record EncodesBody (s : Source) (declarations : List Declaration) (placed : Placed) : Type 0 where
+  pub locals : List ℕ
+  pub expression : List ℕ
+  pub parts : s.bytes ≡ locals ++ expression
+  pub encodes_locals : EncodesLocals locals declarations
+  pub encodes_expression : EncodesExpression (source_behind s locals expression) placed
+
+-- The reader of a body's operators: behind the locals, and fresh.
+abbrev pub OpensBody : Result State Error → Reader → Type 0
+OpensBody (Ok s) body = ReadsPastLocals (Ok s.reader) body × IsFresh s
+OpensBody (Err e) body = RefusesLocals e body
+
+-- The bytes do not begin with a body's locals, and no operator was read.
+pub record NoLocals (e : Error) (body : Reader) (placed : Placed) : Type 0 where
+  pub refused : RefusesLocals e body
+  pub nothing : placed ≡ []
+
+-- The bytes begin with a body's locals, and no expression stands behind them: these operators are the longest beginning of one, and what stands behind it
+-- is refused.
+pub record NoExpression (e : Error) (body : Reader) (placed : Placed) : Type 0 where
+  pub opened : State
+  pub opens : OpensBody (Ok opened) body
+  pub stopped : State
+  pub reads : ReadsBeginning EncodesAllowed OperatorFault Anywhere [] e opened stopped placed
+
+-- The bytes encode no body, and these operators were read of it.
+abbrev pub StopsBody : Error → Reader → Placed → Type 0
+StopsBody e body placed = NoLocals e body placed ⊎ NoExpression e body placed
+
+-- Reading a body to its end, allocation failure aside.
+abbrev pub ReadsBody : {X : Type 0} → Result X Error → Reader → Placed → Placed → Type 0
+ReadsBody (Ok x) body out_old out_new =
+    (declarations : List Declaration) × (placed : Placed) × (out_new ≡ out_old ++ placed) × EncodesBody (source_of body) declarations placed
+ReadsBody (Err e) body out_old out_new =
+    e.message ≢ message.OutOfMemory → (placed : Placed) × (out_new ≡ out_old ++ placed) × StopsBody e body placed

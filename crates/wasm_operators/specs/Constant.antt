@@ -1,0 +1,26 @@
+-- Constant expressions as readers of modules take them: up to the first `end`, which has to close the expression.
+-- WebAssembly Core Specification 3.0: Binary Format, Instructions, Expressions; Validation, Instructions, Constant Expressions.
+use Rattle.std.specs.Prelude.{◌≡◌, ◌≢◌, ℕ, List, [], ◌∷◌, ◌++◌, length}
+use Rattle.wasm_operators_readers.specs.below.bytes.features.WasmFeatures.{WasmFeatures}
+use Rattle.wasm_operators_readers.specs.below.FromReader.{IsReaderOf}
+use Rattle.wasm_operators_readers.specs.below.Source.{Source, Reader, source_of}
+use Rattle.wasm_operators_readers.specs.instr.declared.operator.Operator.{Operator}
+use Rattle.wasm_operators_readers.specs.instr.declared.operator.Operator.TheVariants as operator
+use Rattle.wasm_operators_readers.specs.Expression.{Placed, operators, EncodesExpression}
+
+-- None of the operators is `end`.
+abbrev pub HasNoEnd : List Operator → Type 0
+HasNoEnd [] = Unit {0}
+HasNoEnd (op ∷ ops) = (op ≢ operator.End) × HasNoEnd ops
+
+-- Exactly one of the operators is `end`, the last.
+abbrev pub EndsOnce : List Operator → Type 0
+EndsOnce ops = (before : List Operator) × (ops ≡ before ++ operator.End ∷ []) × HasNoEnd before
+
+-- All of the bytes encode an expression with exactly one `end`, its last operator.
+abbrev pub EncodesConstant : Source → Type 0
+EncodesConstant s = (placed : Placed) × EncodesExpression s placed × EndsOnce (operators placed)
+
+-- The text encodes such an expression, and the value is a fresh reader of the text. Where it stood is not seen.
+abbrev pub EncodesConstantReader : WasmFeatures → List ℕ → Reader → Type 0
+EncodesConstantReader features text r = IsReaderOf features (length text) text r × EncodesConstant (source_of r)

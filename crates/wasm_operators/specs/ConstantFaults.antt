@@ -1,0 +1,39 @@
+-- Which refusal a constant expression has.
+-- WebAssembly Core Specification 3.0: Binary Format, Instructions, Expressions.
+use Rattle.std.specs.Prelude.{◌≡◌, ◌≢◌, ℕ, ◌+◌, List, [], ◌∷◌, Some, ◌⊎◌}
+use Rattle.wasm_operators_readers.specs.below.bytes.message.Message.{Message}
+use Rattle.wasm_operators_readers.specs.below.bytes.message.Message.TheVariants as message
+use Rattle.wasm_operators_readers.specs.below.Source.{Reader, rest, offset_of, Takes, NoPrefix, BeginsWith}
+use Rattle.wasm_operators_readers.specs.grammar.declared.frame_kind.FrameKind.{FrameKind}
+use Rattle.wasm_operators_readers.specs.grammar.declared.frame_kind.FrameKind.TheVariants as frame
+use Rattle.wasm_operators_readers.specs.grammar.Frames.{frames_along, innermost, without_innermost}
+use Rattle.wasm_operators_readers.specs.instr.Roles.{roles_of}
+use Rattle.wasm_operators_readers.specs.opcodes.Allowed.{EncodesAllowed}
+use Rattle.wasm_operators_readers.specs.opcodes.OperatorFaults.{OperatorFault}
+use Rattle.wasm_operators_readers.specs.Expression.{Placed, operators, LaidOut}
+use Rattle.wasm_operators.specs.Constant.{HasNoEnd}
+
+-- Between the readers stand operators that are no `end`, each allowed by the frame that those before it have left, from the frame of the
+-- expression on; and behind them these frames are open.
+pub record PassesOperators (old new : Reader) (frames : List FrameKind) : Type 0 where
+  pub placed : Placed
+  pub no_end : HasNoEnd (operators placed)
+  pub text : List ℕ
+  pub takes : Takes old new text
+  pub laid : LaidOut old.features (offset_of old) placed text
+  pub along : frames_along (frame.Block ∷ []) (roles_of (operators placed)) ≡ Some frames
+
+-- No operator stands there that the innermost frame allows, and the refusal is that of what does.
+abbrev pub IsNoOperator : Message → Reader → List FrameKind → ℕ → Type 0
+IsNoOperator m r frames offset =
+    (kind : FrameKind) × (innermost frames ≡ Some kind) × NoPrefix (EncodesAllowed r.features kind) (rest r) × OperatorFault r.features kind m r offset
+
+-- An `end` stands there, and another frame than the one that it closes is open: said behind it.
+abbrev pub EndsInside : Message → Reader → List FrameKind → ℕ → Type 0
+EndsInside m r frames offset =
+    BeginsWith 0x0b (rest r) × (without_innermost frames ≢ []) × (m ≡ message.FramesRemainConst) × (offset ≡ offset_of r + 1)
+
+-- Operators stand there that are no `end`, and behind them no operator, or an `end` inside another construct.
+abbrev pub ConstantFault : Message → Reader → ℕ → Type 0
+ConstantFault m r offset =
+    (behind : Reader) × (frames : List FrameKind) × PassesOperators r behind frames × (IsNoOperator m behind frames offset ⊎ EndsInside m behind frames offset)

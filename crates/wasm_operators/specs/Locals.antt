@@ -1,0 +1,114 @@
+-- The locals of a function: which bytes declare them, which refusal these have, and what readers of them answer.
+-- WebAssembly Core Specification 3.0: Binary Format, Modules, Code Section.
+use Rattle.std.specs.Prelude.{◌≡◌, ℕ, ◌+◌, ◌<◌, ◌≤◌, List, [], ◌∷◌, ◌++◌, ◌⊎◌, false, Option, Some, None, Result, Ok, Err}
+use Rattle.wasm_operators_readers.specs.below.bytes.error.Error.{Error}
+use Rattle.wasm_operators_readers.specs.below.bytes.message.Message.{Message}
+use Rattle.wasm_operators_readers.specs.below.bytes.message.Message.TheVariants as message
+use Rattle.wasm_operators_readers.specs.below.declared.types.ValType.{ValType}
+use Rattle.wasm_operators_readers.specs.below.Fault.{ThenFault, ManyFault}
+use Rattle.wasm_operators_readers.specs.below.FromReader.{ReadsValue}
+use Rattle.wasm_operators_readers.specs.below.Number.{EncodesUnsigned}
+use Rattle.wasm_operators_readers.specs.below.Sequence.{Then}
+use Rattle.wasm_operators_readers.specs.below.Source.{Reader, offset_of, Takes, IsRefusal, U32Fault}
+use Rattle.wasm_operators_readers.specs.below.TypeEncoding.{EncodesValType, ValTypeFault}
+use Rattle.wasm_operators_readers.specs.imm.Lists.{EncodesMany}
+
+-- A declaration: this many locals of this type.
+abbrev pub Declaration : Type 0
+Declaration = ℕ × ValType
+
+-- The bytes encode a declaration.
+--   locals ::= n:u32 t:valtype ⇒ (local t)^n
+abbrev pub EncodesDeclaration : List ℕ → Declaration → Type 0
+EncodesDeclaration text d = (number ty : List ℕ) × (text ≡ number ++ ty) × EncodesUnsigned 32 number d.0 × EncodesValType ty d.1
+
+-- The bytes encode these declarations: how many they are, and each. How many locals they declare in all is not asked.
+--   func ::= loc**:list(locals) e:expr ⇒ concat(loc**) e
+abbrev pub EncodesLocals : List ℕ → List Declaration → Type 0
+EncodesLocals = Then (EncodesUnsigned 32) (EncodesMany EncodesDeclaration)
+
+-- Which refusal a declaration has: that of its number, or that of its type.
+abbrev pub DeclarationFault : Message → Reader → ℕ → Type 0
+DeclarationFault = ThenFault (EncodesUnsigned 32) U32Fault (λ number. ValTypeFault)
+
+-- Which refusal the declarations have: that of their count, or that of the first that is none.
+abbrev pub LocalsFault : Message → Reader → ℕ → Type 0
+LocalsFault = ThenFault (EncodesUnsigned 32) U32Fault (ManyFault EncodesDeclaration DeclarationFault)
+
+-- The bytes at the reader do not begin with the declarations of locals.
+pub record RefusesLocals (e : Error) (body : Reader) : Type 0 where
+  pub refusal : IsRefusal EncodesLocals e body
+  pub fault : LocalsFault e.message body e.offset
+
+-- The reader stands behind these locals of a body.
+abbrev pub IsPastLocals : List Declaration → Reader → Reader → Type 0
+IsPastLocals declarations body r = (text : List ℕ) × EncodesLocals text declarations × Takes body r text
+
+-- Going past the locals of a body.
+abbrev pub ReadsPastLocals : Result Reader Error → Reader → Type 0
+ReadsPastLocals (Ok r) body = (declarations : List Declaration) × IsPastLocals declarations body r
+ReadsPastLocals (Err e) body = RefusesLocals e body
+
+-- A function has at most this many locals.
+--   func ::= .. ⇒ .., if |concat(loc**)| < 2^32
+abbrev pub max_locals : ℕ
+max_locals = 4294967295
+
+-- What a reader of locals has before it: the bytes, how many declarations were announced, and how many locals were declared so far.
+pub record Locals : Type 0 where
+  pub reader : Reader
+  pub count : ℕ
+  pub total : ℕ
+
+-- Locals of which no declaration was read: the count alone was.
+abbrev pub OpensLocals : Result Locals Error → Reader → Type 0
+OpensLocals (Ok l) body = (text : List ℕ) × EncodesUnsigned 32 text l.count × Takes body l.reader text × (l.total ≡ 0)
+OpensLocals (Err e) body = IsRefusal (EncodesUnsigned 32) e body × U32Fault e.message body e.offset
+
+-- The bytes encode a declaration with which there are not too many locals.
+abbrev pub EncodesNext : ℕ → List ℕ → Declaration → Type 0
+EncodesNext total text d = EncodesDeclaration text d × (total + d.0 ≤ max_locals)
+
+-- Behind the number of a declaration: there would be too many locals; or that of its type.
+abbrev pub NumberedFault : ℕ → ℕ → Message → Reader → ℕ → Type 0
+NumberedFault total number m r offset = ((max_locals < total + number) × (m ≡ message.TooManyLocals) × (offset ≡ offset_of r)) ⊎
+    ((total + number ≤ max_locals) × ValTypeFault m r offset)
+
+-- Which refusal the next declaration has: that of its number, or one found behind it.
+abbrev pub NextFault : ℕ → Message → Reader → ℕ → Type 0
+NextFault total = ThenFault (EncodesUnsigned 32) U32Fault (NumberedFault total)
+
+-- One read of a declaration: it counts its locals, or changes nothing.
+abbrev pub ReadsDeclaration : Result Declaration Error → Locals → Locals → Type 0
+ReadsDeclaration (Ok d) old new =
+    ReadsValue (EncodesNext old.total) false (Ok d) old.reader new.reader × (new.count ≡ old.count) × (new.total ≡ old.total + d.0)
+ReadsDeclaration (Err e) old new =
+    (new ≡ old) × ReadsValue (EncodesNext old.total) false (Err e) old.reader new.reader × NextFault old.total e.message old.reader e.offset
+
+-- An iterator over declarations: what it reads, and how many items are left.
+pub record LocalsLeft : Type 0 where
+  pub locals : Locals
+  pub left : ℕ
+
+-- One step of it: nothing is left; or one read, behind which one item less is left, or none.
+abbrev pub StepsLocals : Option (Result Declaration Error) → LocalsLeft → LocalsLeft → Type 0
+StepsLocals None old new = (old.left ≡ 0) × (new ≡ old)
+StepsLocals (Some (Ok d)) old new = (old.left ≡ new.left + 1) × ReadsDeclaration (Ok d) old.locals new.locals
+StepsLocals (Some (Err e)) old new = (0 < old.left) × (new.left ≡ 0) × ReadsDeclaration (Err e) old.locals new.locals
+
+-- All items are left.
+abbrev pub all_left : Locals → LocalsLeft
+all_left l = record { locals = l; left = l.count }
+
+-- Steps that gave these declarations, one after another.
+abbrev pub StepsAlong : List Declaration → LocalsLeft → LocalsLeft → Type 0
+StepsAlong [] old new = new ≡ old
+StepsAlong (d ∷ ds) old new = (mid : LocalsLeft) × StepsLocals (Some (Ok d)) old mid × StepsAlong ds mid new
+
+-- Steps from the unread locals of a body to here, which gave these declarations.
+abbrev pub HasStepped : List Declaration → Reader → LocalsLeft → Type 0
+HasStepped declarations body items = (unread : Locals) × OpensLocals (Ok unread) body × StepsAlong declarations (all_left unread) items
+
+-- This reader is what going past the locals of a body answers.
+abbrev pub IsAnswerPastLocals : Reader → Reader → Type 0
+IsAnswerPastLocals r body = (answer : Result Reader Error) → ReadsPastLocals answer body → answer ≡ Ok r

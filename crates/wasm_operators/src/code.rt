@@ -1,0 +1,177 @@
+//! The body of a function.
+ghost use Rattle.std.specs.Prelude.{◌≡◌, false, IfOk, IfErr};
+ghost use Rattle.wasm_operators_readers.specs.below.bytes.features.WasmFeatures.{WasmFeatures};
+ghost use Rattle.wasm_operators_readers.specs.below.Fault.{HasFault, DeterminesRefusal};
+ghost use Rattle.wasm_operators_readers.specs.below.FromReader.{ReadsValue, EncodesReader, ReaderFault, SameReader};
+ghost use Rattle.wasm_operators_readers.specs.below.Sequence.{PrefixCodeUpTo};
+ghost use Rattle.wasm_operators_readers.specs.below.Source.{Reads, rest, offset_of, end_of};
+ghost use Rattle.wasm_operators.specs.Body.{OpensBody};
+ghost use Rattle.wasm_operators.specs.Locals.{OpensLocals, ReadsPastLocals};
+
+use crate::declarations::read_declaration;
+use crate::locals::LocalsReader;
+use std::alloc::{AllocError, Global};
+use std::marker::Model;
+use std::ops::Range;
+use wasm_operators_readers::OperatorsReader;
+use wasm_operators_readers::below::{BinaryReader, FromReader, Result};
+
+/// The body of a function.
+#[derive(Debug, Drop)]
+pub struct FunctionBody<'a> {
+    reader: BinaryReader<'a>,
+}
+
+impl<'a> Model for FunctionBody<'a> {
+    ghost use Rattle.wasm_operators_readers.specs.below.Source.{Reader};
+
+    ghost Value = { Reader };
+
+    ghost view = { λ body. body.reader };
+}
+
+impl<'a> Clone for FunctionBody<'a> {
+    ghost use Rattle.std.specs.Prelude.{◌≡◌, ⊤};
+
+    ghost is_clone = { λ source copy. copy ≡ source };
+
+    ghost is_infallible = { λ _. ⊤ };
+
+    fn clone(&self) -> std::result::Result<FunctionBody<'a>, AllocError> {
+        Ok(FunctionBody::clone(self))
+    }
+}
+
+impl<'a> FunctionBody<'a> {
+    /// The body that begins where this reader stands.
+    pub fn new(reader: BinaryReader<'a>) -> FunctionBody<'a>
+        ensures { result ≡ reader.entry }
+    {
+        FunctionBody { reader }
+    }
+
+    /// A number of 32 bits, and that many bytes as a body with the same features, whose offset is
+    /// theirs. Code Section.
+    ///
+    /// Refused as `read_reader`.
+    pub fn read(reader: &mut BinaryReader<'a>) -> Result<FunctionBody<'a>>
+        ensures reads { Reads (EncodesReader reader.old.features) result reader.old reader.new }
+        ensures placed { IfOk result (λ body. end_of body ≡ offset_of reader.new) }
+        ensures fault { IfErr result (λ e. ReaderFault e.message reader.old e.offset) }
+    {
+        match reader.read_reader() {
+            Ok(part) => Ok(FunctionBody::new(part)),
+            Err(e) => Err(e),
+        }
+    }
+
+    /// The same body again, which takes no memory.
+    pub fn clone(&self) -> FunctionBody<'a>
+        ensures { result ≡ self.now }
+    {
+        FunctionBody {
+            reader: self.reader.clone(),
+        }
+    }
+
+    /// A reader of the body, from where the body begins.
+    pub fn get_binary_reader(&self) -> BinaryReader<'a>
+        ensures { result ≡ self.now }
+    {
+        self.reader.clone()
+    }
+
+    /// A reader of the body's locals, of which it reads the count.
+    ///
+    /// Refused as `read_var_u32`.
+    pub fn get_locals_reader(&self) -> Result<LocalsReader<'a>>
+        ensures { OpensLocals result self.now }
+    {
+        LocalsReader::new(self.reader.clone())
+    }
+
+    /// A reader of the bytes behind the locals.
+    ///
+    /// Refused as `read_var_u32` at the count of the declarations; then, at the first declaration
+    /// that is none, as `read_var_u32` or as `ValType::read`. How many locals are declared in all is
+    /// not asked.
+    pub fn get_binary_reader_for_operators(&self) -> Result<BinaryReader<'a>>
+        ensures { ReadsPastLocals result self.now }
+    {
+        let mut reader = self.reader.clone();
+        let count = match reader.read_var_u32() {
+            Ok(count) => count,
+            Err(e) => return Err(e),
+        };
+        for _declaration in 0..count {
+            match read_declaration(&mut reader) {
+                Ok(_) => {}
+                Err(e) => return Err(e),
+            }
+        }
+        Ok(reader)
+    }
+
+    /// A reader of the body's operators, behind its locals. It takes no memory.
+    ///
+    /// Refused as `get_binary_reader_for_operators`.
+    pub fn get_operators_reader(&self, alloc: Global) -> Result<OperatorsReader<'a>>
+        ensures { OpensBody result self.now }
+    {
+        match self.get_binary_reader_for_operators() {
+            Ok(reader) => Ok(OperatorsReader::new(alloc, reader)),
+            Err(e) => Err(e),
+        }
+    }
+
+    /// The offsets of all the data of the reader that the body was made of: of its first byte, which
+    /// may stand before the body, and behind the last.
+    pub fn range(&self) -> Range<u64>
+        ensures start { result.start ≡ self.now.start }
+        ensures end { result.end ≡ end_of self.now }
+    {
+        self.reader.range()
+    }
+
+    /// The bytes of the body, its locals first.
+    pub fn as_bytes(&self) -> &'a [u8]
+        ensures { result.now ≡ rest self.now }
+    {
+        self.reader.remaining_buffer()
+    }
+}
+
+impl<'a> FromReader<'a> for FunctionBody<'a> {
+    ghost takes_memory = { false };
+
+    const TAKES_MEMORY: bool = false;
+
+    ghost encodes = { λ features text body. EncodesReader features text body };
+
+    ghost fault = { λ m r offset. ReaderFault m r offset };
+
+    ghost same = { λ body other. SameReader body other };
+
+    /// As `FunctionBody::read`.
+    fn from_reader(_alloc: Global, reader: &mut BinaryReader<'a>) -> Result<FunctionBody<'a>>
+        ensures reads { ReadsValue (EncodesReader reader.old.features) false result reader.old reader.new }
+        ensures fault { IfErr result (λ e. HasFault ReaderFault e reader.old) }
+        ensures placed { IfOk result (λ body. end_of body ≡ offset_of reader.new) }
+    {
+        FunctionBody::read(reader)
+    }
+
+    fn memory_law() -> bool
+        ensures { result ≡ false }
+    {
+        <FunctionBody<'a> as FromReader<'a>>::TAKES_MEMORY
+    }
+
+    fn is_prefix_code()
+        ensures { (features : WasmFeatures) → PrefixCodeUpTo SameReader (EncodesReader features) }
+    {}
+
+    fn determines_refusal()
+        ensures { DeterminesRefusal ReaderFault }
+    {}
+}

@@ -1,0 +1,147 @@
+//! Constant expressions.
+ghost use Rattle.std.specs.Prelude.{◌≡◌, true, IfOk, IfErr};
+ghost use Rattle.wasm_operators_readers.specs.below.FromReader.{ReadsValue, SameReader};
+ghost use Rattle.wasm_operators_readers.specs.below.bytes.features.WasmFeatures.{WasmFeatures};
+ghost use Rattle.wasm_operators_readers.specs.below.Sequence.{PrefixCodeUpTo};
+ghost use Rattle.wasm_operators_readers.specs.below.Fault.{DeterminesRefusal, HasFault};
+ghost use Rattle.wasm_operators_readers.specs.below.Source.{offset_of};
+ghost use Rattle.wasm_operators_readers.specs.Reading.{IsFresh};
+ghost use Rattle.wasm_operators.specs.Constant.{EncodesConstantReader};
+ghost use Rattle.wasm_operators.specs.ConstantFaults.{ConstantFault};
+
+use crate::passing::pass_constant;
+use std::alloc::{AllocError, Global};
+use std::marker::Model;
+use wasm_operators_readers::OperatorsReader;
+use wasm_operators_readers::below::{BinaryReader, FromReader, Result};
+
+/// A constant expression: a reader of its bytes.
+///
+/// Two are equal where the bytes that are left are the same, wherever these stood and whatever the
+/// features. Contracts see the reader.
+#[derive(Debug, Drop)]
+pub struct ConstExpr<'a> {
+    reader: BinaryReader<'a>,
+}
+
+impl<'a> Model for ConstExpr<'a> {
+    ghost use Rattle.wasm_operators_readers.specs.below.Source.{Reader};
+
+    ghost Value = { Reader };
+
+    ghost view = { λ c. c.reader };
+}
+
+impl<'a> ConstExpr<'a> {
+    /// The expression that begins where this reader stands. Nothing of it is looked at.
+    pub fn new(reader: BinaryReader<'a>) -> ConstExpr<'a>
+        ensures { result ≡ reader.entry }
+    {
+        ConstExpr { reader }
+    }
+
+    /// The expression at the start of the rest: the operators up to the first `end`, which has to
+    /// close the expression. Binary Format, Expressions.
+    ///
+    /// `FramesRemainConst` behind that `end` where a frame is open then; else as the first operator
+    /// that is refused. `OutOfMemory` where the expression begins.
+    pub fn read(alloc: Global, reader: &mut BinaryReader<'a>) -> Result<ConstExpr<'a>>
+        ensures reads { ReadsValue (EncodesConstantReader reader.old.features) true result reader.old reader.new }
+        ensures fault { IfErr result (λ e. HasFault ConstantFault e reader.old) }
+        ensures placed { IfOk result (λ c. c.start ≡ offset_of reader.old) }
+    {
+        let mut operators = OperatorsReader::new(alloc, reader.clone());
+        match pass_constant(&mut operators) {
+            Ok(()) => {
+                let behind = operators.get_binary_reader();
+                let size = behind.current_position() - reader.current_position();
+                let text = &reader.remaining_buffer()[..size];
+                let constant = reader.part(text, reader.original_position());
+                *reader = behind;
+                Ok(ConstExpr { reader: constant })
+            }
+            Err(e) => Err(e),
+        }
+    }
+
+    /// A reader of its bytes.
+    pub fn get_binary_reader(&self) -> BinaryReader<'a>
+        ensures { result ≡ self.now }
+    {
+        self.reader.clone()
+    }
+
+    /// A reader of its operators, of which none is read. It takes no memory.
+    pub fn get_operators_reader(&self, alloc: Global) -> OperatorsReader<'a>
+        ensures reader { result.reader ≡ self.now }
+        ensures fresh { IsFresh result }
+    {
+        OperatorsReader::new(alloc, self.reader.clone())
+    }
+}
+
+impl<'a> Clone for ConstExpr<'a> {
+    ghost use Rattle.std.specs.Prelude.{◌≡◌, ⊤};
+
+    ghost is_clone = { λ source copy. copy ≡ source };
+
+    ghost is_infallible = { λ _. ⊤ };
+
+    fn clone(&self) -> std::result::Result<ConstExpr<'a>, AllocError> {
+        Ok(ConstExpr {
+            reader: self.reader.clone(),
+        })
+    }
+}
+
+impl<'a> PartialEq for ConstExpr<'a> {
+    ghost use Rattle.wasm_operators.specs.Equality.{same_bytes, same_bytes_partial};
+
+    ghost eq = { same_bytes };
+
+    ghost laws = { same_bytes_partial };
+
+    fn eq(&self, other: &ConstExpr<'a>) -> bool {
+        self.reader.remaining_buffer() == other.reader.remaining_buffer()
+    }
+}
+
+impl<'a> Eq for ConstExpr<'a> {
+    ghost use Rattle.wasm_operators.specs.Equality.{same_bytes_equiv};
+
+    ghost laws = { same_bytes_equiv };
+}
+
+impl<'a> FromReader<'a> for ConstExpr<'a> {
+    ghost takes_memory = { true };
+
+    const TAKES_MEMORY: bool = true;
+
+    ghost encodes = { λ features text c. EncodesConstantReader features text c };
+
+    ghost fault = { λ m r offset. ConstantFault m r offset };
+
+    ghost same = { λ c d. SameReader c d };
+
+    fn from_reader(alloc: Global, reader: &mut BinaryReader<'a>) -> Result<ConstExpr<'a>>
+        ensures reads { ReadsValue (EncodesConstantReader reader.old.features) true result reader.old reader.new }
+        ensures fault { IfErr result (λ e. HasFault ConstantFault e reader.old) }
+        ensures placed { IfOk result (λ c. c.start ≡ offset_of reader.old) }
+    {
+        ConstExpr::read(alloc, reader)
+    }
+
+    fn memory_law() -> bool
+        ensures { result ≡ true }
+    {
+        <ConstExpr<'a> as FromReader<'a>>::TAKES_MEMORY
+    }
+
+    fn is_prefix_code()
+        ensures { (features : WasmFeatures) → PrefixCodeUpTo SameReader (EncodesConstantReader features) }
+    {}
+
+    fn determines_refusal()
+        ensures { DeterminesRefusal ConstantFault }
+    {}
+}

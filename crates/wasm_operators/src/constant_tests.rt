@@ -1,0 +1,50 @@
+//! Constant expressions: how far they go, and where they are refused.
+use crate::ConstExpr;
+use std::test::Fail;
+use wasm_operators_readers::below::BinaryReader;
+
+#[test]
+fn up_to_the_first_end(rt: HostRuntime) {
+    let tried: &[u8] = &[0x06, 0x40, 0x18, 0x00, 0x0b];
+    let number: &[u8] = &[0x41, 0x2a, 0x0b, 0xff];
+    let ended: &[u8] = &[0x0b, 0x0b];
+    for (bytes, size) in [(tried, 5), (number, 3), (ended, 1)] {
+        let mut reader = BinaryReader::new(bytes, 0);
+        match ConstExpr::read(rt.alloc(), &mut reader) {
+            Ok(constant) => {
+                let read = constant.get_binary_reader();
+                assert_eq!(&rt; read.remaining_buffer(), &bytes[..size]);
+                assert!(&rt; !constant.get_operators_reader(rt.alloc()).eof());
+            }
+            Err(_) => assert!(&rt; false),
+        }
+        assert_eq!(&rt; reader.current_position(), size);
+    }
+}
+
+#[test]
+fn refusals(rt: HostRuntime) {
+    let open: &[u8] = &[0x02, 0x40, 0x0b, 0x0b];
+    let cut: &[u8] = &[0x41, 0x2a];
+    for (bytes, want) in [(open, (10, 3)), (cut, (1, 2))] {
+        let mut reader = BinaryReader::new(bytes, 0);
+        let refused = match ConstExpr::read(rt.alloc(), &mut reader) {
+            Ok(_) => None,
+            Err(e) => Some((e.message().number(), e.offset())),
+        };
+        assert_eq!(&rt; refused, Some(want));
+        assert_eq!(&rt; reader.current_position(), 0);
+    }
+}
+
+#[test]
+fn equal_wherever_they_stand(rt: HostRuntime) -> Result<(), Fail> {
+    let first = ConstExpr::new(BinaryReader::new(&[0x41, 0x2a, 0x0b], 0));
+    let second = ConstExpr::new(BinaryReader::new(&[0x41, 0x2a, 0x0b], 7));
+    let other = ConstExpr::new(BinaryReader::new(&[0x41, 0x2b, 0x0b], 0));
+    assert!(&rt; first == second);
+    assert!(&rt; first != other);
+    assert!(&rt; first.clone()? == second);
+    assert!(&rt; !format!(in rt.alloc(); "{first:?}")?.is_empty());
+    Ok(())
+}

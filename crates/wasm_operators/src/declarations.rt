@@ -1,0 +1,27 @@
+//! One declaration of locals.
+ghost use Rattle.std.specs.Prelude.{IfErr};
+ghost use Rattle.wasm_operators_readers.specs.below.Source.{Reads};
+ghost use Rattle.wasm_operators.specs.Locals.{EncodesDeclaration, DeclarationFault};
+
+use wasm_operators_readers::below::{BinaryReader, Result, ValType};
+
+/// A declaration: how many locals, and of which type. Code Section.
+///
+/// Refused as `read_var_u32`, then as `ValType::read`.
+pub fn read_declaration(reader: &mut BinaryReader<'_>) -> Result<(u32, ValType)>
+    ensures reads { Reads EncodesDeclaration result reader.old reader.new }
+    ensures fault { IfErr result (λ e. DeclarationFault e.message reader.old e.offset) }
+{
+    let start = reader.current_position();
+    let number = match reader.read_var_u32() {
+        Ok(number) => number,
+        Err(e) => return Err(e),
+    };
+    match ValType::read(reader) {
+        Ok(ty) => Ok((number, ty)),
+        Err(e) => {
+            reader.rewind(start);
+            Err(e)
+        }
+    }
+}

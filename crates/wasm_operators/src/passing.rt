@@ -1,0 +1,70 @@
+//! Going past the operators of a constant expression.
+ghost use Rattle.std.specs.Prelude.{◌≡◌, ◌≢◌, [], true, IfOk, IfErr};
+ghost use Rattle.wasm_operators_readers.specs.below.Fault.{HasFault};
+ghost use Rattle.wasm_operators_readers.specs.below.FromReader.{IsRefused};
+ghost use Rattle.wasm_operators_readers.specs.below.Source.{offset_of};
+ghost use Rattle.wasm_operators_readers.specs.Reading.{IsFresh};
+ghost use Rattle.wasm_operators.specs.Constant.{EncodesConstantReader};
+ghost use Rattle.wasm_operators.specs.ConstantFaults.{ConstantFault};
+ghost use Rattle.wasm_operators.specs.Passing.{PassesOne, PassesEnd};
+
+use wasm_operators_readers::OperatorsReader;
+use wasm_operators_readers::below::{Error, Message, Result};
+use wasm_operators_readers::instr::FrameStack;
+use wasm_operators_readers::visitors::IsEndOperatorVisitor;
+
+/// Goes past the operators up to the first `end`, which has to close the expression.
+///
+/// `FramesRemainConst` behind that `end` where a frame is open then; else as the first operator that
+/// is refused. `OutOfMemory` where the expression begins.
+pub fn pass_constant(operators: &mut OperatorsReader<'_>) -> Result<()>
+    requires { IsFresh operators.old }
+    ensures passed { IfOk result (λ _. PassesEnd operators.old operators.new × (operators.new.frames ≡ [])) }
+    ensures refused { IfErr result (λ e. IsRefused (EncodesConstantReader operators.old.reader.features) true e operators.old.reader) }
+    ensures fault { IfErr result (λ e. HasFault ConstantFault e operators.old.reader) }
+{
+    let start = operators.original_position();
+    loop {
+        match pass_one(operators) {
+            Ok(is_end) => {
+                if is_end {
+                    return check_closed(operators);
+                }
+            }
+            Err(e) => return Err(from_start(e, start)),
+        }
+    }
+}
+
+/// Goes past one operator, and answers whether it was `end`.
+fn pass_one(operators: &mut OperatorsReader<'_>) -> Result<bool>
+    ensures { PassesOne result operators.old operators.new }
+{
+    operators.visit_operator_simd(&mut IsEndOperatorVisitor)
+}
+
+/// Whether no frame is open.
+///
+/// `FramesRemainConst` at the position where one is.
+fn check_closed(operators: &OperatorsReader<'_>) -> Result<()>
+    ensures closed { IfOk result (λ _. operators.now.frames ≡ []) }
+    ensures open { IfErr result (λ e. (operators.now.frames ≢ []) × (e.message ≡ Message.FramesRemainConst) × (e.offset ≡ offset_of operators.now.reader)) }
+{
+    if operators.current_frame().is_some() {
+        let position = operators.original_position();
+        return Err(Error::new(Message::FramesRemainConst, position));
+    }
+    Ok(())
+}
+
+/// The same refusal, but allocation failure is said at this offset.
+fn from_start(e: Error, start: u64) -> Error
+    ensures message { result.message ≡ e.message }
+    ensures memory { e.message ≡ Message.OutOfMemory → result.offset ≡ start }
+    ensures other { e.message ≢ Message.OutOfMemory → result.offset ≡ e.offset }
+{
+    match e.message() {
+        Message::OutOfMemory => Error::new(Message::OutOfMemory, start),
+        _ => e,
+    }
+}

@@ -1,0 +1,139 @@
+//! A section that is a list of items, and the iterator over them.
+ghost use Rattle.std.specs.Prelude.{◌≡◌, ◌+◌, cond, Ok, IfOk, IfErr};
+ghost use Rattle.std.specs.Iterator.{at_most};
+ghost use Rattle.wasm_operators_readers.specs.below.Number.{EncodesUnsigned};
+ghost use Rattle.wasm_operators_readers.specs.below.Source.{Reads, IsRefusal, U32Fault};
+ghost use Rattle.wasm_operators.specs.Section.{StepsSection, items_of};
+
+use std::alloc::Global;
+use std::marker::{Model, PhantomData};
+use wasm_operators_readers::below::{BinaryReader, Error, FromReader, Message, Result};
+
+/// A section of items of one type, of which there are as many as the number in front of them says.
+///
+/// Contracts see that number, and the reader behind it.
+#[derive(Drop)]
+pub struct SectionLimited<'a, T> {
+    alloc: Global,
+    reader: BinaryReader<'a>,
+    count: u32,
+    item: PhantomData<T>,
+}
+
+impl<'a, T> Model for SectionLimited<'a, T> {
+    ghost use Rattle.wasm_operators.specs.Section.{Section};
+
+    ghost Value = { Section };
+
+    ghost view = { λ s. record { count = s.count; reader = s.reader } };
+}
+
+impl<'a, T: FromReader<'a>> SectionLimited<'a, T> {
+    /// The section that begins where this reader stands: reads how many items it has, an unsigned
+    /// LEB128 number of 32 bits. The items are read with this allocator.
+    ///
+    /// Refused as that number: `EndOfData` where the data ends, `IntegerTooLong` or
+    /// `IntegerTooLarge` at the byte that breaks it.
+    pub fn new(alloc: Global, mut reader: BinaryReader<'a>) -> Result<SectionLimited<'a, T>>
+        ensures count { IfOk result (λ s. Reads (EncodesUnsigned 32) (Ok s.count) reader.entry s.reader) }
+        ensures refused { IfErr result (λ e. IsRefusal (EncodesUnsigned 32) e reader.entry) }
+        ensures fault { IfErr result (λ e. U32Fault e.message reader.entry e.offset) }
+    {
+        match reader.read_var_u32() {
+            Ok(count) => Ok(SectionLimited {
+                alloc,
+                reader,
+                count,
+                item: PhantomData,
+            }),
+            Err(e) => Err(e),
+        }
+    }
+
+    /// How many items the section announces.
+    pub fn count(&self) -> u32
+        ensures { result ≡ self.now.count }
+    {
+        self.count
+    }
+}
+
+impl<'a, T: FromReader<'a>> IntoIterator for SectionLimited<'a, T> {
+    type Item = Result<T>;
+
+    type IntoIter = SectionLimitedIntoIter<'a, T>;
+
+    ghost into_iter_gives = { λ s items. items ≡ items_of s };
+
+    fn into_iter(self) -> SectionLimitedIntoIter<'a, T> {
+        let SectionLimited {
+            alloc,
+            reader,
+            count,
+            item: _,
+        } = self;
+        SectionLimitedIntoIter {
+            alloc,
+            reader,
+            remaining: count,
+            refused: false,
+            item: PhantomData,
+        }
+    }
+}
+
+/// The items of a section, read one after another, up to a refusal.
+///
+/// Behind the last item `DataAfterSection` comes once, where data is left. Contracts see how many
+/// items are left, the reader before the next of them, and whether an error was answered.
+#[derive(Drop)]
+pub struct SectionLimitedIntoIter<'a, T> {
+    alloc: Global,
+    reader: BinaryReader<'a>,
+    remaining: u32,
+    refused: bool,
+    item: PhantomData<T>,
+}
+
+impl<'a, T> Model for SectionLimitedIntoIter<'a, T> {
+    ghost use Rattle.wasm_operators.specs.Section.{SectionItems};
+
+    ghost Value = { SectionItems };
+
+    ghost view = { λ s. record { remaining = s.remaining; reader = s.reader; refused = s.refused } };
+}
+
+impl<'a, T: FromReader<'a>> Iterator for SectionLimitedIntoIter<'a, T> {
+    type Item = Result<T>;
+
+    ghost next_gives = { λ s item t. StepsSection (T.encodes s.reader.features) T.fault T.takes_memory item s t };
+
+    ghost remaining = { λ s. at_most (cond s.refused 0 (s.remaining + 1)) };
+
+    /// The next item; or an error: that of the item, or `DataAfterSection` where no item is left and
+    /// data is, at the offset where it begins. Nothing is taken by a refusal, and nothing comes
+    /// behind one.
+    fn next(&mut self) -> Option<Result<T>> {
+        if self.refused {
+            return None;
+        }
+        if self.remaining == 0 {
+            if self.reader.eof() {
+                return None;
+            }
+            self.refused = true;
+            let offset = self.reader.original_position();
+            return Some(Err(Error::new(Message::DataAfterSection, offset)));
+        }
+        match self.reader.read(self.alloc) {
+            Ok(item) => {
+                self.remaining -= 1;
+                Some(Ok(item))
+            }
+            Err(e) => {
+                self.refused = true;
+                Some(Err(e))
+            }
+        }
+    }
+}

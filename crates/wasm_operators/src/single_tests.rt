@@ -1,0 +1,134 @@
+//! Single operators under frames that the caller keeps.
+ghost use Rattle.std.specs.Prelude.{◌≡◌};
+
+use crate::{ReadOperators, ReadSimdVisits, ReadVisits};
+use wasm_operators_readers::below::{BinaryReader, Result};
+use wasm_operators_readers::instr::{BrTable, FrameKind, FrameStack, Operator, SimdOperator};
+use wasm_operators_readers::visitors::{VisitFixed, VisitOperator, VisitSimdOperator, Visitor};
+
+/// What was seen: some operators by name, and a refusal by its number and offset.
+#[derive(Clone, Copy, Debug, PartialEq, Eq)]
+enum Seen {
+    Nop,
+    Else,
+    End,
+    Catch(u32),
+    Swizzle,
+    Other,
+    Refused(u8, u64),
+}
+
+fn told(op: &Operator<'_>) -> Seen {
+    match op {
+        Operator::Nop => Seen::Nop,
+        Operator::Else => Seen::Else,
+        Operator::End => Seen::End,
+        Operator::Catch { tag_index } => Seen::Catch(*tag_index),
+        Operator::Simd(SimdOperator::I8x16Swizzle) => Seen::Swizzle,
+        _ => Seen::Other,
+    }
+}
+
+/// A visitor that tells what it sees, under a frame that stays, or under none.
+#[derive(Clone, Copy)]
+struct Under(Option<FrameKind>);
+
+impl FrameStack for Under {
+    ghost frame = { λ v. v.0 };
+
+    fn current_frame(&self) -> Option<FrameKind> {
+        self.0
+    }
+}
+
+impl Visitor for Under {
+    type Output = Seen;
+
+    ghost visits = { λ before op answer after. after ≡ before };
+
+    fn visit_any(&mut self, op: Operator<'static>) -> Seen {
+        told(&op)
+    }
+}
+
+impl VisitFixed for Under {}
+
+impl<'a> VisitOperator<'a> for Under {
+    fn visit_br_table(&mut self, _targets: BrTable<'a>) -> Seen {
+        Seen::Other
+    }
+}
+
+impl VisitSimdOperator for Under {}
+
+fn answer(visit: Result<Seen>) -> Seen {
+    match visit {
+        Ok(it) => it,
+        Err(e) => Seen::Refused(e.message().number(), e.offset()),
+    }
+}
+
+#[test]
+fn peeks(rt: HostRuntime) {
+    let turn: &[u8] = &[0x05];
+    let vector: &[u8] = &[0xfd, 0x0e];
+    let none: &[u8] = &[];
+    let rows = [
+        (turn, Some(FrameKind::If), Seen::Else),
+        (turn, Some(FrameKind::Block), Seen::Refused(7, 1)),
+        (none, None, Seen::Refused(8, 0)),
+        (vector, Some(FrameKind::Block), Seen::Swizzle),
+    ];
+    for (bytes, frame, want) in rows {
+        let reader = BinaryReader::new(bytes, 0);
+        let peeked = match reader.peek_operator(rt.alloc(), &Under(frame)) {
+            Ok(op) => Ok(told(&op)),
+            Err(e) => Err(e),
+        };
+        assert_eq!(&rt; answer(peeked), want);
+        assert_eq!(&rt; reader.current_position(), 0);
+    }
+}
+
+#[test]
+fn visits(rt: HostRuntime) {
+    let mut reader = BinaryReader::new(&[0x0b, 0x01], 0);
+    let mut block = Under(Some(FrameKind::Block));
+    let first = reader.visit_operator(rt.alloc(), &mut block);
+    assert_eq!(&rt; answer(first), Seen::End);
+    let second = reader.visit_operator(rt.alloc(), &mut block);
+    assert_eq!(&rt; answer(second), Seen::Nop);
+    let mut vector = BinaryReader::new(&[0xfd, 0x0e], 0);
+    let plain = vector.visit_operator(rt.alloc(), &mut block);
+    assert_eq!(&rt; answer(plain), Seen::Refused(14, 0));
+    let rows = [
+        (Some(FrameKind::LegacyCatch), Seen::Catch(0)),
+        (Some(FrameKind::LegacyCatchAll), Seen::Refused(7, 1)),
+        (None, Seen::Refused(8, 0)),
+    ];
+    for (frame, want) in rows {
+        let mut reader = BinaryReader::new(&[0x07, 0x00], 0);
+        let visited = reader.visit_operator_simd(rt.alloc(), &mut Under(frame));
+        assert_eq!(&rt; answer(visited), want);
+    }
+}
+
+#[test]
+fn finishes(rt: HostRuntime) {
+    let left: &[u8] = &[0x01];
+    let none: &[u8] = &[];
+    let rows = [
+        (left, None, Some((11, 5))),
+        (left, Some(FrameKind::Block), Some((9, 5))),
+        (none, None, None),
+        (none, Some(FrameKind::Block), Some((9, 5))),
+    ];
+    for (bytes, frame, want) in rows {
+        let reader = BinaryReader::new(bytes, 5);
+        let refused = match reader.finish_expression(&Under(frame)) {
+            Ok(()) => None,
+            Err(e) => Some((e.message().number(), e.offset())),
+        };
+        assert_eq!(&rt; refused, want);
+    }
+}

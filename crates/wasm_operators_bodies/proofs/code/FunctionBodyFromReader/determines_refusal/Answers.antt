@@ -1,5 +1,0 @@
-use Rattle.wasm_below.proofs.DeterminedRefusals.{reader_determines}
-use Rattle.wasm_operators_bodies.proofs.code.FunctionBodyFromReader.determines_refusal.Goals as goal
-
-pub returns : goal.returns
-returns c = reader_determines

@@ -1,8 +1,0 @@
-use Rattle.wasm_operators_bodies.proofs.LocalsLemmas.{declaration_prefix_code, locals_prefix_code}
-use Rattle.wasm_operators_bodies.proofs.laws.declarations.Goals as goal
-
-pub returns-clause-one : goal.returns-clause-one
-returns-clause-one c = declaration_prefix_code
-
-pub returns-clause-locals : goal.returns-clause-locals
-returns-clause-locals c = locals_prefix_code

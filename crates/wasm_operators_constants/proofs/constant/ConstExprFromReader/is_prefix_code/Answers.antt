@@ -1,5 +1,0 @@
-use Rattle.wasm_operators_constants.proofs.Determined.{constant_prefix_code}
-use Rattle.wasm_operators_constants.proofs.constant.ConstExprFromReader.is_prefix_code.Goals as goal
-
-pub returns : goal.returns
-returns c = λ features. constant_prefix_code features

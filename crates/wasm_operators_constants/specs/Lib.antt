@@ -1,4 +1,0 @@
-pub mod Constant
-pub mod Equality
-pub mod ConstantFaults
-pub mod Passing

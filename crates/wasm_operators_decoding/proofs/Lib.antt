@@ -1,4 +1,0 @@
-pub mod Messages
-pub mod Decoder
-pub mod Taken
-pub mod Begins

@@ -1,5 +1,0 @@
-use Rattle.wasm_operators_decoding.proofs.Decoder.{refuses_vectors}
-use Rattle.wasm_operators_decoding.proofs.laws.vector_refusals.Goals as goal
-
-pub returns : goal.returns
-returns c = refuses_vectors c.args.features c.args.frame

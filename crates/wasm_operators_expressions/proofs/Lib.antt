@@ -1,4 +1,0 @@
-pub mod LayoutLemmas
-pub mod FlatLemmas
-pub mod VisitLemmas
-pub mod OpeningLemmas

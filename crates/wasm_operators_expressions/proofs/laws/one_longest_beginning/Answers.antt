@@ -1,6 +1,0 @@
-use Rattle.std.proofs.Common.{[]}
-use Rattle.wasm_operators_expressions.proofs.LayoutLemmas.{one_longest}
-use Rattle.wasm_operators_expressions.proofs.laws.one_longest_beginning.Goals as goal
-
-pub returns : goal.returns
-returns c = λ s first second p q. one_longest [] s first second p q

@@ -1,4 +1,0 @@
-pub mod Expression
-pub mod Flat
-pub mod Openings
-pub mod Visiting

@@ -1,5 +1,0 @@
-use Rattle.wasm_operators_frames.proofs.Roles.{stepped_alike}
-use Rattle.wasm_operators_frames.proofs.laws.steps_are_roles.Goals as goal
-
-pub returns : goal.returns
-returns g c = λ frames role. stepped_alike frames role

@@ -1,0 +1,322 @@
+-- What the end of a run says: without trees; of data that was cut; and that it is determined.
+use Rattle.std.proofs.Common.{◌≡◌, ℕ, zero, suc, ◌+◌, ◌≤◌, List, [], ◌∷◌, ◌++◌, length, replicate, Some, None, Result, Ok, Err, refl, sym, subst, ap, ◌∙◌, append_assoc, arith, inl, inr}
+use Rattle.std.specs.Prelude.{◌↔◌, IsOk}
+use Rattle.std.proofs.lemmas.Bool.{cases_lt}
+use Rattle.std.proofs.lemmas.List.{append-nil}
+use Rattle.wasm_decode.specs.below.bytes.error.Error.{Error}
+use Rattle.wasm_decode.specs.below.bytes.features.WasmFeatures.{WasmFeatures}
+use Rattle.wasm_decode.specs.below.bytes.message.Message.{Message}
+use Rattle.wasm_decode.specs.below.bytes.message.Message.TheVariants as message
+use Rattle.wasm_decode.specs.below.Refusal.{IsReadFault}
+use Rattle.wasm_decode.specs.below.Source.{Source, Reader, rest, offset_of, source_of, at_position, MayFollow, Takes}
+use Rattle.wasm_decode.specs.grammar.declared.frame_kind.FrameKind.{FrameKind}
+use Rattle.wasm_decode.specs.grammar.Role.{ends}
+use Rattle.wasm_decode.specs.grammar.Frames.{frames_after, frames_along}
+use Rattle.wasm_decode.specs.grammar.Beginning.{IsWalk}
+use Rattle.wasm_decode.specs.grammar.OpenPath.{OpenPath}
+use Rattle.wasm_decode.proofs.of_grammar.Paths.{run_path, same_frames}
+use Rattle.wasm_decode.proofs.of_grammar.Runs.{ends_complete}
+use Rattle.wasm_decode.specs.instr.declared.operator.Operator.{Operator}
+use Rattle.wasm_decode.specs.instr.declared.operator.Operator.TheVariants as operator
+use Rattle.wasm_decode.specs.instr.Encoding.{EncodesOperator}
+use Rattle.wasm_decode.specs.instr.Roles.{role_of, roles_of}
+use Rattle.wasm_operators_readers.specs.Expression.{Placed, operators, LaidOut, IsLongestBehind}
+use Rattle.wasm_operators_readers.specs.Flat.{IsFlatFrom}
+use Rattle.wasm_operators_readers.specs.Reading.{Taking, Refusing, Needing, State, Ran, StopsRun, EndsRun, ReadsOperator}
+use Rattle.wasm_operators_readers.specs.Headline.{StoodBefore, BeginningAt, ReadsBeginning, IsNotOutOfMemory, ClosesFrom, IsCut, CutFault, IsCompletedByEnds}
+use Rattle.wasm_operators_readers.proofs.LayoutLemmas.{roles_of-append, operators-append, roles_of-ends, laid_append, laid_goes_on, laid_no_longer, laid_same, one_longest, GoesOn, next_allowed, goes_allowed}
+use Rattle.wasm_operators_readers.proofs.OneRead.{refused_none, refused_not_taken, one_refusal, closed_read, read_closed}
+use Rattle.wasm_operators_readers.proofs.Premises.{Everything, TakesEach, TakesAll, IsReading, IsDetermined}
+use Rattle.wasm_operators_readers.proofs.Runs.{features_stay, stood_on, IsStuckFor, stuck, run_flat, no_refusal}
+
+some_is : {X : Type 0} {x y : X} → Some x ≡ Some y → x ≡ y
+some_is e = cc e
+
+-- Two lists that are the longest by frames alone are the same.
+pub one_flat : (frames : List FrameKind) (s : Source) (first second : Placed) → IsFlatFrom frames s first → IsFlatFrom frames s second → first ≡ second
+one_flat frames s first second p q =
+    let le = p.longest second q.beginning in
+    let ge = q.longest first p.beginning in
+    (laid_same s.features s.offset first second p.beginning.beginning q.beginning.beginning p.beginning.more q.beginning.more p.beginning.laid q.beginning.laid
+    (sym p.beginning.parts ∙ q.beginning.parts) (omega arith)).0
+
+-- A run that ends with nothing left closes every frame, and the other way round.
+pub run_closes : (old new : State) (placed : Placed) → Ran old new placed → new.frames ≡ [] → rest new.reader ≡ [] →
+    ClosesFrom old.frames (source_of old.reader) placed
+run_closes old new placed r closed all = (
+  subst (LaidOut old.reader.features (offset_of old.reader) placed) (sym (r.takes.parts ∙ ap (λ x. r.text ++ x) all ∙ append-nil r.text)) r.laid,
+  r.frames ∙ ap (λ (x : List FrameKind). Some x) closed,
+)
+
+pub closes_run : (old new : State) (placed : Placed) → Ran old new placed → ClosesFrom old.frames (source_of old.reader) placed →
+    (new.frames ≡ []) × (rest new.reader ≡ [])
+closes_run old new placed r (laid, closes) =
+    let both : r.text ++ rest new.reader ≡ rest old.reader ++ [] = sym r.takes.parts ∙ sym (append-nil (rest old.reader)) in (
+      some_is (sym r.frames ∙ closes),
+      (laid_same old.reader.features (offset_of old.reader) placed placed r.text (rest old.reader) (rest new.reader) [] r.laid laid both refl).2,
+    )
+
+closes_exactly : {X : Type 0} (Encodes : Taking) (Fault : Refusing) (Needs : Needing) (result : Result X Error) (old new : State) (placed : Placed) →
+    Ran old new placed → EndsRun Encodes Fault Needs result new → IsOk result ↔ ClosesFrom old.frames (source_of old.reader) placed
+closes_exactly Encodes Fault Needs (Ok x) old new placed r (closed, all) = (λ ok. run_closes old new placed r closed all, λ closes. refl)
+closes_exactly Encodes Fault Needs (Err e) old new placed r stops = (
+  λ ok. absurd (cc ok),
+  λ closes. let end = closes_run old new placed r closes in absurd (no_refusal Encodes Fault Needs e new stops end.0 end.1),
+)
+
+-- What was read is the longest list by frames alone, memory aside, and the answer is Ok exactly where it closes every frame.
+pub flat_run : {X : Type 0} (Encodes : Taking) (Fault : Refusing) (Needs : Needing) → TakesAll Encodes → (result : Result X Error) (old new : State)
+    (placed flat : Placed) → Ran old new placed → EndsRun Encodes Fault Needs result new → IsFlatFrom old.frames (source_of old.reader) flat →
+    IsNotOutOfMemory result → (placed ≡ flat) × (IsOk result ↔ ClosesFrom old.frames (source_of old.reader) flat)
+flat_run Encodes Fault Needs all result old new placed flat r ended h other =
+    let same = one_flat old.frames (source_of old.reader) placed flat
+    (run_flat old new placed r (stuck Encodes Fault Needs Everything all result new ended other)) h in (
+      same,
+      subst (λ ps. IsOk result ↔ ClosesFrom old.frames (source_of old.reader) ps) same (closes_exactly Encodes Fault Needs result old new placed r ended),
+    )
+
+-- Of bytes that more would make the rest of an expression, those that are left begin with an operator that the frames allow.
+record NextStands (s : State) (left : List ℕ) : Type 0 where
+  op : Operator
+  text : List ℕ
+  after : List ℕ
+  encodes : EncodesOperator s.reader.features op text
+  bytes : left ≡ text ++ after
+  allowed : frames_after s.frames (role_of op) ≡ None → ⊥
+
+cut_stops : (Encodes : Taking) (Fault : Refusing) (Needs : Needing) → TakesAll Encodes → (m : Message) (e : Error) (s : State) (more : List ℕ) →
+    e.message ≡ m → StopsRun Encodes Fault Needs e s → NextStands s (rest s.reader ++ more) → CutFault m (rest s.reader)
+cut_stops Encodes Fault Needs all m e s more is (inl left) next = subst (λ m. CutFault m (rest s.reader)) (sym left.2 ∙ is) left.0
+cut_stops Encodes Fault Needs all m e s more is (inr (some, inl none)) next =
+    absurd (next.allowed (ap (λ frames. frames_after frames (role_of next.op)) none.0))
+cut_stops Encodes Fault Needs all m e s more is (inr (some, inr (inr memory))) next = subst (λ m. CutFault m (rest s.reader)) (sym memory.0 ∙ is) tt
+cut_stops Encodes Fault Needs all m e s more is (inr (some, inr (inl there))) next = by_message m is
+  where
+    follows : MayFollow e.message more → ⊥
+    follows follow =
+        next.allowed (refused_none Encodes Fault e s there more follow next.text next.after next.op
+        (λ allows. all s.reader.features there.kind next.text next.op next.encodes allows tt) next.bytes)
+
+    by_message : (m : Message) → e.message ≡ m → CutFault m (rest s.reader)
+    by_message message.OutOfMemory is = tt
+    by_message message.EndOfData is = some
+    by_message _ is = absurd (follows (subst (λ m. MayFollow m more) (sym is) tt))
+
+right_none : (xs ys : List ℕ) → xs ++ ys ≡ [] → ys ≡ []
+right_none [] ys e = e
+right_none (x ∷ xs) ys e = absurd (cc e)
+
+-- Data that was cut is refused by its end, within an operator or between two.
+pub run_cut : (Encodes : Taking) (Fault : Refusing) (Needs : Needing) → TakesAll Encodes → (e : Error) (before : List Operator) (old new : State)
+    (placed : Placed) → StoodBefore before old → Ran old new placed → StopsRun Encodes Fault Needs e new → IsCut before (source_of old.reader) →
+    CutFault e.message (rest new.reader)
+run_cut Encodes Fault Needs all e before old new placed h r stops cut =
+    cut_stops Encodes Fault Needs all e.message e new cut.more refl stops next
+  where
+    whole : rest old.reader ++ cut.more ≡ r.text ++ (rest new.reader ++ cut.more)
+    whole = ap (λ z. z ++ cut.more) r.takes.parts ∙ append_assoc r.text (rest new.reader) cut.more
+
+    goes : GoesOn old.reader.features placed cut.whole (rest new.reader ++ cut.more) → NextStands new (rest new.reader ++ cut.more)
+    goes g =
+        record {
+          op = g.next.0;
+          text = g.text;
+          after = g.more;
+          encodes = subst (λ f. EncodesOperator f g.next.0 g.text) (sym (features_stay old.reader new.reader r.text r.takes)) g.encodes;
+          bytes = g.bytes;
+          allowed = goes_allowed before old.reader.features placed cut.whole (rest new.reader ++ cut.more) new.frames (stood_on before old new placed h r).path
+              ([], cut.encodes.1.0, append-nil (roles_of (before ++ operators cut.whole)) ∙ cut.encodes.1.1) g;
+        }
+
+    shorter : length cut.whole ≤ length placed → ⊥
+    shorter le =
+        let e : (rest old.reader ++ cut.more) ++ [] ≡ r.text ++ (rest new.reader ++ cut.more) = append-nil (rest old.reader ++ cut.more) ∙ whole in
+        let ge : length placed ≤ length cut.whole = laid_no_longer old.reader.features (offset_of old.reader) cut.whole placed (rest old.reader ++ cut.more)
+        r.text (rest new.reader ++ cut.more) cut.encodes.0 r.laid e in
+        let same = laid_same old.reader.features (offset_of old.reader) cut.whole placed (rest old.reader ++ cut.more) r.text [] (rest new.reader ++ cut.more)
+        cut.encodes.0 r.laid e (omega arith) in
+        cut.some (right_none (rest new.reader) cut.more (sym same.2))
+
+    next : NextStands new (rest new.reader ++ cut.more)
+    next = elim (cases_lt (length placed) (length cut.whole)) [
+      | inl lt ↦ goes (laid_goes_on old.reader.features (offset_of old.reader) placed cut.whole r.text (rest old.reader ++ cut.more)
+          (rest new.reader ++ cut.more) [] r.laid cut.encodes.0 (sym whole ∙ sym (append-nil (rest old.reader ++ cut.more))) lt)
+      | inr le ↦ absurd (shorter le)
+    ]
+
+-- One byte 0b behind the other.
+ends_placed : ℕ → ℕ → Placed
+ends_placed offset zero = []
+ends_placed offset (suc n) = (operator.End, offset) ∷ ends_placed (offset + 1) n
+
+ends_laid : (f : WasmFeatures) (offset n : ℕ) → LaidOut f offset (ends_placed offset n) (replicate n 0x0b)
+unfolding ends_placed
+ends_laid f offset zero = refl
+ends_laid f offset (suc n) = (
+  refl,
+  0x0b ∷ [],
+  replicate n 0x0b,
+  refl,
+  record { head = 0x0b ∷ []; behind = []; parts = refl; code = refl; immediates = refl; enabled = tt },
+  ends_laid f (offset + 1) n,
+)
+
+ends_operators : (offset n : ℕ) → operators (ends_placed offset n) ≡ replicate n operator.End
+unfolding ends_placed
+ends_operators offset zero = refl
+ends_operators offset (suc n) = ap (λ (ops : List Operator). operator.End ∷ ops) (ends_operators (offset + 1) n)
+
+-- Where all data is taken, as many bytes 0b as frames are open make it the rest of an expression.
+pub run_completed : (before : List Operator) (old new : State) (placed : Placed) → StoodBefore before old → Ran old new placed → rest new.reader ≡ [] →
+    IsCompletedByEnds before (source_of old.reader) (length new.frames)
+run_completed before old new placed h r all =
+    let n = length new.frames in
+    let o = offset_of old.reader + length r.text in
+    let text : r.text ≡ rest old.reader = sym (r.takes.parts ∙ ap (λ x. r.text ++ x) all ∙ append-nil r.text) in
+    let laid = laid_append old.reader.features (offset_of old.reader) placed (ends_placed o n) r.text (replicate n 0x0b) r.laid
+    (ends_laid old.reader.features o n) in
+    let stood = stood_on before old new placed h r in
+    let walk : IsWalk (roles_of (before ++ operators placed) ++ replicate n ends) = ends_complete (roles_of (before ++ operators placed)) new.frames
+    (run_path new.frames (roles_of (before ++ operators placed)) stood.path) in
+    let split : before ++ operators (placed ++ ends_placed o n) ≡ (before ++ operators placed) ++ replicate n operator.End =
+    ap (λ z. before ++ z) (operators-append placed (ends_placed o n) ∙ ap (λ z. operators placed ++ z) (ends_operators o n)) ∙
+    sym (append_assoc before (operators placed) (replicate n operator.End)) in
+    let roles : roles_of (before ++ operators (placed ++ ends_placed o n)) ≡ roles_of (before ++ operators placed) ++ replicate n ends = ap roles_of split ∙
+    roles_of-append (before ++ operators placed) (replicate n operator.End) ∙ ap (λ z. roles_of (before ++ operators placed) ++ z) (roles_of-ends n) in (
+      placed ++ ends_placed o n,
+      (
+        subst (λ z. LaidOut old.reader.features (offset_of old.reader) (placed ++ ends_placed o n) (z ++ replicate n 0x0b)) text laid,
+        subst IsWalk (sym roles) walk,
+      ),
+    )
+
+-- Two answers that are the same, memory aside.
+abbrev pub SameAnswer : {X Y : Type 0} → Result X Error → Result Y Error → Type 0
+SameAnswer (Ok x) (Ok y) = Unit {0}
+SameAnswer (Err d) (Err e) = (d.message ≡ e.message) × (d.offset ≡ e.offset)
+SameAnswer _ _ = ⊥
+
+-- A read that was refused is refused again, by the same message and offset, memory aside.
+pub refused_again : (Encodes : Taking) (Fault : Refusing) (Needs : Needing) → IsDetermined Fault → (d : Error) (result : Result Operator Error)
+    (old mid new : State) → ReadsOperator Encodes Fault Needs (Err d) old mid → (d.message ≡ message.OutOfMemory → ⊥) →
+    ReadsOperator Encodes Fault Needs result mid new → IsNotOutOfMemory result → SameAnswer {X = Operator} (Err d) result
+refused_again Encodes Fault Needs determined d (Ok op) old mid new (same, stops) other takes memory =
+    refused_not_taken Encodes Fault Needs d mid mid new op refl refl stops other takes
+refused_again Encodes Fault Needs determined d (Err e) old mid new (same, stops) other (again, others) memory =
+    one_refusal Encodes Fault Needs determined d e mid new again.0 again.1 stops others other memory
+
+same_stops : (Encodes : Taking) (Fault : Refusing) (Needs : Needing) → IsDetermined Fault → (d e : Error) (s t : State) → t.reader ≡ s.reader →
+    t.frames ≡ s.frames → StopsRun Encodes Fault Needs d s → StopsRun Encodes Fault Needs e t → (d.message ≡ message.OutOfMemory → ⊥) →
+    (e.message ≡ message.OutOfMemory → ⊥) → (d.message ≡ e.message) × (d.offset ≡ e.offset)
+same_stops Encodes Fault Needs determined d e s t reader frames (inl a) (inl b) other others = (a.2 ∙ sym b.2, a.3 ∙ ap offset_of (sym reader) ∙ sym b.3)
+same_stops Encodes Fault Needs determined d e s t reader frames (inl a) (inr b) other others = absurd (b.0 (ap rest reader ∙ a.0))
+same_stops Encodes Fault Needs determined d e s t reader frames (inr a) (inl b) other others = absurd (a.0 (ap rest (sym reader) ∙ b.0))
+same_stops Encodes Fault Needs determined d e s t reader frames (inr a) (inr b) other others =
+    one_refusal Encodes Fault Needs determined d e s t reader frames a.1 b.1 other others
+
+same_ends : {X Y : Type 0} (Encodes : Taking) (Fault : Refusing) (Needs : Needing) → IsDetermined Fault → (first : Result X Error) (second : Result Y Error)
+    (s t : State) → t.reader ≡ s.reader → t.frames ≡ s.frames → EndsRun Encodes Fault Needs first s → EndsRun Encodes Fault Needs second t →
+    IsNotOutOfMemory first → IsNotOutOfMemory second → SameAnswer first second
+same_ends Encodes Fault Needs determined (Ok x) (Ok y) s t reader frames a b other others = tt
+same_ends Encodes Fault Needs determined (Ok x) (Err e) s t reader frames a b other others =
+    no_refusal Encodes Fault Needs e t b (frames ∙ a.0) (ap rest reader ∙ a.1)
+same_ends Encodes Fault Needs determined (Err d) (Ok y) s t reader frames a b other others =
+    no_refusal Encodes Fault Needs d s a (sym frames ∙ b.0) (ap rest (sym reader) ∙ b.1)
+same_ends Encodes Fault Needs determined (Err d) (Err e) s t reader frames a b other others =
+    same_stops Encodes Fault Needs determined d e s t reader frames a b other others
+
+-- Each operator of the list is of this sort.
+abbrev pub AreEach : (Operator → Type 0) → Placed → Type 0
+AreEach Kept placed = (before after : Placed) (p : Operator × ℕ) → placed ≡ before ++ p ∷ after → Kept p.0
+
+-- a run, without the room
+record RanOver (reader : Reader) (frames : List FrameKind) (new : State) (placed : Placed) : Type 0 where
+  text : List ℕ
+  takes : Takes reader new.reader text
+  laid : LaidOut reader.features (offset_of reader) placed text
+  along : frames_along frames (roles_of (operators placed)) ≡ Some new.frames
+
+ran_over : (old new : State) (placed : Placed) → Ran old new placed → RanOver old.reader old.frames new placed
+ran_over old new placed r = record { text = r.text; takes = r.takes; laid = r.laid; along = r.frames }
+
+-- Of two runs from one place, one behind which no operator of this sort may follow is not the shorter.
+not_shorter : (Kept : Operator → Type 0) (reader : Reader) (frames : List FrameKind) (new end : State) (placed others : Placed) →
+    RanOver reader frames new placed → RanOver reader frames end others → AreEach Kept others → IsStuckFor Kept new → length others ≤ length placed
+not_shorter Kept reader frames new end placed others r q each none =
+    elim (cases_lt (length placed) (length others)) [
+      | inl lt ↦ absurd (goes (laid_goes_on reader.features (offset_of reader) placed others r.text q.text (rest new.reader) (rest end.reader) r.laid q.laid
+          (sym r.takes.parts ∙ q.takes.parts) lt))
+      | inr le ↦ le
+    ]
+  where
+    goes : GoesOn reader.features placed others (rest new.reader) → ⊥
+    goes g =
+        let encodes = subst (λ f. EncodesOperator f g.next.0 g.text) (sym (features_stay reader new.reader r.text r.takes)) g.encodes in
+        next_allowed reader.features frames new.frames end.frames placed others (rest new.reader) r.along q.along g
+        (none g.text g.more g.next.0 encodes (each placed g.others g.next g.parts) g.bytes)
+
+-- Of two runs over the same bytes, from the same frames on, all is the same, memory aside.
+pub run_determined : {X Y : Type 0} (Encodes : Taking) (Fault : Refusing) (Needs : Needing) (Kept : Operator → Type 0) → TakesEach Kept Encodes →
+    IsDetermined Fault → (first : Result X Error) (second : Result Y Error) (old new other end : State) (placed others : Placed) → other.reader ≡ old.reader →
+    other.frames ≡ old.frames → Ran old new placed → Ran other end others → AreEach Kept placed → AreEach Kept others →
+    EndsRun Encodes Fault Needs first new → EndsRun Encodes Fault Needs second end → IsNotOutOfMemory first → IsNotOutOfMemory second →
+    (placed ≡ others) × (end.reader ≡ new.reader) × (end.frames ≡ new.frames) × SameAnswer first second
+run_determined Encodes Fault Needs Kept takes determined first second old new other end placed others reader frames r q each_placed each_others a b memory
+    other_memory =
+    let r1 = ran_over old new placed r in
+    let q1 = subst (λ s. RanOver s old.frames end others) reader (subst (λ fs. RanOver other.reader fs end others) frames (ran_over other end others q)) in
+    let le = not_shorter Kept old.reader old.frames new end placed others r1 q1 each_others (stuck Encodes Fault Needs Kept takes first new a memory) in
+    let ge = not_shorter Kept old.reader old.frames end new others placed q1 r1 each_placed (stuck Encodes Fault Needs Kept takes second end b other_memory) in
+    let same = laid_same old.reader.features (offset_of old.reader) placed others r1.text q1.text (rest new.reader) (rest end.reader) r1.laid q1.laid
+    (sym r1.takes.parts ∙ q1.takes.parts) (omega arith) in
+    let readers : end.reader ≡ new.reader = q1.takes.moved ∙ ap (λ z. at_position old.reader (old.reader.position + length z)) (sym same.1) ∙
+    sym r1.takes.moved in
+    let stacks : end.frames ≡ new.frames = some_is (sym q1.along ∙ ap (λ ps. frames_along old.frames (roles_of (operators ps))) (sym same.0) ∙ r1.along) in
+    (same.0, readers, stacks, same_ends Encodes Fault Needs determined first second new end readers stacks a b memory other_memory)
+
+-- The answer tells the frames: that none is open, and that one is at the end of the data.
+pub tells_closed : (Encodes : Taking) (Fault : Refusing) (Needs : Needing) → IsReading Fault → (e : Error) (s : State) → StopsRun Encodes Fault Needs e s →
+    (e.message ≡ message.OutOfMemory → ⊥) → (e.message ≡ message.OperatorsRemaining) ↔ (s.frames ≡ [])
+tells_closed Encodes Fault Needs reading e s (inl left) other = (λ is. absurd (cc (is, left.2)), λ closed. absurd (left.1 closed))
+tells_closed Encodes Fault Needs reading e s (inr (some, stops)) other =
+    (closed_read Encodes Fault Needs reading e s stops, read_closed Encodes Fault Needs e s stops other)
+
+pub tells_left : (Encodes : Taking) (Fault : Refusing) (Needs : Needing) → IsReading Fault → (e : Error) (s : State) → StopsRun Encodes Fault Needs e s →
+    (e.message ≡ message.FramesRemain) ↔ ((rest s.reader ≡ []) × (s.frames ≡ [] → ⊥))
+tells_left Encodes Fault Needs reading e s (inl left) = (λ is. (left.0, left.1), λ h. left.2)
+tells_left Encodes Fault Needs reading e s (inr (some, inl none)) = (λ is. absurd (cc (is, none.1)), λ h. absurd (some h.0))
+tells_left Encodes Fault Needs reading e s (inr (some, inr (inl there))) = (
+  λ is. absurd (subst IsReadFault is (reading s.reader.features there.kind e.message s.reader e.offset there.fault)),
+  λ h. absurd (some h.0),
+)
+tells_left Encodes Fault Needs reading e s (inr (some, inr (inr memory))) = (λ is. absurd (cc (is, memory.0)), λ h. absurd (some h.0))
+
+-- Where frames are left at the end of the data, as many bytes 0b complete it.
+pub run_left : (Encodes : Taking) (Fault : Refusing) (Needs : Needing) → IsReading Fault → (e : Error) (before : List Operator) (old new : State)
+    (placed : Placed) → StoodBefore before old → Ran old new placed → StopsRun Encodes Fault Needs e new → e.message ≡ message.FramesRemain →
+    IsCompletedByEnds before (source_of old.reader) (length new.frames)
+run_left Encodes Fault Needs reading e before old new placed h r stops is =
+    run_completed before old new placed h r ((tells_left Encodes Fault Needs reading e new stops).0 is).0
+
+longest_at : (m : Message) (before : List Operator) (r : Reader) (placed : Placed) → BeginningAt m before r placed → (m ≡ message.OutOfMemory → ⊥) →
+    IsLongestBehind before (source_of r) placed
+longest_at message.OutOfMemory before r placed h other = absurd (other refl)
+longest_at _ before r placed h other = h
+
+-- Of two drivers from one place, behind the same operators, all is the same, memory aside.
+pub beginnings_same : (Encodes : Taking) (Fault : Refusing) (Needs : Needing) → IsDetermined Fault → (before : List Operator) (d e : Error)
+    (old new end : State) (placed others : Placed) → ReadsBeginning Encodes Fault Needs before d old new placed →
+    ReadsBeginning Encodes Fault Needs before e old end others → (d.message ≡ message.OutOfMemory → ⊥) → (e.message ≡ message.OutOfMemory → ⊥) →
+    (placed ≡ others) × (end.reader ≡ new.reader) × (end.frames ≡ new.frames) × (d.message ≡ e.message) × (d.offset ≡ e.offset)
+beginnings_same Encodes Fault Needs determined before d e old new end placed others a b other_d other_e =
+    let same = one_longest before (source_of old.reader) placed others (longest_at d.message before old.reader placed a.at other_d)
+    (longest_at e.message before old.reader others b.at other_e) in
+    let layout = laid_same old.reader.features (offset_of old.reader) placed others a.text b.text (rest new.reader) (rest end.reader) a.laid b.laid
+    (sym a.takes.parts ∙ b.takes.parts) (ap length same) in
+    let readers : end.reader ≡ new.reader = b.takes.moved ∙ ap (λ z. at_position old.reader (old.reader.position + length z)) (sym layout.1) ∙
+    sym a.takes.moved in
+    let path : OpenPath (roles_of (before ++ operators placed)) end.frames =
+    subst (λ (ps : Placed). OpenPath (roles_of (before ++ operators ps)) end.frames) (sym same) b.stood.path in
+    let stacks : end.frames ≡ new.frames = same_frames end.frames new.frames (roles_of (before ++ operators placed)) path a.stood.path in
+    let both = same_stops Encodes Fault Needs determined d e new end readers stacks a.stops b.stops other_d other_e in
+    (same, readers, stacks, both.0, both.1)

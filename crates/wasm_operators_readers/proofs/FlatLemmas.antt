@@ -1,0 +1,65 @@
+-- Beginnings by trees, and beginnings by frames alone, are the same.
+use Rattle.std.proofs.Common.{List, [], ◌∷◌, ◌++◌, sym, subst}
+use Rattle.std.specs.Prelude.{◌↔◌}
+use Rattle.wasm_decode.specs.below.Source.{Source}
+use Rattle.wasm_decode.specs.grammar.declared.frame_kind.FrameKind.{FrameKind}
+use Rattle.wasm_decode.specs.grammar.declared.frame_kind.FrameKind.TheVariants as frame
+use Rattle.wasm_decode.specs.grammar.Beginning.{BeginsWalk}
+use Rattle.wasm_decode.specs.grammar.Frames.{frames_along}
+use Rattle.wasm_decode.specs.grammar.OpenPath.{OpenPath}
+use Rattle.wasm_decode.proofs.of_grammar.Runs.{some_of, IsSome_of, path_run, path_runs_on}
+use Rattle.wasm_decode.proofs.of_grammar.Steps.{path_start}
+use Rattle.wasm_decode.specs.instr.declared.operator.Operator.{Operator}
+use Rattle.wasm_decode.specs.instr.Roles.{roles_of}
+use Rattle.wasm_operators_readers.specs.Expression.{Placed, operators, AreEncoded, IsBeginningBehind, IsLongestBehind, IsLongestBeginning}
+use Rattle.wasm_operators_readers.specs.Flat.{IsAllowedFrom, IsFlatFrom, IsFlatBeginning}
+use Rattle.wasm_operators_readers.proofs.LayoutLemmas.{roles_of-append, laid_encoded, both_encoded, path_begins, begins_walk}
+
+-- Behind operators that have encodings and an open path to the frames, a list that these allow begins an expression.
+pub allowed_begins : (before : List Operator) (frames : List FrameKind) (s : Source) (placed : Placed) → AreEncoded s.features before →
+    OpenPath (roles_of before) frames → IsAllowedFrom frames s placed → IsBeginningBehind before s placed
+allowed_begins before frames s placed encodes path h =
+    let along = some_of (frames_along frames (roles_of (operators placed))) h.allowed in
+    let on = path_run (roles_of (operators placed)) frames (roles_of before) along.0 path along.1 in
+    record {
+      beginning = h.beginning;
+      more = h.more;
+      parts = h.parts;
+      laid = h.laid;
+      begins = path_begins s.features (before ++ operators placed) along.0
+          (subst (λ roles. OpenPath roles along.0) (sym (roles_of-append before (operators placed))) on)
+          (both_encoded s.features before (operators placed) encodes (laid_encoded s.features s.offset placed h.beginning h.laid));
+    }
+
+-- And the other way round.
+pub begins_allowed : (before : List Operator) (frames : List FrameKind) (s : Source) (placed : Placed) → OpenPath (roles_of before) frames →
+    IsBeginningBehind before s placed → IsAllowedFrom frames s placed
+begins_allowed before frames s placed path h =
+    let walk = subst BeginsWalk (roles_of-append before (operators placed)) (begins_walk s.features (before ++ operators placed) h.begins) in
+    let on = path_runs_on frames (roles_of before) (roles_of (operators placed)) path walk in
+    record {
+      beginning = h.beginning;
+      more = h.more;
+      parts = h.parts;
+      laid = h.laid;
+      allowed = IsSome_of (frames_along frames (roles_of (operators placed))) on.0 on.1;
+    }
+
+pub flat_longest : (before : List Operator) (frames : List FrameKind) (s : Source) (placed : Placed) → AreEncoded s.features before →
+    OpenPath (roles_of before) frames → IsFlatFrom frames s placed → IsLongestBehind before s placed
+flat_longest before frames s placed encodes path h =
+    record {
+      beginning = allowed_begins before frames s placed encodes path h.beginning;
+      longest = λ others other. h.longest others (begins_allowed before frames s others path other);
+    }
+
+pub longest_flat : (before : List Operator) (frames : List FrameKind) (s : Source) (placed : Placed) → AreEncoded s.features before →
+    OpenPath (roles_of before) frames → IsLongestBehind before s placed → IsFlatFrom frames s placed
+longest_flat before frames s placed encodes path h =
+    record {
+      beginning = begins_allowed before frames s placed path h.beginning;
+      longest = λ others other. h.longest others (allowed_begins before frames s others encodes path other);
+    }
+
+pub flat_is_longest : (s : Source) (placed : Placed) → IsFlatBeginning s placed ↔ IsLongestBeginning s placed
+flat_is_longest s placed = (flat_longest [] (frame.Block ∷ []) s placed tt path_start, longest_flat [] (frame.Block ∷ []) s placed tt path_start)

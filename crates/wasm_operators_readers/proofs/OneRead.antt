@@ -1,0 +1,139 @@
+-- One read or visit of an operators reader.
+use Rattle.std.proofs.Common.{◌≡◌, ℕ, ◌+◌, ◌*◌, ◌<◌, ◌≤◌, List, [], ◌∷◌, ◌++◌, length, Option, Some, None, refl, sym, subst, ap, ◌∙◌, length-append, arith, ◌⊎◌, inl, inr}
+use Rattle.std.proofs.lemmas.List.{append-nil}
+use Rattle.wasm_decode.specs.below.bytes.error.Error.{Error}
+use Rattle.wasm_decode.specs.below.bytes.message.Message.{Message}
+use Rattle.wasm_decode.specs.below.bytes.message.Message.TheVariants as message
+use Rattle.wasm_decode.specs.below.Fault.{HasFault}
+use Rattle.wasm_decode.specs.below.Refusal.{IsReadFault}
+use Rattle.wasm_decode.specs.below.Source.{Reader, rest, offset_of, MayFollow, Refuses, IsAhead}
+use Rattle.wasm_decode.specs.grammar.declared.frame_kind.FrameKind.{FrameKind}
+use Rattle.wasm_decode.specs.grammar.Frames.{Allows, frames_after, innermost, replacement}
+use Rattle.wasm_decode.specs.grammar.OpenPath.{OpenPath}
+use Rattle.wasm_decode.proofs.of_grammar.Innermost.{may_not_step, innermost_not_empty}
+use Rattle.wasm_decode.proofs.of_grammar.Runs.{IsSome_of}
+use Rattle.wasm_decode.proofs.of_grammar.Steps.{path_step}
+use Rattle.wasm_decode.specs.instr.declared.operator.Operator.{Operator}
+use Rattle.wasm_decode.specs.instr.Roles.{role_of, roles_of}
+use Rattle.wasm_operators_readers.specs.Reading.{Taking, Refusing, Needing, State, TakesOperator, IsRefusedThere, StopsRead}
+use Rattle.wasm_operators_readers.proofs.LayoutLemmas.{roles_of-append, encoded_some}
+use Rattle.wasm_operators_readers.proofs.OpeningLemmas.{twice_opened, after_length}
+use Rattle.wasm_operators_readers.proofs.Premises.{IsSound, IsReading, IsDetermined}
+
+pub is_memory : (m : Message) → (m ≡ message.OutOfMemory) ⊎ (m ≡ message.OutOfMemory → ⊥)
+is_memory message.OutOfMemory = inl refl
+is_memory _ = inr (λ e. cc e)
+
+-- Memory aside, a refusal may be followed by nothing more.
+pub may_end : (m : Message) → (m ≡ message.OutOfMemory → ⊥) → MayFollow m []
+may_end message.EndOfData other = refl
+may_end message.OutOfMemory other = absurd (other refl)
+may_end _ other = tt
+
+-- A refusal of what stands at the start stops a read, which leaves the reader and the frames as they were.
+pub stops_read : (Encodes : Taking) (Fault : Refusing) (Needs : Needing) (e : Error) (old new : State) (kind : FrameKind) → new.reader ≡ old.reader →
+    new.frames ≡ old.frames → innermost old.frames ≡ Some kind → Refuses (Encodes old.reader.features kind) (rest old.reader) e.message →
+    IsAhead old.reader e.offset → HasFault (Fault old.reader.features kind) e old.reader →
+    (e.message ≡ message.OutOfMemory → (e.offset ≡ offset_of old.reader) × Needs new) → StopsRead Encodes Fault Needs e new
+stops_read Encodes Fault Needs e old new kind reader frames open_frame refuses ahead fault memory =
+    elim (is_memory e.message) [
+      | inl is ↦ inr (inr (is, (memory is).0 ∙ ap offset_of (sym reader), (memory is).1))
+      | inr other ↦ inr (inl (record {
+        kind = kind;
+        open_frame = ap innermost frames ∙ open_frame;
+        refuses = subst (λ (r : Reader). Refuses (Encodes r.features kind) (rest r) e.message) (sym reader) refuses;
+        ahead = subst (λ r. IsAhead r e.offset) (sym reader) ahead;
+        fault = subst (λ (r : Reader). Fault r.features kind e.message r e.offset) (sym reader) (fault other);
+      }))
+    ]
+
+-- Where memory may be refused, it may be where more is allowed.
+pub needs_more : (Encodes : Taking) (Fault : Refusing) (Needs Others : Needing) → ((s : State) → Needs s → Others s) → (e : Error) (s : State) →
+    StopsRead Encodes Fault Needs e s → StopsRead Encodes Fault Others e s
+needs_more Encodes Fault Needs Others more e s (inl none) = inl none
+needs_more Encodes Fault Needs Others more e s (inr (inl there)) = inr (inl there)
+needs_more Encodes Fault Needs Others more e s (inr (inr memory)) = inr (inr (memory.0, memory.1, more s memory.2))
+
+-- What a refusal says of the bytes as they are, with these behind them: an operator that would be taken does not stand there.
+pub refused_none : (Encodes : Taking) (Fault : Refusing) (e : Error) (s : State) (h : IsRefusedThere Encodes Fault e s) (behind : List ℕ) →
+    MayFollow e.message behind → (text more : List ℕ) (op : Operator) → (Allows h.kind (role_of op) → Encodes s.reader.features h.kind text op) →
+    rest s.reader ++ behind ≡ text ++ more → frames_after s.frames (role_of op) ≡ None
+refused_none Encodes Fault e s h behind follow text more op taken eb = go (replacement h.kind (role_of op)) refl
+  where
+    go : (next : Option (List FrameKind)) → replacement h.kind (role_of op) ≡ next → frames_after s.frames (role_of op) ≡ None
+    go None none = may_not_step s.frames h.kind (role_of op) h.open_frame none
+    go (Some next) some = absurd (h.refuses behind follow text more op (taken (IsSome_of (replacement h.kind (role_of op)) next some)) eb)
+
+-- A step leads the open path on.
+pub path_on : (before : List Operator) (op : Operator) (frames next : List FrameKind) → OpenPath (roles_of before) frames →
+    frames_after frames (role_of op) ≡ Some next → OpenPath (roles_of (before ++ op ∷ [])) next
+path_on before op frames next path step =
+    subst (λ roles. OpenPath roles next) (sym (roles_of-append before (op ∷ []))) (path_step frames (roles_of before) (role_of op) next path step)
+
+-- A read takes something,
+pub shorter : (Encodes : Taking) → IsSound Encodes → (op : Operator) (old new : State) → TakesOperator Encodes op old new →
+    length (rest new.reader) < length (rest old.reader)
+shorter Encodes sound op old new t =
+    let a : length (rest old.reader) ≡ length t.text + length (rest new.reader) = ap length t.takes.parts ∙ length-append t.text (rest new.reader) in
+    let b = encoded_some old.reader.features op t.text (sound old.reader.features t.kind t.text op t.encodes) in
+    omega (arith, a, b)
+
+-- and adds frames of which twice the number is at most the bytes that it takes.
+pub read_depth : (Encodes : Taking) → IsSound Encodes → (op : Operator) (old new : State) (t : TakesOperator Encodes op old new) →
+    2 * length new.frames ≤ 2 * length old.frames + length t.text
+read_depth Encodes sound op old new t =
+    let a = twice_opened old.reader.features op t.text (sound old.reader.features t.kind t.text op t.encodes) in
+    let b = after_length old.frames (role_of op) new.frames t.frames in
+    omega (arith, a, b)
+
+-- It is refused by the message that no frame is open only where none is,
+pub closed_read : (Encodes : Taking) (Fault : Refusing) (Needs : Needing) → IsReading Fault → (e : Error) (s : State) → StopsRead Encodes Fault Needs e s →
+    e.message ≡ message.OperatorsRemaining → s.frames ≡ []
+closed_read Encodes Fault Needs reading e s (inl none) is = none.0
+closed_read Encodes Fault Needs reading e s (inr (inl there)) is =
+    absurd (subst IsReadFault is (reading s.reader.features there.kind e.message s.reader e.offset there.fault))
+closed_read Encodes Fault Needs reading e s (inr (inr memory)) is = absurd (cc (is, memory.0))
+
+-- and there by no other, memory aside.
+pub read_closed : (Encodes : Taking) (Fault : Refusing) (Needs : Needing) (e : Error) (s : State) → StopsRead Encodes Fault Needs e s →
+    (e.message ≡ message.OutOfMemory → ⊥) → s.frames ≡ [] → e.message ≡ message.OperatorsRemaining
+read_closed Encodes Fault Needs e s (inl none) other closed = none.1
+read_closed Encodes Fault Needs e s (inr (inl there)) other closed = absurd (innermost_not_empty s.frames there.kind there.open_frame closed)
+read_closed Encodes Fault Needs e s (inr (inr memory)) other closed = absurd (other memory.0)
+
+some_is : {X : Type 0} {x y : X} → Some x ≡ Some y → x ≡ y
+some_is e = cc e
+
+-- Where a read is refused, memory aside, another of the same bytes and frames takes no operator.
+pub refused_not_taken : (Encodes : Taking) (Fault : Refusing) (Needs : Needing) (e : Error) (s t new : State) (op : Operator) → t.reader ≡ s.reader →
+    t.frames ≡ s.frames → StopsRead Encodes Fault Needs e s → (e.message ≡ message.OutOfMemory → ⊥) → TakesOperator Encodes op t new → ⊥
+refused_not_taken Encodes Fault Needs e s t new op same_reader same_frames (inl none) other takes =
+    innermost_not_empty t.frames takes.kind takes.open_frame (same_frames ∙ none.0)
+refused_not_taken Encodes Fault Needs e s t new op same_reader same_frames (inr (inl there)) other takes =
+    let kinds : takes.kind ≡ there.kind = some_is (sym takes.open_frame ∙ ap innermost same_frames ∙ there.open_frame) in
+    let features : t.reader.features ≡ s.reader.features = ap (λ (r : Reader). r.features) same_reader in
+    let encodes : Encodes s.reader.features there.kind takes.text op =
+    subst (λ f. Encodes f there.kind takes.text op) features (subst (λ k. Encodes t.reader.features k takes.text op) kinds takes.encodes) in
+    there.refuses [] (may_end e.message other) takes.text (rest new.reader) op encodes
+    (append-nil (rest s.reader) ∙ ap rest (sym same_reader) ∙ takes.takes.parts)
+refused_not_taken Encodes Fault Needs e s t new op same_reader same_frames (inr (inr memory)) other takes = other memory.0
+
+-- Two refusals of the same bytes and frames are the same, memory aside.
+pub one_refusal : (Encodes : Taking) (Fault : Refusing) (Needs : Needing) → IsDetermined Fault → (d e : Error) (s t : State) → t.reader ≡ s.reader →
+    t.frames ≡ s.frames → StopsRead Encodes Fault Needs d s → StopsRead Encodes Fault Needs e t → (d.message ≡ message.OutOfMemory → ⊥) →
+    (e.message ≡ message.OutOfMemory → ⊥) → (d.message ≡ e.message) × (d.offset ≡ e.offset)
+one_refusal Encodes Fault Needs determined d e s t reader frames (inr (inr memory)) b other others = absurd (other memory.0)
+one_refusal Encodes Fault Needs determined d e s t reader frames a (inr (inr memory)) other others = absurd (others memory.0)
+one_refusal Encodes Fault Needs determined d e s t reader frames (inl a) (inl b) other others =
+    (a.1 ∙ sym b.1, a.2 ∙ ap offset_of (sym reader) ∙ sym b.2)
+one_refusal Encodes Fault Needs determined d e s t reader frames (inl a) (inr (inl b)) other others =
+    absurd (innermost_not_empty t.frames b.kind b.open_frame (frames ∙ a.0))
+one_refusal Encodes Fault Needs determined d e s t reader frames (inr (inl a)) (inl b) other others =
+    absurd (innermost_not_empty s.frames a.kind a.open_frame (sym frames ∙ b.0))
+one_refusal Encodes Fault Needs determined d e s t reader frames (inr (inl a)) (inr (inl b)) other others =
+    let kinds : b.kind ≡ a.kind = some_is (sym b.open_frame ∙ ap innermost frames ∙ a.open_frame) in
+    let features : t.reader.features ≡ s.reader.features = ap (λ (r : Reader). r.features) reader in
+    let one : Fault t.reader.features a.kind e.message t.reader e.offset = subst (λ k. Fault t.reader.features k e.message t.reader e.offset) kinds b.fault in
+    let two : Fault s.reader.features a.kind e.message t.reader e.offset = subst (λ f. Fault f a.kind e.message t.reader e.offset) features one in
+    let three : Fault s.reader.features a.kind e.message s.reader e.offset = subst (λ r. Fault s.reader.features a.kind e.message r e.offset) reader two in
+    determined s.reader.features a.kind d.message e.message s.reader d.offset e.offset a.fault three

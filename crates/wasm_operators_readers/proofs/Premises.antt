@@ -1,0 +1,56 @@
+-- What the lemmas on reads ask of a decoder's relations: which bytes encode an operator that is taken, and which refusal is
+-- answered where none stands.
+use Rattle.std.proofs.Common.{◌≡◌, ℕ, List}
+use Rattle.wasm_decode.specs.below.bytes.features.WasmFeatures.{WasmFeatures}
+use Rattle.wasm_decode.specs.below.bytes.message.Message.{Message}
+use Rattle.wasm_decode.specs.below.bytes.message.Message.TheVariants as message
+use Rattle.wasm_decode.specs.below.Fault.{DeterminesRefusal}
+use Rattle.wasm_decode.specs.below.Refusal.{IsReadFault}
+use Rattle.wasm_decode.specs.below.Source.{Reader, rest, BeginsWith}
+use Rattle.wasm_decode.specs.grammar.declared.frame_kind.FrameKind.{FrameKind}
+use Rattle.wasm_decode.specs.grammar.Frames.{Allows}
+use Rattle.wasm_decode.specs.instr.declared.operator.Operator.{Operator}
+use Rattle.wasm_decode.specs.instr.Encoding.{EncodesOperator}
+use Rattle.wasm_decode.specs.instr.Kinds.{IsVector}
+use Rattle.wasm_decode.specs.instr.Roles.{role_of}
+use Rattle.wasm_operators_readers.specs.Reading.{Taking, Refusing}
+
+-- What is taken is encoded.
+abbrev pub IsSound : Taking → Type 0
+IsSound Encodes = (f : WasmFeatures) (kind : FrameKind) (text : List ℕ) (op : Operator) → Encodes f kind text op → EncodesOperator f op text
+
+-- Each operator of this sort that is encoded and allowed is taken.
+abbrev pub TakesEach : (Operator → Type 0) → Taking → Type 0
+TakesEach Kept Encodes = (f : WasmFeatures) (kind : FrameKind) (text : List ℕ) (op : Operator) → EncodesOperator f op text → Allows kind (role_of op) →
+    Kept op → Encodes f kind text op
+
+abbrev pub Everything : Operator → Type 0
+Everything op = Unit {0}
+
+abbrev pub IsNoVector : Operator → Type 0
+IsNoVector op = IsVector op → ⊥
+
+-- Each operator that is encoded and allowed is taken.
+abbrev pub TakesAll : Taking → Type 0
+TakesAll Encodes = TakesEach Everything Encodes
+
+-- Each one that is no vector operator.
+abbrev pub TakesPlain : Taking → Type 0
+TakesPlain Encodes = TakesEach IsNoVector Encodes
+
+-- No vector operator is taken.
+abbrev pub TakesNoVector : Taking → Type 0
+TakesNoVector Encodes = (f : WasmFeatures) (kind : FrameKind) (text : List ℕ) (op : Operator) → Encodes f kind text op → IsVector op → ⊥
+
+-- The refusal is one of the reading of a value.
+abbrev pub IsReading : Refusing → Type 0
+IsReading Fault = (f : WasmFeatures) (kind : FrameKind) (m : Message) (r : Reader) (offset : ℕ) → Fault f kind m r offset → IsReadFault m
+
+-- It is determined.
+abbrev pub IsDetermined : Refusing → Type 0
+IsDetermined Fault = (f : WasmFeatures) (kind : FrameKind) → DeterminesRefusal (Fault f kind)
+
+-- The prefix byte of vector operators has a refusal of its own.
+abbrev pub RefusesVectors : Refusing → Type 0
+RefusesVectors Fault = (f : WasmFeatures) (kind : FrameKind) (m : Message) (r : Reader) (offset : ℕ) → Fault f kind m r offset → BeginsWith 0xfd (rest r) →
+    m ≡ message.UnexpectedSimd

@@ -1,0 +1,268 @@
+-- A run of reads, and what its end says.
+use Rattle.std.proofs.Common.{◌≡◌, ℕ, ◌+◌, ◌≤◌, List, [], ◌∷◌, ◌++◌, length, Bool, true, cond, None, Some, Result, Ok, Err, refl, sym, subst, ap, ◌∙◌, append_assoc, arith, inl, inr}
+use Rattle.std.proofs.lemmas.Bool.{cases_lt}
+use Rattle.std.proofs.lemmas.List.{append-nil}
+use Rattle.std.specs.Option.{option_and_then}
+use Rattle.wasm_decode.specs.below.bytes.error.Error.{Error}
+use Rattle.wasm_decode.specs.below.bytes.message.Message.{Message}
+use Rattle.wasm_decode.specs.below.bytes.message.Message.TheVariants as message
+use Rattle.wasm_decode.specs.below.Source.{Source, Reader, rest, offset_of, source_of, Takes}
+use Rattle.wasm_decode.proofs.of_below.TakesLemmas.{takes_then, takes_none}
+use Rattle.wasm_decode.specs.grammar.declared.frame_kind.FrameKind.{FrameKind}
+use Rattle.wasm_decode.specs.grammar.Frames.{frames_after, frames_along}
+use Rattle.wasm_decode.specs.grammar.Beginning.{IsWalk}
+use Rattle.wasm_decode.specs.grammar.OpenPath.{OpenPath}
+use Rattle.wasm_decode.proofs.of_grammar.Unique.{one_tree}
+use Rattle.wasm_decode.proofs.of_grammar.Runs.{some_of, frames_along-append, path_run, IsSome_of}
+use Rattle.wasm_decode.proofs.of_grammar.Paths.{same_frames}
+use Rattle.wasm_decode.proofs.of_grammar.Steps.{path_start}
+use Rattle.wasm_decode.specs.instr.declared.operator.Operator.{Operator}
+use Rattle.wasm_decode.specs.instr.Encoding.{EncodesOperator}
+use Rattle.wasm_decode.specs.instr.Roles.{role_of, roles_of}
+use Rattle.wasm_operators_readers.specs.Expression.{Placed, operators, LaidOut, AreEncoded, EncodesRest, IsBeginningBehind, IsLongestBehind}
+use Rattle.wasm_operators_readers.specs.Flat.{IsAllowedFrom, IsFlatFrom}
+use Rattle.wasm_operators_readers.specs.Openings.{opened_by, opened_along}
+use Rattle.wasm_operators_readers.specs.Reading.{Taking, Refusing, Needing, State, StopsRead, IsFresh, IsUnchanged, TakesOperator, Ran, StopsRun, Finishes, StopsFinish, EndsRun}
+use Rattle.wasm_operators_readers.specs.Headline.{StoodBefore, ReadsTree, BeginningAt, ReadsBeginning, IsWithinDepth, IsNotOutOfMemory}
+use Rattle.wasm_operators_readers.proofs.FlatLemmas.{allowed_begins, flat_longest}
+use Rattle.wasm_operators_readers.proofs.LayoutLemmas.{roles_of-append, operators-append, laid_push, laid_encoded, both_encoded, path_begins, not_empty, laid_goes_on, laid_no_longer, laid_same, one_longest, GoesOn, next_allowed}
+use Rattle.wasm_operators_readers.proofs.OneRead.{may_end, refused_none, is_memory}
+use Rattle.wasm_operators_readers.proofs.OpeningLemmas.{twice_opened_along, along_length, opened_along-append}
+use Rattle.wasm_operators_readers.proofs.Premises.{Everything, IsSound, TakesEach, TakesAll}
+
+pub ran_start : (s : State) → Ran s s []
+ran_start s = record { text = []; takes = takes_none s.reader; laid = refl; frames = refl; room = omega arith }
+
+pub features_stay : (old new : Reader) (text : List ℕ) → Takes old new text → new.features ≡ old.features
+features_stay old new text t = ap (λ (r : Reader). r.features) t.moved
+
+pub ran_push : (Encodes : Taking) → IsSound Encodes → (old mid new : State) (placed : Placed) (op : Operator) → Ran old mid placed →
+    TakesOperator Encodes op mid new → Ran old new (placed ++ (op, offset_of mid.reader) ∷ [])
+ran_push Encodes sound old mid new placed op r t =
+    let at : Operator × ℕ = (op, offset_of mid.reader) in
+    let encodes : EncodesOperator old.reader.features op t.text =
+    subst (λ f. EncodesOperator f op t.text) (features_stay old.reader mid.reader r.text r.takes) (sound mid.reader.features t.kind t.text op t.encodes) in
+    let offset : offset_of mid.reader ≡ offset_of old.reader + length r.text = ap offset_of r.takes.moved ∙ omega arith in
+    let roles : roles_of (operators (placed ++ at ∷ [])) ≡ roles_of (operators placed) ++ role_of op ∷ [] = ap roles_of (operators-append placed (at ∷ [])) ∙
+    roles_of-append (operators placed) (op ∷ []) in
+    let opened = opened_along-append placed (at ∷ []) in
+    record {
+      text = r.text ++ t.text;
+      takes = takes_then old.reader mid.reader new.reader r.text t.text r.takes t.takes;
+      laid = laid_push old.reader.features (offset_of old.reader) placed r.text op (offset_of mid.reader) t.text r.laid offset encodes;
+      frames = ap (frames_along old.frames) roles ∙ frames_along-append old.frames (roles_of (operators placed)) (role_of op ∷ []) ∙
+          ap (option_and_then (λ frames. frames_along frames (role_of op ∷ []))) r.frames ∙
+          ap (option_and_then (λ frames. frames_along {A = Operator} frames [])) t.frames;
+      room = pushed_room old.room mid.room new.room (opened_along placed) (opened_by op) (opened_along (placed ++ at ∷ [])) r.room t.room opened;
+    }
+  where
+    pushed_room : (a b c m n k : ℕ) → a ≤ b + m → b ≤ c + n → k ≡ m + (n + 0) → a ≤ c + k
+    pushed_room a b c m n k p q e = omega (arith, p, q, e)
+
+-- A read that is refused adds nothing.
+pub ran_unchanged : (old mid new : State) (placed : Placed) → Ran old mid placed → IsUnchanged mid new → Ran old new placed
+ran_unchanged old mid new placed r (reader, frames, room) =
+    record {
+      text = r.text;
+      takes = subst (λ s. Takes old.reader s r.text) (sym reader) r.takes;
+      laid = r.laid;
+      frames = r.frames ∙ ap (λ (x : List FrameKind). Some x) (sym frames);
+      room = let first = r.room in omega (arith, first, room);
+    }
+
+-- It ends the run, where data was left.
+pub run_stops : (Encodes : Taking) (Fault : Refusing) (Needs : Needing) (e : Error) (mid new : State) → (rest mid.reader ≡ [] → ⊥) → IsUnchanged mid new →
+    StopsRead Encodes Fault Needs e new → StopsRun Encodes Fault Needs e new
+run_stops Encodes Fault Needs e mid new left same stops = inr (λ none. left (ap rest (sym same.0) ∙ none), stops)
+
+-- before a fresh reader no operator stood
+pub fresh_before : (s : State) → IsFresh s → StoodBefore [] s
+fresh_before s fresh = record { encodes = tt; path = subst (OpenPath []) (sym fresh) path_start }
+
+-- the list goes on with what was read
+pub stood_on : (before : List Operator) (old new : State) (placed : Placed) → StoodBefore before old → Ran old new placed →
+    StoodBefore (before ++ operators placed) new
+stood_on before old new placed h r =
+    let path : OpenPath (roles_of before ++ roles_of (operators placed)) new.frames =
+    path_run (roles_of (operators placed)) old.frames (roles_of before) new.frames h.path r.frames in
+    record {
+      encodes = subst (λ f. AreEncoded f (before ++ operators placed)) (sym (features_stay old.reader new.reader r.text r.takes))
+          (both_encoded old.reader.features before (operators placed) h.encodes
+          (laid_encoded old.reader.features (offset_of old.reader) placed r.text r.laid));
+      path = subst (λ roles. OpenPath roles new.frames) (sym (roles_of-append before (operators placed))) path;
+    }
+
+-- Twice the frames that were added is at most the bytes that were taken.
+pub run_depth : (old new : State) (placed : Placed) → Ran old new placed → IsWithinDepth old new
+run_depth old new placed r =
+    let a = twice_opened_along old.reader.features (offset_of old.reader) placed r.text r.laid in
+    let b = along_length placed old.frames new.frames r.frames in
+    let position : new.reader.position ≡ old.reader.position + length r.text = ap (λ (r : Reader). r.position) r.takes.moved in
+    omega (arith, a, b, position)
+
+-- all that was left, where nothing is
+all_taken : (old new : State) (placed : Placed) (r : Ran old new placed) → rest new.reader ≡ [] → r.text ≡ rest old.reader
+all_taken old new placed r all = sym (r.takes.parts ∙ ap (λ x. r.text ++ x) all ∙ append-nil r.text)
+
+pub run_tree : (before : List Operator) (old new : State) (placed : Placed) → StoodBefore before old → Ran old new placed → new.frames ≡ [] →
+    rest new.reader ≡ [] → ReadsTree before old new placed
+run_tree before old new placed h r closed all =
+    let whole = all_taken old new placed r all in
+    let walked : IsWalk (roles_of (before ++ operators placed)) =
+    subst (OpenPath (roles_of (before ++ operators placed))) closed (stood_on before old new placed h r).path in
+    record {
+      encodes = (subst (LaidOut old.reader.features (offset_of old.reader) placed) whole r.laid, walked);
+      tree = walked.0;
+      only = (walked.1, λ other e. one_tree other walked.0 (sym e ∙ walked.1));
+      closed = closed;
+      all = all;
+      takes = subst (Takes old.reader new.reader) whole r.takes;
+    }
+
+-- No operator of this sort that is encoded behind the run may follow.
+abbrev pub IsStuckFor : (Operator → Type 0) → State → Type 0
+IsStuckFor Kept s = (text more : List ℕ) (op : Operator) → EncodesOperator s.reader.features op text → Kept op → rest s.reader ≡ text ++ more →
+    frames_after s.frames (role_of op) ≡ None
+
+pub stuck_run : (Encodes : Taking) (Fault : Refusing) (Needs : Needing) (Kept : Operator → Type 0) → TakesEach Kept Encodes → (e : Error) (s : State) →
+    StopsRun Encodes Fault Needs e s → (e.message ≡ message.OutOfMemory → ⊥) → IsStuckFor Kept s
+stuck_run Encodes Fault Needs Kept takes e s (inl left) other text more op encodes kept eb =
+    absurd (not_empty s.reader.features op text more encodes (sym left.0 ∙ eb))
+stuck_run Encodes Fault Needs Kept takes e s (inr (some, inl none)) other text more op encodes kept eb =
+    ap (λ frames. frames_after frames (role_of op)) none.0
+stuck_run Encodes Fault Needs Kept takes e s (inr (some, inr (inl there))) other text more op encodes kept eb =
+    refused_none Encodes Fault e s there [] (may_end e.message other) text more op
+    (λ allows. takes s.reader.features there.kind text op encodes allows kept) (append-nil (rest s.reader) ∙ eb)
+stuck_run Encodes Fault Needs Kept takes e s (inr (some, inr (inr memory))) other text more op encodes kept eb = absurd (other memory.0)
+
+pub stuck : {X : Type 0} (Encodes : Taking) (Fault : Refusing) (Needs : Needing) (Kept : Operator → Type 0) → TakesEach Kept Encodes →
+    (result : Result X Error) (s : State) → EndsRun Encodes Fault Needs result s → IsNotOutOfMemory result → IsStuckFor Kept s
+stuck Encodes Fault Needs Kept takes (Ok x) s (closed, taken) other text more op encodes kept eb =
+    absurd (not_empty s.reader.features op text more encodes (sym taken ∙ eb))
+stuck Encodes Fault Needs Kept takes (Err e) s stops other text more op encodes kept eb =
+    stuck_run Encodes Fault Needs Kept takes e s stops other text more op encodes kept eb
+
+-- What was read, by frames alone.
+pub ran_allowed : (old new : State) (placed : Placed) → Ran old new placed → IsAllowedFrom old.frames (source_of old.reader) placed
+ran_allowed old new placed r =
+    record {
+      beginning = r.text;
+      more = rest new.reader;
+      parts = r.takes.parts;
+      laid = r.laid;
+      allowed = IsSome_of (frames_along old.frames (roles_of (operators placed))) new.frames r.frames;
+    }
+
+-- Where nothing may follow it is the longest list.
+pub run_flat : (old new : State) (placed : Placed) → Ran old new placed → IsStuckFor Everything new → IsFlatFrom old.frames (source_of old.reader) placed
+run_flat old new placed r none = record { beginning = ran_allowed old new placed r; longest = not_longer }
+  where
+    goes_on : (others : Placed) → IsAllowedFrom old.frames (source_of old.reader) others → GoesOn old.reader.features placed others (rest new.reader) → ⊥
+    goes_on others other g =
+        let some = some_of (frames_along old.frames (roles_of (operators others))) other.allowed in
+        let encodes = subst (λ f. EncodesOperator f g.next.0 g.text) (sym (features_stay old.reader new.reader r.text r.takes)) g.encodes in
+        next_allowed old.reader.features old.frames new.frames some.0 placed others (rest new.reader) r.frames some.1 g
+        (none g.text g.more g.next.0 encodes tt g.bytes)
+
+    not_longer : (others : Placed) → IsAllowedFrom old.frames (source_of old.reader) others → length others ≤ length placed
+    not_longer others other =
+        elim (cases_lt (length placed) (length others)) [
+          | inl lt ↦ absurd (goes_on others other (laid_goes_on old.reader.features (offset_of old.reader) placed others r.text other.beginning
+              (rest new.reader) other.more r.laid other.laid (sym r.takes.parts ∙ other.parts) lt))
+          | inr le ↦ le
+        ]
+
+pub run_longest : (before : List Operator) (old new : State) (placed : Placed) → StoodBefore before old → Ran old new placed → IsStuckFor Everything new →
+    IsLongestBehind before (source_of old.reader) placed
+run_longest before old new placed h r none = flat_longest before old.frames (source_of old.reader) placed h.encodes h.path (run_flat old new placed r none)
+
+pub beginning_of_run : (before : List Operator) (old new : State) (placed : Placed) → StoodBefore before old → Ran old new placed →
+    IsBeginningBehind before (source_of old.reader) placed
+beginning_of_run before old new placed h r =
+    allowed_begins before old.frames (source_of old.reader) placed h.encodes h.path (ran_allowed old new placed r)
+
+beginning_at : (m : Message) (before : List Operator) (old new : State) (placed : Placed) → StoodBefore before old → Ran old new placed →
+    ((m ≡ message.OutOfMemory → ⊥) → IsStuckFor Everything new) → BeginningAt m before old.reader placed
+beginning_at message.OutOfMemory before old new placed h r none = beginning_of_run before old new placed h r
+beginning_at _ before old new placed h r none = run_longest before old new placed h r (none (λ is. absurd (cc is)))
+
+pub run_beginning : (Encodes : Taking) (Fault : Refusing) (Needs : Needing) → TakesAll Encodes → (before : List Operator) (e : Error) (old new : State)
+    (placed : Placed) → StoodBefore before old → Ran old new placed → StopsRun Encodes Fault Needs e new →
+    ReadsBeginning Encodes Fault Needs before e old new placed
+run_beginning Encodes Fault Needs all before e old new placed h r stops =
+    record {
+      at = beginning_at e.message before old new placed h r (stuck_run Encodes Fault Needs Everything all e new stops);
+      text = r.text;
+      takes = r.takes;
+      laid = r.laid;
+      stood = stood_on before old new placed h r;
+      stops = stops;
+    }
+
+-- What the bytes encode whole is the longest list.
+pub encoded_longest : (before : List Operator) (s : Source) (whole : Placed) → AreEncoded s.features before → EncodesRest before s whole →
+    IsLongestBehind before s whole
+encoded_longest before s whole encodes (laid, walked) =
+    record {
+      beginning = record {
+        beginning = s.bytes;
+        more = [];
+        parts = sym (append-nil s.bytes);
+        laid = laid;
+        begins = path_begins s.features (before ++ operators whole) [] walked
+            (both_encoded s.features before (operators whole) encodes (laid_encoded s.features s.offset whole s.bytes laid));
+      };
+      longest = λ others other.
+          laid_no_longer s.features s.offset whole others s.bytes other.beginning other.more laid other.laid (append-nil s.bytes ∙ other.parts);
+    }
+
+-- Where it is what was read, all is taken and no frame is open.
+pub whole_run : (before : List Operator) (old new : State) (placed whole : Placed) → StoodBefore before old → Ran old new placed →
+    EncodesRest before (source_of old.reader) whole → placed ≡ whole → (new.frames ≡ []) × (rest new.reader ≡ [])
+whole_run before old new placed whole h r (laid, walked) same =
+    let f = old.reader.features in
+    let o = offset_of old.reader in
+    let both : r.text ++ rest new.reader ≡ rest old.reader ++ [] = sym r.takes.parts ∙ sym (append-nil (rest old.reader)) in
+    let walked_too : IsWalk (roles_of (before ++ operators placed)) = subst (λ ps. IsWalk (roles_of (before ++ operators ps))) (sym same) walked in (
+      same_frames new.frames [] (roles_of (before ++ operators placed)) (stood_on before old new placed h r).path walked_too,
+      (laid_same f o placed whole r.text (rest old.reader) (rest new.reader) [] r.laid laid both (ap length same)).2,
+    )
+
+-- no refusal comes where all is closed and taken
+pub no_refusal : (Encodes : Taking) (Fault : Refusing) (Needs : Needing) (e : Error) (s : State) → StopsRun Encodes Fault Needs e s → s.frames ≡ [] →
+    rest s.reader ≡ [] → ⊥
+no_refusal Encodes Fault Needs e s (inl left) closed all = left.1 closed
+no_refusal Encodes Fault Needs e s (inr (left, stops)) closed all = left all
+
+pub run_only : (Encodes : Taking) (Fault : Refusing) (Needs : Needing) → TakesAll Encodes → (before : List Operator) (e : Error) (old new : State)
+    (placed whole : Placed) → StoodBefore before old → Ran old new placed → StopsRun Encodes Fault Needs e new →
+    EncodesRest before (source_of old.reader) whole → e.message ≡ message.OutOfMemory
+run_only Encodes Fault Needs all before e old new placed whole h r stops encodes =
+    elim (is_memory e.message) [
+      | inl is ↦ is
+      | inr other ↦ (
+          let longest = run_longest before old new placed h r (stuck_run Encodes Fault Needs Everything all e new stops other) in
+          let same = one_longest before (source_of old.reader) placed whole longest (encoded_longest before (source_of old.reader) whole h.encodes encodes) in
+          let end = whole_run before old new placed whole h r encodes same in
+          absurd (no_refusal Encodes Fault Needs e new stops end.0 end.1)
+          )
+    ]
+
+-- The reader's answer, by what it finds at the end of the data.
+finish_stops : (Encodes : Taking) (Fault : Refusing) (Needs : Needing) (m : Message) (e : Error) (s : State) → e.message ≡ m → rest s.reader ≡ [] →
+    e.offset ≡ offset_of s.reader → StopsFinish m s → StopsRun Encodes Fault Needs e s
+finish_stops Encodes Fault Needs message.FramesRemain e s is all at h = inl (all, h, is, at)
+finish_stops Encodes Fault Needs message.UnexpectedData e s is all at h = absurd (h.1 all)
+finish_stops Encodes Fault Needs _ e s is all at h = absurd h
+
+pub finish_ends : {X : Type 0} (Encodes : Taking) (Fault : Refusing) (Needs : Needing) (result : Result X Error) (s : State) → rest s.reader ≡ [] →
+    Finishes result s → EndsRun Encodes Fault Needs result s
+finish_ends Encodes Fault Needs (Ok x) s all h = h
+finish_ends Encodes Fault Needs (Err e) s all (at, h) = finish_stops Encodes Fault Needs e.message e s refl all at h
+
+-- one operator more at the end
+pub pushed : (b : Bool) (new now old placed : Placed) (p q : Operator × ℕ) → new ≡ cond b (now ++ p ∷ []) now → b ≡ true → now ≡ old ++ placed → p ≡ q →
+    new ≡ old ++ (placed ++ q ∷ [])
+pushed b new now old placed p q e eb en ep =
+    e ∙ ap (λ z. cond z (now ++ p ∷ []) now) eb ∙ ap (λ (x : Placed). x ++ p ∷ []) en ∙ append_assoc old placed (p ∷ []) ∙
+    ap (λ (x : Operator × ℕ). old ++ (placed ++ x ∷ [])) ep

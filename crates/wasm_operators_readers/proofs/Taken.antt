@@ -1,0 +1,89 @@
+-- From the call of the decoder behind an opcode to one read of the reader of operators.
+use Rattle.std.proofs.Common.{◌≡◌, ℕ, ◌+◌, ◌≤◌, List, [], ◌++◌, Some, None, Ok, inl, inr, refl, sym, subst, ap, ◌∙◌, arith}
+use Rattle.std.specs.Prelude.{IsSome}
+use Rattle.wasm_decode.specs.below.bytes.error.Error.{Error}
+use Rattle.wasm_decode.specs.below.bytes.features.WasmFeatures.{WasmFeatures}
+use Rattle.wasm_decode.specs.below.bytes.message.Message.TheVariants as message
+use Rattle.wasm_decode.specs.below.Source.{Reader, rest, offset_of, at_position, Takes, BeginsWith, Reads}
+use Rattle.wasm_decode.specs.grammar.declared.frame_kind.FrameKind.{FrameKind}
+use Rattle.wasm_decode.specs.grammar.Frames.{Allows, frames_after, innermost}
+use Rattle.wasm_decode.specs.instr.declared.operator.Operator.{Operator}
+use Rattle.wasm_decode.specs.instr.Encoding.{EncodesOpcode}
+use Rattle.wasm_decode.specs.instr.Roles.{role_of}
+use Rattle.wasm_decode.specs.opcodes.Decoding.{RefusesOperator, StandsBehind}
+use Rattle.wasm_decode.specs.opcodes.Refused.{NeedsMemory}
+use Rattle.wasm_operators_readers.specs.declared.step.FrameStep.{FrameStep}
+use Rattle.wasm_operators_readers.specs.Step.{step_of, role_of_step, step_at, Opens}
+use Rattle.wasm_operators_readers.specs.Reading.{Taking, Refusing, State, IsUnchanged, TakesOperator, StopsRead}
+use Rattle.wasm_operators_readers.proofs.OneRead.{stops_read}
+use Rattle.wasm_operators_readers.proofs.Premises.{IsSound}
+use Rattle.wasm_operators_readers.proofs.StepLemmas.{step_allowed, step_there, took_operator, opens_leads}
+use Rattle.wasm_operators_readers.specs.Next.{NeedsNext, BeginsOperator}
+
+-- The step of the opcode is that of the operator that stands there.
+step_is : (Encodes : Taking) → IsSound Encodes → (f : WasmFeatures) (kind : FrameKind) (op : Operator) (text : List ℕ) (code start : ℕ) (mid new : Reader) →
+    StandsBehind start None code mid → Encodes f kind text op → Takes (at_position mid start) new text → step_at code ≡ step_of (role_of op)
+step_is Encodes sound f kind op text code start mid new b encodes takes = go b.opcode
+  where
+    go : Reads (λ text c. EncodesOpcode None c text) (Ok code) (at_position mid start) mid → step_at code ≡ step_of (role_of op)
+    go (head, opcode, t) =
+        let first : BeginsWith code (rest (at_position mid start)) = (rest mid, t.parts ∙ ap (λ z. z ++ rest mid) opcode) in
+        step_there f op text (rest new) (rest (at_position mid start)) code (sound f kind text op encodes) takes.parts first
+
+-- The frame allows the step, where an operator was decoded.
+pub begun_allows : (Encodes : Taking) → IsSound Encodes → ((f : WasmFeatures) (kind : FrameKind) (text : List ℕ) (op : Operator) → Encodes f kind text op → Allows kind (role_of op)) →
+    (old mid : State) (kind : FrameKind) (code start : ℕ) (s : FrameStep) (op : Operator) (text : List ℕ) (new : Reader) → BeginsOperator old mid kind start code s →
+    Encodes mid.reader.features kind text op → Takes (at_position mid.reader start) new text → IsSome (frames_after mid.frames (role_of_step s))
+begun_allows Encodes sound allowed old mid kind code start s op text new b encodes takes =
+    step_allowed mid.frames kind op s (ap innermost b.frames ∙ b.open_frame) (allowed mid.reader.features kind text op encodes)
+    (b.step ∙ step_is Encodes sound mid.reader.features kind op text code start mid.reader new b.behind encodes takes)
+
+-- An operator was decoded, and the stack made its step.
+pub begun_took : (Encodes : Taking) → IsSound Encodes → (old mid new : State) (kind : FrameKind) (code start : ℕ) (s : FrameStep) (op : Operator) (text : List ℕ) →
+    BeginsOperator old mid kind start code s → Encodes mid.reader.features kind text op → Takes (at_position mid.reader start) new.reader text →
+    frames_after mid.frames (role_of_step s) ≡ Some new.frames → mid.room ≤ new.room + 1 → ((Opens s → ⊥) → mid.room ≤ new.room) → TakesOperator Encodes op old new
+begun_took Encodes sound old mid new kind code start s op text b encodes takes frames used other =
+    let is = b.step ∙ step_is Encodes sound mid.reader.features kind op text code start mid.reader new.reader b.behind encodes takes in
+    let kept = b.room in
+    let here : Encodes old.reader.features kind text op = subst (λ (f : WasmFeatures). Encodes f kind text op) (ap (λ (r : Reader). r.features) b.back) encodes in
+    let taken : Takes old.reader new.reader text = subst (λ (r : Reader). Takes r new.reader text) b.back takes in
+    took_operator Encodes op old new kind text s b.open_frame here taken is
+    (ap (λ (fs : List FrameKind). frames_after fs (role_of_step s)) (sym b.frames) ∙ frames) (omega (arith, used, kept))
+    (λ none. let h = other none in omega (arith, h, kept))
+
+-- What stands at the reader was refused.
+pub refused_unchanged : (Encodes : Taking) (Fault : Refusing) (old new : State) (kind : FrameKind) (e : Error) → innermost old.frames ≡ Some kind →
+    RefusesOperator (Encodes old.reader.features kind) (Fault old.reader.features kind) e old.reader new.reader → new.frames ≡ old.frames → old.room ≤ new.room →
+    IsUnchanged old new × StopsRead Encodes Fault (NeedsNext Encodes) e new
+refused_unchanged Encodes Fault old new kind e open_frame (same, refused, fault) frames room =
+    let list : NeedsMemory (Encodes old.reader.features kind) old.reader → NeedsMemory (Encodes new.reader.features kind) new.reader =
+    λ h. subst (λ (r : Reader). NeedsMemory (Encodes r.features kind) r) (sym same) h in (
+      (same, frames, room),
+      stops_read Encodes Fault (NeedsNext Encodes) e old new kind same frames open_frame refused.refuses refused.ahead fault
+          (λ m. let h = refused.memory m in (h.0, inr (kind, ap innermost frames ∙ open_frame, list h.1))),
+    )
+
+-- What stands behind the opcode was refused.
+pub begun_stopped : (Encodes : Taking) (Fault : Refusing) (old mid new : State) (kind : FrameKind) (code start : ℕ) (s : FrameStep) (e : Error) →
+    BeginsOperator old mid kind start code s → RefusesOperator (Encodes mid.reader.features kind) (Fault mid.reader.features kind) e (at_position mid.reader start) new.reader →
+    new.frames ≡ mid.frames → new.room ≡ mid.room → IsUnchanged old new × StopsRead Encodes Fault (NeedsNext Encodes) e new
+begun_stopped Encodes Fault old mid new kind code start s e b refused frames room =
+    let features : mid.reader.features ≡ old.reader.features = ap (λ (r : Reader). r.features) b.back in
+    refused_unchanged Encodes Fault old new kind e b.open_frame
+    (subst (λ (f : WasmFeatures). RefusesOperator (Encodes f kind) (Fault f kind) e old.reader new.reader) features
+    (subst (λ (r : Reader). RefusesOperator (Encodes mid.reader.features kind) (Fault mid.reader.features kind) e r new.reader) b.back refused))
+    (frames ∙ b.frames) (subst (λ (n : ℕ). old.room ≤ n) (sym room) b.room)
+
+-- No room was made for the frame that the next operator opens.
+pub room_refused : (Encodes : Taking) (Fault : Refusing) (old new : State) (code : ℕ) (e : Error) → new.reader ≡ old.reader → new.frames ≡ old.frames →
+    old.room ≤ new.room → BeginsWith code (rest old.reader) → Opens (step_at code) → new.room ≡ 0 → e.message ≡ message.OutOfMemory → e.offset ≡ offset_of old.reader →
+    IsUnchanged old new × StopsRead Encodes Fault (NeedsNext Encodes) e new
+room_refused Encodes Fault old new code e same frames room begins opens none is at = (
+  (same, frames, room),
+  inr (inr (is, at ∙ ap offset_of (sym same), inl (code, subst (λ (r : Reader). BeginsWith code (rest r)) (sym same) begins, opens_leads code opens, none))),
+)
+
+-- No frame is open.
+pub none_open : (Encodes : Taking) (Fault : Refusing) (s : State) (e : Error) → s.frames ≡ [] → e.message ≡ message.OperatorsRemaining →
+    e.offset ≡ offset_of s.reader → IsUnchanged s s × StopsRead Encodes Fault (NeedsNext Encodes) e s
+none_open Encodes Fault s e closed is at = ((refl, refl, omega arith), inl (closed, is, at))

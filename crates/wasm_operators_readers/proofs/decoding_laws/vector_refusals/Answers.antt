@@ -1,0 +1,5 @@
+use Rattle.wasm_operators_readers.proofs.Decoder.{refuses_vectors}
+use Rattle.wasm_operators_readers.proofs.decoding_laws.vector_refusals.Goals as goal
+
+pub returns : goal.returns
+returns c = refuses_vectors c.args.features c.args.frame

@@ -1,0 +1,64 @@
+-- Lists of operators with their offsets: which bytes they lie in, which are an expression, and which begin one.
+-- WebAssembly Core Specification 3.0: Binary Format, Instructions, Expressions.
+use Rattle.std.specs.Prelude.{◌≡◌, ℕ, ◌+◌, ◌≤◌, List, [], ◌∷◌, ◌++◌, length, map}
+use Rattle.wasm_decode.specs.below.bytes.features.WasmFeatures.{WasmFeatures}
+use Rattle.wasm_decode.specs.below.Source.{Source}
+use Rattle.wasm_decode.specs.grammar.Beginning.{IsWalk}
+use Rattle.wasm_decode.specs.instr.declared.operator.Operator.{Operator}
+use Rattle.wasm_decode.specs.instr.Encoding.{EncodesOperator}
+use Rattle.wasm_decode.specs.instr.Roles.{roles_of}
+
+-- Operators, each with the offset at which it begins.
+abbrev pub Placed : Type 0
+Placed = List (Operator × ℕ)
+
+abbrev pub operators : Placed → List Operator
+operators placed = map (λ p. p.0) placed
+
+-- The bytes are one encoding of each operator, joined, and each offset is where that encoding stands.
+abbrev pub LaidOut : WasmFeatures → ℕ → Placed → List ℕ → Type 0
+LaidOut f offset [] bytes = bytes ≡ []
+LaidOut f offset (p ∷ ps) bytes = (p.1 ≡ offset) × (text more : List ℕ) × (bytes ≡ text ++ more) × EncodesOperator f p.0 text ×
+    LaidOut f (offset + length text) ps more
+
+-- The operators, in this order, are the walk of an expression.
+abbrev pub AreWalk : List Operator → Type 0
+AreWalk ops = IsWalk (roles_of ops)
+
+-- Each operator has an encoding.
+abbrev pub AreEncoded : WasmFeatures → List Operator → Type 0
+AreEncoded f [] = Unit {0}
+AreEncoded f (op ∷ ops) = ((text : List ℕ) × EncodesOperator f op text) × AreEncoded f ops
+
+-- The operators are a beginning of the walk of an expression whose operators all have encodings.
+abbrev pub Begins : WasmFeatures → List Operator → Type 0
+Begins f ops = (more : List Operator) × AreWalk (ops ++ more) × AreEncoded f (ops ++ more)
+
+-- Behind the operators before, all of the bytes encode the rest of an expression, and these are its operators.
+abbrev pub EncodesRest : List Operator → Source → Placed → Type 0
+EncodesRest before s placed = LaidOut s.features s.offset placed s.bytes × AreWalk (before ++ operators placed)
+
+-- The bytes encode an expression, and these are its operators.
+abbrev pub EncodesExpression : Source → Placed → Type 0
+EncodesExpression s placed = EncodesRest [] s placed
+
+-- Some prefix of the bytes encodes these operators, and behind the operators before they go on with an expression.
+pub record IsBeginningBehind (before : List Operator) (s : Source) (placed : Placed) : Type 0 where
+  pub beginning : List ℕ
+  pub more : List ℕ
+  pub parts : s.bytes ≡ beginning ++ more
+  pub laid : LaidOut s.features s.offset placed beginning
+  pub begins : Begins s.features (before ++ operators placed)
+
+-- The longest such list.
+pub record IsLongestBehind (before : List Operator) (s : Source) (placed : Placed) : Type 0 where
+  pub beginning : IsBeginningBehind before s placed
+  pub longest : (others : Placed) → IsBeginningBehind before s others → length others ≤ length placed
+
+-- The longest list that some prefix of the bytes encodes and that begins an expression.
+abbrev pub IsLongestBeginning : Source → Placed → Type 0
+IsLongestBeginning s placed = IsLongestBehind [] s placed
+
+-- The first list is a beginning of the second.
+abbrev pub IsBeginningOf : {X : Type 0} → List X → List X → Type 0
+IsBeginningOf {X} first second = (more : List X) × (second ≡ first ++ more)

@@ -1,0 +1,28 @@
+-- How many frames operators open, and the bytes that lead them.
+-- WebAssembly Core Specification 3.0: Binary Format, Instructions, Control Instructions.
+-- The legacy exception handling proposal: try.
+use Rattle.std.specs.Prelude.{◌≡◌, ℕ, ◌+◌, [], ◌∷◌, ◌⊎◌}
+use Rattle.wasm_decode.specs.grammar.Role.{Role, opens, opens_if, opens_try}
+use Rattle.wasm_decode.specs.instr.declared.operator.Operator.{Operator}
+use Rattle.wasm_decode.specs.instr.Roles.{role_of}
+use Rattle.wasm_operators_readers.specs.Expression.{Placed}
+
+-- How many frames more are open behind a role, at the most.
+abbrev pub opened_by_role : {A : Type 0} → Role A → ℕ
+opened_by_role (opens n a) = 1
+opened_by_role (opens_if a) = 1
+opened_by_role (opens_try a) = 1
+opened_by_role _ = 0
+
+-- Behind an operator.
+abbrev pub opened_by : Operator → ℕ
+opened_by op = opened_by_role (role_of op)
+
+-- Behind several.
+abbrev pub opened_along : Placed → ℕ
+opened_along [] = 0
+opened_along (p ∷ ps) = opened_by p.0 + opened_along ps
+
+-- The opcodes of block, loop, if, try and try_table.
+abbrev pub LeadsFrame : ℕ → Type 0
+LeadsFrame byte = (byte ≡ 0x02) ⊎ ((byte ≡ 0x03) ⊎ ((byte ≡ 0x04) ⊎ ((byte ≡ 0x06) ⊎ (byte ≡ 0x1f))))

@@ -1,0 +1,138 @@
+-- A reader of operators, one read or visit of it, and several.
+-- The words below take three relations: which bytes encode an operator that is taken, in a frame of a given kind; which
+-- refusal is answered there; and where memory may be refused. So they serve reads, and both sorts of visits.
+use Rattle.std.specs.Prelude.{◌≡◌, ℕ, ◌+◌, ◌≤◌, List, [], ◌∷◌, ◌++◌, Some, Result, Ok, Err, ◌⊎◌}
+use Rattle.wasm_decode.specs.below.bytes.error.Error.{Error}
+use Rattle.wasm_decode.specs.below.bytes.features.WasmFeatures.{WasmFeatures}
+use Rattle.wasm_decode.specs.below.bytes.message.Message.{Message}
+use Rattle.wasm_decode.specs.below.bytes.message.Message.TheVariants as message
+use Rattle.wasm_decode.specs.below.Source.{Reader, rest, offset_of, Takes, Refuses, IsAhead, BeginsWith}
+use Rattle.wasm_decode.specs.grammar.declared.frame_kind.FrameKind.{FrameKind}
+use Rattle.wasm_decode.specs.grammar.declared.frame_kind.FrameKind.TheVariants as frame
+use Rattle.wasm_decode.specs.grammar.Frames.{frames_after, frames_along, innermost}
+use Rattle.wasm_decode.specs.instr.declared.operator.Operator.{Operator}
+use Rattle.wasm_decode.specs.instr.Roles.{role_of, roles_of}
+use Rattle.wasm_operators_readers.specs.Expression.{Placed, operators, LaidOut}
+use Rattle.wasm_operators_readers.specs.Openings.{opened_by, opened_along, LeadsFrame}
+use Rattle.wasm_operators_readers.specs.Visiting.{IsPlain, Visited}
+
+-- The text encodes an operator that is taken, under these features and in a frame of this kind.
+abbrev pub Taking : Type 1
+Taking = WasmFeatures → FrameKind → List ℕ → Operator → Type 0
+
+-- Which refusal is answered there: a message, the reader, and the offset that the refusal names.
+abbrev pub Refusing : Type 1
+Refusing = WasmFeatures → FrameKind → Message → Reader → ℕ → Type 0
+
+-- What is before the reader, the open frames from the outermost to the innermost, and how many more can be opened without asking for memory.
+pub record State : Type 0 where
+  pub reader : Reader
+  pub frames : List FrameKind
+  pub room : ℕ
+
+-- Where memory may be refused.
+abbrev pub Needing : Type 1
+Needing = State → Type 0
+
+-- A reader that has read nothing: the frame of the expression is open.
+abbrev pub IsFresh : State → Type 0
+IsFresh s = s.frames ≡ frame.Block ∷ []
+
+-- Nothing changed, but that there may be more room.
+abbrev pub IsUnchanged : State → State → Type 0
+IsUnchanged old new = (new.reader ≡ old.reader) × (new.frames ≡ old.frames) × (old.room ≤ new.room)
+
+-- A prefix of the rest encoded this operator, which the innermost frame allows, and was taken. Where it opens a frame, that used at most one of the room.
+pub record TakesOperator (Encodes : Taking) (op : Operator) (old new : State) : Type 0 where
+  pub kind : FrameKind
+  pub open_frame : innermost old.frames ≡ Some kind
+  pub text : List ℕ
+  pub encodes : Encodes old.reader.features kind text op
+  pub takes : Takes old.reader new.reader text
+  pub frames : frames_after old.frames (role_of op) ≡ Some new.frames
+  pub room : old.room ≤ new.room + opened_by op
+
+-- No frame is open.
+abbrev pub NoFrameOpen : Error → State → Type 0
+NoFrameOpen e s = (s.frames ≡ []) × (e.message ≡ message.OperatorsRemaining) × (e.offset ≡ offset_of s.reader)
+
+-- What stands there is refused: no prefix of the rest encodes an operator that is taken.
+pub record IsRefusedThere (Encodes : Taking) (Fault : Refusing) (e : Error) (s : State) : Type 0 where
+  pub kind : FrameKind
+  pub open_frame : innermost s.frames ≡ Some kind
+  pub refuses : Refuses (Encodes s.reader.features kind) (rest s.reader) e.message
+  pub ahead : IsAhead s.reader e.offset
+  pub fault : Fault s.reader.features kind e.message s.reader e.offset
+
+-- Memory was refused, which is possible there.
+abbrev pub NoMemory : Needing → Error → State → Type 0
+NoMemory Needs e s = (e.message ≡ message.OutOfMemory) × (e.offset ≡ offset_of s.reader) × Needs s
+
+-- Memory may be refused anywhere.
+abbrev pub Anywhere : Needing
+Anywhere s = Unit {0}
+
+-- Memory may be refused to the frame that the next operator opens: no room is left.
+abbrev pub NeedsRoom : Needing
+NeedsRoom s = (byte : ℕ) × BeginsWith byte (rest s.reader) × LeadsFrame byte × (s.room ≡ 0)
+
+-- What is so where a read answers this error.
+abbrev pub StopsRead : Taking → Refusing → Needing → Error → State → Type 0
+StopsRead Encodes Fault Needs e s = NoFrameOpen e s ⊎ (IsRefusedThere Encodes Fault e s ⊎ NoMemory Needs e s)
+
+-- One read. Where it is refused, what is said of the refusal holds of the reader as it stands then.
+abbrev pub ReadsOperator : Taking → Refusing → Needing → Result Operator Error → State → State → Type 0
+ReadsOperator Encodes Fault Needs (Ok op) old new = TakesOperator Encodes op old new
+ReadsOperator Encodes Fault Needs (Err e) old new = IsUnchanged old new × StopsRead Encodes Fault Needs e new
+
+-- One visit, with the visitor before and after it. None is made of an operator that is refused.
+abbrev pub VisitsOperator : {V A : Type 0} → (V → Operator → A → V → Type 0) → Taking → Refusing → Needing → Result A Error → State → State → V → V → Type 0
+VisitsOperator visits Encodes Fault Needs (Ok a) old new before after = (op : Operator) × TakesOperator Encodes op old new × visits before op a after
+VisitsOperator visits Encodes Fault Needs (Err e) old new before after = IsUnchanged old new × (after ≡ before) × StopsRead Encodes Fault Needs e new
+
+-- Reads of these operators, one after another.
+pub record Ran (old new : State) (placed : Placed) : Type 0 where
+  pub text : List ℕ
+  pub takes : Takes old.reader new.reader text
+  pub laid : LaidOut old.reader.features (offset_of old.reader) placed text
+  pub frames : frames_along old.frames (roles_of (operators placed)) ≡ Some new.frames
+  pub room : old.room ≤ new.room + opened_along placed
+
+-- What is so where finishing answers this refusal, at the position.
+abbrev pub StopsFinish : Message → State → Type 0
+StopsFinish message.FramesRemain s = s.frames ≡ [] → ⊥
+StopsFinish message.UnexpectedData s = (s.frames ≡ []) × (rest s.reader ≡ [] → ⊥)
+StopsFinish _ s = ⊥
+
+-- Finishing succeeds exactly where no frame is open and all data is taken.
+abbrev pub Finishes : {X : Type 0} → Result X Error → State → Type 0
+Finishes (Ok x) s = (s.frames ≡ []) × (rest s.reader ≡ [])
+Finishes (Err e) s = (e.offset ≡ offset_of s.reader) × StopsFinish e.message s
+
+-- All data is taken, and a frame is open.
+abbrev pub FramesLeft : Error → State → Type 0
+FramesLeft e s = (rest s.reader ≡ []) × (s.frames ≡ [] → ⊥) × (e.message ≡ message.FramesRemain) × (e.offset ≡ offset_of s.reader)
+
+-- What is so where reading to the end answers this error: frames are left at the end of the data; or data is left, and what stands there is refused, or
+-- memory is.
+abbrev pub StopsRun : Taking → Refusing → Needing → Error → State → Type 0
+StopsRun Encodes Fault Needs e s = FramesLeft e s ⊎ ((rest s.reader ≡ [] → ⊥) × StopsRead Encodes Fault Needs e s)
+
+abbrev pub EndsRun : {X : Type 0} → Taking → Refusing → Needing → Result X Error → State → Type 0
+EndsRun Encodes Fault Needs (Ok x) s = (s.frames ≡ []) × (rest s.reader ≡ [])
+EndsRun Encodes Fault Needs (Err e) s = StopsRun Encodes Fault Needs e s
+
+-- Reading to the end: which operators came, and why no more.
+abbrev pub RunsToEnd : {X : Type 0} → Taking → Refusing → Needing → Result X Error → State → State → Placed → Placed → Type 0
+RunsToEnd Encodes Fault Needs result old new out_old out_new =
+    (placed : Placed) × (out_new ≡ out_old ++ placed) × Ran old new placed × EndsRun Encodes Fault Needs result new
+
+-- Visiting to the end: which operators were visited, and why no more.
+abbrev pub VisitsToEnd : {V A X : Type 0} → (V → Operator → A → V → Type 0) → Taking → Refusing → Needing → Result X Error → State → State → V → V → Type 0
+VisitsToEnd visits Encodes Fault Needs result old new before after =
+    (placed : Placed) × Visited visits before after placed × Ran old new placed × EndsRun Encodes Fault Needs result new
+
+-- The same of a visitor that takes no vector operator.
+abbrev pub VisitsPlainToEnd : {V A X : Type 0} → (V → Operator → A → V → Type 0) → Taking → Refusing → Needing → Result X Error → State → State → V → V → Type 0
+VisitsPlainToEnd visits Encodes Fault Needs result old new before after =
+    (placed : Placed) × Visited visits before after placed × IsPlain placed × Ran old new placed × EndsRun Encodes Fault Needs result new

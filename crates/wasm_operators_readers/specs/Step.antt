@@ -1,0 +1,61 @@
+-- The steps of the open frames: roles without what operators carry.
+-- WebAssembly Core Specification 3.0: Structure, Instructions, Control Instructions; Appendix, Validation Algorithm,
+-- control frames.
+-- The opcodes of step_at: Binary Format, Instructions, Control Instructions and Expressions.
+-- The legacy exception handling proposal: try, catch, catch_all and delegate.
+use Rattle.std.specs.Prelude.{ℕ, cond, eqb}
+use Rattle.wasm_decode.specs.grammar.Role.{Role, block, loop, try_table, plain, opens, opens_if, opens_try, turns_else, turns_catch, turns_catch_all, delegates, ends}
+use Rattle.wasm_operators_readers.specs.declared.step.FrameStep.{FrameStep}
+use Rattle.wasm_operators_readers.specs.declared.step.FrameStep.TheVariants as step
+
+-- The step of a role.
+abbrev pub step_of : {A : Type 0} → Role A → FrameStep
+step_of (plain a) = step.Stays
+step_of (opens block a) = step.OpensBlock
+step_of (opens loop a) = step.OpensLoop
+step_of (opens try_table a) = step.OpensTryTable
+step_of (opens_if a) = step.OpensIf
+step_of (opens_try a) = step.OpensTry
+step_of turns_else = step.TurnsElse
+step_of (turns_catch tag) = step.TurnsCatch
+step_of turns_catch_all = step.TurnsCatchAll
+step_of (delegates depth) = step.Delegates
+step_of ends = step.Ends
+
+-- The role of a step, of an operator that carries nothing.
+abbrev pub role_of_step : FrameStep → Role (Unit {0})
+role_of_step step.Stays = plain tt
+role_of_step step.OpensBlock = opens block tt
+role_of_step step.OpensLoop = opens loop tt
+role_of_step step.OpensTryTable = opens try_table tt
+role_of_step step.OpensIf = opens_if tt
+role_of_step step.OpensTry = opens_try tt
+role_of_step step.TurnsElse = turns_else
+role_of_step step.TurnsCatch = turns_catch 0
+role_of_step step.TurnsCatchAll = turns_catch_all
+role_of_step step.Delegates = delegates 0
+role_of_step step.Ends = ends
+
+-- A frame more is open behind the step.
+abbrev pub Opens : FrameStep → Type 0
+Opens step.OpensBlock = Unit {0}
+Opens step.OpensLoop = Unit {0}
+Opens step.OpensTryTable = Unit {0}
+Opens step.OpensIf = Unit {0}
+Opens step.OpensTry = Unit {0}
+Opens _ = ⊥
+
+-- The step of the operators that begin with this byte.
+abbrev pub step_at : ℕ → FrameStep
+step_at byte =
+    cond (eqb byte 0x02) step.OpensBlock
+    (cond (eqb byte 0x03) step.OpensLoop
+    (cond (eqb byte 0x04) step.OpensIf
+    (cond (eqb byte 0x05) step.TurnsElse
+    (cond (eqb byte 0x06) step.OpensTry
+    (cond (eqb byte 0x07) step.TurnsCatch
+    (cond (eqb byte 0x0b) step.Ends
+    (cond (eqb byte 0x18) step.Delegates
+    (cond (eqb byte 0x19) step.TurnsCatchAll
+    (cond (eqb byte 0x1f) step.OpensTryTable
+    step.Stays)))))))))

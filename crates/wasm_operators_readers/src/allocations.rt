@@ -1,0 +1,69 @@
+//! Memory for frames that are not open yet.
+ghost use Rattle.std.specs.Prelude.{◌≡◌, ◌≤◌, [], IsOk, OnOk, IfErr, vec_capacity};
+ghost use Rattle.wasm_operators_readers.specs.Stack.{IsOutOfMemory};
+
+use std::alloc::Global;
+use std::marker::Model;
+use wasm_decode::below::{Error, Message, Result};
+use wasm_decode::grammar::FrameKind;
+
+/// The memory of a reader of operators, to be used by one reader after another. Contracts see how
+/// many frames there is room for.
+#[derive(Debug, Drop)]
+pub struct OperatorsReaderAllocations {
+    frames: Vec<FrameKind>,
+}
+
+impl Model for OperatorsReaderAllocations {
+    ghost use Rattle.std.specs.Prelude.{◌≡◌, ℕ, []};
+    ghost use Rattle.std.specs.Vec.{vec_capacity};
+
+    ghost Value = { ℕ };
+
+    ghost view = { λ a. vec_capacity a.frames };
+
+    ghost invariant = { λ a. a.frames.items ≡ [] };
+}
+
+impl OperatorsReaderAllocations {
+    /// No memory. It takes none.
+    pub fn new(alloc: Global) -> OperatorsReaderAllocations
+        ensures { result ≡ 0 }
+    {
+        OperatorsReaderAllocations {
+            frames: Vec::new(alloc),
+        }
+    }
+
+    /// Makes room for this many frames.
+    ///
+    /// `OutOfMemory` at offset 0; nothing changes then. It takes no memory where the room is there.
+    pub fn reserve(&mut self, frames: usize) -> Result<()>
+        ensures room { OnOk result (frames ≤ self.new) }
+        ensures kept { self.old ≤ self.new }
+        ensures enough { frames ≤ self.old → IsOk result }
+        ensures refused { IfErr result (λ e. IsOutOfMemory e × (self.new ≡ self.old)) }
+    {
+        if self.frames.reserve(frames).is_err() {
+            return Err(Error::new(Message::OutOfMemory, 0));
+        }
+        Ok(())
+    }
+
+    /// The memory of this vector, whose elements go.
+    pub(crate) fn from_frames(mut frames: Vec<FrameKind>) -> OperatorsReaderAllocations
+        ensures { result ≡ vec_capacity frames }
+    {
+        frames.clear();
+        OperatorsReaderAllocations { frames }
+    }
+
+    /// A vector without elements.
+    pub(crate) fn into_frames(self) -> Vec<FrameKind>
+        ensures empty { result.items ≡ [] }
+        ensures room { vec_capacity result ≡ self }
+    {
+        let OperatorsReaderAllocations { frames } = self;
+        frames
+    }
+}

@@ -1,0 +1,66 @@
+//! Laws of expressions, of their beginnings, and of what visitors are handed. Each is the contract of
+//! a function that does nothing.
+ghost use Rattle.std.specs.Prelude.{◌≡◌, ◌↔◌, ◌*◌, ◌<◌, ◌≤◌, ℕ, List, [], ◌∷◌, ◌++◌, length};
+ghost use Rattle.wasm_decode.specs.below.Source.{Source, BeginsWith};
+ghost use Rattle.wasm_decode.specs.instr.declared.operator.Operator.{Operator};
+ghost use Rattle.wasm_decode.specs.instr.Encoding.{EncodesOperator};
+ghost use Rattle.wasm_decode.specs.instr.Kinds.{IsVector};
+ghost use Rattle.wasm_operators_readers.specs.Expression.{Placed, LaidOut, EncodesExpression, IsBeginningOf, IsLongestBeginning};
+ghost use Rattle.wasm_operators_readers.specs.Flat.{IsFlatBeginning};
+ghost use Rattle.wasm_operators_readers.specs.Openings.{opened_by, LeadsFrame};
+ghost use Rattle.wasm_operators_readers.specs.Visiting.{plain_beginning, IsPlain};
+
+use wasm_decode::below::WasmFeatures;
+
+/// Of two lists that are laid out at the start of the same bytes, the one that is not longer is a
+/// beginning of the other; and lists of one length are the same, in the same bytes. For no encoding
+/// of an operator is a proper prefix of another's, and one encoding belongs to one operator.
+pub fn one_layout(features: WasmFeatures)
+    ensures beginning { (offset : ℕ) (first second : Placed) (a b x y : List ℕ)
+        → LaidOut features offset first a → LaidOut features offset second b
+        → a ++ x ≡ b ++ y → length first ≤ length second
+        → IsBeginningOf first second }
+    ensures same { (offset : ℕ) (first second : Placed) (a b x y : List ℕ)
+        → LaidOut features offset first a → LaidOut features offset second b
+        → a ++ x ≡ b ++ y → length first ≡ length second
+        → (first ≡ second) × (a ≡ b) × (x ≡ y) }
+{}
+
+/// No encoding of an expression is a proper prefix of another's, and one encoding belongs to one
+/// list of operators.
+pub fn one_expression(features: WasmFeatures)
+    ensures { (offset : ℕ) (first second : Placed) (a b x y : List ℕ)
+        → EncodesExpression (record { features = features; offset = offset; bytes = a }) first
+        → EncodesExpression (record { features = features; offset = offset; bytes = b }) second
+        → a ++ x ≡ b ++ y → (first ≡ second) × (a ≡ b) }
+{}
+
+/// The longest list that some prefix of the bytes encodes and that begins an expression is unique.
+pub fn one_longest_beginning()
+    ensures { (s : Source) (first second : Placed)
+        → IsLongestBeginning s first → IsLongestBeginning s second → first ≡ second }
+{}
+
+/// It is the longest of which each operator is allowed by the frame that those before it have left.
+pub fn flat_beginnings()
+    ensures { (s : Source) (placed : Placed) → IsFlatBeginning s placed ↔ IsLongestBeginning s placed }
+{}
+
+/// The plain beginning of a list is the longest one that has no vector operator.
+pub fn plain_beginnings()
+    ensures beginning { (placed : Placed) → IsBeginningOf (plain_beginning placed) placed }
+    ensures none { (placed before after : Placed) (op : Operator) (at : ℕ)
+        → plain_beginning placed ≡ before ++ (op, at) ∷ after → ¬ IsVector op }
+    ensures longest { (placed others : Placed)
+        → IsBeginningOf others placed → IsPlain others → IsBeginningOf others (plain_beginning placed) }
+{}
+
+/// Twice the frames that an operator opens is at most the bytes that it takes; and it opens one
+/// exactly where the first of these is the opcode of `block`, `loop`, `if`, `try` or `try_table`.
+pub fn frames_opened(features: WasmFeatures)
+    ensures half { (op : Operator) (text : List ℕ) → EncodesOperator features op text → 2 * opened_by op ≤ length text }
+    ensures leads { (op : Operator) (text : List ℕ) → EncodesOperator features op text
+        → 0 < opened_by op → (byte : ℕ) × BeginsWith byte text × LeadsFrame byte }
+    ensures opens { (op : Operator) (text : List ℕ) (byte : ℕ) → EncodesOperator features op text
+        → BeginsWith byte text → LeadsFrame byte → opened_by op ≡ 1 }
+{}

@@ -1,0 +1,222 @@
+//! The stack of open frames.
+ghost use Rattle.std.specs.Prelude.{◌≡◌, ◌↔◌, ◌+◌, ◌≤◌, ◌<◌, [], ◌∷◌, ◌++◌, length, IsTrue, IsSome, IsOk, Some, OnOk, IfOk, IfErr};
+ghost use Rattle.wasm_decode.specs.grammar.Frames.{frames_after, innermost, without_innermost};
+ghost use Rattle.wasm_operators_readers.specs.Stack.{HasRoom, IsOutOfMemory};
+ghost use Rattle.wasm_operators_readers.specs.Step.{Opens, role_of_step};
+
+use crate::allocations::OperatorsReaderAllocations;
+use crate::step::FrameStep;
+use std::alloc::Global;
+use std::marker::Model;
+use wasm_decode::below::{Error, Message, Result};
+use wasm_decode::grammar::FrameKind;
+
+/// The kinds of the open frames. The innermost stands in the value itself, those around it in
+/// memory, and the room is that for those: onto an empty stack a frame takes none.
+#[derive(Debug, Drop)]
+pub struct ControlStack {
+    around: Vec<FrameKind>,
+    current: Option<FrameKind>,
+}
+
+impl Model for ControlStack {
+    ghost use Rattle.std.specs.Prelude.{◌≡◌, ◌-◌, [], ◌++◌, length, MatchOption, ⊤};
+    ghost use Rattle.std.specs.Option.{option_to_list};
+    ghost use Rattle.std.specs.Vec.{vec_capacity};
+    ghost use Rattle.wasm_operators_readers.specs.Stack.{OpenFrames};
+
+    ghost Value = { OpenFrames };
+
+    ghost view = { λ s. record { frames = s.around.items ++ option_to_list s.current; room = vec_capacity s.around - length s.around.items } };
+
+    ghost invariant = { λ s. MatchOption s.current (s.around.items ≡ []) (λ _. ⊤) };
+}
+
+impl ControlStack {
+    /// No frame, and no room. It takes no memory.
+    pub fn new(alloc: Global) -> ControlStack
+        ensures frames { result.frames ≡ [] }
+        ensures room { result.room ≡ 0 }
+    {
+        ControlStack {
+            around: Vec::new(alloc),
+            current: None,
+        }
+    }
+
+    /// This one frame, with the room of the allocations. It takes no memory.
+    pub fn with_allocations(
+        allocations: OperatorsReaderAllocations,
+        frame: FrameKind,
+    ) -> ControlStack
+        ensures frames { result.frames ≡ frame ∷ [] }
+        ensures room { result.room ≡ allocations }
+    {
+        ControlStack {
+            around: allocations.into_frames(),
+            current: Some(frame),
+        }
+    }
+
+    /// The room, and that of the frames.
+    pub fn into_allocations(self) -> OperatorsReaderAllocations
+        ensures { self.room ≤ result }
+    {
+        let ControlStack { around, .. } = self;
+        OperatorsReaderAllocations::from_frames(around)
+    }
+
+    /// Closes all frames and keeps the room.
+    pub fn clear(&mut self)
+        ensures frames { self.new.frames ≡ [] }
+        ensures room { self.old.room ≤ self.new.room }
+    {
+        self.around.clear();
+        self.current = None;
+    }
+
+    /// Whether no frame is open.
+    #[inline(always)]
+    pub fn is_empty(&self) -> bool
+        ensures { IsTrue result ↔ (self.now.frames ≡ []) }
+    {
+        self.current.is_none()
+    }
+
+    /// The innermost frame.
+    #[inline(always)]
+    pub fn last(&self) -> Option<FrameKind>
+        ensures { result ≡ innermost self.now.frames }
+    {
+        self.current
+    }
+
+    /// Makes room for this many frames more.
+    ///
+    /// `OutOfMemory` at offset 0; nothing changes then. It takes no memory where the room is there.
+    #[inline(always)]
+    pub fn reserve(&mut self, frames: usize) -> Result<()>
+        ensures frames { self.new.frames ≡ self.old.frames }
+        ensures room { OnOk result (frames ≤ self.new.room) }
+        ensures kept { self.old.room ≤ self.new.room }
+        ensures enough { frames ≤ self.old.room → IsOk result }
+        ensures refused { IfErr result (λ e. IsOutOfMemory e × (self.new ≡ self.old)) }
+    {
+        if self.around.reserve(frames).is_err() {
+            return Err(Error::new(Message::OutOfMemory, 0));
+        }
+        Ok(())
+    }
+
+    /// Makes room for the frame that this step opens, if it opens one.
+    ///
+    /// `OutOfMemory` at offset 0, and only where the step opens a frame and no room is left; nothing
+    /// changes then.
+    #[inline(always)]
+    pub fn make_room(&mut self, step: FrameStep) -> Result<()>
+        ensures frames { self.new.frames ≡ self.old.frames }
+        ensures room { OnOk result (Opens step → HasRoom self.new) }
+        ensures kept { self.old.room ≤ self.new.room }
+        ensures refused { IfErr result (λ e. IsOutOfMemory e × Opens step × (self.old.room ≡ 0) × (self.new ≡ self.old)) }
+    {
+        if step.opens() {
+            return self.reserve(1);
+        }
+        Ok(())
+    }
+
+    /// Opens a frame inside the others. It uses at most one of the room.
+    ///
+    /// `OutOfMemory` at offset 0; nothing changes then. It succeeds onto an empty stack and into
+    /// room.
+    pub fn push(&mut self, frame: FrameKind) -> Result<()>
+        ensures frames { OnOk result (self.new.frames ≡ self.old.frames ++ frame ∷ []) }
+        ensures room { self.old.room ≤ self.new.room + 1 }
+        ensures enough { HasRoom self.old → IsOk result }
+        ensures refused { IfErr result (λ e. IsOutOfMemory e × (self.new ≡ self.old)) }
+    {
+        if self.current.is_some() && self.reserve(1).is_err() {
+            return Err(Error::new(Message::OutOfMemory, 0));
+        }
+        self.open(frame);
+        Ok(())
+    }
+
+    /// Opens a frame inside the others, into room that is there. It uses at most one of it.
+    #[inline(always)]
+    pub fn open(&mut self, frame: FrameKind)
+        requires { HasRoom self.old }
+        ensures frames { self.new.frames ≡ self.old.frames ++ frame ∷ [] }
+        ensures room { self.old.room ≤ self.new.room + 1 }
+    {
+        if let Some(outer) = self.current {
+            self.around.push_reserved(outer);
+        }
+        self.current = Some(frame);
+    }
+
+    /// Turns the innermost frame into one of another kind.
+    #[inline(always)]
+    pub fn turn(&mut self, frame: FrameKind)
+        requires { IsSome (innermost self.old.frames) }
+        ensures frames { self.new.frames ≡ without_innermost self.old.frames ++ frame ∷ [] }
+        ensures room { self.new.room ≡ self.old.room }
+    {
+        self.current = Some(frame);
+    }
+
+    /// Closes the innermost frame.
+    #[inline(always)]
+    pub fn pop(&mut self) -> Option<FrameKind>
+        ensures frame { result ≡ innermost self.old.frames }
+        ensures frames { self.new.frames ≡ without_innermost self.old.frames }
+        ensures room { self.old.room ≤ self.new.room }
+    {
+        let frame = self.current;
+        self.current = self.around.pop();
+        frame
+    }
+
+    /// Goes on to the frames behind an operator that the innermost frame allows. A step that opens a
+    /// frame needs room, and uses at most one of it; no other lessens it.
+    #[inline(always)]
+    pub fn advance(&mut self, step: FrameStep)
+        requires allowed { IsSome (frames_after self.old.frames (role_of_step step)) }
+        requires room { Opens step → HasRoom self.old }
+        ensures frames { frames_after self.old.frames (role_of_step step) ≡ Some self.new.frames }
+        ensures opened { self.old.room ≤ self.new.room + 1 }
+        ensures other { (Opens step → ⊥) → self.old.room ≤ self.new.room }
+    {
+        match step {
+            FrameStep::Stays => {}
+            FrameStep::OpensBlock => self.open(FrameKind::Block),
+            FrameStep::OpensLoop => self.open(FrameKind::Loop),
+            FrameStep::OpensTryTable => self.open(FrameKind::TryTable),
+            FrameStep::OpensIf => self.open(FrameKind::If),
+            FrameStep::OpensTry => self.open(FrameKind::LegacyTry),
+            FrameStep::TurnsElse => self.turn(FrameKind::Else),
+            FrameStep::TurnsCatch => self.turn(FrameKind::LegacyCatch),
+            FrameStep::TurnsCatchAll => self.turn(FrameKind::LegacyCatchAll),
+            FrameStep::Delegates | FrameStep::Ends => {
+                let _ = self.pop();
+            }
+        }
+    }
+
+    /// The same frames in memory of their own, of the same allocator. Of its room nothing is known.
+    ///
+    /// `OutOfMemory` at offset 0, and only where more than one frame is open.
+    pub fn clone(&self) -> Result<ControlStack>
+        ensures frames { IfOk result (λ copy. copy.frames ≡ self.now.frames) }
+        ensures refused { IfErr result (λ e. IsOutOfMemory e × (1 < length self.now.frames)) }
+    {
+        let mut around = Vec::new(*self.around.allocator());
+        if around.extend_from_slice(self.around.as_slice()).is_err() {
+            return Err(Error::new(Message::OutOfMemory, 0));
+        }
+        Ok(ControlStack {
+            around,
+            current: self.current,
+        })
+    }
+}

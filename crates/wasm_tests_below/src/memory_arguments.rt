@@ -1,0 +1,108 @@
+//! Memory arguments under all 64 feature sets: each answer beside that of a slow reading that tries
+//! every memory argument there is.
+
+mod slow;
+
+use bitflags::Flags;
+use std::io::{self, Print};
+use wasm_imm::below::{BinaryReader, WasmFeatures};
+use wasm_imm::{MemArg, MemArgKind};
+
+/// What may stand behind the flags number.
+const TAILS: [[u8; 6]; 4] = [
+    [0x05, 0x00, 0x00, 0x00, 0x00, 0x00],
+    [0x01, 0x01, 0x08, 0x00, 0x00, 0x00],
+    [0x11, 0x00, 0x02, 0x00, 0x00, 0x00],
+    [0x80, 0x80, 0x80, 0x80, 0x80, 0x00],
+];
+
+/// How many answers of each sort there were: at 0 what was read, then by the number of the refusal.
+#[derive(Drop)]
+struct Counts {
+    answers: [u64; 26],
+    offsets: u64,
+    differ: u64,
+}
+
+/// Prints how many were read, and why others were refused.
+pub fn print_memory_arguments<R: Print>(rt: &R) -> io::Result<()> {
+    for kind in [MemArgKind::Plain, MemArgKind::Op, MemArgKind::Rmw] {
+        let counts = count(kind);
+        println!(rt;
+            "{kind:?}: {} differ, offsets {}",
+            counts.differ, counts.offsets
+        )?;
+        for (number, answers) in counts.answers.iter().enumerate() {
+            if *answers != 0 {
+                println!(rt; "  {number}: {answers}")?;
+            }
+        }
+    }
+    Ok(())
+}
+
+/// The answers to each flags number from 0 to 255, cut behind it and before each tail.
+fn count(kind: MemArgKind) -> Counts {
+    let mut counts = Counts {
+        answers: [0; 26],
+        offsets: 0,
+        differ: 0,
+    };
+    for bits in 0..64u32 {
+        let features = WasmFeatures::from_bits_retain(bits);
+        for flags in 0..=255u8 {
+            try_one(&mut counts, features, kind, &text(flags, &TAILS[0]), 2);
+            for tail in &TAILS {
+                try_one(&mut counts, features, kind, &text(flags, tail), 8);
+            }
+        }
+    }
+    counts
+}
+
+/// The flags number, and the tail behind it.
+fn text(flags: u8, tail: &[u8; 6]) -> [u8; 8] {
+    if flags < 128 {
+        [
+            flags, tail[0], tail[1], tail[2], tail[3], tail[4], tail[5], 0,
+        ]
+    } else {
+        [
+            flags, 1, tail[0], tail[1], tail[2], tail[3], tail[4], tail[5],
+        ]
+    }
+}
+
+/// Counts what is answered to the first bytes of a text.
+fn try_one(
+    counts: &mut Counts,
+    features: WasmFeatures,
+    kind: MemArgKind,
+    text: &[u8; 8],
+    size: usize,
+) {
+    let bytes = text.get(..size).unwrap_or(&[]);
+    let mut reader = BinaryReader::new_features(bytes, 0, features);
+    let read = MemArg::read(&mut reader, 2, kind);
+    let taken = reader.current_position();
+    let slow = slow::memory_argument(bytes, features, kind, 2);
+    match read {
+        Ok(argument) => {
+            counts.answers[0] = counts.answers[0].saturating_add(1);
+            counts.offsets = counts.offsets.saturating_add(taken as u64);
+            if slow != Some((argument, taken)) {
+                counts.differ = counts.differ.saturating_add(1);
+            }
+        }
+        Err(e) => {
+            let number = usize::from(e.message.number());
+            if number < 26 {
+                counts.answers[number] = counts.answers[number].saturating_add(1);
+            }
+            counts.offsets = counts.offsets.saturating_add(e.offset % 1024);
+            if slow.is_some() || taken != 0 {
+                counts.differ = counts.differ.saturating_add(1);
+            }
+        }
+    }
+}

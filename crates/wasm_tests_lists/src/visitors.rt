@@ -1,0 +1,140 @@
+//! Which of its calls each of several visitors gets: directly, through a reference, through a
+//! box and through both; what the factory answers, an answer that is large, and the visit of a copy.
+mod counter;
+mod hand_over;
+mod interp;
+mod large;
+mod made;
+mod printer;
+mod tells;
+
+use crate::visitors::counter::Counter;
+use crate::visitors::hand_over::{hand_over, table};
+use crate::visitors::interp::{Interp, Module};
+use crate::visitors::large::Large;
+use crate::visitors::made::made;
+use crate::visitors::printer::Printer;
+use crate::visitors::tells::Tells;
+use std::alloc::Global;
+use std::io::{self, Print};
+use wasm_visit::below::ValType;
+use wasm_visit::instr::{Operator, SelectTypes};
+use wasm_visit::{OperatorFactory, OperatorMaker, visit_operator, visit_owned_simd};
+
+/// Prints it.
+pub fn print_visitors<R: Print>(rt: &R, alloc: Global) -> io::Result<()> {
+    print_tells(rt, alloc)?;
+    print_counter(rt, alloc)?;
+    print_printer(rt, alloc)?;
+    print_interp(rt, alloc)?;
+    print_factory(rt)?;
+    println!(rt; "factory of the layers: {:?}", made())?;
+    let Large { bytes } = visit_owned_simd(&mut OperatorMaker::new(), Operator::Nop);
+    println!(rt;
+        "large: {} bytes, {} and {}",
+        bytes.len(),
+        bytes[0],
+        bytes[4095]
+    )?;
+    let (answer, counter) = visit_list(alloc);
+    println!(rt; "an operator with a list: {answer}, {counter:?}")
+}
+
+/// The answers of a visitor without fields.
+fn print_tells<R: Print>(rt: &R, alloc: Global) -> io::Result<()> {
+    println!(rt; "unit: {:?}", hand_over(&mut Tells, table()))?;
+    let mut tells = Tells;
+    let mut lent = &mut tells;
+    println!(rt; "unit, by reference: {:?}", hand_over(&mut lent, table()))?;
+    let mut boxed = Box::new(alloc, Tells)?;
+    println!(rt; "unit, in a box: {:?}", hand_over(&mut boxed, table()))?;
+    let mut lent = &mut boxed;
+    println!(rt; "unit, both: {:?}", hand_over(&mut lent, table()))
+}
+
+/// The counts of a visitor with five fields.
+fn print_counter<R: Print>(rt: &R, alloc: Global) -> io::Result<()> {
+    let mut counter = Counter::new(alloc);
+    hand_over(&mut counter, table());
+    println!(rt; "fields: {counter:?}")?;
+    let mut counter = Counter::new(alloc);
+    let mut lent = &mut counter;
+    hand_over(&mut lent, table());
+    println!(rt; "fields, by reference: {counter:?}")?;
+    let mut boxed = Box::new(alloc, Counter::new(alloc))?;
+    hand_over(&mut boxed, table());
+    println!(rt; "fields, in a box: {:?}", *boxed)?;
+    let mut lent = &mut boxed;
+    hand_over(&mut lent, table());
+    println!(rt; "fields, both: {:?}", *boxed)
+}
+
+/// The text of a visitor that holds a reference.
+fn print_printer<R: Print>(rt: &R, alloc: Global) -> io::Result<()> {
+    let mut out = String::new(alloc);
+    let mut printer = Printer {
+        out: &mut out,
+        others: 0,
+    };
+    let answers = hand_over(&mut printer, table());
+    println!(rt; "reference: {answers:?}, {} others", printer.others)?;
+    let mut lent = &mut printer;
+    let answers = hand_over(&mut lent, table());
+    println!(rt;
+        "reference, by reference: {answers:?}, {} others",
+        printer.others
+    )?;
+    let mut boxed = Box::new(alloc, printer)?;
+    let answers = hand_over(&mut boxed, table());
+    println!(rt; "reference, in a box: {answers:?}, {} others", boxed.others)?;
+    let mut lent = &mut boxed;
+    let answers = hand_over(&mut lent, table());
+    println!(rt; "reference, both: {answers:?}, {} others", boxed.others)?;
+    drop(boxed);
+    print!(rt; "{out}")
+}
+
+/// What a visitor with a lifetime and a type parameter counts.
+fn print_interp<R: Print>(rt: &R, alloc: Global) -> io::Result<()> {
+    let module = Module {
+        types: Vec::new(alloc),
+        start: 1,
+    };
+    let mut interp = Interp {
+        module: &module,
+        known: Vec::new(alloc),
+        unknown: 0,
+    };
+    let answers = hand_over(&mut interp, table());
+    println!(rt; "parameter: {answers:?}, {:?}", interp.known)?;
+    let mut lent = &mut interp;
+    let answers = hand_over(&mut lent, table());
+    println!(rt; "parameter, by reference: {answers:?}, {:?}", interp.known)?;
+    let mut boxed = Box::new(alloc, interp)?;
+    let answers = hand_over(&mut boxed, table());
+    println!(rt; "parameter, in a box: {answers:?}, {:?}", boxed.known)?;
+    let mut lent = &mut boxed;
+    let answers = hand_over(&mut lent, table());
+    println!(rt; "parameter, both: {answers:?}, {} unknown", boxed.unknown)
+}
+
+/// What the factory answers.
+fn print_factory<R: Print>(rt: &R) -> io::Result<()> {
+    let answers = hand_over(&mut OperatorFactory::new(), table());
+    println!(rt; "factory: {answers:?}")
+}
+
+/// Visits a copy of an operator with a list of two types, and says how that ended.
+fn visit_list(alloc: Global) -> (&'static str, Counter) {
+    let mut counter = Counter::new(alloc);
+    let Ok(tys) = Vec::from_array(alloc, [ValType::I32, ValType::I64]) else {
+        return ("not made", counter);
+    };
+    let op = Operator::TypedSelectMulti {
+        tys: SelectTypes::from_vec(tys),
+    };
+    match visit_operator(alloc, &mut counter, &op) {
+        Ok(()) => ("visited", counter),
+        Err(_) => ("refused", counter),
+    }
+}

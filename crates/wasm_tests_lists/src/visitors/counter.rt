@@ -1,0 +1,61 @@
+//! A visitor with five fields.
+use std::alloc::Global;
+use wasm_visit::instr::{BrTable, MiscOperator, Operator};
+use wasm_visit::{VisitFixed, VisitMisc, VisitOperator, VisitSimdOperator, Visitor, dispatch};
+
+/// Counts its visits, with a visit of its own for `DataDrop` that keeps the index.
+#[derive(Debug, Drop)]
+pub struct Counter {
+    pub dropped: Vec<u32>,
+    pub own: u32,
+    pub any: u32,
+    pub tables: u32,
+    pub full: bool,
+}
+
+impl Counter {
+    /// One that has visited nothing.
+    pub fn new(alloc: Global) -> Counter {
+        Counter {
+            dropped: Vec::new(alloc),
+            own: 0,
+            any: 0,
+            tables: 0,
+            full: false,
+        }
+    }
+}
+
+impl Visitor for Counter {
+    ghost use Rattle.std.specs.Prelude.{◌≤◌};
+
+    type Output = ();
+
+    // A visit lowers no count.
+    ghost visits = { λ before op answer after. (before.own ≤ after.own) × (before.any ≤ after.any) × (before.tables ≤ after.tables) };
+
+    fn visit_any(&mut self, _op: Operator<'static>) {
+        self.any = self.any.saturating_add(1);
+    }
+}
+
+impl VisitMisc for Counter {
+    fn visit_data_drop(&mut self, data_index: u32) {
+        self.full = self.dropped.push(data_index).is_err();
+        self.own = self.own.saturating_add(1);
+    }
+}
+
+impl VisitFixed for Counter {
+    fn dispatch_misc(&mut self, op: MiscOperator) {
+        dispatch::misc(self, op)
+    }
+}
+
+impl<'a> VisitOperator<'a> for Counter {
+    fn visit_br_table(&mut self, _targets: BrTable<'a>) {
+        self.tables = self.tables.saturating_add(1);
+    }
+}
+
+impl VisitSimdOperator for Counter {}

@@ -1,0 +1,40 @@
+//! What all visitors of this program are handed.
+use wasm_visit::below::BinaryReader;
+use wasm_visit::instr::{
+    BrTable, GcOperator, MiscOperator, NumericOperator, Operator, SimdOperator,
+};
+use wasm_visit::{VisitOperator, VisitSimdOperator, visit_owned_simd};
+
+/// One target, 1, and the default target 0.
+static TABLE: [u8; 3] = [1, 1, 0];
+
+/// A branch table of one target.
+pub fn table() -> Option<BrTable<'static>> {
+    BrTable::read(&mut BinaryReader::new(&TABLE, 0)).ok()
+}
+
+/// Hands a visitor eight operators of five groups, a branch table among them, and answers its answers.
+pub fn hand_over<'a, V>(v: &mut V, table: Option<BrTable<'a>>) -> [V::Output; 8]
+where
+    V: VisitOperator<'a> + VisitSimdOperator,
+{
+    let branch = match table {
+        Some(targets) => Operator::BrTable { targets },
+        None => Operator::Unreachable,
+    };
+    [
+        visit_owned_simd(v, Operator::LocalGet { local_index: 3 }),
+        visit_owned_simd(v, Operator::Nop),
+        visit_owned_simd(v, Operator::from(NumericOperator::I32Add)),
+        visit_owned_simd(v, Operator::from(SimdOperator::I8x16Splat)),
+        visit_owned_simd(v, Operator::from(SimdOperator::I32x4Add)),
+        visit_owned_simd(
+            v,
+            Operator::from(GcOperator::StructNew {
+                struct_type_index: 5,
+            }),
+        ),
+        visit_owned_simd(v, Operator::from(MiscOperator::DataDrop { data_index: 7 })),
+        visit_owned_simd(v, branch),
+    ]
+}

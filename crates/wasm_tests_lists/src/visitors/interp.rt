@@ -1,0 +1,52 @@
+//! A visitor with a lifetime and a type parameter, and with visits of its own.
+ghost use Rattle.std.specs.Prelude.{◌≤◌};
+
+use wasm_visit::instr::{BrTable, GcOperator, Operator};
+use wasm_visit::{VisitFixed, VisitGc, VisitOperator, VisitSimdOperator, Visitor, dispatch};
+
+/// Counts the operators that it knows and those that it does not, for a module.
+#[derive(Drop)]
+pub struct Interp<'m, M> {
+    pub module: &'m M,
+    pub known: Vec<u32>,
+    pub unknown: u64,
+}
+
+/// A module of so many structure types.
+#[derive(Drop)]
+pub struct Module {
+    pub types: Vec<u32>,
+    pub start: u32,
+}
+
+impl<'m, M> Visitor for Interp<'m, M> {
+    type Output = bool;
+
+    // A visit does not lower the count.
+    ghost visits = { λ before op answer after. before.unknown ≤ after.unknown };
+
+    fn visit_any(&mut self, _op: Operator<'static>) -> bool {
+        self.unknown = self.unknown.saturating_add(1);
+        false
+    }
+}
+
+impl<'m, M> VisitGc for Interp<'m, M> {
+    fn visit_struct_new(&mut self, struct_type_index: u32) -> bool {
+        self.known.push(struct_type_index).is_ok()
+    }
+}
+
+impl<'m, M> VisitFixed for Interp<'m, M> {
+    fn dispatch_gc(&mut self, op: GcOperator) -> bool {
+        dispatch::gc(self, op)
+    }
+}
+
+impl<'a, 'm, M> VisitOperator<'a> for Interp<'m, M> {
+    fn visit_br_table(&mut self, targets: BrTable<'a>) -> bool {
+        self.known.push(targets.len()).is_ok()
+    }
+}
+
+impl<'m, M> VisitSimdOperator for Interp<'m, M> {}

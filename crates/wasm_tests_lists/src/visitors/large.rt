@@ -1,0 +1,24 @@
+//! An answer that is large.
+use wasm_visit::instr::{BrTable, Operator};
+use wasm_visit::{HoldFixed, HoldTable};
+
+/// An answer of 4096 bytes.
+#[derive(Drop)]
+pub struct Large {
+    pub bytes: [u8; 4096],
+}
+
+impl HoldFixed for Large {
+    // Whatever the operator.
+    ghost holds = { λ op large. Unit {0} };
+
+    fn hold_fixed(_op: Operator<'static>) -> Large {
+        Large { bytes: [7; 4096] }
+    }
+}
+
+impl<'a> HoldTable<'a> for Large {
+    fn hold_table(_targets: BrTable<'a>) -> Large {
+        Large { bytes: [9; 4096] }
+    }
+}

@@ -1,0 +1,46 @@
+//! A visitor without fields, and with a visit of its own.
+use wasm_visit::instr::{BrTable, MiscOperator, Operator};
+use wasm_visit::{VisitFixed, VisitMisc, VisitOperator, VisitSimdOperator, Visitor, dispatch};
+
+/// Which call was made of a visitor.
+#[derive(Clone, Copy, Debug)]
+pub enum Call {
+    Own,
+    Any,
+    Table,
+}
+
+/// Answers which of its calls was made; it has a visit of its own for `DataDrop`.
+#[derive(Debug, Drop)]
+pub struct Tells;
+
+impl Visitor for Tells {
+    type Output = Call;
+
+    // Whatever the operator.
+    ghost visits = { λ before op answer after. Unit {0} };
+
+    fn visit_any(&mut self, _op: Operator<'static>) -> Call {
+        Call::Any
+    }
+}
+
+impl VisitMisc for Tells {
+    fn visit_data_drop(&mut self, _data_index: u32) -> Call {
+        Call::Own
+    }
+}
+
+impl VisitFixed for Tells {
+    fn dispatch_misc(&mut self, op: MiscOperator) -> Call {
+        dispatch::misc(self, op)
+    }
+}
+
+impl<'a> VisitOperator<'a> for Tells {
+    fn visit_br_table(&mut self, _targets: BrTable<'a>) -> Call {
+        Call::Table
+    }
+}
+
+impl VisitSimdOperator for Tells {}

@@ -1,0 +1,50 @@
+//! From a borrowed operator to the visit of a copy.
+ghost use Rattle.std.specs.Prelude.{◌≡◌, IsOk, IfOk, IfErr};
+ghost use Rattle.wasm_decode_groups.specs.imm.OutOfMemory.{IsOutOfMemoryAt};
+ghost use Rattle.wasm_decode_groups.specs.instr.Kinds.{IsVector, HoldsList};
+
+use crate::operator::VisitOperator;
+use crate::owned::{visit_owned, visit_owned_simd};
+use crate::vectors::VisitSimdOperator;
+use std::alloc::Global;
+use wasm_decode_groups::below::Result;
+use wasm_decode_groups::instr::Operator;
+
+/// Visits a copy of an operator that is no vector operator.
+///
+/// `OutOfMemory` at offset 0, and only where the operator holds a list; then no visit was made.
+pub fn visit_operator<'a, V: VisitOperator<'a>>(
+    alloc: Global,
+    v: &mut V,
+    op: &Operator<'a>,
+) -> Result<V::Output>
+    requires { ¬ IsVector op.now }
+    ensures visited { IfOk result (λ answer. V.visits v.old op.now answer v.new) }
+    ensures refused { IfErr result (λ e. IsOutOfMemoryAt 0 e × (v.new ≡ v.old)) }
+    ensures lean { ¬ HoldsList op.now → IsOk result }
+{
+    match op.clone(alloc) {
+        Ok(op) => Ok(visit_owned(v, op)),
+        Err(e) => Err(e),
+    }
+}
+
+/// Visits a copy of an operator, a vector operator too.
+///
+/// `OutOfMemory` at offset 0, and only where the operator holds a list; then no visit was made.
+pub fn visit_operator_with_simd<'a, V>(
+    alloc: Global,
+    v: &mut V,
+    op: &Operator<'a>,
+) -> Result<V::Output>
+where
+    V: VisitOperator<'a> + VisitSimdOperator,
+    ensures visited { IfOk result (λ answer. V.visits v.old op.now answer v.new) }
+    ensures refused { IfErr result (λ e. IsOutOfMemoryAt 0 e × (v.new ≡ v.old)) }
+    ensures lean { ¬ HoldsList op.now → IsOk result }
+{
+    match op.clone(alloc) {
+        Ok(op) => Ok(visit_owned_simd(v, op)),
+        Err(e) => Err(e),
+    }
+}

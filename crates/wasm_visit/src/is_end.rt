@@ -1,0 +1,35 @@
+//! The visitor that finds the end.
+ghost use Rattle.std.specs.Prelude.{◌≡◌, ◌↔◌, IsTrue};
+ghost use Rattle.wasm_decode_groups.specs.instr.declared.operator.Operator.{Operator};
+
+use crate::fixed::VisitFixed;
+use crate::operator::VisitOperator;
+use crate::vectors::VisitSimdOperator;
+use wasm_decode_groups::groups::Visitor;
+use wasm_decode_groups::instr::{BrTable, Operator};
+
+/// A visitor that answers whether the operator is `End`.
+#[derive(Drop)]
+pub struct IsEndOperatorVisitor;
+
+impl Visitor for IsEndOperatorVisitor {
+    type Output = bool;
+
+    ghost visits = { λ before op answer after. IsTrue answer ↔ (op ≡ Operator.End) };
+
+    #[inline(always)]
+    fn visit_any(&mut self, op: Operator<'static>) -> bool {
+        matches!(op, Operator::End)
+    }
+}
+
+impl VisitFixed for IsEndOperatorVisitor {}
+
+impl<'a> VisitOperator<'a> for IsEndOperatorVisitor {
+    #[inline(always)]
+    fn visit_br_table(&mut self, _targets: BrTable<'a>) -> bool {
+        false
+    }
+}
+
+impl VisitSimdOperator for IsEndOperatorVisitor {}

@@ -1,0 +1,46 @@
+//! From an operator to its visit.
+ghost use Rattle.wasm_decode_groups.specs.instr.declared.operator.Operator.{Operator};
+ghost use Rattle.wasm_decode_groups.specs.instr.Kinds.{IsVector};
+
+use crate::operator::VisitOperator;
+use crate::vectors::VisitSimdOperator;
+use wasm_decode_groups::instr::{Operator, SimdOperator};
+
+/// Visits an operator that is no vector operator. It takes no memory.
+pub fn visit_owned<'a, V: VisitOperator<'a>>(v: &mut V, op: Operator<'a>) -> V::Output
+    requires { ¬ IsVector op }
+    ensures { V.visits v.old op.entry result v.new }
+{
+    match op {
+        Operator::BrTable { targets } => v.visit_br_table(targets),
+        Operator::Numeric(op) => v.dispatch_numeric(op),
+        Operator::Gc(op) => v.dispatch_gc(op),
+        Operator::Misc(op) => v.dispatch_misc(op),
+        Operator::Atomic(op) => v.dispatch_atomic(op),
+        Operator::Simd(_) => unreachable!(),
+        op => v.dispatch_one_byte(op),
+    }
+}
+
+/// Visits an operator, a vector operator too. It takes no memory.
+pub fn visit_owned_simd<'a, V>(v: &mut V, op: Operator<'a>) -> V::Output
+where
+    V: VisitOperator<'a> + VisitSimdOperator,
+    ensures { V.visits v.old op.entry result v.new }
+{
+    match op {
+        Operator::Simd(op) => visit_vector(v, op),
+        op => visit_owned(v, op),
+    }
+}
+
+/// Visits a vector operator. It takes no memory.
+fn visit_vector<V: VisitSimdOperator>(v: &mut V, op: SimdOperator) -> V::Output
+    ensures { V.visits v.old (Operator.Simd op) result v.new }
+{
+    if op.info().code < 0x80 {
+        v.dispatch_simd_low(op)
+    } else {
+        v.dispatch_simd_high(op)
+    }
+}

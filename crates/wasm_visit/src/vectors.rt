@@ -1,0 +1,85 @@
+//! Visitors of the vector operators.
+ghost use Rattle.std.specs.Prelude.{◌≤◌, ◌<◌, Some};
+ghost use Rattle.wasm_decode_groups.specs.below.Source.{at_position};
+ghost use Rattle.wasm_decode_groups.specs.grammar.declared.frame_kind.FrameKind.{FrameKind};
+ghost use Rattle.wasm_decode_groups.specs.instr.declared.operator.Operator.{Operator};
+ghost use Rattle.wasm_decode_groups.specs.opcodes.Allowed.{EncodesAllowed};
+ghost use Rattle.wasm_decode_groups.specs.opcodes.Decoding.{Decodes, StandsBehind};
+ghost use Rattle.wasm_decode_groups.specs.opcodes.OperatorFaults.{OperatorFault};
+ghost use Rattle.wasm_decode_groups.specs.groups.Groups.{IsSimdHigh, IsSimdLow};
+
+use wasm_decode_groups::below::{BinaryReader, Result};
+use wasm_decode_groups::groups::Visitor;
+use wasm_decode_groups::instr::{Operator, SimdOperator};
+use wasm_visit_factory::Factory;
+
+/// A visitor of the vector operators: for each of the two groups of their visits, the calls by
+/// which it is reached, from an operator and from bytes. Vector Instructions.
+///
+/// It does not stand on the groups. A visitor with visits of its own in a group names it in one
+/// line a call, as said at each; where it does not, the operators go to `visit_any`, and visits that
+/// it has in the group are not made. A visitor of all operators is bound by
+/// `VisitOperator<'a> + VisitSimdOperator`.
+pub trait VisitSimdOperator: Visitor {
+    /// Visits a vector operator of a subopcode below 80.
+    ///
+    /// A visitor with visits in `VisitSimdLow` says `dispatch::simd_low(self, op)` here.
+    fn dispatch_simd_low(&mut self, op: SimdOperator) -> Self::Output
+        requires { IsSimdLow op }
+        ensures { Self.visits self.old (Operator.Simd op) result self.new }
+    {
+        self.visit_any(Operator::Simd(op))
+    }
+
+    /// Visits a vector operator of a subopcode from 80 on.
+    ///
+    /// A visitor with visits in `VisitSimdHigh` says `dispatch::simd_high(self, op)` here.
+    fn dispatch_simd_high(&mut self, op: SimdOperator) -> Self::Output
+        requires { IsSimdHigh op }
+        ensures { Self.visits self.old (Operator.Simd op) result self.new }
+    {
+        self.visit_any(Operator::Simd(op))
+    }
+
+    /// Reads what stands behind a subopcode, and visits the vector operator of this subopcode below 80. `start` is the
+    /// position of the prefix byte, to which a refused reader goes back.
+    ///
+    /// A visitor with visits in `VisitSimdLow` says `decode::simd_low(self, reader, start, code)` here.
+    #[inline(always)]
+    fn decode_simd_low(
+        &mut self,
+        reader: &mut BinaryReader<'_>,
+        start: usize,
+        code: u32,
+    ) -> Result<Self::Output>
+        requires behind { StandsBehind start (Some 0xfd) code reader.old }
+        requires half { code < 0x80 }
+        ensures { (frame : FrameKind) → Decodes Self.visits (EncodesAllowed reader.old.features frame) (OperatorFault reader.old.features frame) result (at_position reader.old start) reader.new self.old self.new }
+    {
+        match Factory.decode_simd_low(reader, start, code) {
+            Ok(op) => Ok(self.visit_any(op)),
+            Err(e) => Err(e),
+        }
+    }
+
+    /// Reads what stands behind a subopcode, and visits the vector operator of this subopcode from 80 on. `start` is the
+    /// position of the prefix byte, to which a refused reader goes back.
+    ///
+    /// A visitor with visits in `VisitSimdHigh` says `decode::simd_high(self, reader, start, code)` here.
+    #[inline(always)]
+    fn decode_simd_high(
+        &mut self,
+        reader: &mut BinaryReader<'_>,
+        start: usize,
+        code: u32,
+    ) -> Result<Self::Output>
+        requires behind { StandsBehind start (Some 0xfd) code reader.old }
+        requires half { 0x80 ≤ code }
+        ensures { (frame : FrameKind) → Decodes Self.visits (EncodesAllowed reader.old.features frame) (OperatorFault reader.old.features frame) result (at_position reader.old start) reader.new self.old self.new }
+    {
+        match Factory.decode_simd_high(reader, start, code) {
+            Ok(op) => Ok(self.visit_any(op)),
+            Err(e) => Err(e),
+        }
+    }
+}

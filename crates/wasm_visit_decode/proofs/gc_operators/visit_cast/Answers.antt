@@ -1,7 +1,0 @@
--- Written by tools/lists.py from tools/operators.tsv.
-use Rattle.std.proofs.Common.{arith}
-use Rattle.wasm_visit_decode.proofs.Codes.{gc_cast_codes}
-use Rattle.wasm_visit_decode.proofs.gc_operators.visit_cast.Goals as goal
-
-pub unreachable-requires : goal.unreachable-requires
-unreachable-requires g c = let h = gc_cast_codes c.args.code c.requires in first_of (omega (arith, h), grind (arith, h))

@@ -1,7 +1,0 @@
--- Written by tools/lists.py from tools/operators.tsv.
-use Rattle.std.proofs.Common.{arith}
-use Rattle.wasm_visit_decode.proofs.Codes.{one_byte_memory_index_codes}
-use Rattle.wasm_visit_decode.proofs.one_byte_operators.visit_memory_index.Goals as goal
-
-pub unreachable-requires : goal.unreachable-requires
-unreachable-requires g c = let h = one_byte_memory_index_codes c.args.code c.requires in first_of (omega (arith, h), grind (arith, h))

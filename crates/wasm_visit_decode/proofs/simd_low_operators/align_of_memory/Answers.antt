@@ -1,8 +1,0 @@
--- Written by tools/lists.py from tools/operators.tsv.
-use Rattle.std.proofs.Common.{arith, Some}
-use Rattle.wasm_opcodes.specs.Entries.{align_at}
-use Rattle.wasm_visit_decode.proofs.Codes.{simd_low_memory_codes}
-use Rattle.wasm_visit_decode.proofs.simd_low_operators.align_of_memory.Goals as goal
-
-pub unreachable-requires : goal.unreachable-requires
-unreachable-requires c = let h = simd_low_memory_codes c.args.code (align_at (Some 0xfd) c.args.code) c.requires in first_of (omega (arith, h), grind (arith, h))
