@@ -206,11 +206,8 @@ def run_name(run):
     return f"in-{first}" if first == last else f"in-{first}-to-{last}"
 
 
-def decodes(features="reader.old.features"):
-    return (
-        f"(frame : FrameKind) → Decodes V.visits (EncodesAllowed {features} frame) (OperatorFault {features} frame) "
-        "result (at_position reader.old start) reader.new v.old v.new"
-    )
+def decodes():
+    return "(frame : FrameKind) → DecodesAt V.visits frame start result reader.old reader.new v.old v.new"
 
 
 def arms(part):
@@ -398,14 +395,11 @@ def group_decode(ops, group):
     out = [
         f"//! Decoding of {group.short}. {HEAD}",
         f"ghost use Rattle.std.specs.Prelude.{{{', '.join(prelude)}}};",
-        "ghost use Rattle.wasm_below.specs.Source.{at_position};",
         "ghost use Rattle.wasm_grammar.specs.declared.frame_kind.FrameKind.{FrameKind};",
         f"ghost use Rattle.wasm_instr.specs.Immediate.{{{', '.join(words)}}};",
-        "ghost use Rattle.wasm_decode_opcodes.specs.Allowed.{EncodesAllowed};",
-        "ghost use Rattle.wasm_decode_opcodes.specs.Decoding.{Decodes, StandsBehind, VisitsRow};",
+        "ghost use Rattle.wasm_decode_opcodes.specs.Decoding.{DecodesAt, StandsBehind, VisitsRow};",
         f"ghost use Rattle.wasm_decode_opcodes.specs.Entries.{{{', '.join(entries)}}};",
         "ghost use Rattle.wasm_decode_opcodes.specs.Entry.{free};",
-        "ghost use Rattle.wasm_decode_opcodes.specs.OperatorFaults.{OperatorFault};",
         *(["ghost use Rattle.wasm_decode_groups.specs.OneByte.{IsOneByteCode};"] if is_own else []),
         "",
         *(["use crate::control::{%s};" % ", ".join(sorted(set(APART.values())))] if is_own else []),

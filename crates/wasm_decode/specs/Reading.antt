@@ -2,11 +2,19 @@
 use Rattle.std.specs.Prelude.{◌≡◌, ℕ, List, Result, Ok, Err}
 use Rattle.wasm_visit.specs.below.bytes.error.Error.{Error}
 use Rattle.wasm_visit.specs.below.bytes.message.Message.{Message}
-use Rattle.wasm_visit.specs.below.Source.{Reader, Takes}
+use Rattle.wasm_visit.specs.below.Source.{Reader, at_position, Takes}
+use Rattle.wasm_visit.specs.grammar.declared.frame_kind.FrameKind.{FrameKind}
 use Rattle.wasm_visit.specs.instr.declared.operator.Operator.{Operator}
+use Rattle.wasm_visit.specs.opcodes.Allowed.{EncodesAllowed}
 use Rattle.wasm_visit.specs.opcodes.Decoding.{RefusesOperator}
+use Rattle.wasm_visit.specs.opcodes.OperatorFaults.{OperatorFault}
 
 -- The call answers Ok exactly where a prefix of the rest encodes an operator, memory aside: it then takes that prefix, and answers the operator. Else nothing changes, and the refusal is one of this fault.
 abbrev pub DecodesOperator : (List ℕ → Operator → Type 0) → (Message → Reader → ℕ → Type 0) → Result Operator Error → Reader → Reader → Type 0
 DecodesOperator Encodes Fault (Ok op) old new = (text : List ℕ) × Encodes text op × Takes old new text
 DecodesOperator Encodes Fault (Err e) old new = RefusesOperator Encodes Fault e old new
+
+-- The same of an operator that a frame of this kind allows and that began at the position `start`, behind its opcode.
+abbrev pub DecodesOperatorAt : FrameKind → ℕ → Result Operator Error → Reader → Reader → Type 0
+DecodesOperatorAt frame start result old new =
+    DecodesOperator (EncodesAllowed old.features frame) (OperatorFault old.features frame) result (at_position old start) new

@@ -1,13 +1,10 @@
 //! Decoding of the operators behind fe. Written by tools/lists.py from tools/operators.tsv.
 ghost use Rattle.std.specs.Prelude.{◌≡◌, ◌<◌, [], ◌∷◌, Some, None};
-ghost use Rattle.wasm_visit_groups.specs.below.Source.{at_position};
 ghost use Rattle.wasm_visit_groups.specs.grammar.declared.frame_kind.FrameKind.{FrameKind};
 ghost use Rattle.wasm_visit_groups.specs.instr.Immediate.{unsigned_32, memory_argument, order, is_unsigned_32, is_order, is_memory_argument};
-ghost use Rattle.wasm_decode_opcodes.specs.Allowed.{EncodesAllowed};
-ghost use Rattle.wasm_decode_opcodes.specs.Decoding.{Decodes, StandsBehind, VisitsRow};
+ghost use Rattle.wasm_decode_opcodes.specs.Decoding.{DecodesAt, StandsBehind, VisitsRow};
 ghost use Rattle.wasm_decode_opcodes.specs.Entries.{entry_at, align_at};
 ghost use Rattle.wasm_decode_opcodes.specs.Entry.{free};
-ghost use Rattle.wasm_decode_opcodes.specs.OperatorFaults.{OperatorFault};
 
 use wasm_decode_opcodes::{immediates, unknown_subopcode};
 use wasm_visit_groups::VisitAtomic;
@@ -23,7 +20,7 @@ pub fn atomic<V: VisitAtomic>(
     code: u32,
 ) -> Result<V::Output>
     requires behind { StandsBehind start (Some 0xfe) code reader.old }
-    ensures { (frame : FrameKind) → Decodes V.visits (EncodesAllowed reader.old.features frame) (OperatorFault reader.old.features frame) result (at_position reader.old start) reader.new v.old v.new }
+    ensures { (frame : FrameKind) → DecodesAt V.visits frame start result reader.old reader.new v.old v.new }
 {
     match code {
         0x00..=0x02 => memory(v, reader, start, code),
@@ -49,7 +46,7 @@ fn memory<V: VisitAtomic>(
 ) -> Result<V::Output>
     requires behind { StandsBehind start (Some 0xfe) code reader.old }
     requires kinds { entry_at (Some 0xfe) code ≡ free (is_memory_argument MemArgKind.Plain (align_at (Some 0xfe) code) ∷ []) }
-    ensures { (frame : FrameKind) → Decodes V.visits (EncodesAllowed reader.old.features frame) (OperatorFault reader.old.features frame) result (at_position reader.old start) reader.new v.old v.new }
+    ensures { (frame : FrameKind) → DecodesAt V.visits frame start result reader.old reader.new v.old v.new }
 {
     match immediates::memory(reader, start, align_of_memory(code), MemArgKind::Plain) {
         Ok(it) => Ok(visit_memory(v, code, it)),
@@ -93,7 +90,7 @@ fn atomic_fence<V: VisitAtomic>(
     start: usize,
 ) -> Result<V::Output>
     requires behind { StandsBehind start (Some 0xfe) 0x03 reader.old }
-    ensures { (frame : FrameKind) → Decodes V.visits (EncodesAllowed reader.old.features frame) (OperatorFault reader.old.features frame) result (at_position reader.old start) reader.new v.old v.new }
+    ensures { (frame : FrameKind) → DecodesAt V.visits frame start result reader.old reader.new v.old v.new }
 {
     match immediates::fence(reader, start) {
         Ok(it) => Ok(v.visit_atomic_fence(it)),
@@ -111,7 +108,7 @@ fn memory_op<V: VisitAtomic>(
 ) -> Result<V::Output>
     requires behind { StandsBehind start (Some 0xfe) code reader.old }
     requires kinds { entry_at (Some 0xfe) code ≡ free (is_memory_argument MemArgKind.Op (align_at (Some 0xfe) code) ∷ []) }
-    ensures { (frame : FrameKind) → Decodes V.visits (EncodesAllowed reader.old.features frame) (OperatorFault reader.old.features frame) result (at_position reader.old start) reader.new v.old v.new }
+    ensures { (frame : FrameKind) → DecodesAt V.visits frame start result reader.old reader.new v.old v.new }
 {
     match immediates::memory(reader, start, align_of_memory_op(code), MemArgKind::Op) {
         Ok(it) => Ok(visit_memory_op(v, code, it)),
@@ -179,7 +176,7 @@ fn memory_rmw<V: VisitAtomic>(
 ) -> Result<V::Output>
     requires behind { StandsBehind start (Some 0xfe) code reader.old }
     requires kinds { entry_at (Some 0xfe) code ≡ free (is_memory_argument MemArgKind.Rmw (align_at (Some 0xfe) code) ∷ []) }
-    ensures { (frame : FrameKind) → Decodes V.visits (EncodesAllowed reader.old.features frame) (OperatorFault reader.old.features frame) result (at_position reader.old start) reader.new v.old v.new }
+    ensures { (frame : FrameKind) → DecodesAt V.visits frame start result reader.old reader.new v.old v.new }
 {
     match immediates::memory(reader, start, align_of_memory_rmw(code), MemArgKind::Rmw) {
         Ok(it) => Ok(visit_memory_rmw(v, code, it)),
@@ -317,7 +314,7 @@ fn ordered<V: VisitAtomic>(
 ) -> Result<V::Output>
     requires behind { StandsBehind start (Some 0xfe) code reader.old }
     requires kinds { entry_at (Some 0xfe) code ≡ free (is_order ∷ is_unsigned_32 ∷ []) }
-    ensures { (frame : FrameKind) → Decodes V.visits (EncodesAllowed reader.old.features frame) (OperatorFault reader.old.features frame) result (at_position reader.old start) reader.new v.old v.new }
+    ensures { (frame : FrameKind) → DecodesAt V.visits frame start result reader.old reader.new v.old v.new }
 {
     match immediates::ordered(reader, start) {
         Ok(it) => Ok(visit_ordered(v, code, it)),
@@ -370,7 +367,7 @@ fn ordered_two<V: VisitAtomic>(
 ) -> Result<V::Output>
     requires behind { StandsBehind start (Some 0xfe) code reader.old }
     requires kinds { entry_at (Some 0xfe) code ≡ free (is_order ∷ is_unsigned_32 ∷ is_unsigned_32 ∷ []) }
-    ensures { (frame : FrameKind) → Decodes V.visits (EncodesAllowed reader.old.features frame) (OperatorFault reader.old.features frame) result (at_position reader.old start) reader.new v.old v.new }
+    ensures { (frame : FrameKind) → DecodesAt V.visits frame start result reader.old reader.new v.old v.new }
 {
     match immediates::ordered_two(reader, start) {
         Ok(it) => Ok(visit_ordered_two(v, code, it)),
@@ -410,7 +407,7 @@ fn plain<V: VisitAtomic>(
 ) -> Result<V::Output>
     requires behind { StandsBehind start (Some 0xfe) code reader.old }
     requires kinds { entry_at (Some 0xfe) code ≡ free ([]) }
-    ensures { (frame : FrameKind) → Decodes V.visits (EncodesAllowed reader.old.features frame) (OperatorFault reader.old.features frame) result (at_position reader.old start) reader.new v.old v.new }
+    ensures { (frame : FrameKind) → DecodesAt V.visits frame start result reader.old reader.new v.old v.new }
 {
     Ok(visit_plain(v, code))
 }

@@ -1,10 +1,7 @@
 //! Decoding of the operators of one byte whose feature and frame are looked at, or that may own a list.
 ghost use Rattle.std.specs.Prelude.{None};
-ghost use Rattle.wasm_visit_groups.specs.below.Source.{at_position};
 ghost use Rattle.wasm_visit_groups.specs.grammar.declared.frame_kind.FrameKind.{FrameKind};
-ghost use Rattle.wasm_decode_opcodes.specs.Allowed.{EncodesAllowed};
-ghost use Rattle.wasm_decode_opcodes.specs.Decoding.{Decodes, StandsBehind};
-ghost use Rattle.wasm_decode_opcodes.specs.OperatorFaults.{OperatorFault};
+ghost use Rattle.wasm_decode_opcodes.specs.Decoding.{StandsBehind, DecodesAt};
 
 use std::alloc::Global;
 use wasm_decode_opcodes::{Guard, immediates};
@@ -22,7 +19,7 @@ pub fn else_in_if<V: VisitOneByte>(
     frame: FrameKind,
 ) -> Result<V::Output>
     requires behind { StandsBehind start None 0x05 reader.old }
-    ensures { Decodes V.visits (EncodesAllowed reader.old.features frame) (OperatorFault reader.old.features frame) result (at_position reader.old start) reader.new v.old v.new }
+    ensures { DecodesAt V.visits frame start result reader.old reader.new v.old v.new }
 {
     match Guard::Else.check(reader, start, frame) {
         Ok(()) => Ok(v.visit_else()),
@@ -39,7 +36,7 @@ pub fn legacy_try<V: VisitOneByte>(
     frame: FrameKind,
 ) -> Result<V::Output>
     requires behind { StandsBehind start None 0x06 reader.old }
-    ensures { Decodes V.visits (EncodesAllowed reader.old.features frame) (OperatorFault reader.old.features frame) result (at_position reader.old start) reader.new v.old v.new }
+    ensures { DecodesAt V.visits frame start result reader.old reader.new v.old v.new }
 {
     match Guard::Try.check(reader, start, frame) {
         Ok(()) => match immediates::block_type(reader, start) {
@@ -59,7 +56,7 @@ pub fn legacy_catch<V: VisitOneByte>(
     frame: FrameKind,
 ) -> Result<V::Output>
     requires behind { StandsBehind start None 0x07 reader.old }
-    ensures { Decodes V.visits (EncodesAllowed reader.old.features frame) (OperatorFault reader.old.features frame) result (at_position reader.old start) reader.new v.old v.new }
+    ensures { DecodesAt V.visits frame start result reader.old reader.new v.old v.new }
 {
     match Guard::Catch.check(reader, start, frame) {
         Ok(()) => match immediates::unsigned(reader, start) {
@@ -79,7 +76,7 @@ pub fn legacy_delegate<V: VisitOneByte>(
     frame: FrameKind,
 ) -> Result<V::Output>
     requires behind { StandsBehind start None 0x18 reader.old }
-    ensures { Decodes V.visits (EncodesAllowed reader.old.features frame) (OperatorFault reader.old.features frame) result (at_position reader.old start) reader.new v.old v.new }
+    ensures { DecodesAt V.visits frame start result reader.old reader.new v.old v.new }
 {
     match Guard::Delegate.check(reader, start, frame) {
         Ok(()) => match immediates::unsigned(reader, start) {
@@ -99,7 +96,7 @@ pub fn legacy_catch_all<V: VisitOneByte>(
     frame: FrameKind,
 ) -> Result<V::Output>
     requires behind { StandsBehind start None 0x19 reader.old }
-    ensures { Decodes V.visits (EncodesAllowed reader.old.features frame) (OperatorFault reader.old.features frame) result (at_position reader.old start) reader.new v.old v.new }
+    ensures { DecodesAt V.visits frame start result reader.old reader.new v.old v.new }
 {
     match Guard::CatchAll.check(reader, start, frame) {
         Ok(()) => Ok(v.visit_catch_all()),
@@ -116,7 +113,7 @@ pub fn typed_select<V: VisitOneByte>(
     start: usize,
 ) -> Result<V::Output>
     requires behind { StandsBehind start None 0x1c reader.old }
-    ensures { (frame : FrameKind) → Decodes V.visits (EncodesAllowed reader.old.features frame) (OperatorFault reader.old.features frame) result (at_position reader.old start) reader.new v.old v.new }
+    ensures { (frame : FrameKind) → DecodesAt V.visits frame start result reader.old reader.new v.old v.new }
 {
     match immediates::select(alloc, reader, start) {
         Ok(Select::One { ty }) => Ok(v.visit_typed_select(ty)),
@@ -134,7 +131,7 @@ pub fn try_table<V: VisitOneByte>(
     start: usize,
 ) -> Result<V::Output>
     requires behind { StandsBehind start None 0x1f reader.old }
-    ensures { (frame : FrameKind) → Decodes V.visits (EncodesAllowed reader.old.features frame) (OperatorFault reader.old.features frame) result (at_position reader.old start) reader.new v.old v.new }
+    ensures { (frame : FrameKind) → DecodesAt V.visits frame start result reader.old reader.new v.old v.new }
 {
     match immediates::try_table(alloc, reader, start) {
         Ok(it) => Ok(v.visit_try_table(it)),
@@ -151,7 +148,7 @@ pub fn resume<V: VisitOneByte>(
     start: usize,
 ) -> Result<V::Output>
     requires behind { StandsBehind start None 0xe3 reader.old }
-    ensures { (frame : FrameKind) → Decodes V.visits (EncodesAllowed reader.old.features frame) (OperatorFault reader.old.features frame) result (at_position reader.old start) reader.new v.old v.new }
+    ensures { (frame : FrameKind) → DecodesAt V.visits frame start result reader.old reader.new v.old v.new }
 {
     match immediates::resume(alloc, reader, start) {
         Ok(it) => Ok(v.visit_resume(it.0, it.1)),
@@ -168,7 +165,7 @@ pub fn resume_throw<V: VisitOneByte>(
     start: usize,
 ) -> Result<V::Output>
     requires behind { StandsBehind start None 0xe4 reader.old }
-    ensures { (frame : FrameKind) → Decodes V.visits (EncodesAllowed reader.old.features frame) (OperatorFault reader.old.features frame) result (at_position reader.old start) reader.new v.old v.new }
+    ensures { (frame : FrameKind) → DecodesAt V.visits frame start result reader.old reader.new v.old v.new }
 {
     match immediates::resume_throw(alloc, reader, start) {
         Ok((index, rest)) => Ok(v.visit_resume_throw(index, rest.0, rest.1)),
@@ -185,7 +182,7 @@ pub fn resume_throw_ref<V: VisitOneByte>(
     start: usize,
 ) -> Result<V::Output>
     requires behind { StandsBehind start None 0xe5 reader.old }
-    ensures { (frame : FrameKind) → Decodes V.visits (EncodesAllowed reader.old.features frame) (OperatorFault reader.old.features frame) result (at_position reader.old start) reader.new v.old v.new }
+    ensures { (frame : FrameKind) → DecodesAt V.visits frame start result reader.old reader.new v.old v.new }
 {
     match immediates::resume(alloc, reader, start) {
         Ok(it) => Ok(v.visit_resume_throw_ref(it.0, it.1)),

@@ -1,13 +1,10 @@
 //! Decoding of the operators behind fb. Written by tools/lists.py from tools/operators.tsv.
 ghost use Rattle.std.specs.Prelude.{◌≡◌, ◌<◌, [], ◌∷◌, Some, None};
-ghost use Rattle.wasm_visit_groups.specs.below.Source.{at_position};
 ghost use Rattle.wasm_visit_groups.specs.grammar.declared.frame_kind.FrameKind.{FrameKind};
 ghost use Rattle.wasm_visit_groups.specs.instr.Immediate.{unsigned_32, heap_type, cast, is_unsigned_32, is_heap_type, is_cast};
-ghost use Rattle.wasm_decode_opcodes.specs.Allowed.{EncodesAllowed};
-ghost use Rattle.wasm_decode_opcodes.specs.Decoding.{Decodes, StandsBehind, VisitsRow};
+ghost use Rattle.wasm_decode_opcodes.specs.Decoding.{DecodesAt, StandsBehind, VisitsRow};
 ghost use Rattle.wasm_decode_opcodes.specs.Entries.{entry_at};
 ghost use Rattle.wasm_decode_opcodes.specs.Entry.{free};
-ghost use Rattle.wasm_decode_opcodes.specs.OperatorFaults.{OperatorFault};
 
 use wasm_decode_opcodes::{immediates, unknown_subopcode};
 use wasm_visit_groups::VisitGc;
@@ -23,7 +20,7 @@ pub fn gc<V: VisitGc>(
     code: u32,
 ) -> Result<V::Output>
     requires behind { StandsBehind start (Some 0xfb) code reader.old }
-    ensures { (frame : FrameKind) → Decodes V.visits (EncodesAllowed reader.old.features frame) (OperatorFault reader.old.features frame) result (at_position reader.old start) reader.new v.old v.new }
+    ensures { (frame : FrameKind) → DecodesAt V.visits frame start result reader.old reader.new v.old v.new }
 {
     match code {
         0x00..=0x01 => unsigned(v, reader, start, code),
@@ -54,7 +51,7 @@ fn unsigned<V: VisitGc>(
 ) -> Result<V::Output>
     requires behind { StandsBehind start (Some 0xfb) code reader.old }
     requires kinds { entry_at (Some 0xfb) code ≡ free (is_unsigned_32 ∷ []) }
-    ensures { (frame : FrameKind) → Decodes V.visits (EncodesAllowed reader.old.features frame) (OperatorFault reader.old.features frame) result (at_position reader.old start) reader.new v.old v.new }
+    ensures { (frame : FrameKind) → DecodesAt V.visits frame start result reader.old reader.new v.old v.new }
 {
     match immediates::unsigned(reader, start) {
         Ok(it) => Ok(visit_unsigned(v, code, it)),
@@ -95,7 +92,7 @@ fn two_unsigned<V: VisitGc>(
 ) -> Result<V::Output>
     requires behind { StandsBehind start (Some 0xfb) code reader.old }
     requires kinds { entry_at (Some 0xfb) code ≡ free (is_unsigned_32 ∷ is_unsigned_32 ∷ []) }
-    ensures { (frame : FrameKind) → Decodes V.visits (EncodesAllowed reader.old.features frame) (OperatorFault reader.old.features frame) result (at_position reader.old start) reader.new v.old v.new }
+    ensures { (frame : FrameKind) → DecodesAt V.visits frame start result reader.old reader.new v.old v.new }
 {
     match immediates::two_unsigned(reader, start) {
         Ok(it) => Ok(visit_two_unsigned(v, code, it)),
@@ -134,7 +131,7 @@ fn plain<V: VisitGc>(
 ) -> Result<V::Output>
     requires behind { StandsBehind start (Some 0xfb) code reader.old }
     requires kinds { entry_at (Some 0xfb) code ≡ free ([]) }
-    ensures { (frame : FrameKind) → Decodes V.visits (EncodesAllowed reader.old.features frame) (OperatorFault reader.old.features frame) result (at_position reader.old start) reader.new v.old v.new }
+    ensures { (frame : FrameKind) → DecodesAt V.visits frame start result reader.old reader.new v.old v.new }
 {
     Ok(visit_plain(v, code))
 }
@@ -166,7 +163,7 @@ fn heap_type<V: VisitGc>(
 ) -> Result<V::Output>
     requires behind { StandsBehind start (Some 0xfb) code reader.old }
     requires kinds { entry_at (Some 0xfb) code ≡ free (is_heap_type ∷ []) }
-    ensures { (frame : FrameKind) → Decodes V.visits (EncodesAllowed reader.old.features frame) (OperatorFault reader.old.features frame) result (at_position reader.old start) reader.new v.old v.new }
+    ensures { (frame : FrameKind) → DecodesAt V.visits frame start result reader.old reader.new v.old v.new }
 {
     match immediates::heap_type(reader, start) {
         Ok(it) => Ok(visit_heap_type(v, code, it)),
@@ -201,7 +198,7 @@ fn cast<V: VisitGc>(
 ) -> Result<V::Output>
     requires behind { StandsBehind start (Some 0xfb) code reader.old }
     requires kinds { entry_at (Some 0xfb) code ≡ free (is_cast ∷ []) }
-    ensures { (frame : FrameKind) → Decodes V.visits (EncodesAllowed reader.old.features frame) (OperatorFault reader.old.features frame) result (at_position reader.old start) reader.new v.old v.new }
+    ensures { (frame : FrameKind) → DecodesAt V.visits frame start result reader.old reader.new v.old v.new }
 {
     match immediates::cast(reader, start) {
         Ok(it) => Ok(visit_cast(v, code, it)),

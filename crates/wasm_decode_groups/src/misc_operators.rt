@@ -1,13 +1,10 @@
 //! Decoding of the operators behind fc. Written by tools/lists.py from tools/operators.tsv.
 ghost use Rattle.std.specs.Prelude.{◌≡◌, ◌<◌, [], ◌∷◌, Some, None};
-ghost use Rattle.wasm_visit_groups.specs.below.Source.{at_position};
 ghost use Rattle.wasm_visit_groups.specs.grammar.declared.frame_kind.FrameKind.{FrameKind};
 ghost use Rattle.wasm_visit_groups.specs.instr.Immediate.{unsigned_32, is_unsigned_32};
-ghost use Rattle.wasm_decode_opcodes.specs.Allowed.{EncodesAllowed};
-ghost use Rattle.wasm_decode_opcodes.specs.Decoding.{Decodes, StandsBehind, VisitsRow};
+ghost use Rattle.wasm_decode_opcodes.specs.Decoding.{DecodesAt, StandsBehind, VisitsRow};
 ghost use Rattle.wasm_decode_opcodes.specs.Entries.{entry_at};
 ghost use Rattle.wasm_decode_opcodes.specs.Entry.{free};
-ghost use Rattle.wasm_decode_opcodes.specs.OperatorFaults.{OperatorFault};
 
 use wasm_decode_opcodes::{immediates, unknown_subopcode};
 use wasm_visit_groups::VisitMisc;
@@ -22,7 +19,7 @@ pub fn misc<V: VisitMisc>(
     code: u32,
 ) -> Result<V::Output>
     requires behind { StandsBehind start (Some 0xfc) code reader.old }
-    ensures { (frame : FrameKind) → Decodes V.visits (EncodesAllowed reader.old.features frame) (OperatorFault reader.old.features frame) result (at_position reader.old start) reader.new v.old v.new }
+    ensures { (frame : FrameKind) → DecodesAt V.visits frame start result reader.old reader.new v.old v.new }
 {
     match code {
         0x00..=0x07 => plain(v, reader, start, code),
@@ -49,7 +46,7 @@ fn plain<V: VisitMisc>(
 ) -> Result<V::Output>
     requires behind { StandsBehind start (Some 0xfc) code reader.old }
     requires kinds { entry_at (Some 0xfc) code ≡ free ([]) }
-    ensures { (frame : FrameKind) → Decodes V.visits (EncodesAllowed reader.old.features frame) (OperatorFault reader.old.features frame) result (at_position reader.old start) reader.new v.old v.new }
+    ensures { (frame : FrameKind) → DecodesAt V.visits frame start result reader.old reader.new v.old v.new }
 {
     Ok(visit_plain(v, code))
 }
@@ -87,7 +84,7 @@ fn two_unsigned<V: VisitMisc>(
 ) -> Result<V::Output>
     requires behind { StandsBehind start (Some 0xfc) code reader.old }
     requires kinds { entry_at (Some 0xfc) code ≡ free (is_unsigned_32 ∷ is_unsigned_32 ∷ []) }
-    ensures { (frame : FrameKind) → Decodes V.visits (EncodesAllowed reader.old.features frame) (OperatorFault reader.old.features frame) result (at_position reader.old start) reader.new v.old v.new }
+    ensures { (frame : FrameKind) → DecodesAt V.visits frame start result reader.old reader.new v.old v.new }
 {
     match immediates::two_unsigned(reader, start) {
         Ok(it) => Ok(visit_two_unsigned(v, code, it)),
@@ -120,7 +117,7 @@ fn unsigned<V: VisitMisc>(
 ) -> Result<V::Output>
     requires behind { StandsBehind start (Some 0xfc) code reader.old }
     requires kinds { entry_at (Some 0xfc) code ≡ free (is_unsigned_32 ∷ []) }
-    ensures { (frame : FrameKind) → Decodes V.visits (EncodesAllowed reader.old.features frame) (OperatorFault reader.old.features frame) result (at_position reader.old start) reader.new v.old v.new }
+    ensures { (frame : FrameKind) → DecodesAt V.visits frame start result reader.old reader.new v.old v.new }
 {
     match immediates::unsigned(reader, start) {
         Ok(it) => Ok(visit_unsigned(v, code, it)),

@@ -1,13 +1,10 @@
 //! Decoding of the operators of one byte. Written by tools/lists.py from tools/operators.tsv.
 ghost use Rattle.std.specs.Prelude.{◌≡◌, ◌≤◌, ◌<◌, [], ◌∷◌, Some, None};
-ghost use Rattle.wasm_visit_groups.specs.below.Source.{at_position};
 ghost use Rattle.wasm_visit_groups.specs.grammar.declared.frame_kind.FrameKind.{FrameKind};
 ghost use Rattle.wasm_visit_groups.specs.instr.Immediate.{unsigned_32, signed_32, memory_argument, memory_index, block_type, is_unsigned_32, is_memory_index, is_block_type, is_memory_argument};
-ghost use Rattle.wasm_decode_opcodes.specs.Allowed.{EncodesAllowed};
-ghost use Rattle.wasm_decode_opcodes.specs.Decoding.{Decodes, StandsBehind, VisitsRow};
+ghost use Rattle.wasm_decode_opcodes.specs.Decoding.{DecodesAt, StandsBehind, VisitsRow};
 ghost use Rattle.wasm_decode_opcodes.specs.Entries.{entry_at, align_at};
 ghost use Rattle.wasm_decode_opcodes.specs.Entry.{free};
-ghost use Rattle.wasm_decode_opcodes.specs.OperatorFaults.{OperatorFault};
 ghost use Rattle.wasm_decode_groups.specs.OneByte.{IsOneByteCode};
 
 use crate::control::{
@@ -33,7 +30,7 @@ pub fn one_byte<V: VisitOneByte>(
 ) -> Result<V::Output>
     requires behind { StandsBehind start None code reader.old }
     requires apart { IsOneByteCode code }
-    ensures { Decodes V.visits (EncodesAllowed reader.old.features frame) (OperatorFault reader.old.features frame) result (at_position reader.old start) reader.new v.old v.new }
+    ensures { DecodesAt V.visits frame start result reader.old reader.new v.old v.new }
 {
     match code {
         0x20..=0x26 => unsigned(v, reader, start, code),
@@ -56,7 +53,7 @@ fn control_or_parametric<V: VisitOneByte>(
 ) -> Result<V::Output>
     requires behind { StandsBehind start None code reader.old }
     requires apart { IsOneByteCode code }
-    ensures { Decodes V.visits (EncodesAllowed reader.old.features frame) (OperatorFault reader.old.features frame) result (at_position reader.old start) reader.new v.old v.new }
+    ensures { DecodesAt V.visits frame start result reader.old reader.new v.old v.new }
 {
     match code {
         0x02..=0x04 => block_type(v, reader, start, code),
@@ -85,7 +82,7 @@ fn others<V: VisitOneByte>(
 ) -> Result<V::Output>
     requires behind { StandsBehind start None code reader.old }
     requires apart { IsOneByteCode code }
-    ensures { Decodes V.visits (EncodesAllowed reader.old.features frame) (OperatorFault reader.old.features frame) result (at_position reader.old start) reader.new v.old v.new }
+    ensures { DecodesAt V.visits frame start result reader.old reader.new v.old v.new }
 {
     match out_of_line(v, alloc, reader, start, frame, code) {
         Ok(answer) => Ok(answer),
@@ -105,7 +102,7 @@ fn out_of_line<V: VisitOneByte>(
 ) -> Result<V::Output>
     requires behind { StandsBehind start None code reader.old }
     requires apart { IsOneByteCode code }
-    ensures { Decodes V.visits (EncodesAllowed reader.old.features frame) (OperatorFault reader.old.features frame) result (at_position reader.old start) reader.new v.old v.new }
+    ensures { DecodesAt V.visits frame start result reader.old reader.new v.old v.new }
 {
     any_one_byte(v, alloc, reader, start, frame, code)
 }
@@ -122,7 +119,7 @@ pub fn any_one_byte<V: VisitOneByte>(
 ) -> Result<V::Output>
     requires behind { StandsBehind start None code reader.old }
     requires apart { IsOneByteCode code }
-    ensures { Decodes V.visits (EncodesAllowed reader.old.features frame) (OperatorFault reader.old.features frame) result (at_position reader.old start) reader.new v.old v.new }
+    ensures { DecodesAt V.visits frame start result reader.old reader.new v.old v.new }
 {
     match code {
         0x00..=0x01 => plain(v, reader, start, code),
@@ -178,7 +175,7 @@ fn plain<V: VisitOneByte>(
     requires behind { StandsBehind start None code reader.old }
     requires kinds { entry_at None code ≡ free ([]) }
     requires bound { 0x45 ≤ code → code ≤ 0xc4 → ⊥ }
-    ensures { (frame : FrameKind) → Decodes V.visits (EncodesAllowed reader.old.features frame) (OperatorFault reader.old.features frame) result (at_position reader.old start) reader.new v.old v.new }
+    ensures { (frame : FrameKind) → DecodesAt V.visits frame start result reader.old reader.new v.old v.new }
 {
     Ok(visit_plain(v, code))
 }
@@ -215,7 +212,7 @@ fn block_type<V: VisitOneByte>(
 ) -> Result<V::Output>
     requires behind { StandsBehind start None code reader.old }
     requires kinds { entry_at None code ≡ free (is_block_type ∷ []) }
-    ensures { (frame : FrameKind) → Decodes V.visits (EncodesAllowed reader.old.features frame) (OperatorFault reader.old.features frame) result (at_position reader.old start) reader.new v.old v.new }
+    ensures { (frame : FrameKind) → DecodesAt V.visits frame start result reader.old reader.new v.old v.new }
 {
     match immediates::block_type(reader, start) {
         Ok(it) => Ok(visit_block_type(v, code, it)),
@@ -247,7 +244,7 @@ fn unsigned<V: VisitOneByte>(
 ) -> Result<V::Output>
     requires behind { StandsBehind start None code reader.old }
     requires kinds { entry_at None code ≡ free (is_unsigned_32 ∷ []) }
-    ensures { (frame : FrameKind) → Decodes V.visits (EncodesAllowed reader.old.features frame) (OperatorFault reader.old.features frame) result (at_position reader.old start) reader.new v.old v.new }
+    ensures { (frame : FrameKind) → DecodesAt V.visits frame start result reader.old reader.new v.old v.new }
 {
     match immediates::unsigned(reader, start) {
         Ok(it) => Ok(visit_unsigned(v, code, it)),
@@ -294,7 +291,7 @@ fn call_indirect<V: VisitOneByte>(
     start: usize,
 ) -> Result<V::Output>
     requires behind { StandsBehind start None 0x11 reader.old }
-    ensures { (frame : FrameKind) → Decodes V.visits (EncodesAllowed reader.old.features frame) (OperatorFault reader.old.features frame) result (at_position reader.old start) reader.new v.old v.new }
+    ensures { (frame : FrameKind) → DecodesAt V.visits frame start result reader.old reader.new v.old v.new }
 {
     match immediates::call_indirect(reader, start) {
         Ok(it) => Ok(v.visit_call_indirect(it.0, it.1)),
@@ -312,7 +309,7 @@ fn memory<V: VisitOneByte>(
 ) -> Result<V::Output>
     requires behind { StandsBehind start None code reader.old }
     requires kinds { entry_at None code ≡ free (is_memory_argument MemArgKind.Plain (align_at None code) ∷ []) }
-    ensures { (frame : FrameKind) → Decodes V.visits (EncodesAllowed reader.old.features frame) (OperatorFault reader.old.features frame) result (at_position reader.old start) reader.new v.old v.new }
+    ensures { (frame : FrameKind) → DecodesAt V.visits frame start result reader.old reader.new v.old v.new }
 {
     match immediates::memory(reader, start, align_of_memory(code), MemArgKind::Plain) {
         Ok(it) => Ok(visit_memory(v, code, it)),
@@ -398,7 +395,7 @@ fn memory_index<V: VisitOneByte>(
 ) -> Result<V::Output>
     requires behind { StandsBehind start None code reader.old }
     requires kinds { entry_at None code ≡ free (is_memory_index ∷ []) }
-    ensures { (frame : FrameKind) → Decodes V.visits (EncodesAllowed reader.old.features frame) (OperatorFault reader.old.features frame) result (at_position reader.old start) reader.new v.old v.new }
+    ensures { (frame : FrameKind) → DecodesAt V.visits frame start result reader.old reader.new v.old v.new }
 {
     match immediates::memory_index(reader, start) {
         Ok(it) => Ok(visit_memory_index(v, code, it)),
@@ -427,7 +424,7 @@ fn i32_const<V: VisitOneByte>(
     start: usize,
 ) -> Result<V::Output>
     requires behind { StandsBehind start None 0x41 reader.old }
-    ensures { (frame : FrameKind) → Decodes V.visits (EncodesAllowed reader.old.features frame) (OperatorFault reader.old.features frame) result (at_position reader.old start) reader.new v.old v.new }
+    ensures { (frame : FrameKind) → DecodesAt V.visits frame start result reader.old reader.new v.old v.new }
 {
     match immediates::signed_32(reader, start) {
         Ok(it) => Ok(v.visit_i32_const(it)),
@@ -443,7 +440,7 @@ fn i64_const<V: VisitOneByte>(
     start: usize,
 ) -> Result<V::Output>
     requires behind { StandsBehind start None 0x42 reader.old }
-    ensures { (frame : FrameKind) → Decodes V.visits (EncodesAllowed reader.old.features frame) (OperatorFault reader.old.features frame) result (at_position reader.old start) reader.new v.old v.new }
+    ensures { (frame : FrameKind) → DecodesAt V.visits frame start result reader.old reader.new v.old v.new }
 {
     match immediates::signed_64(reader, start) {
         Ok(it) => Ok(v.visit_i64_const(it)),
@@ -459,7 +456,7 @@ fn f32_const<V: VisitOneByte>(
     start: usize,
 ) -> Result<V::Output>
     requires behind { StandsBehind start None 0x43 reader.old }
-    ensures { (frame : FrameKind) → Decodes V.visits (EncodesAllowed reader.old.features frame) (OperatorFault reader.old.features frame) result (at_position reader.old start) reader.new v.old v.new }
+    ensures { (frame : FrameKind) → DecodesAt V.visits frame start result reader.old reader.new v.old v.new }
 {
     match immediates::float_32(reader, start) {
         Ok(it) => Ok(v.visit_f32_const(it)),
@@ -475,7 +472,7 @@ fn f64_const<V: VisitOneByte>(
     start: usize,
 ) -> Result<V::Output>
     requires behind { StandsBehind start None 0x44 reader.old }
-    ensures { (frame : FrameKind) → Decodes V.visits (EncodesAllowed reader.old.features frame) (OperatorFault reader.old.features frame) result (at_position reader.old start) reader.new v.old v.new }
+    ensures { (frame : FrameKind) → DecodesAt V.visits frame start result reader.old reader.new v.old v.new }
 {
     match immediates::float_64(reader, start) {
         Ok(it) => Ok(v.visit_f64_const(it)),
@@ -491,7 +488,7 @@ fn ref_null<V: VisitOneByte>(
     start: usize,
 ) -> Result<V::Output>
     requires behind { StandsBehind start None 0xd0 reader.old }
-    ensures { (frame : FrameKind) → Decodes V.visits (EncodesAllowed reader.old.features frame) (OperatorFault reader.old.features frame) result (at_position reader.old start) reader.new v.old v.new }
+    ensures { (frame : FrameKind) → DecodesAt V.visits frame start result reader.old reader.new v.old v.new }
 {
     match immediates::heap_type(reader, start) {
         Ok(it) => Ok(v.visit_ref_null(it)),
@@ -509,7 +506,7 @@ fn two_unsigned<V: VisitOneByte>(
 ) -> Result<V::Output>
     requires behind { StandsBehind start None code reader.old }
     requires kinds { entry_at None code ≡ free (is_unsigned_32 ∷ is_unsigned_32 ∷ []) }
-    ensures { (frame : FrameKind) → Decodes V.visits (EncodesAllowed reader.old.features frame) (OperatorFault reader.old.features frame) result (at_position reader.old start) reader.new v.old v.new }
+    ensures { (frame : FrameKind) → DecodesAt V.visits frame start result reader.old reader.new v.old v.new }
 {
     match immediates::two_unsigned(reader, start) {
         Ok(it) => Ok(visit_two_unsigned(v, code, it)),
@@ -539,7 +536,7 @@ fn unreachable_alone<V: VisitOneByte>(
     start: usize,
 ) -> Result<V::Output>
     requires behind { StandsBehind start None 0x00 reader.old }
-    ensures { (frame : FrameKind) → Decodes V.visits (EncodesAllowed reader.old.features frame) (OperatorFault reader.old.features frame) result (at_position reader.old start) reader.new v.old v.new }
+    ensures { (frame : FrameKind) → DecodesAt V.visits frame start result reader.old reader.new v.old v.new }
 {
     Ok(v.visit_unreachable())
 }
@@ -552,7 +549,7 @@ fn nop_alone<V: VisitOneByte>(
     start: usize,
 ) -> Result<V::Output>
     requires behind { StandsBehind start None 0x01 reader.old }
-    ensures { (frame : FrameKind) → Decodes V.visits (EncodesAllowed reader.old.features frame) (OperatorFault reader.old.features frame) result (at_position reader.old start) reader.new v.old v.new }
+    ensures { (frame : FrameKind) → DecodesAt V.visits frame start result reader.old reader.new v.old v.new }
 {
     Ok(v.visit_nop())
 }
@@ -565,7 +562,7 @@ fn end_alone<V: VisitOneByte>(
     start: usize,
 ) -> Result<V::Output>
     requires behind { StandsBehind start None 0x0b reader.old }
-    ensures { (frame : FrameKind) → Decodes V.visits (EncodesAllowed reader.old.features frame) (OperatorFault reader.old.features frame) result (at_position reader.old start) reader.new v.old v.new }
+    ensures { (frame : FrameKind) → DecodesAt V.visits frame start result reader.old reader.new v.old v.new }
 {
     Ok(v.visit_end())
 }
@@ -578,7 +575,7 @@ fn br_alone<V: VisitOneByte>(
     start: usize,
 ) -> Result<V::Output>
     requires behind { StandsBehind start None 0x0c reader.old }
-    ensures { (frame : FrameKind) → Decodes V.visits (EncodesAllowed reader.old.features frame) (OperatorFault reader.old.features frame) result (at_position reader.old start) reader.new v.old v.new }
+    ensures { (frame : FrameKind) → DecodesAt V.visits frame start result reader.old reader.new v.old v.new }
 {
     match immediates::unsigned(reader, start) {
         Ok(it) => Ok(v.visit_br(it)),
@@ -594,7 +591,7 @@ fn br_if_alone<V: VisitOneByte>(
     start: usize,
 ) -> Result<V::Output>
     requires behind { StandsBehind start None 0x0d reader.old }
-    ensures { (frame : FrameKind) → Decodes V.visits (EncodesAllowed reader.old.features frame) (OperatorFault reader.old.features frame) result (at_position reader.old start) reader.new v.old v.new }
+    ensures { (frame : FrameKind) → DecodesAt V.visits frame start result reader.old reader.new v.old v.new }
 {
     match immediates::unsigned(reader, start) {
         Ok(it) => Ok(v.visit_br_if(it)),
@@ -610,7 +607,7 @@ fn return_alone<V: VisitOneByte>(
     start: usize,
 ) -> Result<V::Output>
     requires behind { StandsBehind start None 0x0f reader.old }
-    ensures { (frame : FrameKind) → Decodes V.visits (EncodesAllowed reader.old.features frame) (OperatorFault reader.old.features frame) result (at_position reader.old start) reader.new v.old v.new }
+    ensures { (frame : FrameKind) → DecodesAt V.visits frame start result reader.old reader.new v.old v.new }
 {
     Ok(v.visit_return())
 }
@@ -623,7 +620,7 @@ fn call_alone<V: VisitOneByte>(
     start: usize,
 ) -> Result<V::Output>
     requires behind { StandsBehind start None 0x10 reader.old }
-    ensures { (frame : FrameKind) → Decodes V.visits (EncodesAllowed reader.old.features frame) (OperatorFault reader.old.features frame) result (at_position reader.old start) reader.new v.old v.new }
+    ensures { (frame : FrameKind) → DecodesAt V.visits frame start result reader.old reader.new v.old v.new }
 {
     match immediates::unsigned(reader, start) {
         Ok(it) => Ok(v.visit_call(it)),
@@ -639,7 +636,7 @@ fn drop_alone<V: VisitOneByte>(
     start: usize,
 ) -> Result<V::Output>
     requires behind { StandsBehind start None 0x1a reader.old }
-    ensures { (frame : FrameKind) → Decodes V.visits (EncodesAllowed reader.old.features frame) (OperatorFault reader.old.features frame) result (at_position reader.old start) reader.new v.old v.new }
+    ensures { (frame : FrameKind) → DecodesAt V.visits frame start result reader.old reader.new v.old v.new }
 {
     Ok(v.visit_drop())
 }
@@ -652,7 +649,7 @@ fn select_alone<V: VisitOneByte>(
     start: usize,
 ) -> Result<V::Output>
     requires behind { StandsBehind start None 0x1b reader.old }
-    ensures { (frame : FrameKind) → Decodes V.visits (EncodesAllowed reader.old.features frame) (OperatorFault reader.old.features frame) result (at_position reader.old start) reader.new v.old v.new }
+    ensures { (frame : FrameKind) → DecodesAt V.visits frame start result reader.old reader.new v.old v.new }
 {
     Ok(v.visit_select())
 }

@@ -1,13 +1,10 @@
 //! Decoding of the vector operators below 80. Written by tools/lists.py from tools/operators.tsv.
 ghost use Rattle.std.specs.Prelude.{◌≡◌, ◌<◌, [], ◌∷◌, Some, None};
-ghost use Rattle.wasm_visit_groups.specs.below.Source.{at_position};
 ghost use Rattle.wasm_visit_groups.specs.grammar.declared.frame_kind.FrameKind.{FrameKind};
 ghost use Rattle.wasm_visit_groups.specs.instr.Immediate.{vector, one_lane, memory_argument, is_one_lane, is_memory_argument};
-ghost use Rattle.wasm_decode_opcodes.specs.Allowed.{EncodesAllowed};
-ghost use Rattle.wasm_decode_opcodes.specs.Decoding.{Decodes, StandsBehind, VisitsRow};
+ghost use Rattle.wasm_decode_opcodes.specs.Decoding.{DecodesAt, StandsBehind, VisitsRow};
 ghost use Rattle.wasm_decode_opcodes.specs.Entries.{entry_at, align_at};
 ghost use Rattle.wasm_decode_opcodes.specs.Entry.{free};
-ghost use Rattle.wasm_decode_opcodes.specs.OperatorFaults.{OperatorFault};
 
 use wasm_decode_opcodes::{immediates, unknown_subopcode};
 use wasm_visit_groups::VisitSimdLow;
@@ -24,7 +21,7 @@ pub fn simd_low<V: VisitSimdLow>(
 ) -> Result<V::Output>
     requires behind { StandsBehind start (Some 0xfd) code reader.old }
     requires half { code < 0x80 }
-    ensures { (frame : FrameKind) → Decodes V.visits (EncodesAllowed reader.old.features frame) (OperatorFault reader.old.features frame) result (at_position reader.old start) reader.new v.old v.new }
+    ensures { (frame : FrameKind) → DecodesAt V.visits frame start result reader.old reader.new v.old v.new }
 {
     match code {
         0x00..=0x0b => memory(v, reader, start, code),
@@ -50,7 +47,7 @@ fn memory<V: VisitSimdLow>(
 ) -> Result<V::Output>
     requires behind { StandsBehind start (Some 0xfd) code reader.old }
     requires kinds { entry_at (Some 0xfd) code ≡ free (is_memory_argument MemArgKind.Plain (align_at (Some 0xfd) code) ∷ []) }
-    ensures { (frame : FrameKind) → Decodes V.visits (EncodesAllowed reader.old.features frame) (OperatorFault reader.old.features frame) result (at_position reader.old start) reader.new v.old v.new }
+    ensures { (frame : FrameKind) → DecodesAt V.visits frame start result reader.old reader.new v.old v.new }
 {
     match immediates::memory(reader, start, align_of_memory(code), MemArgKind::Plain) {
         Ok(it) => Ok(visit_memory(v, code, it)),
@@ -118,7 +115,7 @@ fn memory_lane<V: VisitSimdLow>(
 ) -> Result<V::Output>
     requires behind { StandsBehind start (Some 0xfd) code reader.old }
     requires kinds { entry_at (Some 0xfd) code ≡ free (is_memory_argument MemArgKind.Plain (align_at (Some 0xfd) code) ∷ is_one_lane ∷ []) }
-    ensures { (frame : FrameKind) → Decodes V.visits (EncodesAllowed reader.old.features frame) (OperatorFault reader.old.features frame) result (at_position reader.old start) reader.new v.old v.new }
+    ensures { (frame : FrameKind) → DecodesAt V.visits frame start result reader.old reader.new v.old v.new }
 {
     match immediates::memory_lane(reader, start, align_of_memory_lane(code)) {
         Ok(it) => Ok(visit_memory_lane(v, code, it)),
@@ -172,7 +169,7 @@ fn v128_const<V: VisitSimdLow>(
     start: usize,
 ) -> Result<V::Output>
     requires behind { StandsBehind start (Some 0xfd) 0x0c reader.old }
-    ensures { (frame : FrameKind) → Decodes V.visits (EncodesAllowed reader.old.features frame) (OperatorFault reader.old.features frame) result (at_position reader.old start) reader.new v.old v.new }
+    ensures { (frame : FrameKind) → DecodesAt V.visits frame start result reader.old reader.new v.old v.new }
 {
     match immediates::vector(reader, start) {
         Ok(it) => Ok(v.visit_v128_const(it)),
@@ -188,7 +185,7 @@ fn i8x16_shuffle<V: VisitSimdLow>(
     start: usize,
 ) -> Result<V::Output>
     requires behind { StandsBehind start (Some 0xfd) 0x0d reader.old }
-    ensures { (frame : FrameKind) → Decodes V.visits (EncodesAllowed reader.old.features frame) (OperatorFault reader.old.features frame) result (at_position reader.old start) reader.new v.old v.new }
+    ensures { (frame : FrameKind) → DecodesAt V.visits frame start result reader.old reader.new v.old v.new }
 {
     match immediates::lanes(reader, start) {
         Ok(it) => Ok(v.visit_i8x16_shuffle(it)),
@@ -206,7 +203,7 @@ fn lane<V: VisitSimdLow>(
 ) -> Result<V::Output>
     requires behind { StandsBehind start (Some 0xfd) code reader.old }
     requires kinds { entry_at (Some 0xfd) code ≡ free (is_one_lane ∷ []) }
-    ensures { (frame : FrameKind) → Decodes V.visits (EncodesAllowed reader.old.features frame) (OperatorFault reader.old.features frame) result (at_position reader.old start) reader.new v.old v.new }
+    ensures { (frame : FrameKind) → DecodesAt V.visits frame start result reader.old reader.new v.old v.new }
 {
     match immediates::lane(reader, start) {
         Ok(it) => Ok(visit_lane(v, code, it)),
@@ -250,7 +247,7 @@ fn plain<V: VisitSimdLow>(
     requires behind { StandsBehind start (Some 0xfd) code reader.old }
     requires kinds { entry_at (Some 0xfd) code ≡ free ([]) }
     requires bound { code < 0x80 }
-    ensures { (frame : FrameKind) → Decodes V.visits (EncodesAllowed reader.old.features frame) (OperatorFault reader.old.features frame) result (at_position reader.old start) reader.new v.old v.new }
+    ensures { (frame : FrameKind) → DecodesAt V.visits frame start result reader.old reader.new v.old v.new }
 {
     Ok(visit_plain(v, code))
 }

@@ -14,7 +14,7 @@ use wasm_decode::below::{BinaryReader, Error, Message, Result};
 use wasm_decode::grammar::FrameKind;
 use wasm_decode::instr::Operator;
 use wasm_decode::visitors::{VisitOperator, VisitSimdOperator};
-use wasm_decode::{control_behind, read_behind, visit_behind, visit_behind_simd};
+use wasm_decode::{read_behind, visit_behind, visit_behind_simd, visit_below_20};
 
 /// Reads the operators of an expression one after another, and keeps the kinds of the open frames.
 ///
@@ -147,7 +147,7 @@ impl<'a> OperatorsReader<'a> {
                         at.code,
                     );
                 }
-                match control_behind(v, self.alloc, &mut self.reader, at.start, at.frame, at.code) {
+                match visit_below_20(v, self.alloc, &mut self.reader, at.start, at.frame, at.code) {
                     Ok(answer) => {
                         advance(&mut self.control, at.code);
                         Ok(answer)
@@ -179,7 +179,7 @@ impl<'a> OperatorsReader<'a> {
                         at.code,
                     );
                 }
-                match control_behind(v, self.alloc, &mut self.reader, at.start, at.frame, at.code) {
+                match visit_below_20(v, self.alloc, &mut self.reader, at.start, at.frame, at.code) {
                     Ok(answer) => {
                         advance(&mut self.control, at.code);
                         Ok(answer)
