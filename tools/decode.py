@@ -402,7 +402,7 @@ def group_decode(ops, group):
         "ghost use Rattle.wasm_decode_opcodes.specs.Entry.{free};",
         *(["ghost use Rattle.wasm_decode_groups.specs.OneByte.{IsOneByteCode};"] if is_own else []),
         "",
-        *(["use crate::control::{%s};" % ", ".join(sorted(set(APART.values())))] if is_own else []),
+        *(["use crate::guarded::{%s};" % ", ".join(sorted(set(APART.values())))] if is_own else []),
         *(["use std::alloc::Global;"] if is_own else []),
         f"use wasm_below::{{{', '.join(below)}}};",
         *(["use wasm_grammar::FrameKind;"] if is_own else []),

@@ -7,7 +7,7 @@ ghost use Rattle.wasm_decode_opcodes.specs.Entries.{entry_at, align_at};
 ghost use Rattle.wasm_decode_opcodes.specs.Entry.{free};
 ghost use Rattle.wasm_decode_groups.specs.OneByte.{IsOneByteCode};
 
-use crate::control::{
+use crate::guarded::{
     else_in_if, legacy_catch, legacy_catch_all, legacy_delegate, legacy_try, resume, resume_throw,
     resume_throw_ref, try_table, typed_select,
 };

@@ -6,7 +6,7 @@ ghost use Rattle.wasm_operators_readers.specs.opcodes.OperatorFaults.{OperatorFa
 ghost use Rattle.wasm_operators.specs.Single.{PeeksOperator, FinishesExpression};
 
 use std::alloc::Global;
-use wasm_decode as decode;
+use wasm_operators_readers::decoder as decode;
 use wasm_operators_readers::below::{BinaryReader, Error, Message, Result};
 use wasm_operators_readers::instr::{FrameStack, Operator};
 use wasm_operators_readers::visitors::{VisitOperator, VisitSimdOperator};

@@ -4,7 +4,7 @@ use Rattle.wasm_visit_groups.specs.instr.Immediate.{unsigned_32, is_unsigned_32}
 use Rattle.wasm_decode_opcodes.specs.declared.guard.Guard.TheVariants as guard
 use Rattle.wasm_decode_opcodes.specs.OperatorFaults.{OperatorFault}
 use Rattle.wasm_decode_opcodes.proofs.GuardLemmas.{checked_refused, checked_visited}
-use Rattle.wasm_decode_groups.proofs.control.legacy_catch.Goals as goal
+use Rattle.wasm_decode_groups.proofs.guarded.legacy_catch.Goals as goal
 
 pub returns-in-Ok-unsigned : goal.returns-in-Ok-unsigned
 returns-in-Ok-unsigned g c =

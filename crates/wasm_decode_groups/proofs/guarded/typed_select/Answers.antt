@@ -7,7 +7,7 @@ use Rattle.wasm_decode_opcodes.specs.Kinds.{EncodesKinds}
 use Rattle.wasm_decode_opcodes.specs.OperatorFaults.{OperatorFault}
 use Rattle.wasm_decode_opcodes.proofs.MemoryLemmas.{needs_types, refuses_list}
 use Rattle.wasm_decode_opcodes.proofs.OperatorLemmas.{visited_free, within_behind}
-use Rattle.wasm_decode_groups.proofs.control.typed_select.Goals as goal
+use Rattle.wasm_decode_groups.proofs.guarded.typed_select.Goals as goal
 
 pub returns-in-Ok-One : goal.returns-in-Ok-One
 returns-in-Ok-One g c k =

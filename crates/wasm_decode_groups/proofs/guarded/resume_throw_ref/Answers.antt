@@ -4,7 +4,7 @@ use Rattle.wasm_visit_groups.specs.instr.Immediate.{unsigned_32, resume_clauses,
 use Rattle.wasm_decode_opcodes.specs.OperatorFaults.{OperatorFault}
 use Rattle.wasm_decode_opcodes.proofs.MemoryLemmas.{owns_resume, needs_list, refuses_list}
 use Rattle.wasm_decode_opcodes.proofs.OperatorLemmas.{visited_free, within_behind}
-use Rattle.wasm_decode_groups.proofs.control.resume_throw_ref.Goals as goal
+use Rattle.wasm_decode_groups.proofs.guarded.resume_throw_ref.Goals as goal
 
 pub returns-in-Ok : goal.returns-in-Ok
 returns-in-Ok g c k =

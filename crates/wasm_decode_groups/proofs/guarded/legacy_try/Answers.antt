@@ -4,7 +4,7 @@ use Rattle.wasm_visit_groups.specs.instr.Immediate.{block_type, is_block_type}
 use Rattle.wasm_decode_opcodes.specs.declared.guard.Guard.TheVariants as guard
 use Rattle.wasm_decode_opcodes.specs.OperatorFaults.{OperatorFault}
 use Rattle.wasm_decode_opcodes.proofs.GuardLemmas.{checked_refused, checked_visited}
-use Rattle.wasm_decode_groups.proofs.control.legacy_try.Goals as goal
+use Rattle.wasm_decode_groups.proofs.guarded.legacy_try.Goals as goal
 
 pub returns-in-Ok-block_type : goal.returns-in-Ok-block_type
 returns-in-Ok-block_type g c =

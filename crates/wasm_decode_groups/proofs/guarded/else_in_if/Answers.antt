@@ -3,7 +3,7 @@ use Rattle.wasm_visit_groups.specs.instr.declared.operator.Operator.TheVariants 
 use Rattle.wasm_decode_opcodes.specs.declared.guard.Guard.TheVariants as guard
 use Rattle.wasm_decode_opcodes.specs.OperatorFaults.{OperatorFault}
 use Rattle.wasm_decode_opcodes.proofs.GuardLemmas.{checked_plain}
-use Rattle.wasm_decode_groups.proofs.control.else_in_if.Goals as goal
+use Rattle.wasm_decode_groups.proofs.guarded.else_in_if.Goals as goal
 
 pub returns-in-Ok : goal.returns-in-Ok
 returns-in-Ok g c =
