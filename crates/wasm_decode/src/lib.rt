@@ -12,6 +12,7 @@ mod refusals;
 mod visit;
 
 pub use read::{read_behind, read_operator};
+pub use refusals::no_frame;
 pub use visit::{
     visit_behind, visit_behind_simd, visit_below_20, visit_operator, visit_operator_simd,
 };

@@ -6,7 +6,8 @@ ghost use Rattle.wasm_visit.specs.opcodes.Decoding.{StandsBehind, RefusesPlainAt
 
 use wasm_visit::below::{BinaryReader, Error, Message};
 
-/// No frame is open, so that no operator may stand there.
+/// The refusal where no frame is open, so that no operator may stand there: `OperatorsRemaining` at
+/// the position.
 #[cold]
 #[inline(never)]
 pub fn no_frame(reader: &BinaryReader<'_>) -> Error

@@ -7,6 +7,7 @@ ghost use Rattle.wasm_operators_readers.specs.Next.{ReadsNext, VisitsNext, Visit
 mod stack;
 
 use crate::begin::{advance, begin};
+use crate::step::leaves_frames;
 use crate::{ControlStack, OperatorsReaderAllocations};
 use std::alloc::Global;
 use std::marker::Model;
@@ -136,8 +137,7 @@ impl<'a> OperatorsReader<'a> {
     {
         match begin(&mut self.reader, &mut self.control) {
             Ok(at) => {
-                // No opcode from 20 on does anything to the frames.
-                if at.code >= 0x20 {
+                if leaves_frames(at.code) {
                     return visit_behind_simd(
                         v,
                         self.alloc,
@@ -168,8 +168,7 @@ impl<'a> OperatorsReader<'a> {
     {
         match begin(&mut self.reader, &mut self.control) {
             Ok(at) => {
-                // No opcode from 20 on does anything to the frames.
-                if at.code >= 0x20 {
+                if leaves_frames(at.code) {
                     return visit_behind(
                         v,
                         self.alloc,
