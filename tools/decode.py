@@ -87,7 +87,7 @@ def form_key(op):
 def title(key):
     """What a function for these kinds is called within its group."""
     if not key:
-        return "plain"
+        return "without_immediates"
     sort = key[0].removeprefix("memory ") if key[0].startswith("memory ") else ""
     name = FORMS[key].name
     return name if sort in ("", "Plain") else f"{name}_{sort.lower()}"
@@ -229,7 +229,7 @@ def arms(part):
         "}",
         "",
     ]
-    return ["/// The visits of the operators with such immediates.", "#[inline(always)]", *out]
+    return ["/// Their visits, by their codes.", "#[inline(always)]", *out]
 
 
 def function(part):
@@ -256,7 +256,12 @@ def function(part):
             "        Err(e) => Err(e),",
             "    }",
         ]
-    doc = f"/// `{part.ops[0].name}`." if part.is_one else "/// The operators with such immediates."
+    if part.is_one:
+        doc = f"/// `{part.ops[0].name}`."
+    elif form is None:
+        doc = "/// The operators without immediates."
+    else:
+        doc = f"/// The operators whose immediates `{form.name}` reads."
     return [doc, "#[inline(always)]", *out, "}", ""]
 
 

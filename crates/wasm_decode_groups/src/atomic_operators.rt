@@ -30,13 +30,13 @@ pub fn atomic<V: VisitAtomic>(
         0x4f..=0x5b => ordered(v, reader, start, code),
         0x67..=0x71 => ordered(v, reader, start, code),
         0x5c..=0x66 => ordered_two(v, reader, start, code),
-        0x04 => plain(v, reader, start, code),
-        0x72 => plain(v, reader, start, code),
+        0x04 => without_immediates(v, reader, start, code),
+        0x72 => without_immediates(v, reader, start, code),
         _ => Err(unknown_subopcode(reader, start, 0xfe, code)),
     }
 }
 
-/// The operators with such immediates.
+/// The operators whose immediates `memory` reads.
 #[inline(always)]
 fn memory<V: VisitAtomic>(
     v: &mut V,
@@ -68,7 +68,7 @@ fn align_of_memory(code: u32) -> u8
     }
 }
 
-/// The visits of the operators with such immediates.
+/// Their visits, by their codes.
 #[inline(always)]
 fn visit_memory<V: VisitAtomic>(v: &mut V, code: u32, it: MemArg) -> V::Output
     requires { entry_at (Some 0xfe) code ≡ free (is_memory_argument MemArgKind.Plain (align_at (Some 0xfe) code) ∷ []) }
@@ -98,7 +98,7 @@ fn atomic_fence<V: VisitAtomic>(
     }
 }
 
-/// The operators with such immediates.
+/// The operators whose immediates `memory` reads.
 #[inline(always)]
 fn memory_op<V: VisitAtomic>(
     v: &mut V,
@@ -141,7 +141,7 @@ fn align_of_memory_op(code: u32) -> u8
     }
 }
 
-/// The visits of the operators with such immediates.
+/// Their visits, by their codes.
 #[inline(always)]
 fn visit_memory_op<V: VisitAtomic>(v: &mut V, code: u32, it: MemArg) -> V::Output
     requires { entry_at (Some 0xfe) code ≡ free (is_memory_argument MemArgKind.Op (align_at (Some 0xfe) code) ∷ []) }
@@ -166,7 +166,7 @@ fn visit_memory_op<V: VisitAtomic>(v: &mut V, code: u32, it: MemArg) -> V::Outpu
     }
 }
 
-/// The operators with such immediates.
+/// The operators whose immediates `memory` reads.
 #[inline(always)]
 fn memory_rmw<V: VisitAtomic>(
     v: &mut V,
@@ -244,7 +244,7 @@ fn align_of_memory_rmw(code: u32) -> u8
     }
 }
 
-/// The visits of the operators with such immediates.
+/// Their visits, by their codes.
 #[inline(always)]
 fn visit_memory_rmw<V: VisitAtomic>(v: &mut V, code: u32, it: MemArg) -> V::Output
     requires { entry_at (Some 0xfe) code ≡ free (is_memory_argument MemArgKind.Rmw (align_at (Some 0xfe) code) ∷ []) }
@@ -304,7 +304,7 @@ fn visit_memory_rmw<V: VisitAtomic>(v: &mut V, code: u32, it: MemArg) -> V::Outp
     }
 }
 
-/// The operators with such immediates.
+/// The operators whose immediates `ordered` reads.
 #[inline(always)]
 fn ordered<V: VisitAtomic>(
     v: &mut V,
@@ -322,7 +322,7 @@ fn ordered<V: VisitAtomic>(
     }
 }
 
-/// The visits of the operators with such immediates.
+/// Their visits, by their codes.
 #[inline(always)]
 fn visit_ordered<V: VisitAtomic>(v: &mut V, code: u32, it: (Ordering, u32)) -> V::Output
     requires { entry_at (Some 0xfe) code ≡ free (is_order ∷ is_unsigned_32 ∷ []) }
@@ -357,7 +357,7 @@ fn visit_ordered<V: VisitAtomic>(v: &mut V, code: u32, it: (Ordering, u32)) -> V
     }
 }
 
-/// The operators with such immediates.
+/// The operators whose immediates `ordered_two` reads.
 #[inline(always)]
 fn ordered_two<V: VisitAtomic>(
     v: &mut V,
@@ -375,7 +375,7 @@ fn ordered_two<V: VisitAtomic>(
     }
 }
 
-/// The visits of the operators with such immediates.
+/// Their visits, by their codes.
 #[inline(always)]
 fn visit_ordered_two<V: VisitAtomic>(v: &mut V, code: u32, it: (Ordering, (u32, u32))) -> V::Output
     requires { entry_at (Some 0xfe) code ≡ free (is_order ∷ is_unsigned_32 ∷ is_unsigned_32 ∷ []) }
@@ -397,9 +397,9 @@ fn visit_ordered_two<V: VisitAtomic>(v: &mut V, code: u32, it: (Ordering, (u32, 
     }
 }
 
-/// The operators with such immediates.
+/// The operators without immediates.
 #[inline(always)]
-fn plain<V: VisitAtomic>(
+fn without_immediates<V: VisitAtomic>(
     v: &mut V,
     reader: &mut BinaryReader<'_>,
     start: usize,
@@ -409,12 +409,12 @@ fn plain<V: VisitAtomic>(
     requires kinds { entry_at (Some 0xfe) code ≡ free ([]) }
     ensures { (frame : FrameKind) → DecodesAt V.visits frame start result reader.old reader.new v.old v.new }
 {
-    Ok(visit_plain(v, code))
+    Ok(visit_without_immediates(v, code))
 }
 
-/// The visits of the operators with such immediates.
+/// Their visits, by their codes.
 #[inline(always)]
-fn visit_plain<V: VisitAtomic>(v: &mut V, code: u32) -> V::Output
+fn visit_without_immediates<V: VisitAtomic>(v: &mut V, code: u32) -> V::Output
     requires { entry_at (Some 0xfe) code ≡ free ([]) }
     ensures { VisitsRow V.visits (Some 0xfe) code ([]) v.old result v.new }
 {

@@ -31,8 +31,8 @@ pub fn gc<V: VisitGc>(
         0x02..=0x05 => two_unsigned(v, reader, start, code),
         0x08..=0x0a => two_unsigned(v, reader, start, code),
         0x11..=0x13 => two_unsigned(v, reader, start, code),
-        0x0f => plain(v, reader, start, code),
-        0x1a..=0x1e => plain(v, reader, start, code),
+        0x0f => without_immediates(v, reader, start, code),
+        0x1a..=0x1e => without_immediates(v, reader, start, code),
         0x14..=0x17 => heap_type(v, reader, start, code),
         0x23..=0x24 => heap_type(v, reader, start, code),
         0x18..=0x19 => cast(v, reader, start, code),
@@ -41,7 +41,7 @@ pub fn gc<V: VisitGc>(
     }
 }
 
-/// The operators with such immediates.
+/// The operators whose immediates `unsigned` reads.
 #[inline(always)]
 fn unsigned<V: VisitGc>(
     v: &mut V,
@@ -59,7 +59,7 @@ fn unsigned<V: VisitGc>(
     }
 }
 
-/// The visits of the operators with such immediates.
+/// Their visits, by their codes.
 #[inline(always)]
 fn visit_unsigned<V: VisitGc>(v: &mut V, code: u32, it: u32) -> V::Output
     requires { entry_at (Some 0xfb) code ≡ free (is_unsigned_32 ∷ []) }
@@ -82,7 +82,7 @@ fn visit_unsigned<V: VisitGc>(v: &mut V, code: u32, it: u32) -> V::Output
     }
 }
 
-/// The operators with such immediates.
+/// The operators whose immediates `two_unsigned` reads.
 #[inline(always)]
 fn two_unsigned<V: VisitGc>(
     v: &mut V,
@@ -100,7 +100,7 @@ fn two_unsigned<V: VisitGc>(
     }
 }
 
-/// The visits of the operators with such immediates.
+/// Their visits, by their codes.
 #[inline(always)]
 fn visit_two_unsigned<V: VisitGc>(v: &mut V, code: u32, it: (u32, u32)) -> V::Output
     requires { entry_at (Some 0xfb) code ≡ free (is_unsigned_32 ∷ is_unsigned_32 ∷ []) }
@@ -121,9 +121,9 @@ fn visit_two_unsigned<V: VisitGc>(v: &mut V, code: u32, it: (u32, u32)) -> V::Ou
     }
 }
 
-/// The operators with such immediates.
+/// The operators without immediates.
 #[inline(always)]
-fn plain<V: VisitGc>(
+fn without_immediates<V: VisitGc>(
     v: &mut V,
     reader: &mut BinaryReader<'_>,
     start: usize,
@@ -133,12 +133,12 @@ fn plain<V: VisitGc>(
     requires kinds { entry_at (Some 0xfb) code ≡ free ([]) }
     ensures { (frame : FrameKind) → DecodesAt V.visits frame start result reader.old reader.new v.old v.new }
 {
-    Ok(visit_plain(v, code))
+    Ok(visit_without_immediates(v, code))
 }
 
-/// The visits of the operators with such immediates.
+/// Their visits, by their codes.
 #[inline(always)]
-fn visit_plain<V: VisitGc>(v: &mut V, code: u32) -> V::Output
+fn visit_without_immediates<V: VisitGc>(v: &mut V, code: u32) -> V::Output
     requires { entry_at (Some 0xfb) code ≡ free ([]) }
     ensures { VisitsRow V.visits (Some 0xfb) code ([]) v.old result v.new }
 {
@@ -153,7 +153,7 @@ fn visit_plain<V: VisitGc>(v: &mut V, code: u32) -> V::Output
     }
 }
 
-/// The operators with such immediates.
+/// The operators whose immediates `heap_type` reads.
 #[inline(always)]
 fn heap_type<V: VisitGc>(
     v: &mut V,
@@ -171,7 +171,7 @@ fn heap_type<V: VisitGc>(
     }
 }
 
-/// The visits of the operators with such immediates.
+/// Their visits, by their codes.
 #[inline(always)]
 fn visit_heap_type<V: VisitGc>(v: &mut V, code: u32, it: HeapType) -> V::Output
     requires { entry_at (Some 0xfb) code ≡ free (is_heap_type ∷ []) }
@@ -188,7 +188,7 @@ fn visit_heap_type<V: VisitGc>(v: &mut V, code: u32, it: HeapType) -> V::Output
     }
 }
 
-/// The operators with such immediates.
+/// The operators whose immediates `cast` reads.
 #[inline(always)]
 fn cast<V: VisitGc>(
     v: &mut V,
@@ -206,7 +206,7 @@ fn cast<V: VisitGc>(
     }
 }
 
-/// The visits of the operators with such immediates.
+/// Their visits, by their codes.
 #[inline(always)]
 fn visit_cast<V: VisitGc>(v: &mut V, code: u32, it: Cast) -> V::Output
     requires { entry_at (Some 0xfb) code ≡ free (is_cast ∷ []) }

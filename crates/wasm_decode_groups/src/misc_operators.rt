@@ -22,8 +22,8 @@ pub fn misc<V: VisitMisc>(
     ensures { (frame : FrameKind) → DecodesAt V.visits frame start result reader.old reader.new v.old v.new }
 {
     match code {
-        0x00..=0x07 => plain(v, reader, start, code),
-        0x13..=0x16 => plain(v, reader, start, code),
+        0x00..=0x07 => without_immediates(v, reader, start, code),
+        0x13..=0x16 => without_immediates(v, reader, start, code),
         0x08 => two_unsigned(v, reader, start, code),
         0x0a => two_unsigned(v, reader, start, code),
         0x0c => two_unsigned(v, reader, start, code),
@@ -36,9 +36,9 @@ pub fn misc<V: VisitMisc>(
     }
 }
 
-/// The operators with such immediates.
+/// The operators without immediates.
 #[inline(always)]
-fn plain<V: VisitMisc>(
+fn without_immediates<V: VisitMisc>(
     v: &mut V,
     reader: &mut BinaryReader<'_>,
     start: usize,
@@ -48,12 +48,12 @@ fn plain<V: VisitMisc>(
     requires kinds { entry_at (Some 0xfc) code ≡ free ([]) }
     ensures { (frame : FrameKind) → DecodesAt V.visits frame start result reader.old reader.new v.old v.new }
 {
-    Ok(visit_plain(v, code))
+    Ok(visit_without_immediates(v, code))
 }
 
-/// The visits of the operators with such immediates.
+/// Their visits, by their codes.
 #[inline(always)]
-fn visit_plain<V: VisitMisc>(v: &mut V, code: u32) -> V::Output
+fn visit_without_immediates<V: VisitMisc>(v: &mut V, code: u32) -> V::Output
     requires { entry_at (Some 0xfc) code ≡ free ([]) }
     ensures { VisitsRow V.visits (Some 0xfc) code ([]) v.old result v.new }
 {
@@ -74,7 +74,7 @@ fn visit_plain<V: VisitMisc>(v: &mut V, code: u32) -> V::Output
     }
 }
 
-/// The operators with such immediates.
+/// The operators whose immediates `two_unsigned` reads.
 #[inline(always)]
 fn two_unsigned<V: VisitMisc>(
     v: &mut V,
@@ -92,7 +92,7 @@ fn two_unsigned<V: VisitMisc>(
     }
 }
 
-/// The visits of the operators with such immediates.
+/// Their visits, by their codes.
 #[inline(always)]
 fn visit_two_unsigned<V: VisitMisc>(v: &mut V, code: u32, it: (u32, u32)) -> V::Output
     requires { entry_at (Some 0xfc) code ≡ free (is_unsigned_32 ∷ is_unsigned_32 ∷ []) }
@@ -107,7 +107,7 @@ fn visit_two_unsigned<V: VisitMisc>(v: &mut V, code: u32, it: (u32, u32)) -> V::
     }
 }
 
-/// The operators with such immediates.
+/// The operators whose immediates `unsigned` reads.
 #[inline(always)]
 fn unsigned<V: VisitMisc>(
     v: &mut V,
@@ -125,7 +125,7 @@ fn unsigned<V: VisitMisc>(
     }
 }
 
-/// The visits of the operators with such immediates.
+/// Their visits, by their codes.
 #[inline(always)]
 fn visit_unsigned<V: VisitMisc>(v: &mut V, code: u32, it: u32) -> V::Output
     requires { entry_at (Some 0xfc) code ≡ free (is_unsigned_32 ∷ []) }

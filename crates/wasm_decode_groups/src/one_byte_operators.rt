@@ -122,12 +122,12 @@ pub fn any_one_byte<V: VisitOneByte>(
     ensures { DecodesAt V.visits frame start result reader.old reader.new v.old v.new }
 {
     match code {
-        0x00..=0x01 => plain(v, reader, start, code),
-        0x0a..=0x0b => plain(v, reader, start, code),
-        0x0f => plain(v, reader, start, code),
-        0x1a..=0x1b => plain(v, reader, start, code),
-        0xd1 => plain(v, reader, start, code),
-        0xd3..=0xd4 => plain(v, reader, start, code),
+        0x00..=0x01 => without_immediates(v, reader, start, code),
+        0x0a..=0x0b => without_immediates(v, reader, start, code),
+        0x0f => without_immediates(v, reader, start, code),
+        0x1a..=0x1b => without_immediates(v, reader, start, code),
+        0xd1 => without_immediates(v, reader, start, code),
+        0xd3..=0xd4 => without_immediates(v, reader, start, code),
         0x02..=0x04 => block_type(v, reader, start, code),
         0x08..=0x09 => unsigned(v, reader, start, code),
         0x0c..=0x0d => unsigned(v, reader, start, code),
@@ -164,9 +164,9 @@ pub fn any_one_byte<V: VisitOneByte>(
     }
 }
 
-/// The operators with such immediates.
+/// The operators without immediates.
 #[inline(always)]
-fn plain<V: VisitOneByte>(
+fn without_immediates<V: VisitOneByte>(
     v: &mut V,
     reader: &mut BinaryReader<'_>,
     start: usize,
@@ -177,12 +177,12 @@ fn plain<V: VisitOneByte>(
     requires bound { 0x45 ≤ code → code ≤ 0xc4 → ⊥ }
     ensures { (frame : FrameKind) → DecodesAt V.visits frame start result reader.old reader.new v.old v.new }
 {
-    Ok(visit_plain(v, code))
+    Ok(visit_without_immediates(v, code))
 }
 
-/// The visits of the operators with such immediates.
+/// Their visits, by their codes.
 #[inline(always)]
-fn visit_plain<V: VisitOneByte>(v: &mut V, code: u8) -> V::Output
+fn visit_without_immediates<V: VisitOneByte>(v: &mut V, code: u8) -> V::Output
     requires kinds { entry_at None code ≡ free ([]) }
     requires bound { 0x45 ≤ code → code ≤ 0xc4 → ⊥ }
     ensures { VisitsRow V.visits None code ([]) v.old result v.new }
@@ -202,7 +202,7 @@ fn visit_plain<V: VisitOneByte>(v: &mut V, code: u8) -> V::Output
     }
 }
 
-/// The operators with such immediates.
+/// The operators whose immediates `block_type` reads.
 #[inline(always)]
 fn block_type<V: VisitOneByte>(
     v: &mut V,
@@ -220,7 +220,7 @@ fn block_type<V: VisitOneByte>(
     }
 }
 
-/// The visits of the operators with such immediates.
+/// Their visits, by their codes.
 #[inline(always)]
 fn visit_block_type<V: VisitOneByte>(v: &mut V, code: u8, it: BlockType) -> V::Output
     requires { entry_at None code ≡ free (is_block_type ∷ []) }
@@ -234,7 +234,7 @@ fn visit_block_type<V: VisitOneByte>(v: &mut V, code: u8, it: BlockType) -> V::O
     }
 }
 
-/// The operators with such immediates.
+/// The operators whose immediates `unsigned` reads.
 #[inline(always)]
 fn unsigned<V: VisitOneByte>(
     v: &mut V,
@@ -252,7 +252,7 @@ fn unsigned<V: VisitOneByte>(
     }
 }
 
-/// The visits of the operators with such immediates.
+/// Their visits, by their codes.
 #[inline(always)]
 fn visit_unsigned<V: VisitOneByte>(v: &mut V, code: u8, it: u32) -> V::Output
     requires { entry_at None code ≡ free (is_unsigned_32 ∷ []) }
@@ -299,7 +299,7 @@ fn call_indirect<V: VisitOneByte>(
     }
 }
 
-/// The operators with such immediates.
+/// The operators whose immediates `memory` reads.
 #[inline(always)]
 fn memory<V: VisitOneByte>(
     v: &mut V,
@@ -351,7 +351,7 @@ fn align_of_memory(code: u8) -> u8
     }
 }
 
-/// The visits of the operators with such immediates.
+/// Their visits, by their codes.
 #[inline(always)]
 fn visit_memory<V: VisitOneByte>(v: &mut V, code: u8, it: MemArg) -> V::Output
     requires { entry_at None code ≡ free (is_memory_argument MemArgKind.Plain (align_at None code) ∷ []) }
@@ -385,7 +385,7 @@ fn visit_memory<V: VisitOneByte>(v: &mut V, code: u8, it: MemArg) -> V::Output
     }
 }
 
-/// The operators with such immediates.
+/// The operators whose immediates `memory_index` reads.
 #[inline(always)]
 fn memory_index<V: VisitOneByte>(
     v: &mut V,
@@ -403,7 +403,7 @@ fn memory_index<V: VisitOneByte>(
     }
 }
 
-/// The visits of the operators with such immediates.
+/// Their visits, by their codes.
 #[inline(always)]
 fn visit_memory_index<V: VisitOneByte>(v: &mut V, code: u8, it: u32) -> V::Output
     requires { entry_at None code ≡ free (is_memory_index ∷ []) }
@@ -496,7 +496,7 @@ fn ref_null<V: VisitOneByte>(
     }
 }
 
-/// The operators with such immediates.
+/// The operators whose immediates `two_unsigned` reads.
 #[inline(always)]
 fn two_unsigned<V: VisitOneByte>(
     v: &mut V,
@@ -514,7 +514,7 @@ fn two_unsigned<V: VisitOneByte>(
     }
 }
 
-/// The visits of the operators with such immediates.
+/// Their visits, by their codes.
 #[inline(always)]
 fn visit_two_unsigned<V: VisitOneByte>(v: &mut V, code: u8, it: (u32, u32)) -> V::Output
     requires { entry_at None code ≡ free (is_unsigned_32 ∷ is_unsigned_32 ∷ []) }

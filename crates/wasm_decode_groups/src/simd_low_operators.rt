@@ -30,14 +30,14 @@ pub fn simd_low<V: VisitSimdLow>(
         0x0c => v128_const(v, reader, start),
         0x0d => i8x16_shuffle(v, reader, start),
         0x15..=0x22 => lane(v, reader, start, code),
-        0x0e..=0x14 => plain(v, reader, start, code),
-        0x23..=0x53 => plain(v, reader, start, code),
-        0x5e..=0x7f => plain(v, reader, start, code),
+        0x0e..=0x14 => without_immediates(v, reader, start, code),
+        0x23..=0x53 => without_immediates(v, reader, start, code),
+        0x5e..=0x7f => without_immediates(v, reader, start, code),
         _ => Err(unknown_subopcode(reader, start, 0xfd, code)),
     }
 }
 
-/// The operators with such immediates.
+/// The operators whose immediates `memory` reads.
 #[inline(always)]
 fn memory<V: VisitSimdLow>(
     v: &mut V,
@@ -80,7 +80,7 @@ fn align_of_memory(code: u32) -> u8
     }
 }
 
-/// The visits of the operators with such immediates.
+/// Their visits, by their codes.
 #[inline(always)]
 fn visit_memory<V: VisitSimdLow>(v: &mut V, code: u32, it: MemArg) -> V::Output
     requires { entry_at (Some 0xfd) code ≡ free (is_memory_argument MemArgKind.Plain (align_at (Some 0xfd) code) ∷ []) }
@@ -105,7 +105,7 @@ fn visit_memory<V: VisitSimdLow>(v: &mut V, code: u32, it: MemArg) -> V::Output
     }
 }
 
-/// The operators with such immediates.
+/// The operators whose immediates `memory_lane` reads.
 #[inline(always)]
 fn memory_lane<V: VisitSimdLow>(
     v: &mut V,
@@ -142,7 +142,7 @@ fn align_of_memory_lane(code: u32) -> u8
     }
 }
 
-/// The visits of the operators with such immediates.
+/// Their visits, by their codes.
 #[inline(always)]
 fn visit_memory_lane<V: VisitSimdLow>(v: &mut V, code: u32, it: (MemArg, u8)) -> V::Output
     requires { entry_at (Some 0xfd) code ≡ free (is_memory_argument MemArgKind.Plain (align_at (Some 0xfd) code) ∷ is_one_lane ∷ []) }
@@ -193,7 +193,7 @@ fn i8x16_shuffle<V: VisitSimdLow>(
     }
 }
 
-/// The operators with such immediates.
+/// The operators whose immediates `lane` reads.
 #[inline(always)]
 fn lane<V: VisitSimdLow>(
     v: &mut V,
@@ -211,7 +211,7 @@ fn lane<V: VisitSimdLow>(
     }
 }
 
-/// The visits of the operators with such immediates.
+/// Their visits, by their codes.
 #[inline(always)]
 fn visit_lane<V: VisitSimdLow>(v: &mut V, code: u32, it: u8) -> V::Output
     requires { entry_at (Some 0xfd) code ≡ free (is_one_lane ∷ []) }
@@ -236,9 +236,9 @@ fn visit_lane<V: VisitSimdLow>(v: &mut V, code: u32, it: u8) -> V::Output
     }
 }
 
-/// The operators with such immediates.
+/// The operators without immediates.
 #[inline(always)]
-fn plain<V: VisitSimdLow>(
+fn without_immediates<V: VisitSimdLow>(
     v: &mut V,
     reader: &mut BinaryReader<'_>,
     start: usize,
@@ -249,12 +249,12 @@ fn plain<V: VisitSimdLow>(
     requires bound { code < 0x80 }
     ensures { (frame : FrameKind) → DecodesAt V.visits frame start result reader.old reader.new v.old v.new }
 {
-    Ok(visit_plain(v, code))
+    Ok(visit_without_immediates(v, code))
 }
 
-/// The visits of the operators with such immediates.
+/// Their visits, by their codes.
 #[inline(always)]
-fn visit_plain<V: VisitSimdLow>(v: &mut V, code: u32) -> V::Output
+fn visit_without_immediates<V: VisitSimdLow>(v: &mut V, code: u32) -> V::Output
     requires kinds { entry_at (Some 0xfd) code ≡ free ([]) }
     requires bound { code < 0x80 }
     ensures { VisitsRow V.visits (Some 0xfd) code ([]) v.old result v.new }
