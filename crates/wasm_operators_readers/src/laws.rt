@@ -24,7 +24,7 @@ pub fn refused_again()
         → (d.message ≡ e.message) × (d.offset ≡ e.offset) }
 {}
 
-/// It does not succeed.
+/// What was refused is not taken when the same read is made again, allocation failure aside.
 pub fn not_taken()
     ensures any { (e : Error) (old mid new : State) (op : Operator)
         → StopsNext EncodesAllowed OperatorFault e old mid → e.message ≢ Message.OutOfMemory
