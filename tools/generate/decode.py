@@ -102,7 +102,7 @@ def unread(ops):
     """The operators that the decoder would leave out."""
     wanting = [op for op in ops if op.name not in APART and op.name != "BrTable" and not is_read(op)]
     return [
-        f"{op.place}: no call of wasm_decode_opcodes reads the immediates {', '.join(op.immediates)}: add it, and its form to tools/decode.py"
+        f"{op.place}: no call of wasm_decode_opcodes reads the immediates {', '.join(op.immediates)}: add it, and its form to tools/generate/decode.py"
         for op in wanting
     ]
 

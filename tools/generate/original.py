@@ -3,7 +3,7 @@
 import csv
 from pathlib import Path
 
-FOLDER = Path(__file__).resolve().parent / "original"
+FOLDER = Path(__file__).resolve().parent.parent / "original"
 
 # The words of the original's list for immediates, and those of the table. `types` goes by the field.
 KINDS = {

@@ -10,7 +10,7 @@ stands in, by crates.txt.
 import re
 from pathlib import Path
 
-TOP = Path(__file__).resolve().parent.parent
+TOP = Path(__file__).resolve().parent.parent.parent
 
 # The short name of a crate, under which those above re-export it.
 SHORT = {

@@ -3,7 +3,7 @@
 import re
 from pathlib import Path
 
-TOP = Path(__file__).resolve().parent.parent
+TOP = Path(__file__).resolve().parent.parent.parent
 TABLE = TOP / "tools" / "operators.tsv"
 HEAD = "Written by tools/lists.py from tools/operators.tsv."
 WIDTH = 100
