@@ -25,7 +25,8 @@ pub fn read_operator<'a>(
     reader: &mut BinaryReader<'a>,
     frame: Option<FrameKind>,
 ) -> Result<Operator<'a>>
-    ensures { DecodesOperator (EncodesIn (EncodesAllowed reader.old.features) frame) (FaultIn (OperatorFault reader.old.features) frame) result reader.old reader.new }
+    ensures { DecodesOperator (EncodesIn (EncodesAllowed reader.old.features) frame)
+        (FaultIn (OperatorFault reader.old.features) frame) result reader.old reader.new }
 {
     let Some(frame) = frame else {
         return Err(no_frame(reader));

@@ -29,7 +29,8 @@ pub fn visit_operator_simd<'a, V>(
 ) -> Result<V::Output>
 where
     V: VisitOperator<'a> + VisitSimdOperator,
-    ensures { Decodes V.visits (EncodesIn (EncodesAllowed reader.old.features) frame) (FaultIn (OperatorFault reader.old.features) frame) result reader.old reader.new v.old v.new }
+    ensures { Decodes V.visits (EncodesIn (EncodesAllowed reader.old.features) frame)
+        (FaultIn (OperatorFault reader.old.features) frame) result reader.old reader.new v.old v.new }
 {
     let Some(frame) = frame else {
         return Err(no_frame(reader));
@@ -77,7 +78,8 @@ pub fn visit_operator<'a, V: VisitOperator<'a>>(
     reader: &mut BinaryReader<'a>,
     frame: Option<FrameKind>,
 ) -> Result<V::Output>
-    ensures { Decodes V.visits (EncodesIn (EncodesPlain reader.old.features) frame) (FaultIn (PlainOperatorFault reader.old.features) frame) result reader.old reader.new v.old v.new }
+    ensures { Decodes V.visits (EncodesIn (EncodesPlain reader.old.features) frame)
+        (FaultIn (PlainOperatorFault reader.old.features) frame) result reader.old reader.new v.old v.new }
 {
     let Some(frame) = frame else {
         return Err(no_frame(reader));

@@ -6,8 +6,8 @@ ghost use Rattle.wasm_operators_readers.specs.opcodes.OperatorFaults.{OperatorFa
 ghost use Rattle.wasm_operators.specs.Single.{PeeksOperator, FinishesExpression};
 
 use std::alloc::Global;
-use wasm_operators_readers::decoder as decode;
 use wasm_operators_readers::below::{BinaryReader, Error, Message, Result};
+use wasm_operators_readers::decoder as decode;
 use wasm_operators_readers::instr::{FrameStack, Operator};
 use wasm_operators_readers::visitors::{VisitOperator, VisitSimdOperator};
 
@@ -22,7 +22,8 @@ pub trait ReadOperators<'a> {
     ///
     /// Refusals are those of `visit_operator_simd`.
     fn peek_operator<S: FrameStack>(&self, alloc: Global, stack: &S) -> Result<Operator<'a>>
-        ensures { PeeksOperator (EncodesIn (EncodesAllowed (reader self.now).features) (S.frame stack.now)) (FaultIn (OperatorFault (reader self.now).features) (S.frame stack.now)) result (reader self.now) };
+        ensures { PeeksOperator (EncodesIn (EncodesAllowed (reader self.now).features) (S.frame stack.now))
+            (FaultIn (OperatorFault (reader self.now).features) (S.frame stack.now)) result (reader self.now) };
 
     /// Whether an expression ends here: the stack has no open frame, and no data is left. Binary
     /// Format, Expressions.
@@ -68,7 +69,9 @@ pub trait ReadVisits<'a, V: VisitOperator<'a> + FrameStack> {
     /// `OutOfMemory` where the operator begins, and only of one that owns a list. Reader and visitor
     /// are unchanged then.
     fn visit_operator(&mut self, alloc: Global, v: &mut V) -> Result<V::Output>
-        ensures { Decodes V.visits (EncodesIn (EncodesPlain (reader self.old).features) (V.frame v.old)) (FaultIn (PlainOperatorFault (reader self.old).features) (V.frame v.old)) result (reader self.old) (reader self.new) v.old v.new };
+        ensures { Decodes V.visits (EncodesIn (EncodesPlain (reader self.old).features) (V.frame v.old))
+            (FaultIn (PlainOperatorFault (reader self.old).features) (V.frame v.old)) result (reader self.old)
+            (reader self.new) v.old v.new };
 }
 
 impl<'a, V: VisitOperator<'a> + FrameStack> ReadVisits<'a, V> for BinaryReader<'a> {
@@ -90,7 +93,9 @@ pub trait ReadSimdVisits<'a, V: VisitOperator<'a> + VisitSimdOperator + FrameSta
     ///
     /// As `visit_operator`, but for `UnexpectedSimd`.
     fn visit_operator_simd(&mut self, alloc: Global, v: &mut V) -> Result<V::Output>
-        ensures { Decodes V.visits (EncodesIn (EncodesAllowed (reader self.old).features) (V.frame v.old)) (FaultIn (OperatorFault (reader self.old).features) (V.frame v.old)) result (reader self.old) (reader self.new) v.old v.new };
+        ensures { Decodes V.visits (EncodesIn (EncodesAllowed (reader self.old).features) (V.frame v.old))
+            (FaultIn (OperatorFault (reader self.old).features) (V.frame v.old)) result (reader self.old)
+            (reader self.new) v.old v.new };
 }
 
 impl<'a, V: VisitOperator<'a> + VisitSimdOperator + FrameStack> ReadSimdVisits<'a, V>
