@@ -6,6 +6,8 @@ import sys
 import tempfile
 from pathlib import Path
 
+from clauses import clauses_broken
+
 
 def is_here():
     """Whether the kit, whose `rt fmt` lays files out, is on this machine."""
@@ -36,4 +38,5 @@ def laid_out(files):
                 wrong = wrong.replace(f"{path.parent.name}/{path.name}", name)
             sys.exit(f"rt fmt cannot read what was written:\n{wrong}")
         laid = {name: path.read_text(encoding="utf-8") for name, path in paths.items()}
+        laid = {name: clauses_broken(text) if name.endswith(".rt") else text for name, text in laid.items()}
     return {name: laid.get(name, text) for name, text in files.items()}

@@ -109,7 +109,8 @@ impl<'a> BinaryReader<'a> {
         desc: SizeName,
     ) -> Result<BinaryReaderIter<'a, 'r, T>>
         ensures same_reference { IfOk result (λ items. items_name items ≡ self.entry.ghost_name) }
-        ensures count { IfOk result (λ items. Reads (EncodesSize limit) (Ok (items_left items)) self.old (items_reader items)) }
+        ensures count { IfOk result
+            (λ items. Reads (EncodesSize limit) (Ok (items_left items)) self.old (items_reader items)) }
         ensures refused { IfErr result (λ e. IsRefusal (EncodesSize limit) e self.old) }
         ensures fault { IfErr result (λ e. CountFault desc limit e.message self.old e.offset) }
     {
@@ -151,7 +152,9 @@ impl<'a, 'r, T: FromReader<'a>> BinaryReaderIter<'a, 'r, T> {
 impl<'a, 'r, T: FromReader<'a>> Iterator for BinaryReaderIter<'a, 'r, T> {
     type Item = Result<T>;
 
-    ghost next_gives = { λ s item t. (items_name t ≡ items_name s) × StepsItems (T.encodes (items_reader s).features) T.fault T.placed T.Memory.TAKES (items_left s) (items_left t) item (items_reader s) (items_reader t) };
+    ghost next_gives = { λ s item t. (items_name t ≡ items_name s)
+        × StepsItems (T.encodes (items_reader s).features) T.fault T.placed T.Memory.TAKES (items_left s) (items_left t)
+        item (items_reader s) (items_reader t) };
 
     ghost remaining = { λ s. at_most (items_left s) };
 
@@ -182,7 +185,8 @@ impl<'a, 'r, T: FromReader<'a>> Iterator for BinaryReaderIter<'a, 'r, T> {
 
 impl<'a, 'r, T: FromReader<'a>> Drop for BinaryReaderIter<'a, 'r, T> {
     fn drop(self)
-        ensures { ReadsOn (T.encodes (items_reader self.entry).features) T.Memory.TAKES (items_left self.entry) (items_reader self.entry) self.exit.1.0.now }
+        ensures { ReadsOn (T.encodes (items_reader self.entry).features) T.Memory.TAKES (items_left self.entry)
+            (items_reader self.entry) self.exit.1.0.now }
     {
         let BinaryReaderIter {
             remaining,

@@ -1,10 +1,8 @@
 //! An operator is read, by the visitor that makes it in place.
 ghost use Rattle.std.specs.Prelude.{◌≡◌, ◌≢◌, None};
-ghost use Rattle.wasm_decode.specs.Reading.{DecodesOperator, DecodesOperatorAt};
+ghost use Rattle.wasm_decode.specs.Reading.{DecodesOperatorIn, DecodesOperatorAt};
 ghost use Rattle.wasm_visit.specs.grammar.declared.frame_kind.FrameKind.{FrameKind};
-ghost use Rattle.wasm_visit.specs.opcodes.Allowed.{EncodesAllowed, EncodesIn};
 ghost use Rattle.wasm_visit.specs.opcodes.Decoding.{StandsBehind};
-ghost use Rattle.wasm_visit.specs.opcodes.OperatorFaults.{OperatorFault, FaultIn};
 
 use crate::behind::{fixed_behind, simd_behind};
 use crate::refusals::no_frame;
@@ -25,7 +23,7 @@ pub fn read_operator<'a>(
     reader: &mut BinaryReader<'a>,
     frame: Option<FrameKind>,
 ) -> Result<Operator<'a>>
-    ensures { DecodesOperator (EncodesIn (EncodesAllowed reader.old.features) frame) (FaultIn (OperatorFault reader.old.features) frame) result reader.old reader.new }
+    ensures { DecodesOperatorIn frame result reader.old reader.new }
 {
     let Some(frame) = frame else {
         return Err(no_frame(reader));

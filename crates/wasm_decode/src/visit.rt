@@ -1,9 +1,7 @@
 //! An operator is read and visited.
 ghost use Rattle.std.specs.Prelude.{◌≡◌, ◌<◌, None};
 ghost use Rattle.wasm_visit.specs.grammar.declared.frame_kind.FrameKind.{FrameKind};
-ghost use Rattle.wasm_visit.specs.opcodes.Allowed.{EncodesAllowed, EncodesPlain, EncodesIn};
-ghost use Rattle.wasm_visit.specs.opcodes.Decoding.{Decodes, StandsBehind, DecodesAt, DecodesPlainAt};
-ghost use Rattle.wasm_visit.specs.opcodes.OperatorFaults.{OperatorFault, PlainOperatorFault, FaultIn};
+ghost use Rattle.wasm_visit.specs.opcodes.Decoding.{DecodesIn, DecodesPlainIn, StandsBehind, DecodesAt, DecodesPlainAt};
 
 use crate::behind::{fixed_behind, simd_behind};
 use crate::refusals::{no_frame, unexpected_simd};
@@ -29,7 +27,7 @@ pub fn visit_operator_simd<'a, V>(
 ) -> Result<V::Output>
 where
     V: VisitOperator<'a> + VisitSimdOperator,
-    ensures { Decodes V.visits (EncodesIn (EncodesAllowed reader.old.features) frame) (FaultIn (OperatorFault reader.old.features) frame) result reader.old reader.new v.old v.new }
+    ensures { DecodesIn V.visits frame result reader.old reader.new v.old v.new }
 {
     let Some(frame) = frame else {
         return Err(no_frame(reader));
@@ -77,7 +75,7 @@ pub fn visit_operator<'a, V: VisitOperator<'a>>(
     reader: &mut BinaryReader<'a>,
     frame: Option<FrameKind>,
 ) -> Result<V::Output>
-    ensures { Decodes V.visits (EncodesIn (EncodesPlain reader.old.features) frame) (FaultIn (PlainOperatorFault reader.old.features) frame) result reader.old reader.new v.old v.new }
+    ensures { DecodesPlainIn V.visits frame result reader.old reader.new v.old v.new }
 {
     let Some(frame) = frame else {
         return Err(no_frame(reader));

@@ -45,7 +45,8 @@ fn memory<V: VisitAtomic>(
     code: u32,
 ) -> Result<V::Output>
     requires behind { StandsBehind start (Some 0xfe) code reader.old }
-    requires kinds { entry_at (Some 0xfe) code ≡ free (is_memory_argument MemArgKind.Plain (align_at (Some 0xfe) code) ∷ []) }
+    requires kinds { entry_at (Some 0xfe) code
+        ≡ free (is_memory_argument MemArgKind.Plain (align_at (Some 0xfe) code) ∷ []) }
     ensures { (frame : FrameKind) → DecodesAt V.visits frame start result reader.old reader.new v.old v.new }
 {
     match immediates::memory(reader, start, align_of_memory(code), MemArgKind::Plain) {
@@ -72,7 +73,8 @@ fn align_of_memory(code: u32) -> u8
 #[inline(always)]
 fn visit_memory<V: VisitAtomic>(v: &mut V, code: u32, it: MemArg) -> V::Output
     requires { entry_at (Some 0xfe) code ≡ free (is_memory_argument MemArgKind.Plain (align_at (Some 0xfe) code) ∷ []) }
-    ensures { VisitsRow V.visits (Some 0xfe) code (memory_argument MemArgKind.Plain (align_at (Some 0xfe) code) it ∷ []) v.old result v.new }
+    ensures { VisitsRow V.visits (Some 0xfe) code (memory_argument MemArgKind.Plain (align_at (Some 0xfe) code) it ∷ [])
+        v.old result v.new }
 {
     match code {
         0x00 => v.visit_memory_atomic_notify(it),
@@ -107,7 +109,8 @@ fn memory_op<V: VisitAtomic>(
     code: u32,
 ) -> Result<V::Output>
     requires behind { StandsBehind start (Some 0xfe) code reader.old }
-    requires kinds { entry_at (Some 0xfe) code ≡ free (is_memory_argument MemArgKind.Op (align_at (Some 0xfe) code) ∷ []) }
+    requires kinds { entry_at (Some 0xfe) code
+        ≡ free (is_memory_argument MemArgKind.Op (align_at (Some 0xfe) code) ∷ []) }
     ensures { (frame : FrameKind) → DecodesAt V.visits frame start result reader.old reader.new v.old v.new }
 {
     match immediates::memory(reader, start, align_of_memory_op(code), MemArgKind::Op) {
@@ -145,7 +148,8 @@ fn align_of_memory_op(code: u32) -> u8
 #[inline(always)]
 fn visit_memory_op<V: VisitAtomic>(v: &mut V, code: u32, it: MemArg) -> V::Output
     requires { entry_at (Some 0xfe) code ≡ free (is_memory_argument MemArgKind.Op (align_at (Some 0xfe) code) ∷ []) }
-    ensures { VisitsRow V.visits (Some 0xfe) code (memory_argument MemArgKind.Op (align_at (Some 0xfe) code) it ∷ []) v.old result v.new }
+    ensures { VisitsRow V.visits (Some 0xfe) code (memory_argument MemArgKind.Op (align_at (Some 0xfe) code) it ∷ [])
+        v.old result v.new }
 {
     match code {
         0x10 => v.visit_i32_atomic_load(it),
@@ -175,7 +179,8 @@ fn memory_rmw<V: VisitAtomic>(
     code: u32,
 ) -> Result<V::Output>
     requires behind { StandsBehind start (Some 0xfe) code reader.old }
-    requires kinds { entry_at (Some 0xfe) code ≡ free (is_memory_argument MemArgKind.Rmw (align_at (Some 0xfe) code) ∷ []) }
+    requires kinds { entry_at (Some 0xfe) code
+        ≡ free (is_memory_argument MemArgKind.Rmw (align_at (Some 0xfe) code) ∷ []) }
     ensures { (frame : FrameKind) → DecodesAt V.visits frame start result reader.old reader.new v.old v.new }
 {
     match immediates::memory(reader, start, align_of_memory_rmw(code), MemArgKind::Rmw) {
@@ -248,7 +253,8 @@ fn align_of_memory_rmw(code: u32) -> u8
 #[inline(always)]
 fn visit_memory_rmw<V: VisitAtomic>(v: &mut V, code: u32, it: MemArg) -> V::Output
     requires { entry_at (Some 0xfe) code ≡ free (is_memory_argument MemArgKind.Rmw (align_at (Some 0xfe) code) ∷ []) }
-    ensures { VisitsRow V.visits (Some 0xfe) code (memory_argument MemArgKind.Rmw (align_at (Some 0xfe) code) it ∷ []) v.old result v.new }
+    ensures { VisitsRow V.visits (Some 0xfe) code (memory_argument MemArgKind.Rmw (align_at (Some 0xfe) code) it ∷ [])
+        v.old result v.new }
 {
     match code {
         0x1e => v.visit_i32_atomic_rmw_add(it),
@@ -379,7 +385,8 @@ fn ordered_two<V: VisitAtomic>(
 #[inline(always)]
 fn visit_ordered_two<V: VisitAtomic>(v: &mut V, code: u32, it: (Ordering, (u32, u32))) -> V::Output
     requires { entry_at (Some 0xfe) code ≡ free (is_order ∷ is_unsigned_32 ∷ is_unsigned_32 ∷ []) }
-    ensures { VisitsRow V.visits (Some 0xfe) code (order it.0 ∷ unsigned_32 it.1.0 ∷ unsigned_32 it.1.1 ∷ []) v.old result v.new }
+    ensures { VisitsRow V.visits (Some 0xfe) code (order it.0 ∷ unsigned_32 it.1.0 ∷ unsigned_32 it.1.1 ∷ [])
+        v.old result v.new }
 {
     match code {
         0x5c => v.visit_struct_atomic_get(it.0, it.1.0, it.1.1),

@@ -355,7 +355,8 @@ fn align_of_memory(code: u8) -> u8
 #[inline(always)]
 fn visit_memory<V: VisitOneByte>(v: &mut V, code: u8, it: MemArg) -> V::Output
     requires { entry_at None code ≡ free (is_memory_argument MemArgKind.Plain (align_at None code) ∷ []) }
-    ensures { VisitsRow V.visits None code (memory_argument MemArgKind.Plain (align_at None code) it ∷ []) v.old result v.new }
+    ensures { VisitsRow V.visits None code (memory_argument MemArgKind.Plain (align_at None code) it ∷ [])
+        v.old result v.new }
 {
     match code {
         0x28 => v.visit_i32_load(it),

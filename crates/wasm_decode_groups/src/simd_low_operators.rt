@@ -46,7 +46,8 @@ fn memory<V: VisitSimdLow>(
     code: u32,
 ) -> Result<V::Output>
     requires behind { StandsBehind start (Some 0xfd) code reader.old }
-    requires kinds { entry_at (Some 0xfd) code ≡ free (is_memory_argument MemArgKind.Plain (align_at (Some 0xfd) code) ∷ []) }
+    requires kinds { entry_at (Some 0xfd) code
+        ≡ free (is_memory_argument MemArgKind.Plain (align_at (Some 0xfd) code) ∷ []) }
     ensures { (frame : FrameKind) → DecodesAt V.visits frame start result reader.old reader.new v.old v.new }
 {
     match immediates::memory(reader, start, align_of_memory(code), MemArgKind::Plain) {
@@ -84,7 +85,8 @@ fn align_of_memory(code: u32) -> u8
 #[inline(always)]
 fn visit_memory<V: VisitSimdLow>(v: &mut V, code: u32, it: MemArg) -> V::Output
     requires { entry_at (Some 0xfd) code ≡ free (is_memory_argument MemArgKind.Plain (align_at (Some 0xfd) code) ∷ []) }
-    ensures { VisitsRow V.visits (Some 0xfd) code (memory_argument MemArgKind.Plain (align_at (Some 0xfd) code) it ∷ []) v.old result v.new }
+    ensures { VisitsRow V.visits (Some 0xfd) code (memory_argument MemArgKind.Plain (align_at (Some 0xfd) code) it ∷ [])
+        v.old result v.new }
 {
     match code {
         0x00 => v.visit_v128_load(it),
@@ -114,7 +116,8 @@ fn memory_lane<V: VisitSimdLow>(
     code: u32,
 ) -> Result<V::Output>
     requires behind { StandsBehind start (Some 0xfd) code reader.old }
-    requires kinds { entry_at (Some 0xfd) code ≡ free (is_memory_argument MemArgKind.Plain (align_at (Some 0xfd) code) ∷ is_one_lane ∷ []) }
+    requires kinds { entry_at (Some 0xfd) code
+        ≡ free (is_memory_argument MemArgKind.Plain (align_at (Some 0xfd) code) ∷ is_one_lane ∷ []) }
     ensures { (frame : FrameKind) → DecodesAt V.visits frame start result reader.old reader.new v.old v.new }
 {
     match immediates::memory_lane(reader, start, align_of_memory_lane(code)) {
@@ -126,7 +129,8 @@ fn memory_lane<V: VisitSimdLow>(
 /// The exponent of an operator's own alignment.
 #[inline(always)]
 fn align_of_memory_lane(code: u32) -> u8
-    requires { entry_at (Some 0xfd) code ≡ free (is_memory_argument MemArgKind.Plain (align_at (Some 0xfd) code) ∷ is_one_lane ∷ []) }
+    requires { entry_at (Some 0xfd) code
+        ≡ free (is_memory_argument MemArgKind.Plain (align_at (Some 0xfd) code) ∷ is_one_lane ∷ []) }
     ensures { result ≡ align_at (Some 0xfd) code }
 {
     match code {
@@ -145,8 +149,10 @@ fn align_of_memory_lane(code: u32) -> u8
 /// Their visits, by their codes.
 #[inline(always)]
 fn visit_memory_lane<V: VisitSimdLow>(v: &mut V, code: u32, it: (MemArg, u8)) -> V::Output
-    requires { entry_at (Some 0xfd) code ≡ free (is_memory_argument MemArgKind.Plain (align_at (Some 0xfd) code) ∷ is_one_lane ∷ []) }
-    ensures { VisitsRow V.visits (Some 0xfd) code (memory_argument MemArgKind.Plain (align_at (Some 0xfd) code) it.0 ∷ one_lane it.1 ∷ []) v.old result v.new }
+    requires { entry_at (Some 0xfd) code
+        ≡ free (is_memory_argument MemArgKind.Plain (align_at (Some 0xfd) code) ∷ is_one_lane ∷ []) }
+    ensures { VisitsRow V.visits (Some 0xfd) code
+        (memory_argument MemArgKind.Plain (align_at (Some 0xfd) code) it.0 ∷ one_lane it.1 ∷ []) v.old result v.new }
 {
     match code {
         0x54 => v.visit_v128_load8_lane(it.0, it.1),

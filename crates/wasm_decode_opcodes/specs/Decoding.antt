@@ -10,9 +10,9 @@ use Rattle.wasm_instr.specs.declared.operator.Operator.{Operator}
 use Rattle.wasm_instr.specs.Encoding.{EncodesOpcode}
 use Rattle.wasm_instr.specs.Immediate.{Immediate, Kind}
 use Rattle.wasm_instr.specs.Row.{prefix_of, opcode_of, immediates_of}
-use Rattle.wasm_decode_opcodes.specs.Allowed.{EncodesAllowed, EncodesPlain}
+use Rattle.wasm_decode_opcodes.specs.Allowed.{EncodesAllowed, EncodesPlain, EncodesIn}
 use Rattle.wasm_decode_opcodes.specs.Kinds.{EncodesKinds}
-use Rattle.wasm_decode_opcodes.specs.OperatorFaults.{KindsFault, OperatorFault, PlainOperatorFault}
+use Rattle.wasm_decode_opcodes.specs.OperatorFaults.{KindsFault, OperatorFault, PlainOperatorFault, FaultIn}
 use Rattle.wasm_decode_opcodes.specs.Refused.{IsRefusedOperator}
 
 -- The call refuses what stands there: nothing is taken, and the refusal is one of this fault.
@@ -33,6 +33,16 @@ DecodesAt visits frame start result old new v w =
 abbrev pub DecodesPlainAt : {V A : Type 0} → (V → Operator → A → V → Type 0) → FrameKind → ℕ → Result A Error → Reader → Reader → V → V → Type 0
 DecodesPlainAt visits frame start result old new v w =
     Decodes visits (EncodesPlain old.features frame) (PlainOperatorFault old.features frame) result (at_position old start) new v w
+
+-- The call has the operator at the start of the rest visited, where this frame is the innermost, or none is open.
+abbrev pub DecodesIn : {V A : Type 0} → (V → Operator → A → V → Type 0) → Option FrameKind → Result A Error → Reader → Reader → V → V → Type 0
+DecodesIn visits frame result old new v w =
+    Decodes visits (EncodesIn (EncodesAllowed old.features) frame) (FaultIn (OperatorFault old.features) frame) result old new v w
+
+-- The same of a visitor that takes no vector operator.
+abbrev pub DecodesPlainIn : {V A : Type 0} → (V → Operator → A → V → Type 0) → Option FrameKind → Result A Error → Reader → Reader → V → V → Type 0
+DecodesPlainIn visits frame result old new v w =
+    Decodes visits (EncodesIn (EncodesPlain old.features) frame) (FaultIn (PlainOperatorFault old.features) frame) result old new v w
 
 -- What began at the position `start` is refused, and the reader goes back there.
 abbrev pub RefusesAt : FrameKind → ℕ → Error → Reader → Reader → Type 0

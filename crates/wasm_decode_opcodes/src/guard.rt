@@ -41,8 +41,12 @@ impl Guard {
         ensures feature { IfOk result (λ u. NeedsLegacy self → HasFeature legacy_exceptions reader.old.features) }
         ensures allows { IfOk result (λ u. Allows frame (role_behind self)) }
         ensures back { IfErr result (λ e. reader.new ≡ at_position reader.old start) }
-        ensures fault { IfErr result (λ e. GuardFault reader.old.features frame (reader.old.start + start) self (λ m r offset. ⊥) e.message reader.old e.offset) }
-        ensures refuses { IfErr result (λ e. (code : ℕ) (ks : List Kind) → code < 256 → StandsBehind start None code reader.old → entry_at None code ≡ guarded self ks
+        ensures fault { IfErr result
+            (λ e. GuardFault reader.old.features frame (reader.old.start + start) self (λ m r offset. ⊥)
+            e.message reader.old e.offset) }
+        ensures refuses { IfErr result
+            (λ e. (code : ℕ) (ks : List Kind) → code < 256 → StandsBehind start None code reader.old
+            → entry_at None code ≡ guarded self ks
             → RefusesAt frame start e reader.old reader.new) }
     {
         if self.lacks_feature(reader) {

@@ -29,9 +29,15 @@ pub struct OperatorStart {
 /// where no room could be made. The reader and the frames are unchanged then.
 #[inline(always)]
 pub fn begin(reader: &mut BinaryReader<'_>, control: &mut ControlStack) -> Result<OperatorStart>
-    ensures begun { IfOk result (λ at. BeginsOperator (state_of reader.old control.old) (state_of reader.new control.new) at.frame at.start at.code (step_at at.code)) }
-    ensures refused { IfErr result (λ e. StopsNext EncodesAllowed OperatorFault e (state_of reader.old control.old) (state_of reader.new control.new)) }
-    ensures plain { IfErr result (λ e. StopsNext EncodesPlain PlainOperatorFault e (state_of reader.old control.old) (state_of reader.new control.new)) }
+    ensures begun { IfOk result
+        (λ at. BeginsOperator (state_of reader.old control.old) (state_of reader.new control.new)
+        at.frame at.start at.code (step_at at.code)) }
+    ensures refused { IfErr result
+        (λ e. StopsNext EncodesAllowed OperatorFault e (state_of reader.old control.old)
+        (state_of reader.new control.new)) }
+    ensures plain { IfErr result
+        (λ e. StopsNext EncodesPlain PlainOperatorFault e (state_of reader.old control.old)
+        (state_of reader.new control.new)) }
 {
     let Some(frame) = control.last() else {
         return Err(no_frame(reader));

@@ -19,7 +19,9 @@ impl<'a> OperatorsReader<'a> {
     /// Reads up to the end of the data or a refusal, and finishes.
     fn read_to_end(&mut self, out: &mut Vec<(Operator<'a>, u64)>) -> Result<()>
         ensures runs { RunsToEnd EncodesAllowed OperatorFault Anywhere result self.old self.new out.old.items out.new.items }
-        ensures memory { IfErr result (λ e. e.message ≡ Message.OutOfMemory → NeedsNext EncodesAllowed self.new ⊎ (vec_capacity out.new < vec_len out.new + 1)) }
+        ensures memory { IfErr result
+            (λ e. e.message ≡ Message.OutOfMemory
+            → NeedsNext EncodesAllowed self.new ⊎ (vec_capacity out.new < vec_len out.new + 1)) }
     {
         'operators: while !self.eof() {
             let offset = self.original_position();
@@ -43,32 +45,41 @@ impl<'a> OperatorsReader<'a> {
     /// before, with those put before the list.
     pub fn read_all(&mut self, out: &mut Vec<(Operator<'a>, u64)>) -> Result<()>
         // On Ok what was added is the walk of the one tree that the bytes encode.
-        ensures tree { IsFresh self.old → OnOk result (Appends out.old.items out.new.items (ReadsTree [] self.old self.new)) }
+        ensures tree { IsFresh self.old
+            → OnOk result (Appends out.old.items out.new.items (ReadsTree [] self.old self.new)) }
         // Where the bytes encode an expression, it is read, unless memory is refused.
         ensures only { IsFresh self.old → (placed : Placed) → EncodesExpression (source_of self.old.reader) placed
             → IfErr result (λ e. e.message ≡ Message.OutOfMemory) }
         // Else what was added is the longest beginning of an expression, and the refusal is of what stands behind it.
-        ensures beginning { IsFresh self.old → IfErr result (λ e. Appends out.old.items out.new.items (ReadsBeginning EncodesAllowed OperatorFault Anywhere [] e self.old self.new)) }
+        ensures beginning { IsFresh self.old
+            → IfErr result (λ e. Appends out.old.items out.new.items
+            (ReadsBeginning EncodesAllowed OperatorFault Anywhere [] e self.old self.new)) }
         // Data that more bytes would make an expression is refused by its end alone.
-        ensures cut { IsFresh self.old → IsCut [] (source_of self.old.reader) → IfErr result (λ e. CutFault e.message (rest self.new.reader)) }
+        ensures cut { IsFresh self.old → IsCut [] (source_of self.old.reader)
+            → IfErr result (λ e. CutFault e.message (rest self.new.reader)) }
         ensures rest_tree { (before : List Operator) → StoodBefore before self.old
             → OnOk result (Appends out.old.items out.new.items (ReadsTree before self.old self.new)) }
         ensures rest_only { (before : List Operator) → StoodBefore before self.old
             → (placed : Placed) → EncodesRest before (source_of self.old.reader) placed
             → IfErr result (λ e. e.message ≡ Message.OutOfMemory) }
         ensures rest_beginning { (before : List Operator) → StoodBefore before self.old
-            → IfErr result (λ e. Appends out.old.items out.new.items (ReadsBeginning EncodesAllowed OperatorFault Anywhere before e self.old self.new)) }
-        ensures rest_cut { (before : List Operator) → StoodBefore before self.old → IsCut before (source_of self.old.reader)
+            → IfErr result (λ e. Appends out.old.items out.new.items
+            (ReadsBeginning EncodesAllowed OperatorFault Anywhere before e self.old self.new)) }
+        ensures rest_cut { (before : List Operator) → StoodBefore before self.old
+            → IsCut before (source_of self.old.reader)
             → IfErr result (λ e. CutFault e.message (rest self.new.reader)) }
         // Where all of it was read and frames are open, as many bytes 0b complete it.
         ensures completed { IsFresh self.old → IsCompletedIfCut [] result self.old self.new }
-        ensures rest_completed { (before : List Operator) → StoodBefore before self.old → IsCompletedIfCut before result self.old self.new }
+        ensures rest_completed { (before : List Operator) → StoodBefore before self.old
+            → IsCompletedIfCut before result self.old self.new }
         // The same without trees, by the frames alone.
         ensures flat { ReadsFlat result self.old out.old.items out.new.items }
         // Few frames are opened.
         ensures depth { IsWithinDepth self.old self.new }
         // Memory is refused only where one read may ask for it, or where `out` is full.
-        ensures memory { IfErr result (λ e. e.message ≡ Message.OutOfMemory → NeedsNext EncodesAllowed self.new ⊎ (vec_capacity out.new < vec_len out.new + 1)) }
+        ensures memory { IfErr result
+            (λ e. e.message ≡ Message.OutOfMemory
+            → NeedsNext EncodesAllowed self.new ⊎ (vec_capacity out.new < vec_len out.new + 1)) }
     {
         self.read_to_end(out)
     }
@@ -78,7 +89,8 @@ impl<'a> OperatorsReader<'a> {
     where
         V: VisitOperator<'a> + VisitSimdOperator,
         V::Output: Copy,
-        ensures { VisitsToEnd V.visits EncodesAllowed OperatorFault (NeedsNext EncodesAllowed) result self.old self.new v.old v.new }
+        ensures { VisitsToEnd V.visits EncodesAllowed OperatorFault (NeedsNext EncodesAllowed)
+            result self.old self.new v.old v.new }
     {
         'visits: while !self.eof() {
             match self.visit_operator_simd(v) {
@@ -99,26 +111,33 @@ impl<'a> OperatorsReader<'a> {
         V: VisitOperator<'a> + VisitSimdOperator,
         V::Output: Copy,
         // On Ok the visitor went along the walk of the one tree that the bytes encode.
-        ensures tree { IsFresh self.old → OnOk result (VisitsAlong V.visits v.old v.new (ReadsTree [] self.old self.new)) }
+        ensures tree { IsFresh self.old
+            → OnOk result (VisitsAlong V.visits v.old v.new (ReadsTree [] self.old self.new)) }
         // Where the bytes encode an expression, it is visited, unless memory is refused.
         ensures only { IsFresh self.old → (placed : Placed) → EncodesExpression (source_of self.old.reader) placed
             → IfErr result (λ e. e.message ≡ Message.OutOfMemory) }
         // Else the visitor went along the longest beginning of an expression, and the refusal is of what stands behind it.
-        ensures beginning { IsFresh self.old → IfErr result (λ e. VisitsAlong V.visits v.old v.new (ReadsBeginning EncodesAllowed OperatorFault (NeedsNext EncodesAllowed) [] e self.old self.new)) }
+        ensures beginning { IsFresh self.old
+            → IfErr result (λ e. VisitsAlong V.visits v.old v.new
+            (ReadsBeginning EncodesAllowed OperatorFault (NeedsNext EncodesAllowed) [] e self.old self.new)) }
         // Data that more bytes would make an expression is refused by its end alone.
-        ensures cut { IsFresh self.old → IsCut [] (source_of self.old.reader) → IfErr result (λ e. CutFault e.message (rest self.new.reader)) }
+        ensures cut { IsFresh self.old → IsCut [] (source_of self.old.reader)
+            → IfErr result (λ e. CutFault e.message (rest self.new.reader)) }
         ensures rest_tree { (before : List Operator) → StoodBefore before self.old
             → OnOk result (VisitsAlong V.visits v.old v.new (ReadsTree before self.old self.new)) }
         ensures rest_only { (before : List Operator) → StoodBefore before self.old
             → (placed : Placed) → EncodesRest before (source_of self.old.reader) placed
             → IfErr result (λ e. e.message ≡ Message.OutOfMemory) }
         ensures rest_beginning { (before : List Operator) → StoodBefore before self.old
-            → IfErr result (λ e. VisitsAlong V.visits v.old v.new (ReadsBeginning EncodesAllowed OperatorFault (NeedsNext EncodesAllowed) before e self.old self.new)) }
-        ensures rest_cut { (before : List Operator) → StoodBefore before self.old → IsCut before (source_of self.old.reader)
+            → IfErr result (λ e. VisitsAlong V.visits v.old v.new
+            (ReadsBeginning EncodesAllowed OperatorFault (NeedsNext EncodesAllowed) before e self.old self.new)) }
+        ensures rest_cut { (before : List Operator) → StoodBefore before self.old
+            → IsCut before (source_of self.old.reader)
             → IfErr result (λ e. CutFault e.message (rest self.new.reader)) }
         // Where all of it was visited and frames are open, as many bytes 0b complete it.
         ensures completed { IsFresh self.old → IsCompletedIfCut [] result self.old self.new }
-        ensures rest_completed { (before : List Operator) → StoodBefore before self.old → IsCompletedIfCut before result self.old self.new }
+        ensures rest_completed { (before : List Operator) → StoodBefore before self.old
+            → IsCompletedIfCut before result self.old self.new }
         // The same without trees, by the frames alone.
         ensures flat { VisitsFlat V.visits result self.old v.old v.new }
         // Few frames are opened.
@@ -131,7 +150,8 @@ impl<'a> OperatorsReader<'a> {
     fn visit_to_end<V: VisitOperator<'a>>(&mut self, v: &mut V) -> Result<()>
     where
         V::Output: Copy,
-        ensures { VisitsPlainToEnd V.visits EncodesPlain PlainOperatorFault (NeedsNext EncodesPlain) result self.old self.new v.old v.new }
+        ensures { VisitsPlainToEnd V.visits EncodesPlain PlainOperatorFault (NeedsNext EncodesPlain)
+            result self.old self.new v.old v.new }
     {
         'plain_visits: while !self.eof() {
             match self.visit_operator(v) {
@@ -151,28 +171,38 @@ impl<'a> OperatorsReader<'a> {
     where
         V::Output: Copy,
         // On Ok the visitor went along the walk of the one tree that the bytes encode, which has no vector operator.
-        ensures tree { IsFresh self.old → OnOk result (VisitsAlong V.visits v.old v.new (λ placed. ReadsTree [] self.old self.new placed × IsPlain placed)) }
+        ensures tree { IsFresh self.old
+            → OnOk result (VisitsAlong V.visits v.old v.new
+            (λ placed. ReadsTree [] self.old self.new placed × IsPlain placed)) }
         // Where the bytes encode an expression without vector operators, it is visited, unless memory is refused.
-        ensures only { IsFresh self.old → (placed : Placed) → EncodesExpression (source_of self.old.reader) placed → IsPlain placed
+        ensures only { IsFresh self.old → (placed : Placed) → EncodesExpression (source_of self.old.reader) placed
+            → IsPlain placed
             → IfErr result (λ e. e.message ≡ Message.OutOfMemory) }
         // Else the visitor went along the longest beginning of an expression up to its first vector operator.
-        ensures beginning { IsFresh self.old → IfErr result (λ e. VisitsAlong V.visits v.old v.new (ReadsPlainBeginning EncodesPlain PlainOperatorFault (NeedsNext EncodesPlain) [] e self.old self.new)) }
+        ensures beginning { IsFresh self.old
+            → IfErr result (λ e. VisitsAlong V.visits v.old v.new
+            (ReadsPlainBeginning EncodesPlain PlainOperatorFault (NeedsNext EncodesPlain) [] e self.old self.new)) }
         // Where it has one, the refusal says so.
-        ensures vector { IsFresh self.old → (longest : Placed) → IsLongestBeginning (source_of self.old.reader) longest → ¬ IsPlain longest
+        ensures vector { IsFresh self.old → (longest : Placed) → IsLongestBeginning (source_of self.old.reader) longest
+            → ¬ IsPlain longest
             → IfErr result (λ e. (e.message ≡ Message.UnexpectedSimd) ⊎ (e.message ≡ Message.OutOfMemory)) }
         ensures rest_tree { (before : List Operator) → StoodBefore before self.old
-            → OnOk result (VisitsAlong V.visits v.old v.new (λ placed. ReadsTree before self.old self.new placed × IsPlain placed)) }
+            → OnOk result (VisitsAlong V.visits v.old v.new
+            (λ placed. ReadsTree before self.old self.new placed × IsPlain placed)) }
         ensures rest_only { (before : List Operator) → StoodBefore before self.old
             → (placed : Placed) → EncodesRest before (source_of self.old.reader) placed → IsPlain placed
             → IfErr result (λ e. e.message ≡ Message.OutOfMemory) }
         ensures rest_beginning { (before : List Operator) → StoodBefore before self.old
-            → IfErr result (λ e. VisitsAlong V.visits v.old v.new (ReadsPlainBeginning EncodesPlain PlainOperatorFault (NeedsNext EncodesPlain) before e self.old self.new)) }
+            → IfErr result (λ e. VisitsAlong V.visits v.old v.new
+            (ReadsPlainBeginning EncodesPlain PlainOperatorFault (NeedsNext EncodesPlain)
+            before e self.old self.new)) }
         ensures rest_vector { (before : List Operator) → StoodBefore before self.old
             → (longest : Placed) → IsLongestBehind before (source_of self.old.reader) longest → ¬ IsPlain longest
             → IfErr result (λ e. (e.message ≡ Message.UnexpectedSimd) ⊎ (e.message ≡ Message.OutOfMemory)) }
         // Where all of it was visited and frames are open, as many bytes 0b complete it.
         ensures completed { IsFresh self.old → IsCompletedIfCut [] result self.old self.new }
-        ensures rest_completed { (before : List Operator) → StoodBefore before self.old → IsCompletedIfCut before result self.old self.new }
+        ensures rest_completed { (before : List Operator) → StoodBefore before self.old
+            → IsCompletedIfCut before result self.old self.new }
         // The same without trees, by the frames alone.
         ensures flat { VisitsPlainFlat V.visits result self.old v.old v.new }
         // Few frames are opened.

@@ -41,9 +41,13 @@ pub fn one_answer()
     ensures reads { (before : List Operator) (d e : Error) (old new end : State) (placed others : Placed)
         → ReadsBeginning EncodesAllowed OperatorFault Anywhere before d old new placed → d.message ≢ Message.OutOfMemory
         → ReadsBeginning EncodesAllowed OperatorFault Anywhere before e old end others → e.message ≢ Message.OutOfMemory
-        → (placed ≡ others) × (end.reader ≡ new.reader) × (end.frames ≡ new.frames) × (d.message ≡ e.message) × (d.offset ≡ e.offset) }
+        → (placed ≡ others) × (end.reader ≡ new.reader) × (end.frames ≡ new.frames) × (d.message ≡ e.message)
+        × (d.offset ≡ e.offset) }
     ensures visits { (before : List Operator) (d e : Error) (old new end : State) (placed others : Placed)
-        → ReadsBeginning EncodesAllowed OperatorFault (NeedsNext EncodesAllowed) before d old new placed → d.message ≢ Message.OutOfMemory
-        → ReadsBeginning EncodesAllowed OperatorFault (NeedsNext EncodesAllowed) before e old end others → e.message ≢ Message.OutOfMemory
-        → (placed ≡ others) × (end.reader ≡ new.reader) × (end.frames ≡ new.frames) × (d.message ≡ e.message) × (d.offset ≡ e.offset) }
+        → ReadsBeginning EncodesAllowed OperatorFault (NeedsNext EncodesAllowed) before d old new placed
+        → d.message ≢ Message.OutOfMemory
+        → ReadsBeginning EncodesAllowed OperatorFault (NeedsNext EncodesAllowed) before e old end others
+        → e.message ≢ Message.OutOfMemory
+        → (placed ≡ others) × (end.reader ≡ new.reader) × (end.frames ≡ new.frames) × (d.message ≡ e.message)
+        × (d.offset ≡ e.offset) }
 {}

@@ -158,7 +158,8 @@ pub trait VisitFixed: Visitor {
         code: u32,
     ) -> Result<Self::Output>
         requires behind { StandsBehind start (Some 0xfb) code reader.old }
-        ensures { (frame : FrameKind) → DecodesAt Self.visits frame start result reader.old reader.new self.old self.new }
+        ensures { (frame : FrameKind)
+            → DecodesAt Self.visits frame start result reader.old reader.new self.old self.new }
     {
         match Factory.decode_gc(reader, start, code) {
             Ok(op) => Ok(self.visit_any(op)),
@@ -178,7 +179,8 @@ pub trait VisitFixed: Visitor {
         code: u32,
     ) -> Result<Self::Output>
         requires behind { StandsBehind start (Some 0xfc) code reader.old }
-        ensures { (frame : FrameKind) → DecodesAt Self.visits frame start result reader.old reader.new self.old self.new }
+        ensures { (frame : FrameKind)
+            → DecodesAt Self.visits frame start result reader.old reader.new self.old self.new }
     {
         match Factory.decode_misc(reader, start, code) {
             Ok(op) => Ok(self.visit_any(op)),
@@ -198,7 +200,8 @@ pub trait VisitFixed: Visitor {
         code: u32,
     ) -> Result<Self::Output>
         requires behind { StandsBehind start (Some 0xfe) code reader.old }
-        ensures { (frame : FrameKind) → DecodesAt Self.visits frame start result reader.old reader.new self.old self.new }
+        ensures { (frame : FrameKind)
+            → DecodesAt Self.visits frame start result reader.old reader.new self.old self.new }
     {
         match Factory.decode_atomic(reader, start, code) {
             Ok(op) => Ok(self.visit_any(op)),

@@ -51,7 +51,8 @@ pub trait VisitSimdOperator: Visitor {
     ) -> Result<Self::Output>
         requires behind { StandsBehind start (Some 0xfd) code reader.old }
         requires half { code < 0x80 }
-        ensures { (frame : FrameKind) → DecodesAt Self.visits frame start result reader.old reader.new self.old self.new }
+        ensures { (frame : FrameKind)
+            → DecodesAt Self.visits frame start result reader.old reader.new self.old self.new }
     {
         match Factory.decode_simd_low(reader, start, code) {
             Ok(op) => Ok(self.visit_any(op)),
@@ -72,7 +73,8 @@ pub trait VisitSimdOperator: Visitor {
     ) -> Result<Self::Output>
         requires behind { StandsBehind start (Some 0xfd) code reader.old }
         requires half { 0x80 ≤ code }
-        ensures { (frame : FrameKind) → DecodesAt Self.visits frame start result reader.old reader.new self.old self.new }
+        ensures { (frame : FrameKind)
+            → DecodesAt Self.visits frame start result reader.old reader.new self.old self.new }
     {
         match Factory.decode_simd_high(reader, start, code) {
             Ok(op) => Ok(self.visit_any(op)),
