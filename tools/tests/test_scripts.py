@@ -294,7 +294,17 @@ class Run(unittest.TestCase):
 
 
 class Touches(unittest.TestCase):
-    """The order of the crates."""
+    """The order of the crates, and what names a file."""
+
+    def test_names_it(self):
+        touches = tool("touches")
+        source = touches.names_it(cases.TOP / "crates" / "wasm_below_bytes" / "specs" / "Source.antt", "wasm_below_bytes")
+        for line in ("use Rattle.wasm_below_bytes.specs.Source.{rest}", "use Rattle.wasm_below.specs.Source.{rest}",
+                     "ghost use Rattle.wasm_decode.specs.below.Source.{rest};"):
+            self.assertTrue(source.search(line), line)
+        self.assertIsNone(source.search("use Rattle.wasm_decode.specs.imm.Source.{rest}"))
+        steps = touches.names_it(cases.TOP / "crates" / "wasm_below_bytes" / "proofs" / "Steps.antt", "wasm_below_bytes")
+        self.assertTrue(steps.search("use Rattle.wasm_imm.proofs.of_below.Steps.{unsigned_some}"))
 
     def test_lowest_first(self):
         touches = tool("touches")
