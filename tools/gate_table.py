@@ -3,13 +3,18 @@
 
     tools/gate_table.py LOG [NOTE]
 
-LOG is what `.ci/run` wrote: `.ci/run > LOG 2>&1`. NOTE, a sentence on the run, stands above the table. The functions of a crate come from the prover's last line
-for it, the edits from rt's line for each, and the minutes from the lines of tools/timed.py.
+LOG is what `.ci/run` wrote: `.ci/run > LOG 2>&1`. NOTE, a sentence on the run, stands above the table. The
+functions of a crate come from the prover's last line for it, the edits from rt's line for each, the minutes from
+the lines of tools/timed.py, and how often files are read from crates.txt.
 """
 
 import re
 import sys
 from pathlib import Path
+
+sys.path.insert(0, str(Path(__file__).resolve().parent / "generate"))
+
+from paths import crates as crates_listed
 
 TOP = Path(__file__).resolve().parent.parent
 HEAD = """\
@@ -19,6 +24,9 @@ Written by tools/gate_table.py from the log of a run of `.ci/run`; a new run's l
 
 The whole of `rt ci` took {wall} minutes on {count} processors, and {processor} minutes of a processor. It ended with \
 `{last}`.{note}
+
+Before it proves a crate, `rt` reads the files of all that the crate stands on, along every path to them: {readings} \
+readings of a crate's files, all crates together. With 38 crates of which each listed all that it named they were 256,000.
 
 The table has minutes of a processor. A proof from nothing is a crate's own; where a crate has tests it is proved \
 once more with them, and each must-fail edit is a check of the crate over what the first proved. Time that \
@@ -72,13 +80,26 @@ def row(name, crate):
     return f"| `{name}` | {crate.functions or ''} | {' | '.join(cells)} | {crate.edits or ''} |"
 
 
+def readings(listed):
+    """How often the files of a crate are read, all crates together: along every path to it, the kit's libraries too."""
+    counts = {}
+
+    def of(name):
+        if name not in counts:
+            counts[name] = 1 + sum(of(it) for it in listed.get(name, []))
+        return counts[name]
+
+    return sum(of(name) for name in listed)
+
+
 def page(text, note=""):
     """The page that a log gives, with a note on the run."""
     crates, whole, last = read(text)
     if whole is None or not crates:
         sys.exit("the log has no lines of costs: it is not one of .ci/run")
     processor, wall, count = whole
-    head = HEAD.format(wall=minutes(wall), processor=minutes(processor), count=count, last=last, note=f" {note}" if note else "")
+    said = {"wall": minutes(wall), "processor": minutes(processor), "count": count, "last": last}
+    head = HEAD.format(**said, note=f" {note}" if note else "", readings=readings(crates_listed()))
     dearest = sorted(crates, key=lambda name: (-sum(crates[name].processor.values()), name))
     functions, edits = (sum(getattr(it, word) for it in crates.values()) for word in ("functions", "edits"))
     parts = [sum(it.processor.get(part, 0) for it in crates.values()) for part in ("proof", "tests", "edits")]
@@ -88,6 +109,7 @@ def page(text, note=""):
 
 
 def main():
+    sys.dont_write_bytecode = True
     if len(sys.argv) not in (2, 3) or sys.argv[1].startswith("-"):
         print(__doc__)
         sys.exit(sys.argv[1:] not in (["--help"], ["-h"]))

@@ -190,7 +190,7 @@ def main():
     # (rt's lines come when they are written, and not when its buffer is full)
     how["env"] = {**os.environ, "PYTHONUNBUFFERED": "1"}
     with subprocess.Popen(sys.argv[1:], text=True, errors="replace", **how) as ran:
-        watching = threading.Thread(target=watch, args=(costs, progress, ran.pid, is_done))
+        watching = threading.Thread(target=watch, args=(costs, progress, ran.pid, is_done), daemon=True)
         watching.start()
         last = ""
         for line in ran.stdout:

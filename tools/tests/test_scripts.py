@@ -44,6 +44,10 @@ class GateTable(unittest.TestCase):
         self.assertIn("took 2.1 minutes on 4 processors, and 3.1 minutes of a processor", page)
         self.assertIn("`2 passed, 1 failed`", page)
 
+    def test_readings(self):
+        # low and kit; middle, low and kit; high, middle and low, each with what is below it
+        self.assertEqual(gate_table.readings({"low": ["kit"], "middle": ["low"], "high": ["middle", "low"]}), 2 + 3 + 6)
+
     def test_other_logs(self):
         with self.assertRaises(SystemExit):
             gate_table.page("2 passed, 1 failed\n")
