@@ -172,8 +172,10 @@ class Edges(unittest.TestCase):
 
     def test_cited(self):
         text = "use Rattle.low.proofs.of_kit.Words.{word}\n-- Rattle.middle.proofs.Other\nuse Rattle.std.proofs.Lists.{it}\n"
-        self.assertEqual(edges.cited(text, "tests", LISTED), {"low.proofs.of_kit.Words"})
+        self.assertEqual(edges.cited(text, "tests", LISTED), {"low.proofs.of_kit.Words.word"})
         self.assertEqual(edges.cited(text, "low", LISTED), set())
+        several = "use Rattle.low.proofs.Words.{word, other as it}\nuse Rattle.low.proofs.Sums as sums"
+        self.assertEqual(edges.cited(several, "tests", LISTED), {"low.proofs.Words.word", "low.proofs.Words.other", "low.proofs.Sums"})
 
     def test_outside(self):
         self.assertEqual([edges.is_outside(it) for it in ("wasm_tests_below", "uses", "wasm_operators")], [True, True, False])
