@@ -6,12 +6,14 @@
 
 It reads tools/original and two files beside the program that are written by hand: by_rule.tsv, what
 the operators whose arity goes by rule take and leave in the program's module, and edges.txt, the
-lines of what stands at the edges. It reads neither the table nor anything that is made of it.
+lines of what stands at the edges and of the visitors. It reads neither the table nor anything that is made of it.
 """
 
 import csv
 import sys
 from pathlib import Path
+
+sys.path.insert(0, str(Path(__file__).resolve().parent / "generate"))
 
 from original import originals
 

@@ -14,6 +14,8 @@ import csv
 import sys
 from pathlib import Path
 
+sys.path.insert(0, str(Path(__file__).resolve().parent / "generate"))
+
 from original import FOLDER, GROUPS, originals
 
 TOP = Path(__file__).resolve().parent.parent

@@ -5,12 +5,16 @@
     tools/lists.py --check    fails where a file is not what the table gives, byte by byte, or where a
                               page tells a count of operators that is not the table's
 
-Before that it judges the table: the rows by themselves and together (rules.py), and against what the
-original lists (original.py). `rt fmt` lays the files out, so the Rattle kit has to be there.
+Before that it judges the table: the rows by themselves and together (generate/rules.py), and against what
+the original lists (generate/original.py). The writers stand in generate/ too. `rt fmt` lays the files out,
+so the Rattle kit has to be there.
 docs/ARCHITECTURE.md says what the columns are, docs/ADDING-AN-OPERATOR.md what a new row needs besides.
 """
 
 import sys
+from pathlib import Path
+
+sys.path.insert(0, str(Path(__file__).resolve().parent / "generate"))
 
 from arities import fixed_arity_source, fixed_arity_specs
 from counts import wrong_counts

@@ -5,7 +5,13 @@
 
 It runs the command (`rt ci`) and passes on what that writes. Once a second it looks at the provers that work
 below the command, and counts the processor time of each for its crate: for the crate's proof, for that of
-its tests, or for its must-fail edits. When the command has ended it writes
+its tests, or for its must-fail edits. Where one of these begins, and where `rt` says that a crate is proved or is
+not, it writes a line that tells how many of the crates are through, the minutes so far, and what docs/GATE.md lets
+expect:
+
+    [12/24, 18 min of about 70] wasm_visit: proof begins
+
+When the command has ended it writes
 
     cost NAME PART PROCESSOR WALL    a line for each crate and part, in seconds
     cost all PROCESSOR WALL COUNT    of the whole run, and on how many processors
@@ -15,12 +21,15 @@ The status is the command's.
 """
 
 import os
+import re
 import resource
 import subprocess
 import sys
 import threading
 import time
+from pathlib import Path
 
+TOP = Path(__file__).resolve().parent.parent
 TICKS = os.sysconf("SC_CLK_TCK")
 EVERY = 1
 
@@ -107,23 +116,85 @@ class Costs:
         return [f"cost {crate} {part} {p:.0f} {w:.0f}" for (crate, part), (p, w) in sorted(sums.items())]
 
 
-def watch(costs, top, is_done):
+def count_of_crates(text):
+    """How many crates a crates.txt has."""
+    return sum(bool(line.split("#")[0].strip()) for line in text.split("\n"))
+
+
+def expected_minutes(page, processors):
+    """The minutes by the clock that docs/GATE.md lets expect on so many processors; None where it tells none."""
+    found = re.search(r"took ([\d.]+) minutes on (\d+) processors, and ([\d.]+) minutes of a processor", page)
+    if not found:
+        return None
+    # (fewer processors than then: each of them has that much more to do)
+    return float(found[1]) * max(1, int(found[2]) / processors)
+
+
+class Progress:
+    """How far the run has come, as lines between those of the command."""
+
+    def __init__(self, crates, expected, clock=time.monotonic, out=sys.stdout):
+        self.crates = crates
+        self.expected = expected
+        self.clock = clock
+        self.out = out
+        self.began = clock()
+        self.through = set()
+        self.seen = set()
+        self.writing = threading.Lock()
+
+    def write(self, line):
+        with self.writing:
+            self.out.write(line)
+            self.out.flush()
+
+    def tell(self, what):
+        minutes = f"{(self.clock() - self.began) / 60:.0f} min"
+        of = f" of about {self.expected:.0f}" if self.expected else ""
+        self.write(f"[{len(self.through)}/{self.crates}, {minutes}{of}] {what}\n")
+
+    def begun(self, works):
+        """Tells which parts of crates are worked for that were not before."""
+        words = {"proof": "proof begins", "tests": "proof with its tests begins", "edits": "must-fail edits begin"}
+        for crate, part in sorted(set(works) - self.seen):
+            self.seen.add((crate, part))
+            self.tell(f"{crate}: {words[part]}")
+
+    def passed_on(self, line):
+        """Writes a line of the command, and tells where it ends a crate's proof."""
+        self.write(line)
+        found = re.fullmatch(r"rt: (\w+) (proved|NOT PROVED)(:.*)?\n", line)
+        if found and found[1] not in self.through:
+            self.through.add(found[1])
+            self.tell(f"{found[1]}: {found[2]}")
+
+
+def watch(costs, progress, top, is_done):
     while not is_done.wait(EVERY):
         costs.look(top)
+        progress.begun(list(costs.of.values()))
+
+
+def progress_of_repository():
+    page = TOP / "docs" / "GATE.md"
+    expected = expected_minutes(page.read_text(encoding="utf-8"), len(os.sched_getaffinity(0))) if page.exists() else None
+    return Progress(count_of_crates((TOP / "crates.txt").read_text(encoding="utf-8")), expected)
 
 
 def main():
     if len(sys.argv) < 2 or sys.argv[1] in ("--help", "-h"):
         print(__doc__)
         sys.exit(len(sys.argv) < 2)
-    costs, is_done, began = Costs(), threading.Event(), time.monotonic()
+    costs, progress, is_done, began = Costs(), progress_of_repository(), threading.Event(), time.monotonic()
     how = {"stdin": subprocess.DEVNULL, "stdout": subprocess.PIPE, "stderr": subprocess.STDOUT}
+    # (rt's lines come when they are written, and not when its buffer is full)
+    how["env"] = {**os.environ, "PYTHONUNBUFFERED": "1"}
     with subprocess.Popen(sys.argv[1:], text=True, errors="replace", **how) as ran:
-        watching = threading.Thread(target=watch, args=(costs, ran.pid, is_done))
+        watching = threading.Thread(target=watch, args=(costs, progress, ran.pid, is_done))
         watching.start()
         last = ""
         for line in ran.stdout:
-            print(line, end="", flush=True)
+            progress.passed_on(line)
             last = line
     is_done.set()
     watching.join()

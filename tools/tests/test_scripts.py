@@ -2,6 +2,7 @@
 
 import importlib.machinery
 import importlib.util
+import io
 import os
 import sys
 import tempfile
@@ -11,7 +12,9 @@ from pathlib import Path
 import allocations
 import cases
 import definitions
+import edges
 import gate_table
+import paths
 import timed
 
 LOG = """\
@@ -62,6 +65,114 @@ class Timed(unittest.TestCase):
             costs.of[key], costs.processor[key] = ("wasm_low", part), processor
             costs.first[key], costs.last[key] = 0, wall
         self.assertEqual(costs.lines(), ["cost wasm_low edits 5 6", "cost wasm_low proof 4 6"])
+
+
+class Progress(unittest.TestCase):
+    """What a run of the gate tells while it runs."""
+
+    def test_lines(self):
+        out, now = io.StringIO(), [0]
+        progress = timed.Progress(3, 70.4, clock=lambda: now[0], out=out)
+        now[0] = 65
+        progress.begun([("wasm_low", "tests"), ("wasm_low", "proof")])
+        for line in LOG.splitlines(keepends=True):
+            now[0] += 60
+            progress.passed_on(line)
+        progress.begun([("wasm_low", "proof"), ("wasm_low", "edits")])
+        told = [line for line in out.getvalue().split("\n") if line.startswith("[")]
+        self.assertEqual(told, [
+            "[0/3, 1 min of about 70] wasm_low: proof begins",
+            "[0/3, 1 min of about 70] wasm_low: proof with its tests begins",
+            "[1/3, 7 min of about 70] wasm_low: proved",
+            "[1/3, 14 min of about 70] wasm_low: must-fail edits begin",
+        ])
+        # what the command wrote stands as it was, and gives the same table
+        kept = "".join(line for line in out.getvalue().splitlines(keepends=True) if not line.startswith("["))
+        self.assertEqual(kept, LOG)
+        self.assertEqual(gate_table.page(out.getvalue()), gate_table.page(LOG))
+
+    def test_crate_that_is_not_proved(self):
+        out = io.StringIO()
+        progress = timed.Progress(2, None, clock=lambda: 0, out=out)
+        progress.passed_on("rt: wasm_high NOT PROVED: its library wasm_low failed\n")
+        progress.passed_on("rt: wasm_high: its tests are NOT PROVED\n")
+        self.assertEqual([line for line in out.getvalue().split("\n") if line.startswith("[")],
+                         ["[1/2, 0 min] wasm_high: NOT PROVED"])
+
+    def test_expected_minutes(self):
+        page = gate_table.page(LOG)
+        self.assertAlmostEqual(timed.expected_minutes(page, 4), 2.1)
+        self.assertAlmostEqual(timed.expected_minutes(page, 2), 4.2)
+        self.assertAlmostEqual(timed.expected_minutes(page, 8), 2.1)
+        self.assertIsNone(timed.expected_minutes("no minutes", 4))
+
+    def test_count_of_crates(self):
+        self.assertEqual(timed.count_of_crates("# NAME: those\nlow:\nhigh staticlib: low\n\n"), 2)
+
+
+LISTED = {"low": ["kit"], "middle": ["low"], "high": ["middle", "low"], "tests": ["high"]}
+
+
+class Paths(unittest.TestCase):
+    """Paths by what a file's crate lists."""
+
+    LISTED = {
+        "wasm_below": [], "wasm_imm": ["wasm_below"], "wasm_instr_ops": ["wasm_imm"], "wasm_instr": ["wasm_instr_ops"],
+        "wasm_grammar": [],
+    }
+
+    def rewritten(self, crate, text):
+        return paths.rewritten(self.LISTED, crate, text)
+
+    def test_way(self):
+        self.assertEqual(paths.below(self.LISTED, "wasm_instr_ops"), {"wasm_imm", "wasm_below"})
+        self.assertIsNone(paths.way(self.LISTED, "wasm_imm", "wasm_below"))
+        self.assertIsNone(paths.way(self.LISTED, "wasm_imm", "wasm_imm"))
+        self.assertEqual(paths.way(self.LISTED, "wasm_instr", "wasm_below"), "wasm_instr_ops")
+        with self.assertRaises(ValueError):
+            paths.way(self.LISTED, "wasm_imm", "wasm_grammar")
+
+    def test_code(self):
+        self.assertEqual(self.rewritten("wasm_imm", "use wasm_below::Error;"), "use wasm_below::Error;")
+        self.assertEqual(self.rewritten("wasm_instr", "use wasm_below::Error;"), "use wasm_instr_ops::below::Error;")
+        self.assertEqual(self.rewritten("wasm_instr", "use wasm_instr::Operator;"), "use crate::Operator;")
+
+    def test_definitions_and_lemmas(self):
+        text = "use Rattle.wasm_below.specs.Source.{Source}"
+        self.assertEqual(self.rewritten("wasm_imm", text), text)
+        self.assertEqual(self.rewritten("wasm_instr", text), "use Rattle.wasm_instr_ops.specs.below.Source.{Source}")
+        lemma = self.rewritten("wasm_instr", "use Rattle.wasm_imm.proofs.Kinds.{kind}")
+        self.assertEqual(lemma, "use Rattle.wasm_instr_ops.proofs.of_imm.Kinds.{kind}")
+        self.assertEqual(self.rewritten("wasm_instr", "use Rattle.wasm_instr.specs.Row"), "use Rattle.wasm_instr.specs.Row")
+
+    def test_comments_stay(self):
+        for text in ("// of wasm_below::Error", "    -- Rattle.wasm_below.specs.Source"):
+            self.assertEqual(self.rewritten("wasm_instr", text), text)
+
+    def test_files_of_the_repository(self):
+        listed = paths.crates()
+        for name, short in paths.SHORT.items():
+            self.assertIn(name, listed)
+            self.assertNotIn(short, listed)
+
+
+class Edges(unittest.TestCase):
+    """What crates list, and what they cite."""
+
+    def test_needless(self):
+        texts = {"low": "kit", "middle": "low", "high": "middle low", "tests": ""}
+        self.assertEqual(list(edges.needless(LISTED, texts)), [
+            "crates.txt: high lists low, on which middle stands that it lists too",
+            "crates.txt: tests lists high, which none of its files names",
+        ])
+
+    def test_cited(self):
+        text = "use Rattle.low.proofs.of_kit.Words.{word}\n-- Rattle.middle.proofs.Other\nuse Rattle.std.proofs.Lists.{it}\n"
+        self.assertEqual(edges.cited(text, "tests", LISTED), {"low.proofs.of_kit.Words"})
+        self.assertEqual(edges.cited(text, "low", LISTED), set())
+
+    def test_outside(self):
+        self.assertEqual([edges.is_outside(it) for it in ("wasm_tests_below", "uses", "wasm_operators")], [True, True, False])
 
 
 class Cases(unittest.TestCase):
@@ -160,14 +271,33 @@ class Definitions(unittest.TestCase):
         self.assertIn("Encodes", found["of"])
 
 
+def tool(name):
+    """A tool whose file has no end, as a module."""
+    loader = importlib.machinery.SourceFileLoader(name, str(cases.TOP / "tools" / name))
+    out = importlib.util.module_from_spec(importlib.util.spec_from_loader(name, loader))
+    sys.dont_write_bytecode = True
+    loader.exec_module(out)
+    return out
+
+
+class Run(unittest.TestCase):
+    """The list of the tools."""
+
+    def test_each_says_what_it_does(self):
+        run = tool("run")
+        found = run.commands()
+        self.assertTrue({"lists", "gate", "touches", "bench"} <= set(found))
+        for name, path in found.items():
+            with self.subTest(name):
+                self.assertTrue(os.access(path, os.X_OK))
+                self.assertTrue(run.line_of(path).endswith("."))
+
+
 class Touches(unittest.TestCase):
     """The order of the crates."""
 
     def test_lowest_first(self):
-        loader = importlib.machinery.SourceFileLoader("touches", str(cases.TOP / "tools" / "touches"))
-        touches = importlib.util.module_from_spec(importlib.util.spec_from_loader("touches", loader))
-        sys.dont_write_bytecode = True
-        loader.exec_module(touches)
+        touches = tool("touches")
         below = touches.crates()
         ordered = touches.lowest_first(below)
         self.assertEqual(sorted(ordered), sorted(below))

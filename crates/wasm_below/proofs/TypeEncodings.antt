@@ -1,5 +1,5 @@
 -- The first byte of a type, and the refusals of its parts.
-use Rattle.std.proofs.Common.{◌≡◌, ◌≢◌, ℕ, ◌<◌, ◌≤◌, inl, inr, Bool, true, false, List, [], ◌∷◌, ◌++◌, Result, Ok, Err, IfErr, refl, sym, subst, ap, ◌∙◌, append_assoc, arith, lit≤, ℤ, pos, ◌-ℤ◌, cond}
+use Rattle.std.proofs.Common.{◌≡◌, ◌≢◌, ℕ, ◌<◌, ◌≤◌, inl, inr, Bool, true, false, List, [], ◌∷◌, ◌++◌, Result, Ok, Err, IfErr, refl, sym, subst, ap, ◌∙◌, append_assoc, arith, lit≤, ℤ, pos, ◌-ℤ◌}
 use Rattle.std.proofs.lemmas.Bool.{le-ltb}
 use Rattle.std.proofs.lemmas.Int.{ints}
 use Rattle.wasm_below.specs.declared.types.AbstractHeapType.{AbstractHeapType}
@@ -8,7 +8,7 @@ use Rattle.wasm_below.specs.declared.types.HeapType.{HeapType}
 use Rattle.wasm_below.specs.declared.types.HeapType.TheVariants as heap
 use Rattle.wasm_below.specs.declared.types.ValType.{ValType}
 use Rattle.wasm_below.specs.declared.types.ValType.TheVariants as value
-use Rattle.wasm_below_bytes.specs.Number.{EncodesUnsigned, EncodesSigned, last_value}
+use Rattle.wasm_below_bytes.specs.Number.{EncodesUnsigned, EncodesSigned, last_value, with_sign}
 use Rattle.wasm_below.specs.Reference.{Reference, max_type_index}
 use Rattle.wasm_below_bytes.specs.declared.error.Error.{Error}
 use Rattle.wasm_below_bytes.specs.Source.{Reader, rest, NoPrefix, BeginsWith}
@@ -48,7 +48,7 @@ pub index_leads : (width b : ℕ) (tail : List ℕ) (i : ℕ) → EncodesSigned 
 index_leads width b [] i (lt, same, fits) ge lt2 = negative b i ge lt2 same
   where
     negative : (b i : ℕ) → 64 ≤ b → b < 128 → pos i ≡ last_value b → ⊥
-    negative b i ge lt e = omega (arith, ints, e ∙ ap (λ t. cond t (pos b) (pos b -ℤ pos 128)) (le-ltb b 64 ge))
+    negative b i ge lt e = omega (arith, ints, e ∙ ap (λ t. with_sign t b 128) (le-ltb b 64 ge))
 index_leads width b (c ∷ tail) i p ge lt = omega (arith, p.1)
 
 pub heap_empty : (h : HeapType) → EncodesHeapType [] h → ⊥

@@ -12,6 +12,6 @@ mod types;
 pub use types::{AbstractHeapType, HeapType, RefType, ValType};
 pub use wasm_below_bytes::{
     BinaryReader, BinaryReaderError, BinaryReaderIter, Error, ErrorKind, FrameName, FromReader,
-    InstructionName, LeadingByteName, Message, NumberName, Result, SizeName, TypeName,
-    WasmFeatures, laws as byte_laws,
+    InstructionName, LeadingByteName, May, MemoryUse, Message, Never, NumberName, Result, SizeName,
+    TakesMemory, TypeName, UsesMemory, WasmFeatures, laws as byte_laws,
 };

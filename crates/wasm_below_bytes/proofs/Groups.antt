@@ -1,10 +1,10 @@
 -- LEB128 numbers of several bytes, without a sign and with one, by one statement.
 use Rattle.std.proofs.Common.{◌≡◌, ℕ, ◌+◌, ◌-◌, ◌*◌, ◌/◌, ◌%◌, ◌<◌, ◌≤◌, ◌^◌, List, [], ◌∷◌, ◌++◌, length, drop, get_or, Bool, true, false, refl, sym, subst, ap, ◌∙◌, append_assoc, length-append, add-one, arith, ℤ, pos, ◌+ℤ◌, ◌*ℤ◌}
-use Rattle.std.specs.Prelude.{ltb, cond, ◌-ℤ◌}
+use Rattle.std.specs.Prelude.{ltb}
 use Rattle.std.proofs.lemmas.Int.{ints}
 use Rattle.std.proofs.lemmas.Nat.{pow-add, pow_below, shl_whole, mul-le}
 use Rattle.std.proofs.Math.Seq.{drop-cons}
-use Rattle.wasm_below_bytes.specs.Number.{EncodesUnsigned, EncodesSigned, last_value}
+use Rattle.wasm_below_bytes.specs.Number.{EncodesUnsigned, EncodesSigned, last_value, with_sign}
 use Rattle.wasm_below_bytes.specs.Leb128.{AllGoOn, low_bits, signed_value, StandsAt}
 use Rattle.wasm_below_bytes.specs.Source.{NoPrefix}
 use Rattle.wasm_below_bytes.proofs.Numbers.{unsigned_rest, unsigned_long}
@@ -85,8 +85,7 @@ unsigned_joined (c ∷ text) x =
 step_value : (b low unit more d : ℕ) → more ≡ 128 * unit → (pos 128 *ℤ signed_value low unit b) +ℤ pos d ≡ signed_value (128 * low + d) more b
 step_value b low unit more d e = subst (λ m. (pos 128 *ℤ signed_value low unit b) +ℤ pos d ≡ signed_value (128 * low + d) m b) (sym e) (by_sign (ltb b 64))
   where
-    by_sign : (t : Bool) → (pos 128 *ℤ cond t (pos (low + b * unit)) (pos (low + b * unit) -ℤ pos (128 * unit))) +ℤ pos d ≡ cond t
-        (pos (128 * low + d + b * (128 * unit))) (pos (128 * low + d + b * (128 * unit)) -ℤ pos (128 * (128 * unit)))
+    by_sign : (t : Bool) → (pos 128 *ℤ with_sign t (low + b * unit) (128 * unit)) +ℤ pos d ≡ with_sign t (128 * low + d + b * (128 * unit)) (128 * (128 * unit))
     by_sign true = omega (arith, ints)
     by_sign false = omega (arith, ints)
 
@@ -94,7 +93,7 @@ pub signed_joined : (text : List ℕ) (b : ℕ) →
     joined (λ low high. (pos 128 *ℤ high) +ℤ pos low) text (last_value b) ≡ signed_value (low_bits text) (2 ^ (7 * length text)) b
 signed_joined [] b = by_sign (ltb b 64)
   where
-    by_sign : (t : Bool) → cond t (pos b) (pos b -ℤ pos 128) ≡ cond t (pos (0 + b * 1)) (pos (0 + b * 1) -ℤ pos (128 * 1))
+    by_sign : (t : Bool) → with_sign t b 128 ≡ with_sign t (0 + b * 1) (128 * 1)
     by_sign true = omega (arith, ints)
     by_sign false = omega (arith, ints)
 signed_joined (c ∷ text) b =

@@ -1,10 +1,10 @@
 -- The last byte of a number with a sign, moved to its place above the bits before it.
 use Rattle.std.proofs.Common.{◌≡◌, ℕ, ◌+◌, ◌-◌, ◌*◌, ◌%◌, ◌<◌, ◌≤◌, ◌^◌, Bool, true, false, refl, sym, ap, ◌∙◌, arith, ℤ, pos, ◌+ℤ◌, neg_ℤ, ◌≤ℤ◌, ◌<ℤ◌, w64, to_z, of_z, zero, suc, negsuc, mod-eq_of_lt}
-use Rattle.std.specs.Prelude.{ltb, cond, ◌-ℤ◌}
+use Rattle.std.specs.Prelude.{ltb, ◌-ℤ◌}
 use Rattle.std.proofs.lemmas.Int.{ints, to_z-of_z}
 use Rattle.std.proofs.lemmas.Nat.{pow-add, pow_pos, mul-le, mod_low}
 use mir.Val.{SFits}
-use Rattle.wasm_below_bytes.specs.Number.{FitsWidth, last_value}
+use Rattle.wasm_below_bytes.specs.Number.{FitsWidth, last_value, with_sign}
 use Rattle.wasm_below_bytes.specs.Leb128.{signed_value}
 
 -- what is below zero, moved up
@@ -37,10 +37,10 @@ parts_of : (m k last : ℕ) → k + last ≡ 128 → k * m + last * m ≡ 128 * 
 parts_of m k last e = omega (arith, ap (λ z. z * m) e)
 
 joined_by : (low m p last : ℕ) (high : ℤ) → p * m ≡ 2 ^ 63 → 0 < p → low < m → last < 128 → (t : Bool) →
-    (neg_ℤ (pos p) ≤ℤ cond t (pos last) (pos last -ℤ pos 128)) × (cond t (pos last) (pos last -ℤ pos 128) <ℤ pos p) →
-    high ≡ cond t (pos last) (pos last -ℤ pos 128) →
-    (to_z w64 low +ℤ to_z w64 ((of_z w64 high * m) % 2 ^ 64) ≡ cond t (pos (low + last * m)) (pos (low + last * m) -ℤ pos (128 * m))) ×
-    SFits w64 (cond t (pos (low + last * m)) (pos (low + last * m) -ℤ pos (128 * m)))
+    (neg_ℤ (pos p) ≤ℤ with_sign t last 128) × (with_sign t last 128 <ℤ pos p) →
+    high ≡ with_sign t last 128 →
+    (to_z w64 low +ℤ to_z w64 ((of_z w64 high * m) % 2 ^ 64) ≡ with_sign t (low + last * m) (128 * m)) ×
+    SFits w64 (with_sign t (low + last * m) (128 * m))
 joined_by low m p last high room some lt small true f e =
     let up : (last + 1) * m ≤ 2 ^ 63 = within_64 m p room (last + 1) (omega (arith, ints, f.1)) in
     let low_is : to_z w64 low ≡ pos low = omega (arith, ints, up) in

@@ -40,11 +40,14 @@ EndsWithin n m r offset = (m ≡ message.EndOfData) × (offset ≡ offset_of r) 
 abbrev pub ReaderFault : Message → Reader → ℕ → Type 0
 ReaderFault m r offset = ThenFault (EncodesUnsigned 32) U32Fault EndsWithin m r offset
 
--- A step of an iterator that has this many items left before and after.
-abbrev pub StepsItems : {X : Type 0} → (List ℕ → X → Type 0) → (Message → Reader → ℕ → Type 0) → Bool → ℕ → ℕ → Option (Result X Error) → Reader → Reader → Type 0
-StepsItems Encodes Fault takes_memory before after None old new = (before ≡ 0) × (after ≡ 0) × (new ≡ old)
-StepsItems Encodes Fault takes_memory before after (Some (Ok x)) old new = (before ≡ after + 1) × ReadsValue Encodes takes_memory (Ok x) old new
-StepsItems Encodes Fault takes_memory before after (Some (Err e)) old new = (0 < before) × (after ≡ 0) × ReadsValue Encodes takes_memory (Err e) old new × HasFault Fault e old
+-- A step of an iterator that has this many items left before and after. Where the item stood is known as of one that is read by itself.
+abbrev pub StepsItems : {X : Type 0} → (List ℕ → X → Type 0) → (Message → Reader → ℕ → Type 0) → (Reader → X → Reader → Type 0) → Bool → ℕ → ℕ →
+    Option (Result X Error) → Reader → Reader → Type 0
+StepsItems Encodes Fault Placed takes_memory before after None old new = (before ≡ 0) × (after ≡ 0) × (new ≡ old)
+StepsItems Encodes Fault Placed takes_memory before after (Some (Ok x)) old new =
+    (before ≡ after + 1) × ReadsValue Encodes takes_memory (Ok x) old new × Placed old x new
+StepsItems Encodes Fault Placed takes_memory before after (Some (Err e)) old new =
+    (0 < before) × (after ≡ 0) × ReadsValue Encodes takes_memory (Err e) old new × HasFault Fault e old
 
 -- What reading this many values leaves, one after another and up to a refusal: no value is left; or one is read, and the others behind it; or one is refused where the reader stands.
 abbrev pub ReadsOn : {X : Type 0} → (List ℕ → X → Type 0) → Bool → ℕ → Reader → Reader → Type 0

@@ -1,11 +1,12 @@
 -- LEB128 numbers as they are read: bytes that say that more follow, and a last one.
-use Rattle.std.specs.Prelude.{◌≡◌, ℕ, ◌+◌, ◌-◌, ◌*◌, ◌/◌, ◌<◌, ◌≤◌, List, [], ◌∷◌, ◌++◌, length, drop, slice_index, ℤ, pos, ◌-ℤ◌, cond, ltb}
+use Rattle.std.specs.Prelude.{◌≡◌, ℕ, ◌+◌, ◌-◌, ◌*◌, ◌/◌, ◌<◌, ◌≤◌, List, [], ◌∷◌, ◌++◌, length, drop, slice_index, ℤ, ltb}
 use Rattle.wasm_below_bytes.specs.declared.long_numbers.Groups.{Groups}
 use Rattle.wasm_below_bytes.specs.declared.long_numbers.NumberRefusal.{NumberRefusal}
 use Rattle.wasm_below_bytes.specs.declared.long_numbers.NumberRefusal.TheVariants as refusal
 use Rattle.wasm_below_bytes.specs.declared.message.Message.{Message}
 use Rattle.wasm_below_bytes.specs.declared.message.Message.TheVariants as message
 use Rattle.wasm_below_bytes.specs.declared.message.NumberName.{NumberName}
+use Rattle.wasm_below_bytes.specs.Number.{with_sign}
 use Rattle.wasm_below_bytes.specs.Source.{NoPrefix}
 
 -- Each of the bytes says that more follow.
@@ -20,7 +21,7 @@ low_bits (c ∷ text) = 128 * low_bits text + (c - 128)
 
 -- The number of these low bits and this last byte, whose lowest bit stands for `unit`, and its highest for the sign.
 abbrev pub signed_value : ℕ → ℕ → ℕ → ℤ
-signed_value low unit last = cond (ltb last 64) (pos (low + last * unit)) (pos (low + last * unit) -ℤ pos (128 * unit))
+signed_value low unit last = with_sign (ltb last 64) (low + last * unit) (128 * unit)
 
 -- A text stands at this position of a buffer, and ends where `behind` is.
 pub record StandsAt (buffer : List ℕ) (start behind : ℕ) (text : List ℕ) : Type 0 where

@@ -1,6 +1,6 @@
 -- Integers as bytes: LEB128, seven bits a byte, the lowest first.
 -- WebAssembly Core Specification 3.0, Binary Format, Values, Integers.
-use Rattle.std.specs.Prelude.{◌≡◌, ℕ, ◌+◌, ◌-◌, ◌*◌, ◌<◌, ◌≤◌, ◌^◌, List, [], ◌∷◌, ℤ, pos, ◌+ℤ◌, ◌-ℤ◌, ◌*ℤ◌, neg_ℤ, ◌≤ℤ◌, ◌<ℤ◌, cond, ltb}
+use Rattle.std.specs.Prelude.{◌≡◌, ℕ, ◌+◌, ◌-◌, ◌*◌, ◌<◌, ◌≤◌, ◌^◌, Bool, true, false, List, [], ◌∷◌, ℤ, pos, ◌+ℤ◌, ◌-ℤ◌, ◌*ℤ◌, neg_ℤ, ◌≤ℤ◌, ◌<ℤ◌, ltb}
 use Rattle.std.specs.Int.{Width, byte_len, to_le_bytes}
 
 -- The bytes encode n, a number of at most `width` bits. A byte below 128 is the last one; another has the low seven bits, and the bytes behind it encode the rest.
@@ -10,9 +10,14 @@ EncodesUnsigned width [] n = ⊥
 EncodesUnsigned width (c ∷ []) n = (c < 128) × (n ≡ c) × (n < 2 ^ width)
 EncodesUnsigned width (c ∷ d ∷ bytes) n = (7 < width) × (128 ≤ c) × (c < 256) × (high : ℕ) × (n + 128 ≡ 128 * high + c) × EncodesUnsigned (width - 7) (d ∷ bytes) high
 
+-- Bits as a number with a sign: the number itself where it lies in the lower half, and else less by the whole.
+abbrev pub with_sign : Bool → ℕ → ℕ → ℤ
+with_sign true n whole = pos n
+with_sign false n whole = pos n -ℤ pos whole
+
 -- The seven bits of a last byte, the highest of them the sign.
 abbrev pub last_value : ℕ → ℤ
-last_value c = cond (ltb c 64) (pos c) (pos c -ℤ pos 128)
+last_value c = with_sign (ltb c 64) c 128
 
 -- An integer with a sign, of at most `width` bits.
 abbrev pub FitsWidth : ℕ → ℤ → Type 0

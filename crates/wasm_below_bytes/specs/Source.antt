@@ -1,5 +1,4 @@
 -- What a reader has before it, and what a reading call does to it.
--- The short immediates: indices, orderings, lanes and vectors.
 -- WebAssembly Core Specification 3.0, Binary Format, Instructions.
 use Rattle.std.specs.Prelude.{◌≡◌, ℕ, ◌+◌, ◌-◌, ◌/◌, ◌<◌, ◌≤◌, List, [], ◌∷◌, ◌++◌, length, drop, Result, Ok, Err, slice_index}
 use Rattle.std.specs.Borrow.{Bor}

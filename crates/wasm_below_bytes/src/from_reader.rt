@@ -1,5 +1,5 @@
 //! Types that are read by a call of their own, and lists of their values.
-ghost use Rattle.std.specs.Prelude.{◌≡◌, ℕ, Bool, true, false, List, ◌++◌, IfOk, IfErr, IfSome, []};
+ghost use Rattle.std.specs.Prelude.{◌≡◌, ℕ, ⊤, List, ◌++◌, IfOk, IfErr, IfSome, []};
 ghost use Rattle.wasm_below_bytes.specs.declared.features.WasmFeatures.{WasmFeatures};
 ghost use Rattle.wasm_below_bytes.specs.declared.message.Message.{Message};
 ghost use Rattle.wasm_below_bytes.specs.Fault.{HasFault, DeterminesRefusal};
@@ -13,18 +13,13 @@ ghost use Rattle.wasm_below_bytes.specs.Sequence.{PrefixCodeUpTo};
 
 use crate::binary_reader::BinaryReader;
 use crate::error::Result;
+use crate::memory_use::{MemoryUse, Never, UsesMemory};
 use crate::message::SizeName;
 use std::alloc::Global;
 use std::marker::PhantomData;
 
 /// A type that is read from the start of bytes.
-pub trait FromReader<'a>: Drop + Sized {
-    // Whether a reading may answer that memory was refused, as contracts see it.
-    ghost takes_memory: { Bool };
-
-    /// Whether a reading may answer that memory was refused.
-    const TAKES_MEMORY: bool;
-
+pub trait FromReader<'a>: UsesMemory + Drop + Sized {
     // Under these features the bytes encode the value.
     ghost encodes: { WasmFeatures → List ℕ → Self → Type 0 };
 
@@ -34,14 +29,14 @@ pub trait FromReader<'a>: Drop + Sized {
     // The same value, but for the place that a reader inside it remembers.
     ghost same: { Self → Self → Type 0 } = { λ a b. a ≡ b };
 
+    // Where the value stood that was read between these readers, where the value remembers it.
+    ghost placed: { Reader → Self → Reader → Type 0 } = { λ old value new. ⊤ };
+
     /// Reads the value that a prefix of the rest encodes.
     fn from_reader(alloc: Global, reader: &mut BinaryReader<'a>) -> Result<Self>
-        ensures reads { ReadsValue (encodes reader.old.features) takes_memory result reader.old reader.new }
+        ensures reads { ReadsValue (encodes reader.old.features) Self.Memory.TAKES result reader.old reader.new }
+        ensures placed { IfOk result (λ value. placed reader.old value reader.new) }
         ensures fault { IfErr result (λ e. HasFault fault e reader.old) };
-
-    /// A law: the constant is what contracts see. It answers the constant.
-    fn memory_law() -> bool
-        ensures { result ≡ takes_memory };
 
     /// A law: no encoding is a proper prefix of another, and each is that of one value. It does
     /// nothing; generic code calls it to use the law.
@@ -54,21 +49,17 @@ pub trait FromReader<'a>: Drop + Sized {
         ensures { DeterminesRefusal fault };
 }
 
+impl UsesMemory for u32 {
+    type Memory = Never;
+}
+
 impl<'a> FromReader<'a> for u32 {
-    ghost takes_memory = { false };
-
-    const TAKES_MEMORY: bool = false;
-
     ghost encodes = { λ features text n. EncodesUnsigned 32 text n };
 
     ghost fault = { λ m r offset. U32Fault m r offset };
 
     fn from_reader(_alloc: Global, reader: &mut BinaryReader<'a>) -> Result<u32> {
         reader.read_var_u32()
-    }
-
-    fn memory_law() -> bool {
-        <u32 as FromReader<'a>>::TAKES_MEMORY
     }
 
     fn is_prefix_code() {}
@@ -80,7 +71,8 @@ impl<'a> BinaryReader<'a> {
     /// Reads a value of a type. Refused as the type's own reading.
     #[inline(always)]
     pub fn read<T: FromReader<'a>>(&mut self, alloc: Global) -> Result<T>
-        ensures reads { ReadsValue (T.encodes self.old.features) T.takes_memory result self.old self.new }
+        ensures reads { ReadsValue (T.encodes self.old.features) T.Memory.TAKES result self.old self.new }
+        ensures placed { IfOk result (λ value. T.placed self.old value self.new) }
         ensures fault { IfErr result (λ e. HasFault T.fault e self.old) }
     {
         T::from_reader(alloc, self)
@@ -117,7 +109,8 @@ impl<'a> BinaryReader<'a> {
         desc: SizeName,
     ) -> Result<BinaryReaderIter<'a, 'r, T>>
         ensures same_reference { IfOk result (λ items. items_name items ≡ self.entry.ghost_name) }
-        ensures count { IfOk result (λ items. Reads (EncodesSize limit) (Ok (items_left items)) self.old (items_reader items)) }
+        ensures count { IfOk result
+            (λ items. Reads (EncodesSize limit) (Ok (items_left items)) self.old (items_reader items)) }
         ensures refused { IfErr result (λ e. IsRefusal (EncodesSize limit) e self.old) }
         ensures fault { IfErr result (λ e. CountFault desc limit e.message self.old e.offset) }
     {
@@ -159,7 +152,9 @@ impl<'a, 'r, T: FromReader<'a>> BinaryReaderIter<'a, 'r, T> {
 impl<'a, 'r, T: FromReader<'a>> Iterator for BinaryReaderIter<'a, 'r, T> {
     type Item = Result<T>;
 
-    ghost next_gives = { λ s item t. (items_name t ≡ items_name s) × StepsItems (T.encodes (items_reader s).features) T.fault T.takes_memory (items_left s) (items_left t) item (items_reader s) (items_reader t) };
+    ghost next_gives = { λ s item t. (items_name t ≡ items_name s)
+        × StepsItems (T.encodes (items_reader s).features) T.fault T.placed T.Memory.TAKES (items_left s) (items_left t)
+        item (items_reader s) (items_reader t) };
 
     ghost remaining = { λ s. at_most (items_left s) };
 
@@ -190,7 +185,8 @@ impl<'a, 'r, T: FromReader<'a>> Iterator for BinaryReaderIter<'a, 'r, T> {
 
 impl<'a, 'r, T: FromReader<'a>> Drop for BinaryReaderIter<'a, 'r, T> {
     fn drop(self)
-        ensures { ReadsOn (T.encodes (items_reader self.entry).features) T.takes_memory (items_left self.entry) (items_reader self.entry) self.exit.1.0.now }
+        ensures { ReadsOn (T.encodes (items_reader self.entry).features) T.Memory.TAKES (items_left self.entry)
+            (items_reader self.entry) self.exit.1.0.now }
     {
         let BinaryReaderIter {
             remaining,
@@ -204,7 +200,7 @@ impl<'a, 'r, T: FromReader<'a>> Drop for BinaryReaderIter<'a, 'r, T> {
 
 /// Reads this many values, up to a refusal.
 fn read_on<'a, T: FromReader<'a>>(alloc: Global, reader: &mut BinaryReader<'a>, count: usize)
-    ensures { ReadsOn (T.encodes reader.old.features) T.takes_memory count reader.old reader.new }
+    ensures { ReadsOn (T.encodes reader.old.features) T.Memory.TAKES count reader.old reader.new }
 {
     for _ in 0..count {
         if reader.read::<T>(alloc).is_err() {

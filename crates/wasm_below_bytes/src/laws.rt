@@ -35,7 +35,8 @@ pub fn fixed_numbers()
 /// What a number's fault says determines its refusal, of any width and name (so of `U32Fault`,
 /// `U64Fault`, `I32Fault` and `I64Fault`), of the 33 bits of an index, and of a count.
 pub fn number_refusals()
-    ensures any { (width : ℕ) → (name : NumberName) → DeterminesRefusal (λ m r offset. NumberFault m width r offset × NamesNumber name m) }
+    ensures any { (width : ℕ) → (name : NumberName)
+        → DeterminesRefusal (λ m r offset. NumberFault m width r offset × NamesNumber name m) }
     ensures index { DeterminesRefusal S33Fault }
     ensures count { (name : SizeName) → (limit : ℕ) → DeterminesRefusal (CountFault name limit) }
 {}

@@ -10,12 +10,14 @@ mod features;
 mod from_reader;
 pub mod laws;
 mod long_numbers;
+mod memory_use;
 mod message;
 
 pub use binary_reader::BinaryReader;
 pub use error::{BinaryReaderError, Error, ErrorKind, Result};
 pub use features::WasmFeatures;
 pub use from_reader::{BinaryReaderIter, FromReader};
+pub use memory_use::{May, MemoryUse, Never, TakesMemory, UsesMemory};
 pub use message::{
     FrameName, InstructionName, LeadingByteName, Message, NumberName, SizeName, TypeName,
 };

@@ -108,7 +108,7 @@ impl VisitFixed for CountSome {
     }
 
     #[inline(always)]
-    fn decode_control(
+    fn decode_below_20(
         &mut self,
         alloc: Global,
         reader: &mut BinaryReader<'_>,

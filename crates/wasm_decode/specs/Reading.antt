@@ -1,12 +1,25 @@
 -- A call that reads an operator and answers it.
-use Rattle.std.specs.Prelude.{◌≡◌, ℕ, List, Result, Ok, Err}
+use Rattle.std.specs.Prelude.{◌≡◌, ℕ, List, Option, Result, Ok, Err}
 use Rattle.wasm_visit.specs.below.bytes.error.Error.{Error}
 use Rattle.wasm_visit.specs.below.bytes.message.Message.{Message}
-use Rattle.wasm_visit.specs.below.Source.{Reader, Takes}
+use Rattle.wasm_visit.specs.below.Source.{Reader, at_position, Takes}
+use Rattle.wasm_visit.specs.grammar.declared.frame_kind.FrameKind.{FrameKind}
 use Rattle.wasm_visit.specs.instr.declared.operator.Operator.{Operator}
+use Rattle.wasm_visit.specs.opcodes.Allowed.{EncodesAllowed, EncodesIn}
 use Rattle.wasm_visit.specs.opcodes.Decoding.{RefusesOperator}
+use Rattle.wasm_visit.specs.opcodes.OperatorFaults.{OperatorFault, FaultIn}
 
 -- The call answers Ok exactly where a prefix of the rest encodes an operator, memory aside: it then takes that prefix, and answers the operator. Else nothing changes, and the refusal is one of this fault.
 abbrev pub DecodesOperator : (List ℕ → Operator → Type 0) → (Message → Reader → ℕ → Type 0) → Result Operator Error → Reader → Reader → Type 0
 DecodesOperator Encodes Fault (Ok op) old new = (text : List ℕ) × Encodes text op × Takes old new text
 DecodesOperator Encodes Fault (Err e) old new = RefusesOperator Encodes Fault e old new
+
+-- The same of an operator that a frame of this kind allows and that began at the position `start`, behind its opcode.
+abbrev pub DecodesOperatorAt : FrameKind → ℕ → Result Operator Error → Reader → Reader → Type 0
+DecodesOperatorAt frame start result old new =
+    DecodesOperator (EncodesAllowed old.features frame) (OperatorFault old.features frame) result (at_position old start) new
+
+-- The same of the operator at the start of the rest, where this frame is the innermost, or none is open.
+abbrev pub DecodesOperatorIn : Option FrameKind → Result Operator Error → Reader → Reader → Type 0
+DecodesOperatorIn frame result old new =
+    DecodesOperator (EncodesIn (EncodesAllowed old.features) frame) (FaultIn (OperatorFault old.features) frame) result old new

@@ -4,11 +4,9 @@
 ghost use Rattle.std.specs.Prelude.{◌≡◌, ◌≢◌, Some, None, IfOk, IfErr};
 ghost use Rattle.wasm_visit.specs.below.Source.{at_position};
 ghost use Rattle.wasm_visit.specs.grammar.declared.frame_kind.FrameKind.{FrameKind};
-ghost use Rattle.wasm_visit.specs.opcodes.Allowed.{EncodesAllowed};
-ghost use Rattle.wasm_visit.specs.opcodes.Decoding.{Decodes, RefusesOperator, StandsBehind};
+ghost use Rattle.wasm_visit.specs.opcodes.Decoding.{StandsBehind, DecodesAt, RefusesAt};
 ghost use Rattle.wasm_visit.specs.opcodes.Entries.{entry_at};
 ghost use Rattle.wasm_visit.specs.opcodes.Entry.{prefixes};
-ghost use Rattle.wasm_visit.specs.opcodes.OperatorFaults.{OperatorFault};
 
 use std::alloc::Global;
 use wasm_visit::below::{BinaryReader, Result};
@@ -23,7 +21,7 @@ fn subopcode(reader: &mut BinaryReader<'_>, start: usize, prefix: u8) -> Result<
     requires prefix { entry_at None prefix ≡ prefixes }
     ensures read { IfOk result (λ code. StandsBehind start (Some prefix) code reader.new) }
     ensures stays { IfOk result (λ code. reader.new ≡ at_position reader.old reader.new.position) }
-    ensures refuses { IfErr result (λ e. (frame : FrameKind) → RefusesOperator (EncodesAllowed reader.old.features frame) (OperatorFault reader.old.features frame) e (at_position reader.old start) reader.new) }
+    ensures refuses { IfErr result (λ e. (frame : FrameKind) → RefusesAt frame start e reader.old reader.new) }
 {
     match reader.read_var_u32() {
         Ok(code) => Ok(code),
@@ -47,7 +45,7 @@ pub fn fixed_behind<V: VisitFixed>(
     requires behind { StandsBehind start None code reader.old }
     requires table { code ≢ 0x0e }
     requires vector { code ≢ 0xfd }
-    ensures { Decodes V.visits (EncodesAllowed reader.old.features frame) (OperatorFault reader.old.features frame) result (at_position reader.old start) reader.new v.old v.new }
+    ensures { DecodesAt V.visits frame start result reader.old reader.new v.old v.new }
 {
     match code {
         0xfb => prefixed_behind(v, reader, start, 0xfb),
@@ -69,7 +67,7 @@ fn prefixed_behind<V: VisitFixed>(
     requires behind { StandsBehind start None prefix reader.old }
     requires prefix { entry_at None prefix ≡ prefixes }
     requires vector { prefix ≢ 0xfd }
-    ensures { (frame : FrameKind) → Decodes V.visits (EncodesAllowed reader.old.features frame) (OperatorFault reader.old.features frame) result (at_position reader.old start) reader.new v.old v.new }
+    ensures { (frame : FrameKind) → DecodesAt V.visits frame start result reader.old reader.new v.old v.new }
 {
     match prefixed_out_of_line(v, reader, start, prefix) {
         Ok(answer) => Ok(answer),
@@ -88,7 +86,7 @@ fn prefixed_out_of_line<V: VisitFixed>(
     requires behind { StandsBehind start None prefix reader.old }
     requires prefix { entry_at None prefix ≡ prefixes }
     requires vector { prefix ≢ 0xfd }
-    ensures { (frame : FrameKind) → Decodes V.visits (EncodesAllowed reader.old.features frame) (OperatorFault reader.old.features frame) result (at_position reader.old start) reader.new v.old v.new }
+    ensures { (frame : FrameKind) → DecodesAt V.visits frame start result reader.old reader.new v.old v.new }
 {
     match subopcode(reader, start, prefix) {
         Ok(code) => match prefix {
@@ -109,7 +107,7 @@ pub fn simd_behind<V: VisitSimdOperator>(
     start: usize,
 ) -> Result<V::Output>
     requires { StandsBehind start None 0xfd reader.old }
-    ensures { (frame : FrameKind) → Decodes V.visits (EncodesAllowed reader.old.features frame) (OperatorFault reader.old.features frame) result (at_position reader.old start) reader.new v.old v.new }
+    ensures { (frame : FrameKind) → DecodesAt V.visits frame start result reader.old reader.new v.old v.new }
 {
     match simd_out_of_line(v, reader, start) {
         Ok(answer) => Ok(answer),
@@ -125,7 +123,7 @@ fn simd_out_of_line<V: VisitSimdOperator>(
     start: usize,
 ) -> Result<V::Output>
     requires { StandsBehind start None 0xfd reader.old }
-    ensures { (frame : FrameKind) → Decodes V.visits (EncodesAllowed reader.old.features frame) (OperatorFault reader.old.features frame) result (at_position reader.old start) reader.new v.old v.new }
+    ensures { (frame : FrameKind) → DecodesAt V.visits frame start result reader.old reader.new v.old v.new }
 {
     match subopcode(reader, start, 0xfd) {
         Ok(code) => {

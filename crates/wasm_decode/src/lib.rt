@@ -12,8 +12,9 @@ mod refusals;
 mod visit;
 
 pub use read::{read_behind, read_operator};
+pub use refusals::no_frame;
 pub use visit::{
-    control_behind, visit_behind, visit_behind_simd, visit_operator, visit_operator_simd,
+    visit_behind, visit_behind_simd, visit_below_20, visit_operator, visit_operator_simd,
 };
 pub use wasm_visit as visitors;
 pub use wasm_visit::{below, grammar, imm, instr};

@@ -1,11 +1,8 @@
 //! An operator is read, by the visitor that makes it in place.
 ghost use Rattle.std.specs.Prelude.{◌≡◌, ◌≢◌, None};
-ghost use Rattle.wasm_visit.specs.below.Source.{at_position};
-ghost use Rattle.wasm_decode.specs.Reading.{DecodesOperator};
+ghost use Rattle.wasm_decode.specs.Reading.{DecodesOperatorIn, DecodesOperatorAt};
 ghost use Rattle.wasm_visit.specs.grammar.declared.frame_kind.FrameKind.{FrameKind};
-ghost use Rattle.wasm_visit.specs.opcodes.Allowed.{EncodesAllowed, EncodesIn};
 ghost use Rattle.wasm_visit.specs.opcodes.Decoding.{StandsBehind};
-ghost use Rattle.wasm_visit.specs.opcodes.OperatorFaults.{OperatorFault, FaultIn};
 
 use crate::behind::{fixed_behind, simd_behind};
 use crate::refusals::no_frame;
@@ -26,7 +23,7 @@ pub fn read_operator<'a>(
     reader: &mut BinaryReader<'a>,
     frame: Option<FrameKind>,
 ) -> Result<Operator<'a>>
-    ensures { DecodesOperator (EncodesIn (EncodesAllowed reader.old.features) frame) (FaultIn (OperatorFault reader.old.features) frame) result reader.old reader.new }
+    ensures { DecodesOperatorIn frame result reader.old reader.new }
 {
     let Some(frame) = frame else {
         return Err(no_frame(reader));
@@ -50,7 +47,7 @@ pub fn read_behind<'a>(
     code: u8,
 ) -> Result<Operator<'a>>
     requires { StandsBehind start None code reader.old }
-    ensures { DecodesOperator (EncodesAllowed reader.old.features frame) (OperatorFault reader.old.features frame) result (at_position reader.old start) reader.new }
+    ensures { DecodesOperatorAt frame start result reader.old reader.new }
 {
     match code {
         0x0e => read_table(reader, start),
@@ -63,7 +60,7 @@ pub fn read_behind<'a>(
 #[inline(always)]
 fn read_table<'a>(reader: &mut BinaryReader<'a>, start: usize) -> Result<Operator<'a>>
     requires { StandsBehind start None 0x0e reader.old }
-    ensures { (frame : FrameKind) → DecodesOperator (EncodesAllowed reader.old.features frame) (OperatorFault reader.old.features frame) result (at_position reader.old start) reader.new }
+    ensures { (frame : FrameKind) → DecodesOperatorAt frame start result reader.old reader.new }
 {
     match immediates::branch_table(reader, start) {
         Ok(targets) => Ok(Operator::BrTable { targets }),
@@ -75,7 +72,7 @@ fn read_table<'a>(reader: &mut BinaryReader<'a>, start: usize) -> Result<Operato
 #[inline(always)]
 fn read_simd(reader: &mut BinaryReader<'_>, start: usize) -> Result<Operator<'static>>
     requires { StandsBehind start None 0xfd reader.old }
-    ensures { (frame : FrameKind) → DecodesOperator (EncodesAllowed reader.old.features frame) (OperatorFault reader.old.features frame) result (at_position reader.old start) reader.new }
+    ensures { (frame : FrameKind) → DecodesOperatorAt frame start result reader.old reader.new }
 {
     simd_behind(&mut Factory, reader, start)
 }
@@ -92,7 +89,7 @@ fn read_fixed(
     requires behind { StandsBehind start None code reader.old }
     requires table { code ≢ 0x0e }
     requires vector { code ≢ 0xfd }
-    ensures { DecodesOperator (EncodesAllowed reader.old.features frame) (OperatorFault reader.old.features frame) result (at_position reader.old start) reader.new }
+    ensures { DecodesOperatorAt frame start result reader.old reader.new }
 {
     fixed_behind(&mut Factory, alloc, reader, start, frame, code)
 }

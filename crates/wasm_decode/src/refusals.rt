@@ -1,14 +1,13 @@
 //! Refusals at the start of an operator.
 ghost use Rattle.std.specs.Prelude.{◌≡◌, ◌≤◌, None};
-ghost use Rattle.wasm_visit.specs.below.Source.{at_position, offset_of, end_of};
+ghost use Rattle.wasm_visit.specs.below.Source.{offset_of, end_of};
 ghost use Rattle.wasm_visit.specs.grammar.declared.frame_kind.FrameKind.{FrameKind};
-ghost use Rattle.wasm_visit.specs.opcodes.Allowed.{EncodesPlain};
-ghost use Rattle.wasm_visit.specs.opcodes.Decoding.{RefusesOperator, StandsBehind};
-ghost use Rattle.wasm_visit.specs.opcodes.OperatorFaults.{PlainOperatorFault};
+ghost use Rattle.wasm_visit.specs.opcodes.Decoding.{StandsBehind, RefusesPlainAt};
 
 use wasm_visit::below::{BinaryReader, Error, Message};
 
-/// No frame is open, so that no operator may stand there.
+/// The refusal where no frame is open, so that no operator may stand there: `OperatorsRemaining` at
+/// the position.
 #[cold]
 #[inline(never)]
 pub fn no_frame(reader: &BinaryReader<'_>) -> Error
@@ -25,7 +24,7 @@ pub fn no_frame(reader: &BinaryReader<'_>) -> Error
 #[inline(never)]
 pub fn unexpected_simd(reader: &mut BinaryReader<'_>, start: usize) -> Error
     requires { StandsBehind start None 0xfd reader.old }
-    ensures { (frame : FrameKind) → RefusesOperator (EncodesPlain reader.old.features frame) (PlainOperatorFault reader.old.features frame) result (at_position reader.old start) reader.new }
+    ensures { (frame : FrameKind) → RefusesPlainAt frame start result reader.old reader.new }
 {
     reader.refuse(start, Message::UnexpectedSimd)
 }

@@ -1,10 +1,7 @@
 //! An operator is read and visited.
 ghost use Rattle.std.specs.Prelude.{◌≡◌, ◌<◌, None};
-ghost use Rattle.wasm_visit.specs.below.Source.{at_position};
 ghost use Rattle.wasm_visit.specs.grammar.declared.frame_kind.FrameKind.{FrameKind};
-ghost use Rattle.wasm_visit.specs.opcodes.Allowed.{EncodesAllowed, EncodesPlain, EncodesIn};
-ghost use Rattle.wasm_visit.specs.opcodes.Decoding.{Decodes, StandsBehind};
-ghost use Rattle.wasm_visit.specs.opcodes.OperatorFaults.{OperatorFault, PlainOperatorFault, FaultIn};
+ghost use Rattle.wasm_visit.specs.opcodes.Decoding.{DecodesIn, DecodesPlainIn, StandsBehind, DecodesAt, DecodesPlainAt};
 
 use crate::behind::{fixed_behind, simd_behind};
 use crate::refusals::{no_frame, unexpected_simd};
@@ -30,7 +27,7 @@ pub fn visit_operator_simd<'a, V>(
 ) -> Result<V::Output>
 where
     V: VisitOperator<'a> + VisitSimdOperator,
-    ensures { Decodes V.visits (EncodesIn (EncodesAllowed reader.old.features) frame) (FaultIn (OperatorFault reader.old.features) frame) result reader.old reader.new v.old v.new }
+    ensures { DecodesIn V.visits frame result reader.old reader.new v.old v.new }
 {
     let Some(frame) = frame else {
         return Err(no_frame(reader));
@@ -58,7 +55,7 @@ pub fn visit_behind_simd<'a, V>(
 where
     V: VisitOperator<'a> + VisitSimdOperator,
     requires { StandsBehind start None code reader.old }
-    ensures { Decodes V.visits (EncodesAllowed reader.old.features frame) (OperatorFault reader.old.features frame) result (at_position reader.old start) reader.new v.old v.new }
+    ensures { DecodesAt V.visits frame start result reader.old reader.new v.old v.new }
 {
     match code {
         0x0e => table_behind(v, reader, start),
@@ -78,7 +75,7 @@ pub fn visit_operator<'a, V: VisitOperator<'a>>(
     reader: &mut BinaryReader<'a>,
     frame: Option<FrameKind>,
 ) -> Result<V::Output>
-    ensures { Decodes V.visits (EncodesIn (EncodesPlain reader.old.features) frame) (FaultIn (PlainOperatorFault reader.old.features) frame) result reader.old reader.new v.old v.new }
+    ensures { DecodesPlainIn V.visits frame result reader.old reader.new v.old v.new }
 {
     let Some(frame) = frame else {
         return Err(no_frame(reader));
@@ -104,7 +101,7 @@ pub fn visit_behind<'a, V: VisitOperator<'a>>(
     code: u8,
 ) -> Result<V::Output>
     requires { StandsBehind start None code reader.old }
-    ensures { Decodes V.visits (EncodesPlain reader.old.features frame) (PlainOperatorFault reader.old.features frame) result (at_position reader.old start) reader.new v.old v.new }
+    ensures { DecodesPlainAt V.visits frame start result reader.old reader.new v.old v.new }
 {
     match code {
         0x0e => table_behind(v, reader, start),
@@ -118,7 +115,7 @@ pub fn visit_behind<'a, V: VisitOperator<'a>>(
 ///
 /// Refusals are those of `visit_behind_simd`.
 #[inline(always)]
-pub fn control_behind<'a, V: VisitOperator<'a>>(
+pub fn visit_below_20<'a, V: VisitOperator<'a>>(
     v: &mut V,
     alloc: Global,
     reader: &mut BinaryReader<'a>,
@@ -128,12 +125,12 @@ pub fn control_behind<'a, V: VisitOperator<'a>>(
 ) -> Result<V::Output>
     requires behind { StandsBehind start None code reader.old }
     requires low { code < 0x20 }
-    ensures allowed { Decodes V.visits (EncodesAllowed reader.old.features frame) (OperatorFault reader.old.features frame) result (at_position reader.old start) reader.new v.old v.new }
-    ensures plain { Decodes V.visits (EncodesPlain reader.old.features frame) (PlainOperatorFault reader.old.features frame) result (at_position reader.old start) reader.new v.old v.new }
+    ensures allowed { DecodesAt V.visits frame start result reader.old reader.new v.old v.new }
+    ensures plain { DecodesPlainAt V.visits frame start result reader.old reader.new v.old v.new }
 {
     match code {
         0x0e => table_behind(v, reader, start),
-        _ => v.decode_control(alloc, reader, start, frame, code),
+        _ => v.decode_below_20(alloc, reader, start, frame, code),
     }
 }
 
@@ -145,7 +142,7 @@ fn table_behind<'a, V: VisitOperator<'a>>(
     start: usize,
 ) -> Result<V::Output>
     requires { StandsBehind start None 0x0e reader.old }
-    ensures { (frame : FrameKind) → Decodes V.visits (EncodesAllowed reader.old.features frame) (OperatorFault reader.old.features frame) result (at_position reader.old start) reader.new v.old v.new }
+    ensures { (frame : FrameKind) → DecodesAt V.visits frame start result reader.old reader.new v.old v.new }
 {
     match immediates::branch_table(reader, start) {
         Ok(targets) => Ok(v.visit_br_table(targets)),

@@ -7,9 +7,9 @@ use Rattle.wasm_decode_opcodes.specs.Entry.{Entry, unknown, prefixes, free}
 use Rattle.wasm_decode_opcodes.specs.Entries.{opcode_entries, gc_entries, misc_entries, simd_entries, atomic_entries, entry_at, align_at}
 use Rattle.wasm_decode_groups.proofs.Ranges.{InRanges, codes_in, unknown_outside, unknown_byte, in_run}
 
-abbrev has_plain : Entry → Bool
-has_plain (free ([])) = true
-has_plain _ = false
+abbrev has_without_immediates : Entry → Bool
+has_without_immediates (free ([])) = true
+has_without_immediates _ = false
 
 abbrev has_block_type : Entry → Bool
 has_block_type (free (is_block_type ∷ [])) = true
@@ -63,23 +63,23 @@ abbrev has_lane : Entry → Bool
 has_lane (free (is_one_lane ∷ [])) = true
 has_lane _ = false
 
-pub one_byte_plain_codes : (code : ℕ) → entry_at None code ≡ free ([]) → InRanges code ((0x00, 0x01) ∷ (0x0a, 0x0b) ∷ (0x0f, 0x0f) ∷ (0x1a, 0x1b) ∷ (0x45, 0xc4) ∷ (0xd1, 0xd1) ∷ (0xd3, 0xd4) ∷ [])
-one_byte_plain_codes code e = codes_in has_plain ((0x00, 0x01) ∷ (0x0a, 0x0b) ∷ (0x0f, 0x0f) ∷ (0x1a, 0x1b) ∷ (0x45, 0xc4) ∷ (0xd1, 0xd1) ∷ (0xd3, 0xd4) ∷ []) opcode_entries code refl refl (ap has_plain e)
+pub one_byte_without_immediates_codes : (code : ℕ) → entry_at None code ≡ free ([]) → InRanges code ((0x00, 0x01) ∷ (0x0a, 0x0b) ∷ (0x0f, 0x0f) ∷ (0x1a, 0x1b) ∷ (0x45, 0xc4) ∷ (0xd1, 0xd1) ∷ (0xd3, 0xd4) ∷ [])
+one_byte_without_immediates_codes code e = codes_in has_without_immediates ((0x00, 0x01) ∷ (0x0a, 0x0b) ∷ (0x0f, 0x0f) ∷ (0x1a, 0x1b) ∷ (0x45, 0xc4) ∷ (0xd1, 0xd1) ∷ (0xd3, 0xd4) ∷ []) opcode_entries code refl refl (ap has_without_immediates e)
 
-abbrev one_byte_plain_at : ℕ → Type 0
-one_byte_plain_at code = entry_at None code ≡ free ([])
+abbrev one_byte_without_immediates_at : ℕ → Type 0
+one_byte_without_immediates_at code = entry_at None code ≡ free ([])
 
-pub one_byte_plain_00 : (code : ℕ) → 0x00 ≤ code → code ≤ 0x01 → entry_at None code ≡ free ([])
-one_byte_plain_00 code from to = in_run one_byte_plain_at 2 0x00 code (refl, (refl, tt)) from (omega arith)
+pub one_byte_without_immediates_00 : (code : ℕ) → 0x00 ≤ code → code ≤ 0x01 → entry_at None code ≡ free ([])
+one_byte_without_immediates_00 code from to = in_run one_byte_without_immediates_at 2 0x00 code (refl, (refl, tt)) from (omega arith)
 
-pub one_byte_plain_0a : (code : ℕ) → 0x0a ≤ code → code ≤ 0x0b → entry_at None code ≡ free ([])
-one_byte_plain_0a code from to = in_run one_byte_plain_at 2 0x0a code (refl, (refl, tt)) from (omega arith)
+pub one_byte_without_immediates_0a : (code : ℕ) → 0x0a ≤ code → code ≤ 0x0b → entry_at None code ≡ free ([])
+one_byte_without_immediates_0a code from to = in_run one_byte_without_immediates_at 2 0x0a code (refl, (refl, tt)) from (omega arith)
 
-pub one_byte_plain_1a : (code : ℕ) → 0x1a ≤ code → code ≤ 0x1b → entry_at None code ≡ free ([])
-one_byte_plain_1a code from to = in_run one_byte_plain_at 2 0x1a code (refl, (refl, tt)) from (omega arith)
+pub one_byte_without_immediates_1a : (code : ℕ) → 0x1a ≤ code → code ≤ 0x1b → entry_at None code ≡ free ([])
+one_byte_without_immediates_1a code from to = in_run one_byte_without_immediates_at 2 0x1a code (refl, (refl, tt)) from (omega arith)
 
-pub one_byte_plain_d3 : (code : ℕ) → 0xd3 ≤ code → code ≤ 0xd4 → entry_at None code ≡ free ([])
-one_byte_plain_d3 code from to = in_run one_byte_plain_at 2 0xd3 code (refl, (refl, tt)) from (omega arith)
+pub one_byte_without_immediates_d3 : (code : ℕ) → 0xd3 ≤ code → code ≤ 0xd4 → entry_at None code ≡ free ([])
+one_byte_without_immediates_d3 code from to = in_run one_byte_without_immediates_at 2 0xd3 code (refl, (refl, tt)) from (omega arith)
 
 pub one_byte_block_type_codes : (code : ℕ) → entry_at None code ≡ free (is_block_type ∷ []) → InRanges code ((0x02, 0x04) ∷ [])
 one_byte_block_type_codes code e = codes_in has_block_type ((0x02, 0x04) ∷ []) opcode_entries code refl refl (ap has_block_type e)
@@ -171,14 +171,14 @@ gc_two_unsigned_08 code from to = in_run gc_two_unsigned_at 3 0x08 code (refl, (
 pub gc_two_unsigned_11 : (code : ℕ) → 0x11 ≤ code → code ≤ 0x13 → entry_at (Some 0xfb) code ≡ free (is_unsigned_32 ∷ is_unsigned_32 ∷ [])
 gc_two_unsigned_11 code from to = in_run gc_two_unsigned_at 3 0x11 code (refl, (refl, (refl, tt))) from (omega arith)
 
-pub gc_plain_codes : (code : ℕ) → entry_at (Some 0xfb) code ≡ free ([]) → InRanges code ((0x0f, 0x0f) ∷ (0x1a, 0x1e) ∷ [])
-gc_plain_codes code e = codes_in has_plain ((0x0f, 0x0f) ∷ (0x1a, 0x1e) ∷ []) gc_entries code refl refl (ap has_plain e)
+pub gc_without_immediates_codes : (code : ℕ) → entry_at (Some 0xfb) code ≡ free ([]) → InRanges code ((0x0f, 0x0f) ∷ (0x1a, 0x1e) ∷ [])
+gc_without_immediates_codes code e = codes_in has_without_immediates ((0x0f, 0x0f) ∷ (0x1a, 0x1e) ∷ []) gc_entries code refl refl (ap has_without_immediates e)
 
-abbrev gc_plain_at : ℕ → Type 0
-gc_plain_at code = entry_at (Some 0xfb) code ≡ free ([])
+abbrev gc_without_immediates_at : ℕ → Type 0
+gc_without_immediates_at code = entry_at (Some 0xfb) code ≡ free ([])
 
-pub gc_plain_1a : (code : ℕ) → 0x1a ≤ code → code ≤ 0x1e → entry_at (Some 0xfb) code ≡ free ([])
-gc_plain_1a code from to = in_run gc_plain_at 5 0x1a code (refl, (refl, (refl, (refl, (refl, tt))))) from (omega arith)
+pub gc_without_immediates_1a : (code : ℕ) → 0x1a ≤ code → code ≤ 0x1e → entry_at (Some 0xfb) code ≡ free ([])
+gc_without_immediates_1a code from to = in_run gc_without_immediates_at 5 0x1a code (refl, (refl, (refl, (refl, (refl, tt))))) from (omega arith)
 
 pub gc_heap_type_codes : (code : ℕ) → entry_at (Some 0xfb) code ≡ free (is_heap_type ∷ []) → InRanges code ((0x14, 0x17) ∷ (0x23, 0x24) ∷ [])
 gc_heap_type_codes code e = codes_in has_heap_type ((0x14, 0x17) ∷ (0x23, 0x24) ∷ []) gc_entries code refl refl (ap has_heap_type e)
@@ -207,17 +207,17 @@ gc_cast_25 code from to = in_run gc_cast_at 2 0x25 code (refl, (refl, tt)) from 
 pub gc_unknown : (code : ℕ) → (InRanges code ((0x00, 0x1e) ∷ (0x20, 0x26) ∷ []) → ⊥) → entry_at (Some 0xfb) code ≡ unknown
 gc_unknown code outside = unknown_outside ((0x00, 0x1e) ∷ (0x20, 0x26) ∷ []) gc_entries code refl outside
 
-pub misc_plain_codes : (code : ℕ) → entry_at (Some 0xfc) code ≡ free ([]) → InRanges code ((0x00, 0x07) ∷ (0x13, 0x16) ∷ [])
-misc_plain_codes code e = codes_in has_plain ((0x00, 0x07) ∷ (0x13, 0x16) ∷ []) misc_entries code refl refl (ap has_plain e)
+pub misc_without_immediates_codes : (code : ℕ) → entry_at (Some 0xfc) code ≡ free ([]) → InRanges code ((0x00, 0x07) ∷ (0x13, 0x16) ∷ [])
+misc_without_immediates_codes code e = codes_in has_without_immediates ((0x00, 0x07) ∷ (0x13, 0x16) ∷ []) misc_entries code refl refl (ap has_without_immediates e)
 
-abbrev misc_plain_at : ℕ → Type 0
-misc_plain_at code = entry_at (Some 0xfc) code ≡ free ([])
+abbrev misc_without_immediates_at : ℕ → Type 0
+misc_without_immediates_at code = entry_at (Some 0xfc) code ≡ free ([])
 
-pub misc_plain_00 : (code : ℕ) → 0x00 ≤ code → code ≤ 0x07 → entry_at (Some 0xfc) code ≡ free ([])
-misc_plain_00 code from to = in_run misc_plain_at 8 0x00 code (refl, (refl, (refl, (refl, (refl, (refl, (refl, (refl, tt)))))))) from (omega arith)
+pub misc_without_immediates_00 : (code : ℕ) → 0x00 ≤ code → code ≤ 0x07 → entry_at (Some 0xfc) code ≡ free ([])
+misc_without_immediates_00 code from to = in_run misc_without_immediates_at 8 0x00 code (refl, (refl, (refl, (refl, (refl, (refl, (refl, (refl, tt)))))))) from (omega arith)
 
-pub misc_plain_13 : (code : ℕ) → 0x13 ≤ code → code ≤ 0x16 → entry_at (Some 0xfc) code ≡ free ([])
-misc_plain_13 code from to = in_run misc_plain_at 4 0x13 code (refl, (refl, (refl, (refl, tt)))) from (omega arith)
+pub misc_without_immediates_13 : (code : ℕ) → 0x13 ≤ code → code ≤ 0x16 → entry_at (Some 0xfc) code ≡ free ([])
+misc_without_immediates_13 code from to = in_run misc_without_immediates_at 4 0x13 code (refl, (refl, (refl, (refl, tt)))) from (omega arith)
 
 pub misc_two_unsigned_codes : (code : ℕ) → entry_at (Some 0xfc) code ≡ free (is_unsigned_32 ∷ is_unsigned_32 ∷ []) → InRanges code ((0x08, 0x08) ∷ (0x0a, 0x0a) ∷ (0x0c, 0x0c) ∷ (0x0e, 0x0e) ∷ [])
 misc_two_unsigned_codes code e = codes_in has_two_unsigned ((0x08, 0x08) ∷ (0x0a, 0x0a) ∷ (0x0c, 0x0c) ∷ (0x0e, 0x0e) ∷ []) misc_entries code refl refl (ap has_two_unsigned e)
@@ -285,11 +285,11 @@ atomic_ordered_two_at code = entry_at (Some 0xfe) code ≡ free (is_order ∷ is
 pub atomic_ordered_two_5c : (code : ℕ) → 0x5c ≤ code → code ≤ 0x66 → entry_at (Some 0xfe) code ≡ free (is_order ∷ is_unsigned_32 ∷ is_unsigned_32 ∷ [])
 atomic_ordered_two_5c code from to = in_run atomic_ordered_two_at 11 0x5c code (refl, (refl, (refl, (refl, (refl, (refl, (refl, (refl, (refl, (refl, (refl, tt))))))))))) from (omega arith)
 
-pub atomic_plain_codes : (code : ℕ) → entry_at (Some 0xfe) code ≡ free ([]) → InRanges code ((0x04, 0x04) ∷ (0x72, 0x72) ∷ [])
-atomic_plain_codes code e = codes_in has_plain ((0x04, 0x04) ∷ (0x72, 0x72) ∷ []) atomic_entries code refl refl (ap has_plain e)
+pub atomic_without_immediates_codes : (code : ℕ) → entry_at (Some 0xfe) code ≡ free ([]) → InRanges code ((0x04, 0x04) ∷ (0x72, 0x72) ∷ [])
+atomic_without_immediates_codes code e = codes_in has_without_immediates ((0x04, 0x04) ∷ (0x72, 0x72) ∷ []) atomic_entries code refl refl (ap has_without_immediates e)
 
-abbrev atomic_plain_at : ℕ → Type 0
-atomic_plain_at code = entry_at (Some 0xfe) code ≡ free ([])
+abbrev atomic_without_immediates_at : ℕ → Type 0
+atomic_without_immediates_at code = entry_at (Some 0xfe) code ≡ free ([])
 
 pub atomic_unknown : (code : ℕ) → (InRanges code ((0x00, 0x04) ∷ (0x10, 0x72) ∷ []) → ⊥) → entry_at (Some 0xfe) code ≡ unknown
 atomic_unknown code outside = unknown_outside ((0x00, 0x04) ∷ (0x10, 0x72) ∷ []) atomic_entries code refl outside
@@ -324,59 +324,59 @@ simd_low_lane_at code = entry_at (Some 0xfd) code ≡ free (is_one_lane ∷ [])
 pub simd_low_lane_15 : (code : ℕ) → 0x15 ≤ code → code ≤ 0x22 → entry_at (Some 0xfd) code ≡ free (is_one_lane ∷ [])
 simd_low_lane_15 code from to = in_run simd_low_lane_at 14 0x15 code (refl, (refl, (refl, (refl, (refl, (refl, (refl, (refl, (refl, (refl, (refl, (refl, (refl, (refl, tt)))))))))))))) from (omega arith)
 
-pub simd_low_plain_codes : (code : ℕ) → entry_at (Some 0xfd) code ≡ free ([]) → InRanges code ((0x0e, 0x14) ∷ (0x23, 0x53) ∷ (0x5e, 0x99) ∷ (0x9b, 0xa1) ∷ (0xa3, 0xa4) ∷ (0xa7, 0xae) ∷ (0xb1, 0xb1) ∷ (0xb5, 0xba) ∷ (0xbc, 0xc1) ∷ (0xc3, 0xc4) ∷ (0xc7, 0xce) ∷ (0xd1, 0xd1) ∷ (0xd5, 0xe1) ∷ (0xe3, 0xed) ∷ (0xef, 0x113) ∷ [])
-simd_low_plain_codes code e = codes_in has_plain ((0x0e, 0x14) ∷ (0x23, 0x53) ∷ (0x5e, 0x99) ∷ (0x9b, 0xa1) ∷ (0xa3, 0xa4) ∷ (0xa7, 0xae) ∷ (0xb1, 0xb1) ∷ (0xb5, 0xba) ∷ (0xbc, 0xc1) ∷ (0xc3, 0xc4) ∷ (0xc7, 0xce) ∷ (0xd1, 0xd1) ∷ (0xd5, 0xe1) ∷ (0xe3, 0xed) ∷ (0xef, 0x113) ∷ []) simd_entries code refl refl (ap has_plain e)
+pub simd_low_without_immediates_codes : (code : ℕ) → entry_at (Some 0xfd) code ≡ free ([]) → InRanges code ((0x0e, 0x14) ∷ (0x23, 0x53) ∷ (0x5e, 0x99) ∷ (0x9b, 0xa1) ∷ (0xa3, 0xa4) ∷ (0xa7, 0xae) ∷ (0xb1, 0xb1) ∷ (0xb5, 0xba) ∷ (0xbc, 0xc1) ∷ (0xc3, 0xc4) ∷ (0xc7, 0xce) ∷ (0xd1, 0xd1) ∷ (0xd5, 0xe1) ∷ (0xe3, 0xed) ∷ (0xef, 0x113) ∷ [])
+simd_low_without_immediates_codes code e = codes_in has_without_immediates ((0x0e, 0x14) ∷ (0x23, 0x53) ∷ (0x5e, 0x99) ∷ (0x9b, 0xa1) ∷ (0xa3, 0xa4) ∷ (0xa7, 0xae) ∷ (0xb1, 0xb1) ∷ (0xb5, 0xba) ∷ (0xbc, 0xc1) ∷ (0xc3, 0xc4) ∷ (0xc7, 0xce) ∷ (0xd1, 0xd1) ∷ (0xd5, 0xe1) ∷ (0xe3, 0xed) ∷ (0xef, 0x113) ∷ []) simd_entries code refl refl (ap has_without_immediates e)
 
-abbrev simd_low_plain_at : ℕ → Type 0
-simd_low_plain_at code = entry_at (Some 0xfd) code ≡ free ([])
+abbrev simd_low_without_immediates_at : ℕ → Type 0
+simd_low_without_immediates_at code = entry_at (Some 0xfd) code ≡ free ([])
 
-pub simd_low_plain_0e : (code : ℕ) → 0x0e ≤ code → code ≤ 0x14 → entry_at (Some 0xfd) code ≡ free ([])
-simd_low_plain_0e code from to = in_run simd_low_plain_at 7 0x0e code (refl, (refl, (refl, (refl, (refl, (refl, (refl, tt))))))) from (omega arith)
+pub simd_low_without_immediates_0e : (code : ℕ) → 0x0e ≤ code → code ≤ 0x14 → entry_at (Some 0xfd) code ≡ free ([])
+simd_low_without_immediates_0e code from to = in_run simd_low_without_immediates_at 7 0x0e code (refl, (refl, (refl, (refl, (refl, (refl, (refl, tt))))))) from (omega arith)
 
-pub simd_low_plain_23 : (code : ℕ) → 0x23 ≤ code → code ≤ 0x53 → entry_at (Some 0xfd) code ≡ free ([])
-simd_low_plain_23 code from to = in_run simd_low_plain_at 49 0x23 code (refl, (refl, (refl, (refl, (refl, (refl, (refl, (refl, (refl, (refl, (refl, (refl, (refl, (refl, (refl, (refl, (refl, (refl, (refl, (refl, (refl, (refl, (refl, (refl, (refl, (refl, (refl, (refl, (refl, (refl, (refl, (refl, (refl, (refl, (refl, (refl, (refl, (refl, (refl, (refl, (refl, (refl, (refl, (refl, (refl, (refl, (refl, (refl, (refl, tt))))))))))))))))))))))))))))))))))))))))))))))))) from (omega arith)
+pub simd_low_without_immediates_23 : (code : ℕ) → 0x23 ≤ code → code ≤ 0x53 → entry_at (Some 0xfd) code ≡ free ([])
+simd_low_without_immediates_23 code from to = in_run simd_low_without_immediates_at 49 0x23 code (refl, (refl, (refl, (refl, (refl, (refl, (refl, (refl, (refl, (refl, (refl, (refl, (refl, (refl, (refl, (refl, (refl, (refl, (refl, (refl, (refl, (refl, (refl, (refl, (refl, (refl, (refl, (refl, (refl, (refl, (refl, (refl, (refl, (refl, (refl, (refl, (refl, (refl, (refl, (refl, (refl, (refl, (refl, (refl, (refl, (refl, (refl, (refl, (refl, tt))))))))))))))))))))))))))))))))))))))))))))))))) from (omega arith)
 
-pub simd_low_plain_5e : (code : ℕ) → 0x5e ≤ code → code ≤ 0x7f → entry_at (Some 0xfd) code ≡ free ([])
-simd_low_plain_5e code from to = in_run simd_low_plain_at 34 0x5e code (refl, (refl, (refl, (refl, (refl, (refl, (refl, (refl, (refl, (refl, (refl, (refl, (refl, (refl, (refl, (refl, (refl, (refl, (refl, (refl, (refl, (refl, (refl, (refl, (refl, (refl, (refl, (refl, (refl, (refl, (refl, (refl, (refl, (refl, tt)))))))))))))))))))))))))))))))))) from (omega arith)
+pub simd_low_without_immediates_5e : (code : ℕ) → 0x5e ≤ code → code ≤ 0x7f → entry_at (Some 0xfd) code ≡ free ([])
+simd_low_without_immediates_5e code from to = in_run simd_low_without_immediates_at 34 0x5e code (refl, (refl, (refl, (refl, (refl, (refl, (refl, (refl, (refl, (refl, (refl, (refl, (refl, (refl, (refl, (refl, (refl, (refl, (refl, (refl, (refl, (refl, (refl, (refl, (refl, (refl, (refl, (refl, (refl, (refl, (refl, (refl, (refl, (refl, tt)))))))))))))))))))))))))))))))))) from (omega arith)
 
-pub simd_high_plain_codes : (code : ℕ) → entry_at (Some 0xfd) code ≡ free ([]) → InRanges code ((0x0e, 0x14) ∷ (0x23, 0x53) ∷ (0x5e, 0x99) ∷ (0x9b, 0xa1) ∷ (0xa3, 0xa4) ∷ (0xa7, 0xae) ∷ (0xb1, 0xb1) ∷ (0xb5, 0xba) ∷ (0xbc, 0xc1) ∷ (0xc3, 0xc4) ∷ (0xc7, 0xce) ∷ (0xd1, 0xd1) ∷ (0xd5, 0xe1) ∷ (0xe3, 0xed) ∷ (0xef, 0x113) ∷ [])
-simd_high_plain_codes code e = codes_in has_plain ((0x0e, 0x14) ∷ (0x23, 0x53) ∷ (0x5e, 0x99) ∷ (0x9b, 0xa1) ∷ (0xa3, 0xa4) ∷ (0xa7, 0xae) ∷ (0xb1, 0xb1) ∷ (0xb5, 0xba) ∷ (0xbc, 0xc1) ∷ (0xc3, 0xc4) ∷ (0xc7, 0xce) ∷ (0xd1, 0xd1) ∷ (0xd5, 0xe1) ∷ (0xe3, 0xed) ∷ (0xef, 0x113) ∷ []) simd_entries code refl refl (ap has_plain e)
+pub simd_high_without_immediates_codes : (code : ℕ) → entry_at (Some 0xfd) code ≡ free ([]) → InRanges code ((0x0e, 0x14) ∷ (0x23, 0x53) ∷ (0x5e, 0x99) ∷ (0x9b, 0xa1) ∷ (0xa3, 0xa4) ∷ (0xa7, 0xae) ∷ (0xb1, 0xb1) ∷ (0xb5, 0xba) ∷ (0xbc, 0xc1) ∷ (0xc3, 0xc4) ∷ (0xc7, 0xce) ∷ (0xd1, 0xd1) ∷ (0xd5, 0xe1) ∷ (0xe3, 0xed) ∷ (0xef, 0x113) ∷ [])
+simd_high_without_immediates_codes code e = codes_in has_without_immediates ((0x0e, 0x14) ∷ (0x23, 0x53) ∷ (0x5e, 0x99) ∷ (0x9b, 0xa1) ∷ (0xa3, 0xa4) ∷ (0xa7, 0xae) ∷ (0xb1, 0xb1) ∷ (0xb5, 0xba) ∷ (0xbc, 0xc1) ∷ (0xc3, 0xc4) ∷ (0xc7, 0xce) ∷ (0xd1, 0xd1) ∷ (0xd5, 0xe1) ∷ (0xe3, 0xed) ∷ (0xef, 0x113) ∷ []) simd_entries code refl refl (ap has_without_immediates e)
 
-abbrev simd_high_plain_at : ℕ → Type 0
-simd_high_plain_at code = entry_at (Some 0xfd) code ≡ free ([])
+abbrev simd_high_without_immediates_at : ℕ → Type 0
+simd_high_without_immediates_at code = entry_at (Some 0xfd) code ≡ free ([])
 
-pub simd_high_plain_80 : (code : ℕ) → 0x80 ≤ code → code ≤ 0x99 → entry_at (Some 0xfd) code ≡ free ([])
-simd_high_plain_80 code from to = in_run simd_high_plain_at 26 0x80 code (refl, (refl, (refl, (refl, (refl, (refl, (refl, (refl, (refl, (refl, (refl, (refl, (refl, (refl, (refl, (refl, (refl, (refl, (refl, (refl, (refl, (refl, (refl, (refl, (refl, (refl, tt)))))))))))))))))))))))))) from (omega arith)
+pub simd_high_without_immediates_80 : (code : ℕ) → 0x80 ≤ code → code ≤ 0x99 → entry_at (Some 0xfd) code ≡ free ([])
+simd_high_without_immediates_80 code from to = in_run simd_high_without_immediates_at 26 0x80 code (refl, (refl, (refl, (refl, (refl, (refl, (refl, (refl, (refl, (refl, (refl, (refl, (refl, (refl, (refl, (refl, (refl, (refl, (refl, (refl, (refl, (refl, (refl, (refl, (refl, (refl, tt)))))))))))))))))))))))))) from (omega arith)
 
-pub simd_high_plain_9b : (code : ℕ) → 0x9b ≤ code → code ≤ 0xa1 → entry_at (Some 0xfd) code ≡ free ([])
-simd_high_plain_9b code from to = in_run simd_high_plain_at 7 0x9b code (refl, (refl, (refl, (refl, (refl, (refl, (refl, tt))))))) from (omega arith)
+pub simd_high_without_immediates_9b : (code : ℕ) → 0x9b ≤ code → code ≤ 0xa1 → entry_at (Some 0xfd) code ≡ free ([])
+simd_high_without_immediates_9b code from to = in_run simd_high_without_immediates_at 7 0x9b code (refl, (refl, (refl, (refl, (refl, (refl, (refl, tt))))))) from (omega arith)
 
-pub simd_high_plain_a3 : (code : ℕ) → 0xa3 ≤ code → code ≤ 0xa4 → entry_at (Some 0xfd) code ≡ free ([])
-simd_high_plain_a3 code from to = in_run simd_high_plain_at 2 0xa3 code (refl, (refl, tt)) from (omega arith)
+pub simd_high_without_immediates_a3 : (code : ℕ) → 0xa3 ≤ code → code ≤ 0xa4 → entry_at (Some 0xfd) code ≡ free ([])
+simd_high_without_immediates_a3 code from to = in_run simd_high_without_immediates_at 2 0xa3 code (refl, (refl, tt)) from (omega arith)
 
-pub simd_high_plain_a7 : (code : ℕ) → 0xa7 ≤ code → code ≤ 0xae → entry_at (Some 0xfd) code ≡ free ([])
-simd_high_plain_a7 code from to = in_run simd_high_plain_at 8 0xa7 code (refl, (refl, (refl, (refl, (refl, (refl, (refl, (refl, tt)))))))) from (omega arith)
+pub simd_high_without_immediates_a7 : (code : ℕ) → 0xa7 ≤ code → code ≤ 0xae → entry_at (Some 0xfd) code ≡ free ([])
+simd_high_without_immediates_a7 code from to = in_run simd_high_without_immediates_at 8 0xa7 code (refl, (refl, (refl, (refl, (refl, (refl, (refl, (refl, tt)))))))) from (omega arith)
 
-pub simd_high_plain_b5 : (code : ℕ) → 0xb5 ≤ code → code ≤ 0xba → entry_at (Some 0xfd) code ≡ free ([])
-simd_high_plain_b5 code from to = in_run simd_high_plain_at 6 0xb5 code (refl, (refl, (refl, (refl, (refl, (refl, tt)))))) from (omega arith)
+pub simd_high_without_immediates_b5 : (code : ℕ) → 0xb5 ≤ code → code ≤ 0xba → entry_at (Some 0xfd) code ≡ free ([])
+simd_high_without_immediates_b5 code from to = in_run simd_high_without_immediates_at 6 0xb5 code (refl, (refl, (refl, (refl, (refl, (refl, tt)))))) from (omega arith)
 
-pub simd_high_plain_bc : (code : ℕ) → 0xbc ≤ code → code ≤ 0xc1 → entry_at (Some 0xfd) code ≡ free ([])
-simd_high_plain_bc code from to = in_run simd_high_plain_at 6 0xbc code (refl, (refl, (refl, (refl, (refl, (refl, tt)))))) from (omega arith)
+pub simd_high_without_immediates_bc : (code : ℕ) → 0xbc ≤ code → code ≤ 0xc1 → entry_at (Some 0xfd) code ≡ free ([])
+simd_high_without_immediates_bc code from to = in_run simd_high_without_immediates_at 6 0xbc code (refl, (refl, (refl, (refl, (refl, (refl, tt)))))) from (omega arith)
 
-pub simd_high_plain_c3 : (code : ℕ) → 0xc3 ≤ code → code ≤ 0xc4 → entry_at (Some 0xfd) code ≡ free ([])
-simd_high_plain_c3 code from to = in_run simd_high_plain_at 2 0xc3 code (refl, (refl, tt)) from (omega arith)
+pub simd_high_without_immediates_c3 : (code : ℕ) → 0xc3 ≤ code → code ≤ 0xc4 → entry_at (Some 0xfd) code ≡ free ([])
+simd_high_without_immediates_c3 code from to = in_run simd_high_without_immediates_at 2 0xc3 code (refl, (refl, tt)) from (omega arith)
 
-pub simd_high_plain_c7 : (code : ℕ) → 0xc7 ≤ code → code ≤ 0xce → entry_at (Some 0xfd) code ≡ free ([])
-simd_high_plain_c7 code from to = in_run simd_high_plain_at 8 0xc7 code (refl, (refl, (refl, (refl, (refl, (refl, (refl, (refl, tt)))))))) from (omega arith)
+pub simd_high_without_immediates_c7 : (code : ℕ) → 0xc7 ≤ code → code ≤ 0xce → entry_at (Some 0xfd) code ≡ free ([])
+simd_high_without_immediates_c7 code from to = in_run simd_high_without_immediates_at 8 0xc7 code (refl, (refl, (refl, (refl, (refl, (refl, (refl, (refl, tt)))))))) from (omega arith)
 
-pub simd_high_plain_d5 : (code : ℕ) → 0xd5 ≤ code → code ≤ 0xe1 → entry_at (Some 0xfd) code ≡ free ([])
-simd_high_plain_d5 code from to = in_run simd_high_plain_at 13 0xd5 code (refl, (refl, (refl, (refl, (refl, (refl, (refl, (refl, (refl, (refl, (refl, (refl, (refl, tt))))))))))))) from (omega arith)
+pub simd_high_without_immediates_d5 : (code : ℕ) → 0xd5 ≤ code → code ≤ 0xe1 → entry_at (Some 0xfd) code ≡ free ([])
+simd_high_without_immediates_d5 code from to = in_run simd_high_without_immediates_at 13 0xd5 code (refl, (refl, (refl, (refl, (refl, (refl, (refl, (refl, (refl, (refl, (refl, (refl, (refl, tt))))))))))))) from (omega arith)
 
-pub simd_high_plain_e3 : (code : ℕ) → 0xe3 ≤ code → code ≤ 0xed → entry_at (Some 0xfd) code ≡ free ([])
-simd_high_plain_e3 code from to = in_run simd_high_plain_at 11 0xe3 code (refl, (refl, (refl, (refl, (refl, (refl, (refl, (refl, (refl, (refl, (refl, tt))))))))))) from (omega arith)
+pub simd_high_without_immediates_e3 : (code : ℕ) → 0xe3 ≤ code → code ≤ 0xed → entry_at (Some 0xfd) code ≡ free ([])
+simd_high_without_immediates_e3 code from to = in_run simd_high_without_immediates_at 11 0xe3 code (refl, (refl, (refl, (refl, (refl, (refl, (refl, (refl, (refl, (refl, (refl, tt))))))))))) from (omega arith)
 
-pub simd_high_plain_ef : (code : ℕ) → 0xef ≤ code → code ≤ 0x113 → entry_at (Some 0xfd) code ≡ free ([])
-simd_high_plain_ef code from to = in_run simd_high_plain_at 37 0xef code (refl, (refl, (refl, (refl, (refl, (refl, (refl, (refl, (refl, (refl, (refl, (refl, (refl, (refl, (refl, (refl, (refl, (refl, (refl, (refl, (refl, (refl, (refl, (refl, (refl, (refl, (refl, (refl, (refl, (refl, (refl, (refl, (refl, (refl, (refl, (refl, (refl, tt))))))))))))))))))))))))))))))))))))) from (omega arith)
+pub simd_high_without_immediates_ef : (code : ℕ) → 0xef ≤ code → code ≤ 0x113 → entry_at (Some 0xfd) code ≡ free ([])
+simd_high_without_immediates_ef code from to = in_run simd_high_without_immediates_at 37 0xef code (refl, (refl, (refl, (refl, (refl, (refl, (refl, (refl, (refl, (refl, (refl, (refl, (refl, (refl, (refl, (refl, (refl, (refl, (refl, (refl, (refl, (refl, (refl, (refl, (refl, (refl, (refl, (refl, (refl, (refl, (refl, (refl, (refl, (refl, (refl, (refl, (refl, tt))))))))))))))))))))))))))))))))))))) from (omega arith)
 
 pub simd_high_unknown : (code : ℕ) → (InRanges code ((0x00, 0x99) ∷ (0x9b, 0xa1) ∷ (0xa3, 0xa4) ∷ (0xa7, 0xae) ∷ (0xb1, 0xb1) ∷ (0xb5, 0xba) ∷ (0xbc, 0xc1) ∷ (0xc3, 0xc4) ∷ (0xc7, 0xce) ∷ (0xd1, 0xd1) ∷ (0xd5, 0xe1) ∷ (0xe3, 0xed) ∷ (0xef, 0x113) ∷ []) → ⊥) → entry_at (Some 0xfd) code ≡ unknown
 simd_high_unknown code outside = unknown_outside ((0x00, 0x99) ∷ (0x9b, 0xa1) ∷ (0xa3, 0xa4) ∷ (0xa7, 0xae) ∷ (0xb1, 0xb1) ∷ (0xb5, 0xba) ∷ (0xbc, 0xc1) ∷ (0xc3, 0xc4) ∷ (0xc7, 0xce) ∷ (0xd1, 0xd1) ∷ (0xd5, 0xe1) ∷ (0xe3, 0xed) ∷ (0xef, 0x113) ∷ []) simd_entries code refl outside

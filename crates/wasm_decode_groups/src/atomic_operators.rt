@@ -1,13 +1,10 @@
 //! Decoding of the operators behind fe. Written by tools/lists.py from tools/operators.tsv.
 ghost use Rattle.std.specs.Prelude.{◌≡◌, ◌<◌, [], ◌∷◌, Some, None};
-ghost use Rattle.wasm_visit_groups.specs.below.Source.{at_position};
 ghost use Rattle.wasm_visit_groups.specs.grammar.declared.frame_kind.FrameKind.{FrameKind};
 ghost use Rattle.wasm_visit_groups.specs.instr.Immediate.{unsigned_32, memory_argument, order, is_unsigned_32, is_order, is_memory_argument};
-ghost use Rattle.wasm_decode_opcodes.specs.Allowed.{EncodesAllowed};
-ghost use Rattle.wasm_decode_opcodes.specs.Decoding.{Decodes, StandsBehind, VisitsRow};
+ghost use Rattle.wasm_decode_opcodes.specs.Decoding.{DecodesAt, StandsBehind, VisitsRow};
 ghost use Rattle.wasm_decode_opcodes.specs.Entries.{entry_at, align_at};
 ghost use Rattle.wasm_decode_opcodes.specs.Entry.{free};
-ghost use Rattle.wasm_decode_opcodes.specs.OperatorFaults.{OperatorFault};
 
 use wasm_decode_opcodes::{immediates, unknown_subopcode};
 use wasm_visit_groups::VisitAtomic;
@@ -23,7 +20,7 @@ pub fn atomic<V: VisitAtomic>(
     code: u32,
 ) -> Result<V::Output>
     requires behind { StandsBehind start (Some 0xfe) code reader.old }
-    ensures { (frame : FrameKind) → Decodes V.visits (EncodesAllowed reader.old.features frame) (OperatorFault reader.old.features frame) result (at_position reader.old start) reader.new v.old v.new }
+    ensures { (frame : FrameKind) → DecodesAt V.visits frame start result reader.old reader.new v.old v.new }
 {
     match code {
         0x00..=0x02 => memory(v, reader, start, code),
@@ -33,13 +30,13 @@ pub fn atomic<V: VisitAtomic>(
         0x4f..=0x5b => ordered(v, reader, start, code),
         0x67..=0x71 => ordered(v, reader, start, code),
         0x5c..=0x66 => ordered_two(v, reader, start, code),
-        0x04 => plain(v, reader, start, code),
-        0x72 => plain(v, reader, start, code),
+        0x04 => without_immediates(v, reader, start, code),
+        0x72 => without_immediates(v, reader, start, code),
         _ => Err(unknown_subopcode(reader, start, 0xfe, code)),
     }
 }
 
-/// The operators with such immediates.
+/// The operators whose immediates `memory` reads.
 #[inline(always)]
 fn memory<V: VisitAtomic>(
     v: &mut V,
@@ -48,8 +45,9 @@ fn memory<V: VisitAtomic>(
     code: u32,
 ) -> Result<V::Output>
     requires behind { StandsBehind start (Some 0xfe) code reader.old }
-    requires kinds { entry_at (Some 0xfe) code ≡ free (is_memory_argument MemArgKind.Plain (align_at (Some 0xfe) code) ∷ []) }
-    ensures { (frame : FrameKind) → Decodes V.visits (EncodesAllowed reader.old.features frame) (OperatorFault reader.old.features frame) result (at_position reader.old start) reader.new v.old v.new }
+    requires kinds { entry_at (Some 0xfe) code
+        ≡ free (is_memory_argument MemArgKind.Plain (align_at (Some 0xfe) code) ∷ []) }
+    ensures { (frame : FrameKind) → DecodesAt V.visits frame start result reader.old reader.new v.old v.new }
 {
     match immediates::memory(reader, start, align_of_memory(code), MemArgKind::Plain) {
         Ok(it) => Ok(visit_memory(v, code, it)),
@@ -71,11 +69,12 @@ fn align_of_memory(code: u32) -> u8
     }
 }
 
-/// The visits of the operators with such immediates.
+/// Their visits, by their codes.
 #[inline(always)]
 fn visit_memory<V: VisitAtomic>(v: &mut V, code: u32, it: MemArg) -> V::Output
     requires { entry_at (Some 0xfe) code ≡ free (is_memory_argument MemArgKind.Plain (align_at (Some 0xfe) code) ∷ []) }
-    ensures { VisitsRow V.visits (Some 0xfe) code (memory_argument MemArgKind.Plain (align_at (Some 0xfe) code) it ∷ []) v.old result v.new }
+    ensures { VisitsRow V.visits (Some 0xfe) code (memory_argument MemArgKind.Plain (align_at (Some 0xfe) code) it ∷ [])
+        v.old result v.new }
 {
     match code {
         0x00 => v.visit_memory_atomic_notify(it),
@@ -93,7 +92,7 @@ fn atomic_fence<V: VisitAtomic>(
     start: usize,
 ) -> Result<V::Output>
     requires behind { StandsBehind start (Some 0xfe) 0x03 reader.old }
-    ensures { (frame : FrameKind) → Decodes V.visits (EncodesAllowed reader.old.features frame) (OperatorFault reader.old.features frame) result (at_position reader.old start) reader.new v.old v.new }
+    ensures { (frame : FrameKind) → DecodesAt V.visits frame start result reader.old reader.new v.old v.new }
 {
     match immediates::fence(reader, start) {
         Ok(it) => Ok(v.visit_atomic_fence(it)),
@@ -101,7 +100,7 @@ fn atomic_fence<V: VisitAtomic>(
     }
 }
 
-/// The operators with such immediates.
+/// The operators whose immediates `memory` reads.
 #[inline(always)]
 fn memory_op<V: VisitAtomic>(
     v: &mut V,
@@ -110,8 +109,9 @@ fn memory_op<V: VisitAtomic>(
     code: u32,
 ) -> Result<V::Output>
     requires behind { StandsBehind start (Some 0xfe) code reader.old }
-    requires kinds { entry_at (Some 0xfe) code ≡ free (is_memory_argument MemArgKind.Op (align_at (Some 0xfe) code) ∷ []) }
-    ensures { (frame : FrameKind) → Decodes V.visits (EncodesAllowed reader.old.features frame) (OperatorFault reader.old.features frame) result (at_position reader.old start) reader.new v.old v.new }
+    requires kinds { entry_at (Some 0xfe) code
+        ≡ free (is_memory_argument MemArgKind.Op (align_at (Some 0xfe) code) ∷ []) }
+    ensures { (frame : FrameKind) → DecodesAt V.visits frame start result reader.old reader.new v.old v.new }
 {
     match immediates::memory(reader, start, align_of_memory_op(code), MemArgKind::Op) {
         Ok(it) => Ok(visit_memory_op(v, code, it)),
@@ -144,11 +144,12 @@ fn align_of_memory_op(code: u32) -> u8
     }
 }
 
-/// The visits of the operators with such immediates.
+/// Their visits, by their codes.
 #[inline(always)]
 fn visit_memory_op<V: VisitAtomic>(v: &mut V, code: u32, it: MemArg) -> V::Output
     requires { entry_at (Some 0xfe) code ≡ free (is_memory_argument MemArgKind.Op (align_at (Some 0xfe) code) ∷ []) }
-    ensures { VisitsRow V.visits (Some 0xfe) code (memory_argument MemArgKind.Op (align_at (Some 0xfe) code) it ∷ []) v.old result v.new }
+    ensures { VisitsRow V.visits (Some 0xfe) code (memory_argument MemArgKind.Op (align_at (Some 0xfe) code) it ∷ [])
+        v.old result v.new }
 {
     match code {
         0x10 => v.visit_i32_atomic_load(it),
@@ -169,7 +170,7 @@ fn visit_memory_op<V: VisitAtomic>(v: &mut V, code: u32, it: MemArg) -> V::Outpu
     }
 }
 
-/// The operators with such immediates.
+/// The operators whose immediates `memory` reads.
 #[inline(always)]
 fn memory_rmw<V: VisitAtomic>(
     v: &mut V,
@@ -178,8 +179,9 @@ fn memory_rmw<V: VisitAtomic>(
     code: u32,
 ) -> Result<V::Output>
     requires behind { StandsBehind start (Some 0xfe) code reader.old }
-    requires kinds { entry_at (Some 0xfe) code ≡ free (is_memory_argument MemArgKind.Rmw (align_at (Some 0xfe) code) ∷ []) }
-    ensures { (frame : FrameKind) → Decodes V.visits (EncodesAllowed reader.old.features frame) (OperatorFault reader.old.features frame) result (at_position reader.old start) reader.new v.old v.new }
+    requires kinds { entry_at (Some 0xfe) code
+        ≡ free (is_memory_argument MemArgKind.Rmw (align_at (Some 0xfe) code) ∷ []) }
+    ensures { (frame : FrameKind) → DecodesAt V.visits frame start result reader.old reader.new v.old v.new }
 {
     match immediates::memory(reader, start, align_of_memory_rmw(code), MemArgKind::Rmw) {
         Ok(it) => Ok(visit_memory_rmw(v, code, it)),
@@ -247,11 +249,12 @@ fn align_of_memory_rmw(code: u32) -> u8
     }
 }
 
-/// The visits of the operators with such immediates.
+/// Their visits, by their codes.
 #[inline(always)]
 fn visit_memory_rmw<V: VisitAtomic>(v: &mut V, code: u32, it: MemArg) -> V::Output
     requires { entry_at (Some 0xfe) code ≡ free (is_memory_argument MemArgKind.Rmw (align_at (Some 0xfe) code) ∷ []) }
-    ensures { VisitsRow V.visits (Some 0xfe) code (memory_argument MemArgKind.Rmw (align_at (Some 0xfe) code) it ∷ []) v.old result v.new }
+    ensures { VisitsRow V.visits (Some 0xfe) code (memory_argument MemArgKind.Rmw (align_at (Some 0xfe) code) it ∷ [])
+        v.old result v.new }
 {
     match code {
         0x1e => v.visit_i32_atomic_rmw_add(it),
@@ -307,7 +310,7 @@ fn visit_memory_rmw<V: VisitAtomic>(v: &mut V, code: u32, it: MemArg) -> V::Outp
     }
 }
 
-/// The operators with such immediates.
+/// The operators whose immediates `ordered` reads.
 #[inline(always)]
 fn ordered<V: VisitAtomic>(
     v: &mut V,
@@ -317,7 +320,7 @@ fn ordered<V: VisitAtomic>(
 ) -> Result<V::Output>
     requires behind { StandsBehind start (Some 0xfe) code reader.old }
     requires kinds { entry_at (Some 0xfe) code ≡ free (is_order ∷ is_unsigned_32 ∷ []) }
-    ensures { (frame : FrameKind) → Decodes V.visits (EncodesAllowed reader.old.features frame) (OperatorFault reader.old.features frame) result (at_position reader.old start) reader.new v.old v.new }
+    ensures { (frame : FrameKind) → DecodesAt V.visits frame start result reader.old reader.new v.old v.new }
 {
     match immediates::ordered(reader, start) {
         Ok(it) => Ok(visit_ordered(v, code, it)),
@@ -325,7 +328,7 @@ fn ordered<V: VisitAtomic>(
     }
 }
 
-/// The visits of the operators with such immediates.
+/// Their visits, by their codes.
 #[inline(always)]
 fn visit_ordered<V: VisitAtomic>(v: &mut V, code: u32, it: (Ordering, u32)) -> V::Output
     requires { entry_at (Some 0xfe) code ≡ free (is_order ∷ is_unsigned_32 ∷ []) }
@@ -360,7 +363,7 @@ fn visit_ordered<V: VisitAtomic>(v: &mut V, code: u32, it: (Ordering, u32)) -> V
     }
 }
 
-/// The operators with such immediates.
+/// The operators whose immediates `ordered_two` reads.
 #[inline(always)]
 fn ordered_two<V: VisitAtomic>(
     v: &mut V,
@@ -370,7 +373,7 @@ fn ordered_two<V: VisitAtomic>(
 ) -> Result<V::Output>
     requires behind { StandsBehind start (Some 0xfe) code reader.old }
     requires kinds { entry_at (Some 0xfe) code ≡ free (is_order ∷ is_unsigned_32 ∷ is_unsigned_32 ∷ []) }
-    ensures { (frame : FrameKind) → Decodes V.visits (EncodesAllowed reader.old.features frame) (OperatorFault reader.old.features frame) result (at_position reader.old start) reader.new v.old v.new }
+    ensures { (frame : FrameKind) → DecodesAt V.visits frame start result reader.old reader.new v.old v.new }
 {
     match immediates::ordered_two(reader, start) {
         Ok(it) => Ok(visit_ordered_two(v, code, it)),
@@ -378,11 +381,12 @@ fn ordered_two<V: VisitAtomic>(
     }
 }
 
-/// The visits of the operators with such immediates.
+/// Their visits, by their codes.
 #[inline(always)]
 fn visit_ordered_two<V: VisitAtomic>(v: &mut V, code: u32, it: (Ordering, (u32, u32))) -> V::Output
     requires { entry_at (Some 0xfe) code ≡ free (is_order ∷ is_unsigned_32 ∷ is_unsigned_32 ∷ []) }
-    ensures { VisitsRow V.visits (Some 0xfe) code (order it.0 ∷ unsigned_32 it.1.0 ∷ unsigned_32 it.1.1 ∷ []) v.old result v.new }
+    ensures { VisitsRow V.visits (Some 0xfe) code (order it.0 ∷ unsigned_32 it.1.0 ∷ unsigned_32 it.1.1 ∷ [])
+        v.old result v.new }
 {
     match code {
         0x5c => v.visit_struct_atomic_get(it.0, it.1.0, it.1.1),
@@ -400,9 +404,9 @@ fn visit_ordered_two<V: VisitAtomic>(v: &mut V, code: u32, it: (Ordering, (u32, 
     }
 }
 
-/// The operators with such immediates.
+/// The operators without immediates.
 #[inline(always)]
-fn plain<V: VisitAtomic>(
+fn without_immediates<V: VisitAtomic>(
     v: &mut V,
     reader: &mut BinaryReader<'_>,
     start: usize,
@@ -410,14 +414,14 @@ fn plain<V: VisitAtomic>(
 ) -> Result<V::Output>
     requires behind { StandsBehind start (Some 0xfe) code reader.old }
     requires kinds { entry_at (Some 0xfe) code ≡ free ([]) }
-    ensures { (frame : FrameKind) → Decodes V.visits (EncodesAllowed reader.old.features frame) (OperatorFault reader.old.features frame) result (at_position reader.old start) reader.new v.old v.new }
+    ensures { (frame : FrameKind) → DecodesAt V.visits frame start result reader.old reader.new v.old v.new }
 {
-    Ok(visit_plain(v, code))
+    Ok(visit_without_immediates(v, code))
 }
 
-/// The visits of the operators with such immediates.
+/// Their visits, by their codes.
 #[inline(always)]
-fn visit_plain<V: VisitAtomic>(v: &mut V, code: u32) -> V::Output
+fn visit_without_immediates<V: VisitAtomic>(v: &mut V, code: u32) -> V::Output
     requires { entry_at (Some 0xfe) code ≡ free ([]) }
     ensures { VisitsRow V.visits (Some 0xfe) code ([]) v.old result v.new }
 {

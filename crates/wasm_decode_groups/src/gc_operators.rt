@@ -1,13 +1,10 @@
 //! Decoding of the operators behind fb. Written by tools/lists.py from tools/operators.tsv.
 ghost use Rattle.std.specs.Prelude.{◌≡◌, ◌<◌, [], ◌∷◌, Some, None};
-ghost use Rattle.wasm_visit_groups.specs.below.Source.{at_position};
 ghost use Rattle.wasm_visit_groups.specs.grammar.declared.frame_kind.FrameKind.{FrameKind};
 ghost use Rattle.wasm_visit_groups.specs.instr.Immediate.{unsigned_32, heap_type, cast, is_unsigned_32, is_heap_type, is_cast};
-ghost use Rattle.wasm_decode_opcodes.specs.Allowed.{EncodesAllowed};
-ghost use Rattle.wasm_decode_opcodes.specs.Decoding.{Decodes, StandsBehind, VisitsRow};
+ghost use Rattle.wasm_decode_opcodes.specs.Decoding.{DecodesAt, StandsBehind, VisitsRow};
 ghost use Rattle.wasm_decode_opcodes.specs.Entries.{entry_at};
 ghost use Rattle.wasm_decode_opcodes.specs.Entry.{free};
-ghost use Rattle.wasm_decode_opcodes.specs.OperatorFaults.{OperatorFault};
 
 use wasm_decode_opcodes::{immediates, unknown_subopcode};
 use wasm_visit_groups::VisitGc;
@@ -23,7 +20,7 @@ pub fn gc<V: VisitGc>(
     code: u32,
 ) -> Result<V::Output>
     requires behind { StandsBehind start (Some 0xfb) code reader.old }
-    ensures { (frame : FrameKind) → Decodes V.visits (EncodesAllowed reader.old.features frame) (OperatorFault reader.old.features frame) result (at_position reader.old start) reader.new v.old v.new }
+    ensures { (frame : FrameKind) → DecodesAt V.visits frame start result reader.old reader.new v.old v.new }
 {
     match code {
         0x00..=0x01 => unsigned(v, reader, start, code),
@@ -34,8 +31,8 @@ pub fn gc<V: VisitGc>(
         0x02..=0x05 => two_unsigned(v, reader, start, code),
         0x08..=0x0a => two_unsigned(v, reader, start, code),
         0x11..=0x13 => two_unsigned(v, reader, start, code),
-        0x0f => plain(v, reader, start, code),
-        0x1a..=0x1e => plain(v, reader, start, code),
+        0x0f => without_immediates(v, reader, start, code),
+        0x1a..=0x1e => without_immediates(v, reader, start, code),
         0x14..=0x17 => heap_type(v, reader, start, code),
         0x23..=0x24 => heap_type(v, reader, start, code),
         0x18..=0x19 => cast(v, reader, start, code),
@@ -44,7 +41,7 @@ pub fn gc<V: VisitGc>(
     }
 }
 
-/// The operators with such immediates.
+/// The operators whose immediates `unsigned` reads.
 #[inline(always)]
 fn unsigned<V: VisitGc>(
     v: &mut V,
@@ -54,7 +51,7 @@ fn unsigned<V: VisitGc>(
 ) -> Result<V::Output>
     requires behind { StandsBehind start (Some 0xfb) code reader.old }
     requires kinds { entry_at (Some 0xfb) code ≡ free (is_unsigned_32 ∷ []) }
-    ensures { (frame : FrameKind) → Decodes V.visits (EncodesAllowed reader.old.features frame) (OperatorFault reader.old.features frame) result (at_position reader.old start) reader.new v.old v.new }
+    ensures { (frame : FrameKind) → DecodesAt V.visits frame start result reader.old reader.new v.old v.new }
 {
     match immediates::unsigned(reader, start) {
         Ok(it) => Ok(visit_unsigned(v, code, it)),
@@ -62,7 +59,7 @@ fn unsigned<V: VisitGc>(
     }
 }
 
-/// The visits of the operators with such immediates.
+/// Their visits, by their codes.
 #[inline(always)]
 fn visit_unsigned<V: VisitGc>(v: &mut V, code: u32, it: u32) -> V::Output
     requires { entry_at (Some 0xfb) code ≡ free (is_unsigned_32 ∷ []) }
@@ -85,7 +82,7 @@ fn visit_unsigned<V: VisitGc>(v: &mut V, code: u32, it: u32) -> V::Output
     }
 }
 
-/// The operators with such immediates.
+/// The operators whose immediates `two_unsigned` reads.
 #[inline(always)]
 fn two_unsigned<V: VisitGc>(
     v: &mut V,
@@ -95,7 +92,7 @@ fn two_unsigned<V: VisitGc>(
 ) -> Result<V::Output>
     requires behind { StandsBehind start (Some 0xfb) code reader.old }
     requires kinds { entry_at (Some 0xfb) code ≡ free (is_unsigned_32 ∷ is_unsigned_32 ∷ []) }
-    ensures { (frame : FrameKind) → Decodes V.visits (EncodesAllowed reader.old.features frame) (OperatorFault reader.old.features frame) result (at_position reader.old start) reader.new v.old v.new }
+    ensures { (frame : FrameKind) → DecodesAt V.visits frame start result reader.old reader.new v.old v.new }
 {
     match immediates::two_unsigned(reader, start) {
         Ok(it) => Ok(visit_two_unsigned(v, code, it)),
@@ -103,7 +100,7 @@ fn two_unsigned<V: VisitGc>(
     }
 }
 
-/// The visits of the operators with such immediates.
+/// Their visits, by their codes.
 #[inline(always)]
 fn visit_two_unsigned<V: VisitGc>(v: &mut V, code: u32, it: (u32, u32)) -> V::Output
     requires { entry_at (Some 0xfb) code ≡ free (is_unsigned_32 ∷ is_unsigned_32 ∷ []) }
@@ -124,9 +121,9 @@ fn visit_two_unsigned<V: VisitGc>(v: &mut V, code: u32, it: (u32, u32)) -> V::Ou
     }
 }
 
-/// The operators with such immediates.
+/// The operators without immediates.
 #[inline(always)]
-fn plain<V: VisitGc>(
+fn without_immediates<V: VisitGc>(
     v: &mut V,
     reader: &mut BinaryReader<'_>,
     start: usize,
@@ -134,14 +131,14 @@ fn plain<V: VisitGc>(
 ) -> Result<V::Output>
     requires behind { StandsBehind start (Some 0xfb) code reader.old }
     requires kinds { entry_at (Some 0xfb) code ≡ free ([]) }
-    ensures { (frame : FrameKind) → Decodes V.visits (EncodesAllowed reader.old.features frame) (OperatorFault reader.old.features frame) result (at_position reader.old start) reader.new v.old v.new }
+    ensures { (frame : FrameKind) → DecodesAt V.visits frame start result reader.old reader.new v.old v.new }
 {
-    Ok(visit_plain(v, code))
+    Ok(visit_without_immediates(v, code))
 }
 
-/// The visits of the operators with such immediates.
+/// Their visits, by their codes.
 #[inline(always)]
-fn visit_plain<V: VisitGc>(v: &mut V, code: u32) -> V::Output
+fn visit_without_immediates<V: VisitGc>(v: &mut V, code: u32) -> V::Output
     requires { entry_at (Some 0xfb) code ≡ free ([]) }
     ensures { VisitsRow V.visits (Some 0xfb) code ([]) v.old result v.new }
 {
@@ -156,7 +153,7 @@ fn visit_plain<V: VisitGc>(v: &mut V, code: u32) -> V::Output
     }
 }
 
-/// The operators with such immediates.
+/// The operators whose immediates `heap_type` reads.
 #[inline(always)]
 fn heap_type<V: VisitGc>(
     v: &mut V,
@@ -166,7 +163,7 @@ fn heap_type<V: VisitGc>(
 ) -> Result<V::Output>
     requires behind { StandsBehind start (Some 0xfb) code reader.old }
     requires kinds { entry_at (Some 0xfb) code ≡ free (is_heap_type ∷ []) }
-    ensures { (frame : FrameKind) → Decodes V.visits (EncodesAllowed reader.old.features frame) (OperatorFault reader.old.features frame) result (at_position reader.old start) reader.new v.old v.new }
+    ensures { (frame : FrameKind) → DecodesAt V.visits frame start result reader.old reader.new v.old v.new }
 {
     match immediates::heap_type(reader, start) {
         Ok(it) => Ok(visit_heap_type(v, code, it)),
@@ -174,7 +171,7 @@ fn heap_type<V: VisitGc>(
     }
 }
 
-/// The visits of the operators with such immediates.
+/// Their visits, by their codes.
 #[inline(always)]
 fn visit_heap_type<V: VisitGc>(v: &mut V, code: u32, it: HeapType) -> V::Output
     requires { entry_at (Some 0xfb) code ≡ free (is_heap_type ∷ []) }
@@ -191,7 +188,7 @@ fn visit_heap_type<V: VisitGc>(v: &mut V, code: u32, it: HeapType) -> V::Output
     }
 }
 
-/// The operators with such immediates.
+/// The operators whose immediates `cast` reads.
 #[inline(always)]
 fn cast<V: VisitGc>(
     v: &mut V,
@@ -201,7 +198,7 @@ fn cast<V: VisitGc>(
 ) -> Result<V::Output>
     requires behind { StandsBehind start (Some 0xfb) code reader.old }
     requires kinds { entry_at (Some 0xfb) code ≡ free (is_cast ∷ []) }
-    ensures { (frame : FrameKind) → Decodes V.visits (EncodesAllowed reader.old.features frame) (OperatorFault reader.old.features frame) result (at_position reader.old start) reader.new v.old v.new }
+    ensures { (frame : FrameKind) → DecodesAt V.visits frame start result reader.old reader.new v.old v.new }
 {
     match immediates::cast(reader, start) {
         Ok(it) => Ok(visit_cast(v, code, it)),
@@ -209,7 +206,7 @@ fn cast<V: VisitGc>(
     }
 }
 
-/// The visits of the operators with such immediates.
+/// Their visits, by their codes.
 #[inline(always)]
 fn visit_cast<V: VisitGc>(v: &mut V, code: u32, it: Cast) -> V::Output
     requires { entry_at (Some 0xfb) code ≡ free (is_cast ∷ []) }

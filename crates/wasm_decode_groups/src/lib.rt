@@ -3,8 +3,8 @@
 #![tactic(auto)]
 
 mod atomic_operators;
-mod control;
 mod gc_operators;
+mod guarded;
 mod misc_operators;
 mod numeric_operators;
 mod one_byte_operators;

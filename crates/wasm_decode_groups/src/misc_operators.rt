@@ -1,13 +1,10 @@
 //! Decoding of the operators behind fc. Written by tools/lists.py from tools/operators.tsv.
 ghost use Rattle.std.specs.Prelude.{◌≡◌, ◌<◌, [], ◌∷◌, Some, None};
-ghost use Rattle.wasm_visit_groups.specs.below.Source.{at_position};
 ghost use Rattle.wasm_visit_groups.specs.grammar.declared.frame_kind.FrameKind.{FrameKind};
 ghost use Rattle.wasm_visit_groups.specs.instr.Immediate.{unsigned_32, is_unsigned_32};
-ghost use Rattle.wasm_decode_opcodes.specs.Allowed.{EncodesAllowed};
-ghost use Rattle.wasm_decode_opcodes.specs.Decoding.{Decodes, StandsBehind, VisitsRow};
+ghost use Rattle.wasm_decode_opcodes.specs.Decoding.{DecodesAt, StandsBehind, VisitsRow};
 ghost use Rattle.wasm_decode_opcodes.specs.Entries.{entry_at};
 ghost use Rattle.wasm_decode_opcodes.specs.Entry.{free};
-ghost use Rattle.wasm_decode_opcodes.specs.OperatorFaults.{OperatorFault};
 
 use wasm_decode_opcodes::{immediates, unknown_subopcode};
 use wasm_visit_groups::VisitMisc;
@@ -22,11 +19,11 @@ pub fn misc<V: VisitMisc>(
     code: u32,
 ) -> Result<V::Output>
     requires behind { StandsBehind start (Some 0xfc) code reader.old }
-    ensures { (frame : FrameKind) → Decodes V.visits (EncodesAllowed reader.old.features frame) (OperatorFault reader.old.features frame) result (at_position reader.old start) reader.new v.old v.new }
+    ensures { (frame : FrameKind) → DecodesAt V.visits frame start result reader.old reader.new v.old v.new }
 {
     match code {
-        0x00..=0x07 => plain(v, reader, start, code),
-        0x13..=0x16 => plain(v, reader, start, code),
+        0x00..=0x07 => without_immediates(v, reader, start, code),
+        0x13..=0x16 => without_immediates(v, reader, start, code),
         0x08 => two_unsigned(v, reader, start, code),
         0x0a => two_unsigned(v, reader, start, code),
         0x0c => two_unsigned(v, reader, start, code),
@@ -39,9 +36,9 @@ pub fn misc<V: VisitMisc>(
     }
 }
 
-/// The operators with such immediates.
+/// The operators without immediates.
 #[inline(always)]
-fn plain<V: VisitMisc>(
+fn without_immediates<V: VisitMisc>(
     v: &mut V,
     reader: &mut BinaryReader<'_>,
     start: usize,
@@ -49,14 +46,14 @@ fn plain<V: VisitMisc>(
 ) -> Result<V::Output>
     requires behind { StandsBehind start (Some 0xfc) code reader.old }
     requires kinds { entry_at (Some 0xfc) code ≡ free ([]) }
-    ensures { (frame : FrameKind) → Decodes V.visits (EncodesAllowed reader.old.features frame) (OperatorFault reader.old.features frame) result (at_position reader.old start) reader.new v.old v.new }
+    ensures { (frame : FrameKind) → DecodesAt V.visits frame start result reader.old reader.new v.old v.new }
 {
-    Ok(visit_plain(v, code))
+    Ok(visit_without_immediates(v, code))
 }
 
-/// The visits of the operators with such immediates.
+/// Their visits, by their codes.
 #[inline(always)]
-fn visit_plain<V: VisitMisc>(v: &mut V, code: u32) -> V::Output
+fn visit_without_immediates<V: VisitMisc>(v: &mut V, code: u32) -> V::Output
     requires { entry_at (Some 0xfc) code ≡ free ([]) }
     ensures { VisitsRow V.visits (Some 0xfc) code ([]) v.old result v.new }
 {
@@ -77,7 +74,7 @@ fn visit_plain<V: VisitMisc>(v: &mut V, code: u32) -> V::Output
     }
 }
 
-/// The operators with such immediates.
+/// The operators whose immediates `two_unsigned` reads.
 #[inline(always)]
 fn two_unsigned<V: VisitMisc>(
     v: &mut V,
@@ -87,7 +84,7 @@ fn two_unsigned<V: VisitMisc>(
 ) -> Result<V::Output>
     requires behind { StandsBehind start (Some 0xfc) code reader.old }
     requires kinds { entry_at (Some 0xfc) code ≡ free (is_unsigned_32 ∷ is_unsigned_32 ∷ []) }
-    ensures { (frame : FrameKind) → Decodes V.visits (EncodesAllowed reader.old.features frame) (OperatorFault reader.old.features frame) result (at_position reader.old start) reader.new v.old v.new }
+    ensures { (frame : FrameKind) → DecodesAt V.visits frame start result reader.old reader.new v.old v.new }
 {
     match immediates::two_unsigned(reader, start) {
         Ok(it) => Ok(visit_two_unsigned(v, code, it)),
@@ -95,7 +92,7 @@ fn two_unsigned<V: VisitMisc>(
     }
 }
 
-/// The visits of the operators with such immediates.
+/// Their visits, by their codes.
 #[inline(always)]
 fn visit_two_unsigned<V: VisitMisc>(v: &mut V, code: u32, it: (u32, u32)) -> V::Output
     requires { entry_at (Some 0xfc) code ≡ free (is_unsigned_32 ∷ is_unsigned_32 ∷ []) }
@@ -110,7 +107,7 @@ fn visit_two_unsigned<V: VisitMisc>(v: &mut V, code: u32, it: (u32, u32)) -> V::
     }
 }
 
-/// The operators with such immediates.
+/// The operators whose immediates `unsigned` reads.
 #[inline(always)]
 fn unsigned<V: VisitMisc>(
     v: &mut V,
@@ -120,7 +117,7 @@ fn unsigned<V: VisitMisc>(
 ) -> Result<V::Output>
     requires behind { StandsBehind start (Some 0xfc) code reader.old }
     requires kinds { entry_at (Some 0xfc) code ≡ free (is_unsigned_32 ∷ []) }
-    ensures { (frame : FrameKind) → Decodes V.visits (EncodesAllowed reader.old.features frame) (OperatorFault reader.old.features frame) result (at_position reader.old start) reader.new v.old v.new }
+    ensures { (frame : FrameKind) → DecodesAt V.visits frame start result reader.old reader.new v.old v.new }
 {
     match immediates::unsigned(reader, start) {
         Ok(it) => Ok(visit_unsigned(v, code, it)),
@@ -128,7 +125,7 @@ fn unsigned<V: VisitMisc>(
     }
 }
 
-/// The visits of the operators with such immediates.
+/// Their visits, by their codes.
 #[inline(always)]
 fn visit_unsigned<V: VisitMisc>(v: &mut V, code: u32, it: u32) -> V::Output
     requires { entry_at (Some 0xfc) code ≡ free (is_unsigned_32 ∷ []) }

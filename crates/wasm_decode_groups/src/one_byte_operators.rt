@@ -1,16 +1,13 @@
 //! Decoding of the operators of one byte. Written by tools/lists.py from tools/operators.tsv.
 ghost use Rattle.std.specs.Prelude.{◌≡◌, ◌≤◌, ◌<◌, [], ◌∷◌, Some, None};
-ghost use Rattle.wasm_visit_groups.specs.below.Source.{at_position};
 ghost use Rattle.wasm_visit_groups.specs.grammar.declared.frame_kind.FrameKind.{FrameKind};
 ghost use Rattle.wasm_visit_groups.specs.instr.Immediate.{unsigned_32, signed_32, memory_argument, memory_index, block_type, is_unsigned_32, is_memory_index, is_block_type, is_memory_argument};
-ghost use Rattle.wasm_decode_opcodes.specs.Allowed.{EncodesAllowed};
-ghost use Rattle.wasm_decode_opcodes.specs.Decoding.{Decodes, StandsBehind, VisitsRow};
+ghost use Rattle.wasm_decode_opcodes.specs.Decoding.{DecodesAt, StandsBehind, VisitsRow};
 ghost use Rattle.wasm_decode_opcodes.specs.Entries.{entry_at, align_at};
 ghost use Rattle.wasm_decode_opcodes.specs.Entry.{free};
-ghost use Rattle.wasm_decode_opcodes.specs.OperatorFaults.{OperatorFault};
 ghost use Rattle.wasm_decode_groups.specs.OneByte.{IsOneByteCode};
 
-use crate::control::{
+use crate::guarded::{
     else_in_if, legacy_catch, legacy_catch_all, legacy_delegate, legacy_try, resume, resume_throw,
     resume_throw_ref, try_table, typed_select,
 };
@@ -33,7 +30,7 @@ pub fn one_byte<V: VisitOneByte>(
 ) -> Result<V::Output>
     requires behind { StandsBehind start None code reader.old }
     requires apart { IsOneByteCode code }
-    ensures { Decodes V.visits (EncodesAllowed reader.old.features frame) (OperatorFault reader.old.features frame) result (at_position reader.old start) reader.new v.old v.new }
+    ensures { DecodesAt V.visits frame start result reader.old reader.new v.old v.new }
 {
     match code {
         0x20..=0x26 => unsigned(v, reader, start, code),
@@ -56,7 +53,7 @@ fn control_or_parametric<V: VisitOneByte>(
 ) -> Result<V::Output>
     requires behind { StandsBehind start None code reader.old }
     requires apart { IsOneByteCode code }
-    ensures { Decodes V.visits (EncodesAllowed reader.old.features frame) (OperatorFault reader.old.features frame) result (at_position reader.old start) reader.new v.old v.new }
+    ensures { DecodesAt V.visits frame start result reader.old reader.new v.old v.new }
 {
     match code {
         0x02..=0x04 => block_type(v, reader, start, code),
@@ -85,7 +82,7 @@ fn others<V: VisitOneByte>(
 ) -> Result<V::Output>
     requires behind { StandsBehind start None code reader.old }
     requires apart { IsOneByteCode code }
-    ensures { Decodes V.visits (EncodesAllowed reader.old.features frame) (OperatorFault reader.old.features frame) result (at_position reader.old start) reader.new v.old v.new }
+    ensures { DecodesAt V.visits frame start result reader.old reader.new v.old v.new }
 {
     match out_of_line(v, alloc, reader, start, frame, code) {
         Ok(answer) => Ok(answer),
@@ -105,7 +102,7 @@ fn out_of_line<V: VisitOneByte>(
 ) -> Result<V::Output>
     requires behind { StandsBehind start None code reader.old }
     requires apart { IsOneByteCode code }
-    ensures { Decodes V.visits (EncodesAllowed reader.old.features frame) (OperatorFault reader.old.features frame) result (at_position reader.old start) reader.new v.old v.new }
+    ensures { DecodesAt V.visits frame start result reader.old reader.new v.old v.new }
 {
     any_one_byte(v, alloc, reader, start, frame, code)
 }
@@ -122,15 +119,15 @@ pub fn any_one_byte<V: VisitOneByte>(
 ) -> Result<V::Output>
     requires behind { StandsBehind start None code reader.old }
     requires apart { IsOneByteCode code }
-    ensures { Decodes V.visits (EncodesAllowed reader.old.features frame) (OperatorFault reader.old.features frame) result (at_position reader.old start) reader.new v.old v.new }
+    ensures { DecodesAt V.visits frame start result reader.old reader.new v.old v.new }
 {
     match code {
-        0x00..=0x01 => plain(v, reader, start, code),
-        0x0a..=0x0b => plain(v, reader, start, code),
-        0x0f => plain(v, reader, start, code),
-        0x1a..=0x1b => plain(v, reader, start, code),
-        0xd1 => plain(v, reader, start, code),
-        0xd3..=0xd4 => plain(v, reader, start, code),
+        0x00..=0x01 => without_immediates(v, reader, start, code),
+        0x0a..=0x0b => without_immediates(v, reader, start, code),
+        0x0f => without_immediates(v, reader, start, code),
+        0x1a..=0x1b => without_immediates(v, reader, start, code),
+        0xd1 => without_immediates(v, reader, start, code),
+        0xd3..=0xd4 => without_immediates(v, reader, start, code),
         0x02..=0x04 => block_type(v, reader, start, code),
         0x08..=0x09 => unsigned(v, reader, start, code),
         0x0c..=0x0d => unsigned(v, reader, start, code),
@@ -167,9 +164,9 @@ pub fn any_one_byte<V: VisitOneByte>(
     }
 }
 
-/// The operators with such immediates.
+/// The operators without immediates.
 #[inline(always)]
-fn plain<V: VisitOneByte>(
+fn without_immediates<V: VisitOneByte>(
     v: &mut V,
     reader: &mut BinaryReader<'_>,
     start: usize,
@@ -178,14 +175,14 @@ fn plain<V: VisitOneByte>(
     requires behind { StandsBehind start None code reader.old }
     requires kinds { entry_at None code ≡ free ([]) }
     requires bound { 0x45 ≤ code → code ≤ 0xc4 → ⊥ }
-    ensures { (frame : FrameKind) → Decodes V.visits (EncodesAllowed reader.old.features frame) (OperatorFault reader.old.features frame) result (at_position reader.old start) reader.new v.old v.new }
+    ensures { (frame : FrameKind) → DecodesAt V.visits frame start result reader.old reader.new v.old v.new }
 {
-    Ok(visit_plain(v, code))
+    Ok(visit_without_immediates(v, code))
 }
 
-/// The visits of the operators with such immediates.
+/// Their visits, by their codes.
 #[inline(always)]
-fn visit_plain<V: VisitOneByte>(v: &mut V, code: u8) -> V::Output
+fn visit_without_immediates<V: VisitOneByte>(v: &mut V, code: u8) -> V::Output
     requires kinds { entry_at None code ≡ free ([]) }
     requires bound { 0x45 ≤ code → code ≤ 0xc4 → ⊥ }
     ensures { VisitsRow V.visits None code ([]) v.old result v.new }
@@ -205,7 +202,7 @@ fn visit_plain<V: VisitOneByte>(v: &mut V, code: u8) -> V::Output
     }
 }
 
-/// The operators with such immediates.
+/// The operators whose immediates `block_type` reads.
 #[inline(always)]
 fn block_type<V: VisitOneByte>(
     v: &mut V,
@@ -215,7 +212,7 @@ fn block_type<V: VisitOneByte>(
 ) -> Result<V::Output>
     requires behind { StandsBehind start None code reader.old }
     requires kinds { entry_at None code ≡ free (is_block_type ∷ []) }
-    ensures { (frame : FrameKind) → Decodes V.visits (EncodesAllowed reader.old.features frame) (OperatorFault reader.old.features frame) result (at_position reader.old start) reader.new v.old v.new }
+    ensures { (frame : FrameKind) → DecodesAt V.visits frame start result reader.old reader.new v.old v.new }
 {
     match immediates::block_type(reader, start) {
         Ok(it) => Ok(visit_block_type(v, code, it)),
@@ -223,7 +220,7 @@ fn block_type<V: VisitOneByte>(
     }
 }
 
-/// The visits of the operators with such immediates.
+/// Their visits, by their codes.
 #[inline(always)]
 fn visit_block_type<V: VisitOneByte>(v: &mut V, code: u8, it: BlockType) -> V::Output
     requires { entry_at None code ≡ free (is_block_type ∷ []) }
@@ -237,7 +234,7 @@ fn visit_block_type<V: VisitOneByte>(v: &mut V, code: u8, it: BlockType) -> V::O
     }
 }
 
-/// The operators with such immediates.
+/// The operators whose immediates `unsigned` reads.
 #[inline(always)]
 fn unsigned<V: VisitOneByte>(
     v: &mut V,
@@ -247,7 +244,7 @@ fn unsigned<V: VisitOneByte>(
 ) -> Result<V::Output>
     requires behind { StandsBehind start None code reader.old }
     requires kinds { entry_at None code ≡ free (is_unsigned_32 ∷ []) }
-    ensures { (frame : FrameKind) → Decodes V.visits (EncodesAllowed reader.old.features frame) (OperatorFault reader.old.features frame) result (at_position reader.old start) reader.new v.old v.new }
+    ensures { (frame : FrameKind) → DecodesAt V.visits frame start result reader.old reader.new v.old v.new }
 {
     match immediates::unsigned(reader, start) {
         Ok(it) => Ok(visit_unsigned(v, code, it)),
@@ -255,7 +252,7 @@ fn unsigned<V: VisitOneByte>(
     }
 }
 
-/// The visits of the operators with such immediates.
+/// Their visits, by their codes.
 #[inline(always)]
 fn visit_unsigned<V: VisitOneByte>(v: &mut V, code: u8, it: u32) -> V::Output
     requires { entry_at None code ≡ free (is_unsigned_32 ∷ []) }
@@ -294,7 +291,7 @@ fn call_indirect<V: VisitOneByte>(
     start: usize,
 ) -> Result<V::Output>
     requires behind { StandsBehind start None 0x11 reader.old }
-    ensures { (frame : FrameKind) → Decodes V.visits (EncodesAllowed reader.old.features frame) (OperatorFault reader.old.features frame) result (at_position reader.old start) reader.new v.old v.new }
+    ensures { (frame : FrameKind) → DecodesAt V.visits frame start result reader.old reader.new v.old v.new }
 {
     match immediates::call_indirect(reader, start) {
         Ok(it) => Ok(v.visit_call_indirect(it.0, it.1)),
@@ -302,7 +299,7 @@ fn call_indirect<V: VisitOneByte>(
     }
 }
 
-/// The operators with such immediates.
+/// The operators whose immediates `memory` reads.
 #[inline(always)]
 fn memory<V: VisitOneByte>(
     v: &mut V,
@@ -312,7 +309,7 @@ fn memory<V: VisitOneByte>(
 ) -> Result<V::Output>
     requires behind { StandsBehind start None code reader.old }
     requires kinds { entry_at None code ≡ free (is_memory_argument MemArgKind.Plain (align_at None code) ∷ []) }
-    ensures { (frame : FrameKind) → Decodes V.visits (EncodesAllowed reader.old.features frame) (OperatorFault reader.old.features frame) result (at_position reader.old start) reader.new v.old v.new }
+    ensures { (frame : FrameKind) → DecodesAt V.visits frame start result reader.old reader.new v.old v.new }
 {
     match immediates::memory(reader, start, align_of_memory(code), MemArgKind::Plain) {
         Ok(it) => Ok(visit_memory(v, code, it)),
@@ -354,11 +351,12 @@ fn align_of_memory(code: u8) -> u8
     }
 }
 
-/// The visits of the operators with such immediates.
+/// Their visits, by their codes.
 #[inline(always)]
 fn visit_memory<V: VisitOneByte>(v: &mut V, code: u8, it: MemArg) -> V::Output
     requires { entry_at None code ≡ free (is_memory_argument MemArgKind.Plain (align_at None code) ∷ []) }
-    ensures { VisitsRow V.visits None code (memory_argument MemArgKind.Plain (align_at None code) it ∷ []) v.old result v.new }
+    ensures { VisitsRow V.visits None code (memory_argument MemArgKind.Plain (align_at None code) it ∷ [])
+        v.old result v.new }
 {
     match code {
         0x28 => v.visit_i32_load(it),
@@ -388,7 +386,7 @@ fn visit_memory<V: VisitOneByte>(v: &mut V, code: u8, it: MemArg) -> V::Output
     }
 }
 
-/// The operators with such immediates.
+/// The operators whose immediates `memory_index` reads.
 #[inline(always)]
 fn memory_index<V: VisitOneByte>(
     v: &mut V,
@@ -398,7 +396,7 @@ fn memory_index<V: VisitOneByte>(
 ) -> Result<V::Output>
     requires behind { StandsBehind start None code reader.old }
     requires kinds { entry_at None code ≡ free (is_memory_index ∷ []) }
-    ensures { (frame : FrameKind) → Decodes V.visits (EncodesAllowed reader.old.features frame) (OperatorFault reader.old.features frame) result (at_position reader.old start) reader.new v.old v.new }
+    ensures { (frame : FrameKind) → DecodesAt V.visits frame start result reader.old reader.new v.old v.new }
 {
     match immediates::memory_index(reader, start) {
         Ok(it) => Ok(visit_memory_index(v, code, it)),
@@ -406,7 +404,7 @@ fn memory_index<V: VisitOneByte>(
     }
 }
 
-/// The visits of the operators with such immediates.
+/// Their visits, by their codes.
 #[inline(always)]
 fn visit_memory_index<V: VisitOneByte>(v: &mut V, code: u8, it: u32) -> V::Output
     requires { entry_at None code ≡ free (is_memory_index ∷ []) }
@@ -427,7 +425,7 @@ fn i32_const<V: VisitOneByte>(
     start: usize,
 ) -> Result<V::Output>
     requires behind { StandsBehind start None 0x41 reader.old }
-    ensures { (frame : FrameKind) → Decodes V.visits (EncodesAllowed reader.old.features frame) (OperatorFault reader.old.features frame) result (at_position reader.old start) reader.new v.old v.new }
+    ensures { (frame : FrameKind) → DecodesAt V.visits frame start result reader.old reader.new v.old v.new }
 {
     match immediates::signed_32(reader, start) {
         Ok(it) => Ok(v.visit_i32_const(it)),
@@ -443,7 +441,7 @@ fn i64_const<V: VisitOneByte>(
     start: usize,
 ) -> Result<V::Output>
     requires behind { StandsBehind start None 0x42 reader.old }
-    ensures { (frame : FrameKind) → Decodes V.visits (EncodesAllowed reader.old.features frame) (OperatorFault reader.old.features frame) result (at_position reader.old start) reader.new v.old v.new }
+    ensures { (frame : FrameKind) → DecodesAt V.visits frame start result reader.old reader.new v.old v.new }
 {
     match immediates::signed_64(reader, start) {
         Ok(it) => Ok(v.visit_i64_const(it)),
@@ -459,7 +457,7 @@ fn f32_const<V: VisitOneByte>(
     start: usize,
 ) -> Result<V::Output>
     requires behind { StandsBehind start None 0x43 reader.old }
-    ensures { (frame : FrameKind) → Decodes V.visits (EncodesAllowed reader.old.features frame) (OperatorFault reader.old.features frame) result (at_position reader.old start) reader.new v.old v.new }
+    ensures { (frame : FrameKind) → DecodesAt V.visits frame start result reader.old reader.new v.old v.new }
 {
     match immediates::float_32(reader, start) {
         Ok(it) => Ok(v.visit_f32_const(it)),
@@ -475,7 +473,7 @@ fn f64_const<V: VisitOneByte>(
     start: usize,
 ) -> Result<V::Output>
     requires behind { StandsBehind start None 0x44 reader.old }
-    ensures { (frame : FrameKind) → Decodes V.visits (EncodesAllowed reader.old.features frame) (OperatorFault reader.old.features frame) result (at_position reader.old start) reader.new v.old v.new }
+    ensures { (frame : FrameKind) → DecodesAt V.visits frame start result reader.old reader.new v.old v.new }
 {
     match immediates::float_64(reader, start) {
         Ok(it) => Ok(v.visit_f64_const(it)),
@@ -491,7 +489,7 @@ fn ref_null<V: VisitOneByte>(
     start: usize,
 ) -> Result<V::Output>
     requires behind { StandsBehind start None 0xd0 reader.old }
-    ensures { (frame : FrameKind) → Decodes V.visits (EncodesAllowed reader.old.features frame) (OperatorFault reader.old.features frame) result (at_position reader.old start) reader.new v.old v.new }
+    ensures { (frame : FrameKind) → DecodesAt V.visits frame start result reader.old reader.new v.old v.new }
 {
     match immediates::heap_type(reader, start) {
         Ok(it) => Ok(v.visit_ref_null(it)),
@@ -499,7 +497,7 @@ fn ref_null<V: VisitOneByte>(
     }
 }
 
-/// The operators with such immediates.
+/// The operators whose immediates `two_unsigned` reads.
 #[inline(always)]
 fn two_unsigned<V: VisitOneByte>(
     v: &mut V,
@@ -509,7 +507,7 @@ fn two_unsigned<V: VisitOneByte>(
 ) -> Result<V::Output>
     requires behind { StandsBehind start None code reader.old }
     requires kinds { entry_at None code ≡ free (is_unsigned_32 ∷ is_unsigned_32 ∷ []) }
-    ensures { (frame : FrameKind) → Decodes V.visits (EncodesAllowed reader.old.features frame) (OperatorFault reader.old.features frame) result (at_position reader.old start) reader.new v.old v.new }
+    ensures { (frame : FrameKind) → DecodesAt V.visits frame start result reader.old reader.new v.old v.new }
 {
     match immediates::two_unsigned(reader, start) {
         Ok(it) => Ok(visit_two_unsigned(v, code, it)),
@@ -517,7 +515,7 @@ fn two_unsigned<V: VisitOneByte>(
     }
 }
 
-/// The visits of the operators with such immediates.
+/// Their visits, by their codes.
 #[inline(always)]
 fn visit_two_unsigned<V: VisitOneByte>(v: &mut V, code: u8, it: (u32, u32)) -> V::Output
     requires { entry_at None code ≡ free (is_unsigned_32 ∷ is_unsigned_32 ∷ []) }
@@ -539,7 +537,7 @@ fn unreachable_alone<V: VisitOneByte>(
     start: usize,
 ) -> Result<V::Output>
     requires behind { StandsBehind start None 0x00 reader.old }
-    ensures { (frame : FrameKind) → Decodes V.visits (EncodesAllowed reader.old.features frame) (OperatorFault reader.old.features frame) result (at_position reader.old start) reader.new v.old v.new }
+    ensures { (frame : FrameKind) → DecodesAt V.visits frame start result reader.old reader.new v.old v.new }
 {
     Ok(v.visit_unreachable())
 }
@@ -552,7 +550,7 @@ fn nop_alone<V: VisitOneByte>(
     start: usize,
 ) -> Result<V::Output>
     requires behind { StandsBehind start None 0x01 reader.old }
-    ensures { (frame : FrameKind) → Decodes V.visits (EncodesAllowed reader.old.features frame) (OperatorFault reader.old.features frame) result (at_position reader.old start) reader.new v.old v.new }
+    ensures { (frame : FrameKind) → DecodesAt V.visits frame start result reader.old reader.new v.old v.new }
 {
     Ok(v.visit_nop())
 }
@@ -565,7 +563,7 @@ fn end_alone<V: VisitOneByte>(
     start: usize,
 ) -> Result<V::Output>
     requires behind { StandsBehind start None 0x0b reader.old }
-    ensures { (frame : FrameKind) → Decodes V.visits (EncodesAllowed reader.old.features frame) (OperatorFault reader.old.features frame) result (at_position reader.old start) reader.new v.old v.new }
+    ensures { (frame : FrameKind) → DecodesAt V.visits frame start result reader.old reader.new v.old v.new }
 {
     Ok(v.visit_end())
 }
@@ -578,7 +576,7 @@ fn br_alone<V: VisitOneByte>(
     start: usize,
 ) -> Result<V::Output>
     requires behind { StandsBehind start None 0x0c reader.old }
-    ensures { (frame : FrameKind) → Decodes V.visits (EncodesAllowed reader.old.features frame) (OperatorFault reader.old.features frame) result (at_position reader.old start) reader.new v.old v.new }
+    ensures { (frame : FrameKind) → DecodesAt V.visits frame start result reader.old reader.new v.old v.new }
 {
     match immediates::unsigned(reader, start) {
         Ok(it) => Ok(v.visit_br(it)),
@@ -594,7 +592,7 @@ fn br_if_alone<V: VisitOneByte>(
     start: usize,
 ) -> Result<V::Output>
     requires behind { StandsBehind start None 0x0d reader.old }
-    ensures { (frame : FrameKind) → Decodes V.visits (EncodesAllowed reader.old.features frame) (OperatorFault reader.old.features frame) result (at_position reader.old start) reader.new v.old v.new }
+    ensures { (frame : FrameKind) → DecodesAt V.visits frame start result reader.old reader.new v.old v.new }
 {
     match immediates::unsigned(reader, start) {
         Ok(it) => Ok(v.visit_br_if(it)),
@@ -610,7 +608,7 @@ fn return_alone<V: VisitOneByte>(
     start: usize,
 ) -> Result<V::Output>
     requires behind { StandsBehind start None 0x0f reader.old }
-    ensures { (frame : FrameKind) → Decodes V.visits (EncodesAllowed reader.old.features frame) (OperatorFault reader.old.features frame) result (at_position reader.old start) reader.new v.old v.new }
+    ensures { (frame : FrameKind) → DecodesAt V.visits frame start result reader.old reader.new v.old v.new }
 {
     Ok(v.visit_return())
 }
@@ -623,7 +621,7 @@ fn call_alone<V: VisitOneByte>(
     start: usize,
 ) -> Result<V::Output>
     requires behind { StandsBehind start None 0x10 reader.old }
-    ensures { (frame : FrameKind) → Decodes V.visits (EncodesAllowed reader.old.features frame) (OperatorFault reader.old.features frame) result (at_position reader.old start) reader.new v.old v.new }
+    ensures { (frame : FrameKind) → DecodesAt V.visits frame start result reader.old reader.new v.old v.new }
 {
     match immediates::unsigned(reader, start) {
         Ok(it) => Ok(v.visit_call(it)),
@@ -639,7 +637,7 @@ fn drop_alone<V: VisitOneByte>(
     start: usize,
 ) -> Result<V::Output>
     requires behind { StandsBehind start None 0x1a reader.old }
-    ensures { (frame : FrameKind) → Decodes V.visits (EncodesAllowed reader.old.features frame) (OperatorFault reader.old.features frame) result (at_position reader.old start) reader.new v.old v.new }
+    ensures { (frame : FrameKind) → DecodesAt V.visits frame start result reader.old reader.new v.old v.new }
 {
     Ok(v.visit_drop())
 }
@@ -652,7 +650,7 @@ fn select_alone<V: VisitOneByte>(
     start: usize,
 ) -> Result<V::Output>
     requires behind { StandsBehind start None 0x1b reader.old }
-    ensures { (frame : FrameKind) → Decodes V.visits (EncodesAllowed reader.old.features frame) (OperatorFault reader.old.features frame) result (at_position reader.old start) reader.new v.old v.new }
+    ensures { (frame : FrameKind) → DecodesAt V.visits frame start result reader.old reader.new v.old v.new }
 {
     Ok(v.visit_select())
 }

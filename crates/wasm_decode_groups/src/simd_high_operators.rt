@@ -1,13 +1,10 @@
 //! Decoding of the vector operators from 80 on. Written by tools/lists.py from tools/operators.tsv.
 ghost use Rattle.std.specs.Prelude.{◌≡◌, ◌≤◌, ◌<◌, [], ◌∷◌, Some, None};
-ghost use Rattle.wasm_visit_groups.specs.below.Source.{at_position};
 ghost use Rattle.wasm_visit_groups.specs.grammar.declared.frame_kind.FrameKind.{FrameKind};
 ghost use Rattle.wasm_visit_groups.specs.instr.Immediate.{vector};
-ghost use Rattle.wasm_decode_opcodes.specs.Allowed.{EncodesAllowed};
-ghost use Rattle.wasm_decode_opcodes.specs.Decoding.{Decodes, StandsBehind, VisitsRow};
+ghost use Rattle.wasm_decode_opcodes.specs.Decoding.{DecodesAt, StandsBehind, VisitsRow};
 ghost use Rattle.wasm_decode_opcodes.specs.Entries.{entry_at};
 ghost use Rattle.wasm_decode_opcodes.specs.Entry.{free};
-ghost use Rattle.wasm_decode_opcodes.specs.OperatorFaults.{OperatorFault};
 
 use wasm_decode_opcodes::{immediates, unknown_subopcode};
 use wasm_visit_groups::VisitSimdHigh;
@@ -23,29 +20,29 @@ pub fn simd_high<V: VisitSimdHigh>(
 ) -> Result<V::Output>
     requires behind { StandsBehind start (Some 0xfd) code reader.old }
     requires half { 0x80 ≤ code }
-    ensures { (frame : FrameKind) → Decodes V.visits (EncodesAllowed reader.old.features frame) (OperatorFault reader.old.features frame) result (at_position reader.old start) reader.new v.old v.new }
+    ensures { (frame : FrameKind) → DecodesAt V.visits frame start result reader.old reader.new v.old v.new }
 {
     match code {
-        0x80..=0x99 => plain(v, reader, start, code),
-        0x9b..=0xa1 => plain(v, reader, start, code),
-        0xa3..=0xa4 => plain(v, reader, start, code),
-        0xa7..=0xae => plain(v, reader, start, code),
-        0xb1 => plain(v, reader, start, code),
-        0xb5..=0xba => plain(v, reader, start, code),
-        0xbc..=0xc1 => plain(v, reader, start, code),
-        0xc3..=0xc4 => plain(v, reader, start, code),
-        0xc7..=0xce => plain(v, reader, start, code),
-        0xd1 => plain(v, reader, start, code),
-        0xd5..=0xe1 => plain(v, reader, start, code),
-        0xe3..=0xed => plain(v, reader, start, code),
-        0xef..=0x113 => plain(v, reader, start, code),
+        0x80..=0x99 => without_immediates(v, reader, start, code),
+        0x9b..=0xa1 => without_immediates(v, reader, start, code),
+        0xa3..=0xa4 => without_immediates(v, reader, start, code),
+        0xa7..=0xae => without_immediates(v, reader, start, code),
+        0xb1 => without_immediates(v, reader, start, code),
+        0xb5..=0xba => without_immediates(v, reader, start, code),
+        0xbc..=0xc1 => without_immediates(v, reader, start, code),
+        0xc3..=0xc4 => without_immediates(v, reader, start, code),
+        0xc7..=0xce => without_immediates(v, reader, start, code),
+        0xd1 => without_immediates(v, reader, start, code),
+        0xd5..=0xe1 => without_immediates(v, reader, start, code),
+        0xe3..=0xed => without_immediates(v, reader, start, code),
+        0xef..=0x113 => without_immediates(v, reader, start, code),
         _ => Err(unknown_subopcode(reader, start, 0xfd, code)),
     }
 }
 
-/// The operators with such immediates.
+/// The operators without immediates.
 #[inline(always)]
-fn plain<V: VisitSimdHigh>(
+fn without_immediates<V: VisitSimdHigh>(
     v: &mut V,
     reader: &mut BinaryReader<'_>,
     start: usize,
@@ -54,14 +51,14 @@ fn plain<V: VisitSimdHigh>(
     requires behind { StandsBehind start (Some 0xfd) code reader.old }
     requires kinds { entry_at (Some 0xfd) code ≡ free ([]) }
     requires bound { 0x80 ≤ code }
-    ensures { (frame : FrameKind) → Decodes V.visits (EncodesAllowed reader.old.features frame) (OperatorFault reader.old.features frame) result (at_position reader.old start) reader.new v.old v.new }
+    ensures { (frame : FrameKind) → DecodesAt V.visits frame start result reader.old reader.new v.old v.new }
 {
-    Ok(visit_plain(v, code))
+    Ok(visit_without_immediates(v, code))
 }
 
-/// The visits of the operators with such immediates.
+/// Their visits, by their codes.
 #[inline(always)]
-fn visit_plain<V: VisitSimdHigh>(v: &mut V, code: u32) -> V::Output
+fn visit_without_immediates<V: VisitSimdHigh>(v: &mut V, code: u32) -> V::Output
     requires kinds { entry_at (Some 0xfd) code ≡ free ([]) }
     requires bound { 0x80 ≤ code }
     ensures { VisitsRow V.visits (Some 0xfd) code ([]) v.old result v.new }

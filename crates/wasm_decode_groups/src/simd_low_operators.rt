@@ -1,13 +1,10 @@
 //! Decoding of the vector operators below 80. Written by tools/lists.py from tools/operators.tsv.
 ghost use Rattle.std.specs.Prelude.{◌≡◌, ◌<◌, [], ◌∷◌, Some, None};
-ghost use Rattle.wasm_visit_groups.specs.below.Source.{at_position};
 ghost use Rattle.wasm_visit_groups.specs.grammar.declared.frame_kind.FrameKind.{FrameKind};
 ghost use Rattle.wasm_visit_groups.specs.instr.Immediate.{vector, one_lane, memory_argument, is_one_lane, is_memory_argument};
-ghost use Rattle.wasm_decode_opcodes.specs.Allowed.{EncodesAllowed};
-ghost use Rattle.wasm_decode_opcodes.specs.Decoding.{Decodes, StandsBehind, VisitsRow};
+ghost use Rattle.wasm_decode_opcodes.specs.Decoding.{DecodesAt, StandsBehind, VisitsRow};
 ghost use Rattle.wasm_decode_opcodes.specs.Entries.{entry_at, align_at};
 ghost use Rattle.wasm_decode_opcodes.specs.Entry.{free};
-ghost use Rattle.wasm_decode_opcodes.specs.OperatorFaults.{OperatorFault};
 
 use wasm_decode_opcodes::{immediates, unknown_subopcode};
 use wasm_visit_groups::VisitSimdLow;
@@ -24,7 +21,7 @@ pub fn simd_low<V: VisitSimdLow>(
 ) -> Result<V::Output>
     requires behind { StandsBehind start (Some 0xfd) code reader.old }
     requires half { code < 0x80 }
-    ensures { (frame : FrameKind) → Decodes V.visits (EncodesAllowed reader.old.features frame) (OperatorFault reader.old.features frame) result (at_position reader.old start) reader.new v.old v.new }
+    ensures { (frame : FrameKind) → DecodesAt V.visits frame start result reader.old reader.new v.old v.new }
 {
     match code {
         0x00..=0x0b => memory(v, reader, start, code),
@@ -33,14 +30,14 @@ pub fn simd_low<V: VisitSimdLow>(
         0x0c => v128_const(v, reader, start),
         0x0d => i8x16_shuffle(v, reader, start),
         0x15..=0x22 => lane(v, reader, start, code),
-        0x0e..=0x14 => plain(v, reader, start, code),
-        0x23..=0x53 => plain(v, reader, start, code),
-        0x5e..=0x7f => plain(v, reader, start, code),
+        0x0e..=0x14 => without_immediates(v, reader, start, code),
+        0x23..=0x53 => without_immediates(v, reader, start, code),
+        0x5e..=0x7f => without_immediates(v, reader, start, code),
         _ => Err(unknown_subopcode(reader, start, 0xfd, code)),
     }
 }
 
-/// The operators with such immediates.
+/// The operators whose immediates `memory` reads.
 #[inline(always)]
 fn memory<V: VisitSimdLow>(
     v: &mut V,
@@ -49,8 +46,9 @@ fn memory<V: VisitSimdLow>(
     code: u32,
 ) -> Result<V::Output>
     requires behind { StandsBehind start (Some 0xfd) code reader.old }
-    requires kinds { entry_at (Some 0xfd) code ≡ free (is_memory_argument MemArgKind.Plain (align_at (Some 0xfd) code) ∷ []) }
-    ensures { (frame : FrameKind) → Decodes V.visits (EncodesAllowed reader.old.features frame) (OperatorFault reader.old.features frame) result (at_position reader.old start) reader.new v.old v.new }
+    requires kinds { entry_at (Some 0xfd) code
+        ≡ free (is_memory_argument MemArgKind.Plain (align_at (Some 0xfd) code) ∷ []) }
+    ensures { (frame : FrameKind) → DecodesAt V.visits frame start result reader.old reader.new v.old v.new }
 {
     match immediates::memory(reader, start, align_of_memory(code), MemArgKind::Plain) {
         Ok(it) => Ok(visit_memory(v, code, it)),
@@ -83,11 +81,12 @@ fn align_of_memory(code: u32) -> u8
     }
 }
 
-/// The visits of the operators with such immediates.
+/// Their visits, by their codes.
 #[inline(always)]
 fn visit_memory<V: VisitSimdLow>(v: &mut V, code: u32, it: MemArg) -> V::Output
     requires { entry_at (Some 0xfd) code ≡ free (is_memory_argument MemArgKind.Plain (align_at (Some 0xfd) code) ∷ []) }
-    ensures { VisitsRow V.visits (Some 0xfd) code (memory_argument MemArgKind.Plain (align_at (Some 0xfd) code) it ∷ []) v.old result v.new }
+    ensures { VisitsRow V.visits (Some 0xfd) code (memory_argument MemArgKind.Plain (align_at (Some 0xfd) code) it ∷ [])
+        v.old result v.new }
 {
     match code {
         0x00 => v.visit_v128_load(it),
@@ -108,7 +107,7 @@ fn visit_memory<V: VisitSimdLow>(v: &mut V, code: u32, it: MemArg) -> V::Output
     }
 }
 
-/// The operators with such immediates.
+/// The operators whose immediates `memory_lane` reads.
 #[inline(always)]
 fn memory_lane<V: VisitSimdLow>(
     v: &mut V,
@@ -117,8 +116,9 @@ fn memory_lane<V: VisitSimdLow>(
     code: u32,
 ) -> Result<V::Output>
     requires behind { StandsBehind start (Some 0xfd) code reader.old }
-    requires kinds { entry_at (Some 0xfd) code ≡ free (is_memory_argument MemArgKind.Plain (align_at (Some 0xfd) code) ∷ is_one_lane ∷ []) }
-    ensures { (frame : FrameKind) → Decodes V.visits (EncodesAllowed reader.old.features frame) (OperatorFault reader.old.features frame) result (at_position reader.old start) reader.new v.old v.new }
+    requires kinds { entry_at (Some 0xfd) code
+        ≡ free (is_memory_argument MemArgKind.Plain (align_at (Some 0xfd) code) ∷ is_one_lane ∷ []) }
+    ensures { (frame : FrameKind) → DecodesAt V.visits frame start result reader.old reader.new v.old v.new }
 {
     match immediates::memory_lane(reader, start, align_of_memory_lane(code)) {
         Ok(it) => Ok(visit_memory_lane(v, code, it)),
@@ -129,7 +129,8 @@ fn memory_lane<V: VisitSimdLow>(
 /// The exponent of an operator's own alignment.
 #[inline(always)]
 fn align_of_memory_lane(code: u32) -> u8
-    requires { entry_at (Some 0xfd) code ≡ free (is_memory_argument MemArgKind.Plain (align_at (Some 0xfd) code) ∷ is_one_lane ∷ []) }
+    requires { entry_at (Some 0xfd) code
+        ≡ free (is_memory_argument MemArgKind.Plain (align_at (Some 0xfd) code) ∷ is_one_lane ∷ []) }
     ensures { result ≡ align_at (Some 0xfd) code }
 {
     match code {
@@ -145,11 +146,13 @@ fn align_of_memory_lane(code: u32) -> u8
     }
 }
 
-/// The visits of the operators with such immediates.
+/// Their visits, by their codes.
 #[inline(always)]
 fn visit_memory_lane<V: VisitSimdLow>(v: &mut V, code: u32, it: (MemArg, u8)) -> V::Output
-    requires { entry_at (Some 0xfd) code ≡ free (is_memory_argument MemArgKind.Plain (align_at (Some 0xfd) code) ∷ is_one_lane ∷ []) }
-    ensures { VisitsRow V.visits (Some 0xfd) code (memory_argument MemArgKind.Plain (align_at (Some 0xfd) code) it.0 ∷ one_lane it.1 ∷ []) v.old result v.new }
+    requires { entry_at (Some 0xfd) code
+        ≡ free (is_memory_argument MemArgKind.Plain (align_at (Some 0xfd) code) ∷ is_one_lane ∷ []) }
+    ensures { VisitsRow V.visits (Some 0xfd) code
+        (memory_argument MemArgKind.Plain (align_at (Some 0xfd) code) it.0 ∷ one_lane it.1 ∷ []) v.old result v.new }
 {
     match code {
         0x54 => v.visit_v128_load8_lane(it.0, it.1),
@@ -172,7 +175,7 @@ fn v128_const<V: VisitSimdLow>(
     start: usize,
 ) -> Result<V::Output>
     requires behind { StandsBehind start (Some 0xfd) 0x0c reader.old }
-    ensures { (frame : FrameKind) → Decodes V.visits (EncodesAllowed reader.old.features frame) (OperatorFault reader.old.features frame) result (at_position reader.old start) reader.new v.old v.new }
+    ensures { (frame : FrameKind) → DecodesAt V.visits frame start result reader.old reader.new v.old v.new }
 {
     match immediates::vector(reader, start) {
         Ok(it) => Ok(v.visit_v128_const(it)),
@@ -188,7 +191,7 @@ fn i8x16_shuffle<V: VisitSimdLow>(
     start: usize,
 ) -> Result<V::Output>
     requires behind { StandsBehind start (Some 0xfd) 0x0d reader.old }
-    ensures { (frame : FrameKind) → Decodes V.visits (EncodesAllowed reader.old.features frame) (OperatorFault reader.old.features frame) result (at_position reader.old start) reader.new v.old v.new }
+    ensures { (frame : FrameKind) → DecodesAt V.visits frame start result reader.old reader.new v.old v.new }
 {
     match immediates::lanes(reader, start) {
         Ok(it) => Ok(v.visit_i8x16_shuffle(it)),
@@ -196,7 +199,7 @@ fn i8x16_shuffle<V: VisitSimdLow>(
     }
 }
 
-/// The operators with such immediates.
+/// The operators whose immediates `lane` reads.
 #[inline(always)]
 fn lane<V: VisitSimdLow>(
     v: &mut V,
@@ -206,7 +209,7 @@ fn lane<V: VisitSimdLow>(
 ) -> Result<V::Output>
     requires behind { StandsBehind start (Some 0xfd) code reader.old }
     requires kinds { entry_at (Some 0xfd) code ≡ free (is_one_lane ∷ []) }
-    ensures { (frame : FrameKind) → Decodes V.visits (EncodesAllowed reader.old.features frame) (OperatorFault reader.old.features frame) result (at_position reader.old start) reader.new v.old v.new }
+    ensures { (frame : FrameKind) → DecodesAt V.visits frame start result reader.old reader.new v.old v.new }
 {
     match immediates::lane(reader, start) {
         Ok(it) => Ok(visit_lane(v, code, it)),
@@ -214,7 +217,7 @@ fn lane<V: VisitSimdLow>(
     }
 }
 
-/// The visits of the operators with such immediates.
+/// Their visits, by their codes.
 #[inline(always)]
 fn visit_lane<V: VisitSimdLow>(v: &mut V, code: u32, it: u8) -> V::Output
     requires { entry_at (Some 0xfd) code ≡ free (is_one_lane ∷ []) }
@@ -239,9 +242,9 @@ fn visit_lane<V: VisitSimdLow>(v: &mut V, code: u32, it: u8) -> V::Output
     }
 }
 
-/// The operators with such immediates.
+/// The operators without immediates.
 #[inline(always)]
-fn plain<V: VisitSimdLow>(
+fn without_immediates<V: VisitSimdLow>(
     v: &mut V,
     reader: &mut BinaryReader<'_>,
     start: usize,
@@ -250,14 +253,14 @@ fn plain<V: VisitSimdLow>(
     requires behind { StandsBehind start (Some 0xfd) code reader.old }
     requires kinds { entry_at (Some 0xfd) code ≡ free ([]) }
     requires bound { code < 0x80 }
-    ensures { (frame : FrameKind) → Decodes V.visits (EncodesAllowed reader.old.features frame) (OperatorFault reader.old.features frame) result (at_position reader.old start) reader.new v.old v.new }
+    ensures { (frame : FrameKind) → DecodesAt V.visits frame start result reader.old reader.new v.old v.new }
 {
-    Ok(visit_plain(v, code))
+    Ok(visit_without_immediates(v, code))
 }
 
-/// The visits of the operators with such immediates.
+/// Their visits, by their codes.
 #[inline(always)]
-fn visit_plain<V: VisitSimdLow>(v: &mut V, code: u32) -> V::Output
+fn visit_without_immediates<V: VisitSimdLow>(v: &mut V, code: u32) -> V::Output
     requires kinds { entry_at (Some 0xfd) code ≡ free ([]) }
     requires bound { code < 0x80 }
     ensures { VisitsRow V.visits (Some 0xfd) code ([]) v.old result v.new }

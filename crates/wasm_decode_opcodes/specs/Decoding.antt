@@ -5,12 +5,14 @@ use Rattle.wasm_instr.specs.below.bytes.message.Message.{Message}
 use Rattle.wasm_instr.specs.below.bytes.message.Message.TheVariants as message
 use Rattle.wasm_instr.specs.below.Fault.{HasFault}
 use Rattle.wasm_instr.specs.below.Source.{Reader, rest, at_position, Takes, Refuses, IsAhead, Reads}
+use Rattle.wasm_instr.specs.grammar.declared.frame_kind.FrameKind.{FrameKind}
 use Rattle.wasm_instr.specs.declared.operator.Operator.{Operator}
 use Rattle.wasm_instr.specs.Encoding.{EncodesOpcode}
 use Rattle.wasm_instr.specs.Immediate.{Immediate, Kind}
 use Rattle.wasm_instr.specs.Row.{prefix_of, opcode_of, immediates_of}
+use Rattle.wasm_decode_opcodes.specs.Allowed.{EncodesAllowed, EncodesPlain, EncodesIn}
 use Rattle.wasm_decode_opcodes.specs.Kinds.{EncodesKinds}
-use Rattle.wasm_decode_opcodes.specs.OperatorFaults.{KindsFault}
+use Rattle.wasm_decode_opcodes.specs.OperatorFaults.{KindsFault, OperatorFault, PlainOperatorFault, FaultIn}
 use Rattle.wasm_decode_opcodes.specs.Refused.{IsRefusedOperator}
 
 -- The call refuses what stands there: nothing is taken, and the refusal is one of this fault.
@@ -21,6 +23,34 @@ RefusesOperator Encodes Fault e old new = (new ≡ old) × IsRefusedOperator Enc
 abbrev pub Decodes : {V A : Type 0} → (V → Operator → A → V → Type 0) → (List ℕ → Operator → Type 0) → (Message → Reader → ℕ → Type 0) → Result A Error → Reader → Reader → V → V → Type 0
 Decodes visits Encodes Fault (Ok a) old new v w = (text : List ℕ) × (op : Operator) × Encodes text op × Takes old new text × visits v op a w
 Decodes visits Encodes Fault (Err e) old new v w = (w ≡ v) × RefusesOperator Encodes Fault e old new
+
+-- The call has an operator visited that a frame of this kind allows and that began at the position `start`, behind the opcode of which it was made. A refused reader goes back there.
+abbrev pub DecodesAt : {V A : Type 0} → (V → Operator → A → V → Type 0) → FrameKind → ℕ → Result A Error → Reader → Reader → V → V → Type 0
+DecodesAt visits frame start result old new v w =
+    Decodes visits (EncodesAllowed old.features frame) (OperatorFault old.features frame) result (at_position old start) new v w
+
+-- The same of a visitor that takes no vector operator.
+abbrev pub DecodesPlainAt : {V A : Type 0} → (V → Operator → A → V → Type 0) → FrameKind → ℕ → Result A Error → Reader → Reader → V → V → Type 0
+DecodesPlainAt visits frame start result old new v w =
+    Decodes visits (EncodesPlain old.features frame) (PlainOperatorFault old.features frame) result (at_position old start) new v w
+
+-- The call has the operator at the start of the rest visited, where this frame is the innermost, or none is open.
+abbrev pub DecodesIn : {V A : Type 0} → (V → Operator → A → V → Type 0) → Option FrameKind → Result A Error → Reader → Reader → V → V → Type 0
+DecodesIn visits frame result old new v w =
+    Decodes visits (EncodesIn (EncodesAllowed old.features) frame) (FaultIn (OperatorFault old.features) frame) result old new v w
+
+-- The same of a visitor that takes no vector operator.
+abbrev pub DecodesPlainIn : {V A : Type 0} → (V → Operator → A → V → Type 0) → Option FrameKind → Result A Error → Reader → Reader → V → V → Type 0
+DecodesPlainIn visits frame result old new v w =
+    Decodes visits (EncodesIn (EncodesPlain old.features) frame) (FaultIn (PlainOperatorFault old.features) frame) result old new v w
+
+-- What began at the position `start` is refused, and the reader goes back there.
+abbrev pub RefusesAt : FrameKind → ℕ → Error → Reader → Reader → Type 0
+RefusesAt frame start e old new = RefusesOperator (EncodesAllowed old.features frame) (OperatorFault old.features frame) e (at_position old start) new
+
+-- The same where no vector operator is taken.
+abbrev pub RefusesPlainAt : FrameKind → ℕ → Error → Reader → Reader → Type 0
+RefusesPlainAt frame start e old new = RefusesOperator (EncodesPlain old.features frame) (PlainOperatorFault old.features frame) e (at_position old start) new
 
 -- The reader stands behind this opcode, or behind this prefix byte and subopcode, which were read from the position `start` on.
 pub record StandsBehind (start : ℕ) (prefix : Option ℕ) (code : ℕ) (r : Reader) : Type 0 where

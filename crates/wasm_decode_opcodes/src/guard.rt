@@ -4,11 +4,10 @@ ghost use Rattle.wasm_instr.specs.below.Features.{HasFeature, legacy_exceptions}
 ghost use Rattle.wasm_instr.specs.below.Source.{at_position};
 ghost use Rattle.wasm_instr.specs.grammar.Frames.{Allows};
 ghost use Rattle.wasm_instr.specs.Immediate.{Kind};
-ghost use Rattle.wasm_decode_opcodes.specs.Allowed.{EncodesAllowed};
-ghost use Rattle.wasm_decode_opcodes.specs.Decoding.{RefusesOperator, StandsBehind};
+ghost use Rattle.wasm_decode_opcodes.specs.Decoding.{StandsBehind, RefusesAt};
 ghost use Rattle.wasm_decode_opcodes.specs.Entries.{entry_at};
 ghost use Rattle.wasm_decode_opcodes.specs.Entry.{guarded, role_behind, instruction_behind, frame_behind, NeedsLegacy};
-ghost use Rattle.wasm_decode_opcodes.specs.OperatorFaults.{GuardFault, OperatorFault, LacksFeature};
+ghost use Rattle.wasm_decode_opcodes.specs.OperatorFaults.{GuardFault, LacksFeature};
 
 use wasm_instr::below::{
     BinaryReader, Error, FrameName, InstructionName, Message, Result, WasmFeatures,
@@ -42,9 +41,13 @@ impl Guard {
         ensures feature { IfOk result (λ u. NeedsLegacy self → HasFeature legacy_exceptions reader.old.features) }
         ensures allows { IfOk result (λ u. Allows frame (role_behind self)) }
         ensures back { IfErr result (λ e. reader.new ≡ at_position reader.old start) }
-        ensures fault { IfErr result (λ e. GuardFault reader.old.features frame (reader.old.start + start) self (λ m r offset. ⊥) e.message reader.old e.offset) }
-        ensures refuses { IfErr result (λ e. (code : ℕ) (ks : List Kind) → code < 256 → StandsBehind start None code reader.old → entry_at None code ≡ guarded self ks
-            → RefusesOperator (EncodesAllowed reader.old.features frame) (OperatorFault reader.old.features frame) e (at_position reader.old start) reader.new) }
+        ensures fault { IfErr result
+            (λ e. GuardFault reader.old.features frame (reader.old.start + start) self (λ m r offset. ⊥)
+            e.message reader.old e.offset) }
+        ensures refuses { IfErr result
+            (λ e. (code : ℕ) (ks : List Kind) → code < 256 → StandsBehind start None code reader.old
+            → entry_at None code ≡ guarded self ks
+            → RefusesAt frame start e reader.old reader.new) }
     {
         if self.lacks_feature(reader) {
             return Err(reader.refuse(start, Message::FeatureRequired(self.instruction())));

@@ -149,7 +149,8 @@ pub fn memory(
     kind: MemArgKind,
 ) -> Result<MemArg>
     requires { start ≤ reader.old.position }
-    ensures { ReadsKinds (is_memory_argument kind max_align ∷ []) (λ m. memory_argument kind max_align m ∷ []) false start result reader.old reader.new }
+    ensures { ReadsKinds (is_memory_argument kind max_align ∷ []) (λ m. memory_argument kind max_align m ∷ [])
+        false start result reader.old reader.new }
 {
     match MemArg::read(reader, max_align, kind) {
         Ok(read) => Ok(read),
@@ -247,7 +248,8 @@ pub fn fence(reader: &mut BinaryReader<'_>, start: usize) -> Result<Ordering>
 pub fn select(alloc: Global, reader: &mut BinaryReader<'_>, start: usize) -> Result<Select>
     requires begun { start ≤ reader.old.position }
     requires within { offset_of reader.old ≤ end_of reader.old }
-    ensures reads { ReadsKinds (is_select_types ∷ []) (λ types. select_types types ∷ []) true start result reader.old reader.new }
+    ensures reads { ReadsKinds (is_select_types ∷ []) (λ types. select_types types ∷ [])
+        true start result reader.old reader.new }
     ensures lone { IfErr result (λ e. e.message ≡ Message.OutOfMemory → NoPrefix EncodesOne (rest reader.old)) }
 {
     match Select::read(alloc, reader) {
@@ -290,7 +292,8 @@ pub fn resume_table(
 #[inline(always)]
 pub fn two_unsigned(reader: &mut BinaryReader<'_>, start: usize) -> Result<(u32, u32)>
     requires { start ≤ reader.old.position }
-    ensures { ReadsKinds (is_unsigned_32 ∷ is_unsigned_32 ∷ []) (λ p. unsigned_32 p.0 ∷ unsigned_32 p.1 ∷ []) false start result reader.old reader.new }
+    ensures { ReadsKinds (is_unsigned_32 ∷ is_unsigned_32 ∷ []) (λ p. unsigned_32 p.0 ∷ unsigned_32 p.1 ∷ [])
+        false start result reader.old reader.new }
 {
     match reader.read_var_u32() {
         Ok(first) => match unsigned(reader, start) {
@@ -305,7 +308,8 @@ pub fn two_unsigned(reader: &mut BinaryReader<'_>, start: usize) -> Result<(u32,
 #[inline(always)]
 pub fn call_indirect(reader: &mut BinaryReader<'_>, start: usize) -> Result<(u32, u32)>
     requires { start ≤ reader.old.position }
-    ensures { ReadsKinds (is_unsigned_32 ∷ is_table_index ∷ []) (λ p. unsigned_32 p.0 ∷ table_index_32 p.1 ∷ []) false start result reader.old reader.new }
+    ensures { ReadsKinds (is_unsigned_32 ∷ is_table_index ∷ []) (λ p. unsigned_32 p.0 ∷ table_index_32 p.1 ∷ [])
+        false start result reader.old reader.new }
 {
     match reader.read_var_u32() {
         Ok(first) => match table_index(reader, start) {
@@ -324,7 +328,9 @@ pub fn memory_lane(
     max_align: u8,
 ) -> Result<(MemArg, u8)>
     requires { start ≤ reader.old.position }
-    ensures { ReadsKinds (is_memory_argument MemArgKind.Plain max_align ∷ is_one_lane ∷ []) (λ p. memory_argument MemArgKind.Plain max_align p.0 ∷ one_lane p.1 ∷ []) false start result reader.old reader.new }
+    ensures { ReadsKinds (is_memory_argument MemArgKind.Plain max_align ∷ is_one_lane ∷ [])
+        (λ p. memory_argument MemArgKind.Plain max_align p.0 ∷ one_lane p.1 ∷ [])
+        false start result reader.old reader.new }
 {
     match MemArg::read(reader, max_align, MemArgKind::Plain) {
         Ok(first) => match lane(reader, start) {
@@ -339,7 +345,8 @@ pub fn memory_lane(
 #[inline(always)]
 pub fn ordered(reader: &mut BinaryReader<'_>, start: usize) -> Result<(Ordering, u32)>
     requires { start ≤ reader.old.position }
-    ensures { ReadsKinds (is_order ∷ is_unsigned_32 ∷ []) (λ p. order p.0 ∷ unsigned_32 p.1 ∷ []) false start result reader.old reader.new }
+    ensures { ReadsKinds (is_order ∷ is_unsigned_32 ∷ []) (λ p. order p.0 ∷ unsigned_32 p.1 ∷ [])
+        false start result reader.old reader.new }
 {
     match Ordering::read(reader) {
         Ok(first) => match unsigned(reader, start) {
@@ -354,7 +361,8 @@ pub fn ordered(reader: &mut BinaryReader<'_>, start: usize) -> Result<(Ordering,
 #[inline(always)]
 pub fn ordered_two(reader: &mut BinaryReader<'_>, start: usize) -> Result<(Ordering, (u32, u32))>
     requires { start ≤ reader.old.position }
-    ensures { ReadsKinds (is_order ∷ is_unsigned_32 ∷ is_unsigned_32 ∷ []) (λ p. order p.0 ∷ unsigned_32 p.1.0 ∷ unsigned_32 p.1.1 ∷ []) false start result reader.old reader.new }
+    ensures { ReadsKinds (is_order ∷ is_unsigned_32 ∷ is_unsigned_32 ∷ [])
+        (λ p. order p.0 ∷ unsigned_32 p.1.0 ∷ unsigned_32 p.1.1 ∷ []) false start result reader.old reader.new }
 {
     match Ordering::read(reader) {
         Ok(first) => match two_unsigned(reader, start) {
@@ -373,7 +381,8 @@ pub fn resume(
     start: usize,
 ) -> Result<(u32, ResumeTable)>
     requires { start ≤ reader.old.position }
-    ensures { ReadsKinds (is_unsigned_32 ∷ is_resume_clauses ∷ []) (λ p. unsigned_32 p.0 ∷ resume_clauses p.1 ∷ []) true start result reader.old reader.new }
+    ensures { ReadsKinds (is_unsigned_32 ∷ is_resume_clauses ∷ []) (λ p. unsigned_32 p.0 ∷ resume_clauses p.1 ∷ [])
+        true start result reader.old reader.new }
 {
     match reader.read_var_u32() {
         Ok(first) => match resume_table(alloc, reader, start) {
@@ -392,7 +401,8 @@ pub fn resume_throw(
     start: usize,
 ) -> Result<(u32, (u32, ResumeTable))>
     requires { start ≤ reader.old.position }
-    ensures { ReadsKinds (is_unsigned_32 ∷ is_unsigned_32 ∷ is_resume_clauses ∷ []) (λ p. unsigned_32 p.0 ∷ unsigned_32 p.1.0 ∷ resume_clauses p.1.1 ∷ []) true start result reader.old reader.new }
+    ensures { ReadsKinds (is_unsigned_32 ∷ is_unsigned_32 ∷ is_resume_clauses ∷ [])
+        (λ p. unsigned_32 p.0 ∷ unsigned_32 p.1.0 ∷ resume_clauses p.1.1 ∷ []) true start result reader.old reader.new }
 {
     match reader.read_var_u32() {
         Ok(first) => match resume(alloc, reader, start) {

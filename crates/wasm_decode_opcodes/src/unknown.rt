@@ -1,12 +1,9 @@
 //! Opcodes and subopcodes that no operator has.
 ghost use Rattle.std.specs.Prelude.{◌≡◌, Some, None};
-ghost use Rattle.wasm_instr.specs.below.Source.{at_position};
 ghost use Rattle.wasm_instr.specs.grammar.declared.frame_kind.FrameKind.{FrameKind};
-ghost use Rattle.wasm_decode_opcodes.specs.Allowed.{EncodesAllowed};
-ghost use Rattle.wasm_decode_opcodes.specs.Decoding.{RefusesOperator, StandsBehind};
+ghost use Rattle.wasm_decode_opcodes.specs.Decoding.{StandsBehind, RefusesAt};
 ghost use Rattle.wasm_decode_opcodes.specs.Entries.{entry_at};
 ghost use Rattle.wasm_decode_opcodes.specs.Entry.{prefixes, unknown};
-ghost use Rattle.wasm_decode_opcodes.specs.OperatorFaults.{OperatorFault};
 
 use wasm_instr::below::{BinaryReader, Error, Message};
 
@@ -17,7 +14,7 @@ use wasm_instr::below::{BinaryReader, Error, Message};
 pub fn unknown_opcode(reader: &mut BinaryReader<'_>, start: usize, code: u8) -> Error
     requires behind { StandsBehind start None code reader.old }
     requires unknown { entry_at None code ≡ unknown }
-    ensures { (frame : FrameKind) → RefusesOperator (EncodesAllowed reader.old.features frame) (OperatorFault reader.old.features frame) result (at_position reader.old start) reader.new }
+    ensures { (frame : FrameKind) → RefusesAt frame start result reader.old reader.new }
 {
     reader.refuse(start, Message::IllegalOpcode(code))
 }
@@ -35,7 +32,7 @@ pub fn unknown_subopcode(
     requires behind { StandsBehind start (Some prefix) code reader.old }
     requires prefix { entry_at None prefix ≡ prefixes }
     requires unknown { entry_at (Some prefix) code ≡ unknown }
-    ensures { (frame : FrameKind) → RefusesOperator (EncodesAllowed reader.old.features frame) (OperatorFault reader.old.features frame) result (at_position reader.old start) reader.new }
+    ensures { (frame : FrameKind) → RefusesAt frame start result reader.old reader.new }
 {
     reader.refuse(start, Message::UnknownSubopcode(prefix, code))
 }

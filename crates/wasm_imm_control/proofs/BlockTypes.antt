@@ -1,6 +1,5 @@
 -- Block types.
 use Rattle.std.proofs.Common.{◌≡◌, ℕ, ◌+◌, ◌-◌, ◌≤◌, List, [], ◌∷◌, ◌++◌, length, ℤ, pos, Ok, refl, sym, subst, ap, ◌∙◌, append_assoc, length-append, length-drop, arith, negsuc, Fits, w32, false, ◌<◌}
-use Rattle.std.specs.Prelude.{cond, ◌-ℤ◌}
 use Rattle.std.proofs.lemmas.Bool.{lt-ltb}
 use Rattle.std.proofs.lemmas.Int.{ints}
 use Rattle.std.proofs.Math.Dec.{T}
@@ -9,7 +8,7 @@ use lib.IntN.{nat_abs}
 use Rattle.wasm_below.specs.bytes.error.Error.{Error}
 use Rattle.wasm_below.specs.declared.types.ValType.{ValType}
 use Rattle.wasm_below.specs.declared.types.ValType.TheVariants as value
-use Rattle.wasm_below.specs.Number.{EncodesSigned, FitsWidth}
+use Rattle.wasm_below.specs.Number.{EncodesSigned, FitsWidth, with_sign}
 use Rattle.wasm_below.specs.Refusal.{IsReadFault}
 use Rattle.wasm_below.specs.Sequence.{PrefixCode}
 use Rattle.wasm_below.specs.Source.{Reader, rest, offset_of, at_position, NoPrefix, IsRefusal, Reads}
@@ -24,7 +23,7 @@ use Rattle.wasm_imm_control.specs.BlockTypes.{EncodesBlockType, EncodesFunctionT
 
 -- a byte that is an index by itself
 pub short_index : (byte : ℕ) → byte < 64 → EncodesSigned 33 (byte ∷ []) (pos byte)
-short_index byte lt = (omega arith, ap (λ t. cond t (pos byte) (pos byte -ℤ pos 128)) (sym (lt-ltb byte 64 lt)), (omega (arith, ints), omega (arith, ints)))
+short_index byte lt = (omega arith, ap (λ t. with_sign t byte 128) (sym (lt-ltb byte 64 lt)), (omega (arith, ints), omega (arith, ints)))
 
 pub block_empty : (t : BlockType) → EncodesBlockType [] t → ⊥
 block_empty block.Empty p = absurd (cc p)

@@ -2,7 +2,6 @@
 use Rattle.std.proofs.Common.{◌≡◌, ℕ, suc, ◌+◌, ◌-◌, ◌*◌, ◌<◌, ◌≤◌, List, [], ◌∷◌, ◌++◌, length, refl, sym, subst, ap, ◌∙◌, append_assoc, arith, true}
 use Rattle.std.specs.Prelude.{map, take, Result, Ok, Err, nat_eq}
 use Rattle.std.proofs.Math.Seq.{take-append_seam}
-use Rattle.std.proofs.lemmas.Bool.Decides.{nat_tests}
 use Rattle.wasm_below.specs.bytes.error.Error.{Error}
 use Rattle.wasm_below.specs.Number.{EncodesUnsigned, EncodesSize}
 use Rattle.wasm_below.specs.Source.{Reader, rest, at_position, Takes, IsRefusal, Reads}
@@ -12,8 +11,8 @@ use Rattle.wasm_below.proofs.TakesLemmas.{takes_then, same_rest, back}
 use Rattle.wasm_below.proofs.Blocks.{refused_now}
 use Rattle.wasm_below.proofs.Sequences.{then_first, then_second, refuses_by}
 use Rattle.wasm_imm_control.specs.Lists.{EncodesEach, EncodesMany}
-use Rattle.wasm_imm_control.specs.BranchTables.{BranchTable, AreTargets, EncodesTargets, max_targets, EncodesBranchTable, with_byte, numbers_of}
-use Rattle.std.proofs.lemmas.Bool.{eqb-true}
+use Rattle.wasm_imm_control.specs.BranchTables.{BranchTable, AreTargets, EncodesTargets, max_targets, EncodesBranchTable, before_number, with_byte, numbers_of}
+use Rattle.std.proofs.lemmas.Bool.{eqb-true, le-ltb, lt-ltb}
 use Rattle.std.specs.Cmp.{first_so, second_so}
 use Rattle.std.specs.Cmp.Lexicographic.{same_text}
 use Rattle.wasm_imm_control.specs.BranchTableEquality.{same_table}
@@ -22,10 +21,10 @@ use Rattle.wasm_imm_control.proofs.ListLemmas.{many_prefix_code, many_refused}
 
 with_last : (byte : ℕ) (numbers : List ℕ) → byte < 128 → with_byte byte numbers ≡ byte ∷ numbers
 with_last byte [] lt = refl
-with_last byte (n ∷ numbers) lt = grind (arith, nat_tests)
+with_last byte (n ∷ numbers) lt = ap (λ t. before_number t byte n numbers) (lt-ltb byte 128 lt)
 
 with_more : (byte n : ℕ) (numbers : List ℕ) → 128 ≤ byte → with_byte byte (n ∷ numbers) ≡ (128 * n + (byte - 128)) ∷ numbers
-with_more byte n numbers le = grind (arith, nat_tests)
+with_more byte n numbers le = ap (λ t. before_number t byte n numbers) (le-ltb byte 128 le)
 
 pub first_number : (width : ℕ) (text behind : List ℕ) (n : ℕ) → EncodesUnsigned width text n → numbers_of (text ++ behind) ≡ n ∷ numbers_of behind
 first_number width [] behind n p = absurd p

@@ -1,6 +1,6 @@
 -- Branch tables: the labels of `br_table`.
 -- WebAssembly Core Specification 3.0, Binary Format, Instructions, Control Instructions.
-use Rattle.std.specs.Prelude.{◌≡◌, ℕ, ◌+◌, ◌-◌, ◌*◌, cond, ltb, List, [], ◌∷◌, ◌++◌, length}
+use Rattle.std.specs.Prelude.{◌≡◌, ℕ, ◌+◌, ◌-◌, ◌*◌, ltb, Bool, true, false, List, [], ◌∷◌, ◌++◌, length}
 use Rattle.wasm_below.specs.Number.{EncodesUnsigned, EncodesSize}
 use Rattle.wasm_imm_control.specs.Lists.{EncodesMany}
 
@@ -27,10 +27,15 @@ max_targets = 7654321
 abbrev pub EncodesBranchTable : List ℕ → BranchTable → Type 0
 EncodesBranchTable text t = (count default : List ℕ) × (text ≡ count ++ (t.targets ++ default)) × EncodesSize max_targets count t.count × AreTargets t.count t.targets × EncodesUnsigned 32 default t.default
 
+-- A byte before a number and others: a number by itself, or the low seven bits of that one.
+abbrev pub before_number : Bool → ℕ → ℕ → List ℕ → List ℕ
+before_number true byte n numbers = byte ∷ n ∷ numbers
+before_number false byte n numbers = (128 * n + (byte - 128)) ∷ numbers
+
 -- A byte before numbers: below 128 it is one by itself, else it is the low seven bits of the first of them.
 abbrev pub with_byte : ℕ → List ℕ → List ℕ
 with_byte byte [] = byte ∷ []
-with_byte byte (n ∷ numbers) = cond (ltb byte 128) (byte ∷ n ∷ numbers) ((128 * n + (byte - 128)) ∷ numbers)
+with_byte byte (n ∷ numbers) = before_number (ltb byte 128) byte n numbers
 
 -- The numbers that bytes encode, one after another.
 abbrev pub numbers_of : List ℕ → List ℕ

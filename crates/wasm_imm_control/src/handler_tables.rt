@@ -9,7 +9,7 @@ use crate::handlers::{Catch, Handle};
 use crate::lists::{begun_at, read_list};
 use crate::members::{Catches, Handles};
 use std::alloc::Global;
-use wasm_below::{BinaryReader, FromReader, Result, SizeName};
+use wasm_below::{BinaryReader, FromReader, May, MemoryUse, Result, SizeName, UsesMemory};
 
 /// How many catches a try table may have.
 const MAX_CATCHES: usize = 10000;
@@ -44,11 +44,11 @@ impl TryTable {
     }
 }
 
+impl UsesMemory for TryTable {
+    type Memory = May;
+}
+
 impl<'a> FromReader<'a> for TryTable {
-    ghost takes_memory = { true };
-
-    const TAKES_MEMORY: bool = true;
-
     ghost encodes = { λ features text t. EncodesTryTable text t };
 
     ghost fault = { λ m r offset. TryTableFault m r offset };
@@ -68,10 +68,6 @@ impl<'a> FromReader<'a> for TryTable {
             Ok(catches) => Ok(TryTable { ty, catches }),
             Err(e) => Err(begun_at(reader, start, e)),
         }
-    }
-
-    fn memory_law() -> bool {
-        <TryTable as FromReader<'a>>::TAKES_MEMORY
     }
 
     fn is_prefix_code() {}
@@ -108,11 +104,11 @@ impl ResumeTable {
     }
 }
 
+impl UsesMemory for ResumeTable {
+    type Memory = May;
+}
+
 impl<'a> FromReader<'a> for ResumeTable {
-    ghost takes_memory = { true };
-
-    const TAKES_MEMORY: bool = true;
-
     ghost encodes = { λ features text t. EncodesResumeTable text t };
 
     ghost fault = { λ m r offset. ResumeTableFault m r offset };
@@ -127,10 +123,6 @@ impl<'a> FromReader<'a> for ResumeTable {
             Ok(handlers) => Ok(ResumeTable { handlers }),
             Err(e) => Err(e),
         }
-    }
-
-    fn memory_law() -> bool {
-        <ResumeTable as FromReader<'a>>::TAKES_MEMORY
     }
 
     fn is_prefix_code() {}

@@ -5,7 +5,9 @@ ghost use Rattle.wasm_imm_control.specs.HandlerFaults.{PairFault, IndicesFault, 
 ghost use Rattle.wasm_imm_control.specs.Handlers.{EncodesPair, EncodesCatch, EncodesHandle, IsCatchBehind, IsHandleBehind};
 
 use std::alloc::Global;
-use wasm_below::{BinaryReader, FromReader, LeadingByteName, Message, Result};
+use wasm_below::{
+    BinaryReader, FromReader, LeadingByteName, MemoryUse, Message, Never, Result, UsesMemory,
+};
 
 /// One catch of a try table.
 #[derive(Clone, Copy, Debug, PartialEq, Eq)]
@@ -77,21 +79,17 @@ impl Catch {
     }
 }
 
+impl UsesMemory for Catch {
+    type Memory = Never;
+}
+
 impl<'a> FromReader<'a> for Catch {
-    ghost takes_memory = { false };
-
-    const TAKES_MEMORY: bool = false;
-
     ghost encodes = { λ features text c. EncodesCatch text c };
 
     ghost fault = { λ m r offset. CatchFault m r offset };
 
     fn from_reader(_alloc: Global, reader: &mut BinaryReader<'a>) -> Result<Catch> {
         Catch::read(reader)
-    }
-
-    fn memory_law() -> bool {
-        <Catch as FromReader<'a>>::TAKES_MEMORY
     }
 
     fn is_prefix_code() {}
@@ -157,21 +155,17 @@ impl Handle {
     }
 }
 
+impl UsesMemory for Handle {
+    type Memory = Never;
+}
+
 impl<'a> FromReader<'a> for Handle {
-    ghost takes_memory = { false };
-
-    const TAKES_MEMORY: bool = false;
-
     ghost encodes = { λ features text h. EncodesHandle text h };
 
     ghost fault = { λ m r offset. HandleFault m r offset };
 
     fn from_reader(_alloc: Global, reader: &mut BinaryReader<'a>) -> Result<Handle> {
         Handle::read(reader)
-    }
-
-    fn memory_law() -> bool {
-        <Handle as FromReader<'a>>::TAKES_MEMORY
     }
 
     fn is_prefix_code() {}

@@ -21,7 +21,7 @@ pub fn read_list<'a, T: FromReader<'a>>(
     limit: usize,
     desc: SizeName,
 ) -> Result<Members<T>>
-    requires { T.takes_memory ≡ false }
+    requires { T.Memory.TAKES ≡ false }
     ensures reads { ReadsValue (EncodesList limit (T.encodes reader.old.features)) true
         result reader.old reader.new }
     ensures fault { IfErr result (λ e.
@@ -46,7 +46,7 @@ pub fn read_members<'a, T: FromReader<'a>>(
     reader: &mut BinaryReader<'a>,
     count: usize,
 ) -> Result<Members<T>>
-    requires lean { T.takes_memory ≡ false }
+    requires lean { T.Memory.TAKES ≡ false }
     requires within { offset_of reader.old ≤ end_of reader.old }
     ensures reads { ReadsValue (EncodesMany (T.encodes reader.old.features) count) true
         result reader.old reader.new }

@@ -406,7 +406,8 @@ impl SimdOperator {
 
     /// The same, for subopcodes from 40 to 7f.
     fn second_name(&self) -> Option<&'static str>
-        ensures { MatchOption result ((simd_subopcode self.now < 0x40) ⊎ (0x80 ≤ simd_subopcode self.now)) (λ x. x.now ≡ simd_name self.now) }
+        ensures { MatchOption result ((simd_subopcode self.now < 0x40) ⊎ (0x80 ≤ simd_subopcode self.now))
+            (λ x. x.now ≡ simd_name self.now) }
     {
         match self {
             SimdOperator::I32x4GeU => Some("I32x4GeU"),
@@ -479,7 +480,8 @@ impl SimdOperator {
 
     /// The same, for subopcodes from 80 to cc.
     fn third_name(&self) -> Option<&'static str>
-        ensures { MatchOption result ((simd_subopcode self.now < 0x80) ⊎ (0xcd ≤ simd_subopcode self.now)) (λ x. x.now ≡ simd_name self.now) }
+        ensures { MatchOption result ((simd_subopcode self.now < 0x80) ⊎ (0xcd ≤ simd_subopcode self.now))
+            (λ x. x.now ≡ simd_name self.now) }
     {
         match self {
             SimdOperator::I16x8Abs => Some("I16x8Abs"),
@@ -717,7 +719,8 @@ impl SimdOperator {
 
     /// The same, for subopcodes from 40 to 7f.
     fn second_code(&self) -> Option<u32>
-        ensures { MatchOption result ((simd_subopcode self.now < 0x40) ⊎ (0x80 ≤ simd_subopcode self.now)) (λ x. x ≡ simd_subopcode self.now) }
+        ensures { MatchOption result ((simd_subopcode self.now < 0x40) ⊎ (0x80 ≤ simd_subopcode self.now))
+            (λ x. x ≡ simd_subopcode self.now) }
     {
         match self {
             SimdOperator::I32x4GeU => Some(0x40),
@@ -790,7 +793,8 @@ impl SimdOperator {
 
     /// The same, for subopcodes from 80 to cc.
     fn third_code(&self) -> Option<u32>
-        ensures { MatchOption result ((simd_subopcode self.now < 0x80) ⊎ (0xcd ≤ simd_subopcode self.now)) (λ x. x ≡ simd_subopcode self.now) }
+        ensures { MatchOption result ((simd_subopcode self.now < 0x80) ⊎ (0xcd ≤ simd_subopcode self.now))
+            (λ x. x ≡ simd_subopcode self.now) }
     {
         match self {
             SimdOperator::I16x8Abs => Some(0x80),

@@ -18,7 +18,9 @@ fn count_body(
     census: &mut Census,
 ) -> Result<(), Error>
     ensures counts { CountsBody result (input_of features bytes.now) census.old census.new }
-    ensures whole { (declarations : List Declaration) → (placed : Placed) → IsBody (input_of features bytes.now) declarations placed → IfErr result (λ e. e.message ≡ Message.OutOfMemory) }
+    ensures whole { (declarations : List Declaration) → (placed : Placed)
+        → IsBody (input_of features bytes.now) declarations placed
+        → IfErr result (λ e. e.message ≡ Message.OutOfMemory) }
 {
     let reader = BinaryReader::new_features(bytes, 0, features);
     let mut operators = FunctionBody::new(reader).get_operators_reader(alloc)?;
@@ -35,7 +37,8 @@ fn count_body(
 pub fn census(alloc: Global, features: WasmFeatures, body: &[u8]) -> Result<[u64; 19], DumpFault>
     ensures counts { Counts (input_of features body.now) result }
     // Where the bytes encode a body, it is not refused.
-    ensures whole { (declarations : List Declaration) → (placed : Placed) → IsBody (input_of features body.now) declarations placed → IsNotRefused result }
+    ensures whole { (declarations : List Declaration) → (placed : Placed)
+        → IsBody (input_of features body.now) declarations placed → IsNotRefused result }
 {
     let mut census = Census::new();
     match count_body(alloc, features, body, &mut census) {

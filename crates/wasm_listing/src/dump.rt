@@ -28,7 +28,9 @@ fn read_body<'a>(
     out: &mut Vec<(Operator<'a>, u64)>,
 ) -> Result<(), Error>
     ensures reads { ReadsBody result (input_of features bytes.now) out.old.items out.new.items }
-    ensures whole { (declarations : List Declaration) → (placed : Placed) → IsBody (input_of features bytes.now) declarations placed → IfErr result (λ e. e.message ≡ Message.OutOfMemory) }
+    ensures whole { (declarations : List Declaration) → (placed : Placed)
+        → IsBody (input_of features bytes.now) declarations placed
+        → IfErr result (λ e. e.message ≡ Message.OutOfMemory) }
 {
     let reader = BinaryReader::new_features(bytes, 0, features);
     let mut operators = FunctionBody::new(reader).get_operators_reader(alloc)?;
@@ -38,7 +40,8 @@ fn read_body<'a>(
 /// Makes the text for a body, of which only memory can keep it.
 fn list_body(alloc: Global, features: WasmFeatures, bytes: &[u8]) -> Result<Listing, DumpFault>
     ensures lists { IfOk result (λ listing. Lists (input_of features bytes.now) listing.end (string_bytes listing.text)) }
-    ensures whole { (declarations : List Declaration) → (placed : Placed) → IsBody (input_of features bytes.now) declarations placed → IfOk result (λ listing. IsOk listing.end) }
+    ensures whole { (declarations : List Declaration) → (placed : Placed)
+        → IsBody (input_of features bytes.now) declarations placed → IfOk result (λ listing. IsOk listing.end) }
     ensures memory { IfErr result (λ fault. fault ≡ DumpFault.Memory) }
 {
     let mut operators = Vec::new(alloc);
@@ -91,7 +94,8 @@ pub fn run<R: Read, W: Write>(
         Dumps (input_of features bytes) result (W.contents writer.old) (W.contents writer.new)) }
     // Where the bytes encode a body, it is not refused.
     ensures whole { IfSome (R.remaining reader.old) (λ bytes.
-        (declarations : List Declaration) → (placed : Placed) → IsBody (input_of features bytes) declarations placed → IsNotRefused result) }
+        (declarations : List Declaration) → (placed : Placed) → IsBody (input_of features bytes) declarations placed
+        → IsNotRefused result) }
     ensures nothing { IfErr result (λ fault. WritesNothing fault → writer.new ≡ writer.old) }
 {
     let input = read_input(alloc, reader)?;

@@ -41,11 +41,12 @@ StopsSection Encodes Fault takes_memory e s =
     ((0 < s.remaining) × IsRefused Encodes takes_memory e s.reader × HasFault Fault e s.reader) ⊎
     ((s.remaining ≡ 0) × IsDataLeft e s.reader)
 
--- A step of such an iterator: an item was read; or an error is answered, once, and nothing taken; or nothing more comes.
-abbrev pub StepsSection : {X : Type 0} → (List ℕ → X → Type 0) → (Message → Reader → ℕ → Type 0) → Bool → Option (Result X Error) → SectionItems →
-    SectionItems → Type 0
-StepsSection Encodes Fault takes_memory None old new = (new ≡ old) × IsDone old
-StepsSection Encodes Fault takes_memory (Some (Ok x)) old new =
-    (old.refused ≡ false) × (new.refused ≡ false) × (old.remaining ≡ new.remaining + 1) × ReadsValue Encodes takes_memory (Ok x) old.reader new.reader
-StepsSection Encodes Fault takes_memory (Some (Err e)) old new =
+-- A step of such an iterator: an item was read, which stood where its type says; or an error is answered, once, and nothing taken; or nothing more comes.
+abbrev pub StepsSection : {X : Type 0} → (List ℕ → X → Type 0) → (Message → Reader → ℕ → Type 0) → (Reader → X → Reader → Type 0) → Bool →
+    Option (Result X Error) → SectionItems → SectionItems → Type 0
+StepsSection Encodes Fault Placed takes_memory None old new = (new ≡ old) × IsDone old
+StepsSection Encodes Fault Placed takes_memory (Some (Ok x)) old new =
+    (old.refused ≡ false) × (new.refused ≡ false) × (old.remaining ≡ new.remaining + 1) ×
+    ReadsValue Encodes takes_memory (Ok x) old.reader new.reader × Placed old.reader x new.reader
+StepsSection Encodes Fault Placed takes_memory (Some (Err e)) old new =
     (old.refused ≡ false) × (new ≡ behind_error old) × StopsSection Encodes Fault takes_memory e old

@@ -44,7 +44,8 @@ pub fn one_body()
 /// and the offset are determined. Allocation failure aside.
 pub fn stopped_bodies()
     ensures none { (e : Error) (body : Reader) (placed whole : Placed) (declarations : List Declaration)
-        → e.message ≢ Message.OutOfMemory → StopsBody e body placed → ¬ EncodesBody (source_of body) declarations whole }
+        → e.message ≢ Message.OutOfMemory → StopsBody e body placed
+        → ¬ EncodesBody (source_of body) declarations whole }
     ensures same { (d e : Error) (body : Reader) (first second : Placed)
         → d.message ≢ Message.OutOfMemory → e.message ≢ Message.OutOfMemory
         → StopsBody d body first → StopsBody e body second

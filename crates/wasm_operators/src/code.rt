@@ -15,7 +15,9 @@ use std::alloc::{AllocError, Global};
 use std::marker::Model;
 use std::ops::Range;
 use wasm_operators_readers::OperatorsReader;
-use wasm_operators_readers::below::{BinaryReader, FromReader, Result};
+use wasm_operators_readers::below::{
+    BinaryReader, FromReader, MemoryUse, Never, Result, UsesMemory,
+};
 
 /// The body of a function.
 #[derive(Debug, Drop)]
@@ -143,16 +145,18 @@ impl<'a> FunctionBody<'a> {
     }
 }
 
+impl<'a> UsesMemory for FunctionBody<'a> {
+    type Memory = Never;
+}
+
 impl<'a> FromReader<'a> for FunctionBody<'a> {
-    ghost takes_memory = { false };
-
-    const TAKES_MEMORY: bool = false;
-
     ghost encodes = { λ features text body. EncodesReader features text body };
 
     ghost fault = { λ m r offset. ReaderFault m r offset };
 
     ghost same = { λ body other. SameReader body other };
+
+    ghost placed = { λ old body new. end_of body ≡ offset_of new };
 
     /// As `FunctionBody::read`.
     fn from_reader(_alloc: Global, reader: &mut BinaryReader<'a>) -> Result<FunctionBody<'a>>
@@ -161,12 +165,6 @@ impl<'a> FromReader<'a> for FunctionBody<'a> {
         ensures placed { IfOk result (λ body. end_of body ≡ offset_of reader.new) }
     {
         FunctionBody::read(reader)
-    }
-
-    fn memory_law() -> bool
-        ensures { result ≡ false }
-    {
-        <FunctionBody<'a> as FromReader<'a>>::TAKES_MEMORY
     }
 
     fn is_prefix_code()

@@ -14,7 +14,7 @@ use crate::passing::pass_constant;
 use std::alloc::{AllocError, Global};
 use std::marker::Model;
 use wasm_operators_readers::OperatorsReader;
-use wasm_operators_readers::below::{BinaryReader, FromReader, Result};
+use wasm_operators_readers::below::{BinaryReader, FromReader, May, MemoryUse, Result, UsesMemory};
 
 /// A constant expression: a reader of its bytes.
 ///
@@ -114,16 +114,18 @@ impl<'a> Eq for ConstExpr<'a> {
     ghost laws = { same_bytes_equiv };
 }
 
+impl<'a> UsesMemory for ConstExpr<'a> {
+    type Memory = May;
+}
+
 impl<'a> FromReader<'a> for ConstExpr<'a> {
-    ghost takes_memory = { true };
-
-    const TAKES_MEMORY: bool = true;
-
     ghost encodes = { λ features text c. EncodesConstantReader features text c };
 
     ghost fault = { λ m r offset. ConstantFault m r offset };
 
     ghost same = { λ c d. SameReader c d };
+
+    ghost placed = { λ old c new. c.start ≡ offset_of old };
 
     fn from_reader(alloc: Global, reader: &mut BinaryReader<'a>) -> Result<ConstExpr<'a>>
         ensures reads { ReadsValue (EncodesConstantReader reader.old.features) true result reader.old reader.new }
@@ -131,12 +133,6 @@ impl<'a> FromReader<'a> for ConstExpr<'a> {
         ensures placed { IfOk result (λ c. c.start ≡ offset_of reader.old) }
     {
         ConstExpr::read(alloc, reader)
-    }
-
-    fn memory_law() -> bool
-        ensures { result ≡ true }
-    {
-        <ConstExpr<'a> as FromReader<'a>>::TAKES_MEMORY
     }
 
     fn is_prefix_code()

@@ -171,8 +171,10 @@ impl<'a> LocalsIterator<'a> {
     pub fn into_binary_reader_for_operators(self) -> BinaryReader<'a>
         requires { self.left ≡ 0 }
         ensures reader { result ≡ self.entry.locals.reader }
-        ensures behind { (body : Reader) (declarations : List Declaration) → HasStepped declarations body self.entry → IsPastLocals declarations body result }
-        ensures answer { (body : Reader) (declarations : List Declaration) → HasStepped declarations body self.entry → IsAnswerPastLocals result body }
+        ensures behind { (body : Reader) (declarations : List Declaration) → HasStepped declarations body self.entry
+            → IsPastLocals declarations body result }
+        ensures answer { (body : Reader) (declarations : List Declaration) → HasStepped declarations body self.entry
+            → IsAnswerPastLocals result body }
     {
         self.locals.get_binary_reader()
     }

@@ -20,7 +20,8 @@ use wasm_operators_readers::visitors::IsEndOperatorVisitor;
 pub fn pass_constant(operators: &mut OperatorsReader<'_>) -> Result<()>
     requires { IsFresh operators.old }
     ensures passed { IfOk result (λ _. PassesEnd operators.old operators.new × (operators.new.frames ≡ [])) }
-    ensures refused { IfErr result (λ e. IsRefused (EncodesConstantReader operators.old.reader.features) true e operators.old.reader) }
+    ensures refused { IfErr result
+        (λ e. IsRefused (EncodesConstantReader operators.old.reader.features) true e operators.old.reader) }
     ensures fault { IfErr result (λ e. HasFault ConstantFault e operators.old.reader) }
 {
     let start = operators.original_position();
@@ -48,7 +49,9 @@ fn pass_one(operators: &mut OperatorsReader<'_>) -> Result<bool>
 /// `FramesRemainConst` at the position where one is.
 fn check_closed(operators: &OperatorsReader<'_>) -> Result<()>
     ensures closed { IfOk result (λ _. operators.now.frames ≡ []) }
-    ensures open { IfErr result (λ e. (operators.now.frames ≢ []) × (e.message ≡ Message.FramesRemainConst) × (e.offset ≡ offset_of operators.now.reader)) }
+    ensures open { IfErr result
+        (λ e. (operators.now.frames ≢ []) × (e.message ≡ Message.FramesRemainConst)
+        × (e.offset ≡ offset_of operators.now.reader)) }
 {
     if operators.current_frame().is_some() {
         let position = operators.original_position();

@@ -1,13 +1,11 @@
 //! The calls that read or visit one operator under frames that another keeps.
 ghost use Rattle.wasm_operators_readers.specs.below.Source.{Reader};
-ghost use Rattle.wasm_operators_readers.specs.opcodes.Allowed.{EncodesAllowed, EncodesPlain, EncodesIn};
-ghost use Rattle.wasm_operators_readers.specs.opcodes.Decoding.{Decodes};
-ghost use Rattle.wasm_operators_readers.specs.opcodes.OperatorFaults.{OperatorFault, PlainOperatorFault, FaultIn};
+ghost use Rattle.wasm_operators_readers.specs.opcodes.Decoding.{DecodesIn, DecodesPlainIn};
 ghost use Rattle.wasm_operators.specs.Single.{PeeksOperator, FinishesExpression};
 
 use std::alloc::Global;
-use wasm_decode as decode;
 use wasm_operators_readers::below::{BinaryReader, Error, Message, Result};
+use wasm_operators_readers::decoder as decode;
 use wasm_operators_readers::instr::{FrameStack, Operator};
 use wasm_operators_readers::visitors::{VisitOperator, VisitSimdOperator};
 
@@ -22,7 +20,7 @@ pub trait ReadOperators<'a> {
     ///
     /// Refusals are those of `visit_operator_simd`.
     fn peek_operator<S: FrameStack>(&self, alloc: Global, stack: &S) -> Result<Operator<'a>>
-        ensures { PeeksOperator (EncodesIn (EncodesAllowed (reader self.now).features) (S.frame stack.now)) (FaultIn (OperatorFault (reader self.now).features) (S.frame stack.now)) result (reader self.now) };
+        ensures { PeeksOperator (S.frame stack.now) result (reader self.now) };
 
     /// Whether an expression ends here: the stack has no open frame, and no data is left. Binary
     /// Format, Expressions.
@@ -68,7 +66,7 @@ pub trait ReadVisits<'a, V: VisitOperator<'a> + FrameStack> {
     /// `OutOfMemory` where the operator begins, and only of one that owns a list. Reader and visitor
     /// are unchanged then.
     fn visit_operator(&mut self, alloc: Global, v: &mut V) -> Result<V::Output>
-        ensures { Decodes V.visits (EncodesIn (EncodesPlain (reader self.old).features) (V.frame v.old)) (FaultIn (PlainOperatorFault (reader self.old).features) (V.frame v.old)) result (reader self.old) (reader self.new) v.old v.new };
+        ensures { DecodesPlainIn V.visits (V.frame v.old) result (reader self.old) (reader self.new) v.old v.new };
 }
 
 impl<'a, V: VisitOperator<'a> + FrameStack> ReadVisits<'a, V> for BinaryReader<'a> {
@@ -90,7 +88,7 @@ pub trait ReadSimdVisits<'a, V: VisitOperator<'a> + VisitSimdOperator + FrameSta
     ///
     /// As `visit_operator`, but for `UnexpectedSimd`.
     fn visit_operator_simd(&mut self, alloc: Global, v: &mut V) -> Result<V::Output>
-        ensures { Decodes V.visits (EncodesIn (EncodesAllowed (reader self.old).features) (V.frame v.old)) (FaultIn (OperatorFault (reader self.old).features) (V.frame v.old)) result (reader self.old) (reader self.new) v.old v.new };
+        ensures { DecodesIn V.visits (V.frame v.old) result (reader self.old) (reader self.new) v.old v.new };
 }
 
 impl<'a, V: VisitOperator<'a> + VisitSimdOperator + FrameStack> ReadSimdVisits<'a, V>

@@ -106,7 +106,8 @@ impl<'a, T> Model for SectionLimitedIntoIter<'a, T> {
 impl<'a, T: FromReader<'a>> Iterator for SectionLimitedIntoIter<'a, T> {
     type Item = Result<T>;
 
-    ghost next_gives = { λ s item t. StepsSection (T.encodes s.reader.features) T.fault T.takes_memory item s t };
+    ghost next_gives = { λ s item t. StepsSection (T.encodes s.reader.features)
+        T.fault T.placed T.Memory.TAKES item s t };
 
     ghost remaining = { λ s. at_most (cond s.refused 0 (s.remaining + 1)) };
 

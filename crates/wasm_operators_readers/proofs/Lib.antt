@@ -1,5 +1,5 @@
 pub mod MemoryLemmas
-pub mod HighOpcodes
+pub mod VisitSteps
 pub mod LayoutLemmas
 pub mod FlatLemmas
 pub mod VisitLemmas

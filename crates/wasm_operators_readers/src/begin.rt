@@ -2,20 +2,21 @@
 //! the step, behind them.
 ghost use Rattle.std.specs.Prelude.{◌≡◌, ◌+◌, ◌≤◌, Some, IsSome, IfOk, IfErr};
 ghost use Rattle.wasm_decode.specs.grammar.Frames.{frames_after};
-ghost use Rattle.wasm_decode.specs.below.Source.{offset_of};
 ghost use Rattle.wasm_decode.specs.opcodes.Allowed.{EncodesAllowed, EncodesPlain};
 ghost use Rattle.wasm_decode.specs.opcodes.OperatorFaults.{OperatorFault, PlainOperatorFault};
 ghost use Rattle.wasm_operators_readers.specs.Stack.{HasRoom};
 ghost use Rattle.wasm_operators_readers.specs.Step.{Opens, role_of_step, step_at};
 ghost use Rattle.wasm_operators_readers.specs.Next.{BeginsOperator, StopsNext, state_of};
 
+use crate::step::leaves_frames;
 use crate::{ControlStack, FrameStep};
-use wasm_decode::below::{BinaryReader, Error, Message, Result};
+use wasm_decode::below::{BinaryReader, Message, Result};
 use wasm_decode::grammar::FrameKind;
+use wasm_decode::no_frame;
 
 /// The innermost frame, the position at which the operator began, and its opcode.
 #[derive(Clone, Copy, Debug)]
-pub struct Begun {
+pub struct OperatorStart {
     pub frame: FrameKind,
     pub start: usize,
     pub code: u8,
@@ -27,10 +28,16 @@ pub struct Begun {
 /// `OperatorsRemaining` where no frame is open, `EndOfData` where no byte is left, and `OutOfMemory`
 /// where no room could be made. The reader and the frames are unchanged then.
 #[inline(always)]
-pub fn begin(reader: &mut BinaryReader<'_>, control: &mut ControlStack) -> Result<Begun>
-    ensures begun { IfOk result (λ at. BeginsOperator (state_of reader.old control.old) (state_of reader.new control.new) at.frame at.start at.code (step_at at.code)) }
-    ensures refused { IfErr result (λ e. StopsNext EncodesAllowed OperatorFault e (state_of reader.old control.old) (state_of reader.new control.new)) }
-    ensures plain { IfErr result (λ e. StopsNext EncodesPlain PlainOperatorFault e (state_of reader.old control.old) (state_of reader.new control.new)) }
+pub fn begin(reader: &mut BinaryReader<'_>, control: &mut ControlStack) -> Result<OperatorStart>
+    ensures begun { IfOk result
+        (λ at. BeginsOperator (state_of reader.old control.old) (state_of reader.new control.new)
+        at.frame at.start at.code (step_at at.code)) }
+    ensures refused { IfErr result
+        (λ e. StopsNext EncodesAllowed OperatorFault e (state_of reader.old control.old)
+        (state_of reader.new control.new)) }
+    ensures plain { IfErr result
+        (λ e. StopsNext EncodesPlain PlainOperatorFault e (state_of reader.old control.old)
+        (state_of reader.new control.new)) }
 {
     let Some(frame) = control.last() else {
         return Err(no_frame(reader));
@@ -38,12 +45,11 @@ pub fn begin(reader: &mut BinaryReader<'_>, control: &mut ControlStack) -> Resul
     let start = reader.current_position();
     match reader.read_u8() {
         Ok(code) => {
-            // No opcode from 20 on does anything to the frames.
-            if code >= 0x20 {
-                return Ok(Begun { frame, start, code });
+            if leaves_frames(code) {
+                return Ok(OperatorStart { frame, start, code });
             }
             match control.make_room(FrameStep::at(code)) {
-                Ok(()) => Ok(Begun { frame, start, code }),
+                Ok(()) => Ok(OperatorStart { frame, start, code }),
                 Err(_) => Err(reader.refuse(start, Message::OutOfMemory)),
             }
         }
@@ -51,17 +57,7 @@ pub fn begin(reader: &mut BinaryReader<'_>, control: &mut ControlStack) -> Resul
     }
 }
 
-/// The refusal where no frame is open. It is made apart, out of the way of all else.
-#[cold]
-#[inline(never)]
-fn no_frame(reader: &BinaryReader<'_>) -> Error
-    ensures message { result.message ≡ Message.OperatorsRemaining }
-    ensures offset { result.offset ≡ offset_of reader.now }
-{
-    Error::new(Message::OperatorsRemaining, reader.original_position())
-}
-
-/// Makes the step of an operator that was read. No opcode from 20 on does anything to the frames.
+/// Makes the step of an operator that was read.
 ///
 /// The step is found again from the opcode, which is known where the operator was decoded; a step
 /// that was kept would be told apart by a jump of its own.
@@ -73,7 +69,7 @@ pub fn advance(control: &mut ControlStack, code: u8)
     ensures opened { control.old.room ≤ control.new.room + 1 }
     ensures other { (Opens (step_at code) → ⊥) → control.old.room ≤ control.new.room }
 {
-    if code >= 0x20 {
+    if leaves_frames(code) {
         return;
     }
     control.advance(FrameStep::at(code));

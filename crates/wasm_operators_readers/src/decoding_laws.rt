@@ -15,28 +15,30 @@ use wasm_decode::grammar::FrameKind;
 /// the expression, or about memory.
 pub fn refusal_messages(features: WasmFeatures, frame: FrameKind)
     ensures any { (m : Message) (r : Reader) (offset : ℕ) → OperatorFault features frame m r offset → IsReadFault m }
-    ensures plain { (m : Message) (r : Reader) (offset : ℕ) → PlainOperatorFault features frame m r offset → IsReadFault m }
+    ensures plain { (m : Message) (r : Reader) (offset : ℕ) → PlainOperatorFault features frame m r offset
+        → IsReadFault m }
 {}
 
 /// The prefix byte of vector operators has a refusal of its own, where none is taken.
 pub fn vector_refusals(features: WasmFeatures, frame: FrameKind)
-    ensures { (m : Message) (r : Reader) (offset : ℕ) → PlainOperatorFault features frame m r offset → BeginsWith 0xfd (rest r) → m ≡ Message.UnexpectedSimd }
+    ensures { (m : Message) (r : Reader) (offset : ℕ) → PlainOperatorFault features frame m r offset
+        → BeginsWith 0xfd (rest r) → m ≡ Message.UnexpectedSimd }
 {}
 
-/// Where reading or visiting to the end is refused, the message tells whether a frame is open: allocation
-/// failure aside, it is `OperatorsRemaining` exactly where none is; and it is `FramesRemain` exactly
-/// where one is and all data is taken.
+/// Where reading or visiting to the end is refused, the message tells whether a frame is open:
+/// allocation failure aside, it is `OperatorsRemaining` exactly where none is; and it is `FramesRemain`
+/// exactly where one is and all data is taken.
 pub fn run_messages()
-    ensures closed { (e : Error) (s : State) → StopsRun EncodesAllowed OperatorFault Anywhere e s → (e.message ≡ Message.OutOfMemory → ⊥)
-        → (e.message ≡ Message.OperatorsRemaining) ↔ (s.frames ≡ []) }
+    ensures closed { (e : Error) (s : State) → StopsRun EncodesAllowed OperatorFault Anywhere e s
+        → (e.message ≡ Message.OutOfMemory → ⊥) → (e.message ≡ Message.OperatorsRemaining) ↔ (s.frames ≡ []) }
     ensures left { (e : Error) (s : State) → StopsRun EncodesAllowed OperatorFault Anywhere e s
         → (e.message ≡ Message.FramesRemain) ↔ ((rest s.reader ≡ []) × (s.frames ≡ [] → ⊥)) }
-    ensures visits_closed { (e : Error) (s : State) → StopsRun EncodesAllowed OperatorFault (NeedsNext EncodesAllowed) e s → (e.message ≡ Message.OutOfMemory → ⊥)
-        → (e.message ≡ Message.OperatorsRemaining) ↔ (s.frames ≡ []) }
+    ensures visits_closed { (e : Error) (s : State) → StopsRun EncodesAllowed OperatorFault (NeedsNext EncodesAllowed) e s
+        → (e.message ≡ Message.OutOfMemory → ⊥) → (e.message ≡ Message.OperatorsRemaining) ↔ (s.frames ≡ []) }
     ensures visits_left { (e : Error) (s : State) → StopsRun EncodesAllowed OperatorFault (NeedsNext EncodesAllowed) e s
         → (e.message ≡ Message.FramesRemain) ↔ ((rest s.reader ≡ []) × (s.frames ≡ [] → ⊥)) }
-    ensures plain_closed { (e : Error) (s : State) → StopsRun EncodesPlain PlainOperatorFault (NeedsNext EncodesPlain) e s → (e.message ≡ Message.OutOfMemory → ⊥)
-        → (e.message ≡ Message.OperatorsRemaining) ↔ (s.frames ≡ []) }
+    ensures plain_closed { (e : Error) (s : State) → StopsRun EncodesPlain PlainOperatorFault (NeedsNext EncodesPlain) e s
+        → (e.message ≡ Message.OutOfMemory → ⊥) → (e.message ≡ Message.OperatorsRemaining) ↔ (s.frames ≡ []) }
     ensures plain_left { (e : Error) (s : State) → StopsRun EncodesPlain PlainOperatorFault (NeedsNext EncodesPlain) e s
         → (e.message ≡ Message.FramesRemain) ↔ ((rest s.reader ≡ []) × (s.frames ≡ [] → ⊥)) }
 {}

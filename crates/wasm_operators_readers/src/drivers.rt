@@ -17,8 +17,11 @@ use wasm_decode::visitors::{VisitOperator, VisitSimdOperator};
 impl<'a> OperatorsReader<'a> {
     /// Reads up to the end of the data or a refusal, and finishes.
     fn read_to_end(&mut self, out: &mut Vec<(Operator<'a>, u64)>) -> Result<()>
-        ensures runs { RunsToEnd (Adds out.old.items out.new.items) EncodesAllowed OperatorFault Anywhere result self.old self.new }
-        ensures memory { IfErr result (λ e. e.message ≡ Message.OutOfMemory → NeedsNext EncodesAllowed self.new ⊎ (vec_capacity out.new < vec_len out.new + 1)) }
+        ensures runs { RunsToEnd (Adds out.old.items out.new.items) EncodesAllowed OperatorFault Anywhere
+            result self.old self.new }
+        ensures memory { IfErr result
+            (λ e. e.message ≡ Message.OutOfMemory
+            → NeedsNext EncodesAllowed self.new ⊎ (vec_capacity out.new < vec_len out.new + 1)) }
     {
         'operators: while !self.eof() {
             let offset = self.original_position();
@@ -54,15 +57,19 @@ impl<'a> OperatorsReader<'a> {
     pub fn read_all(&mut self, out: &mut Vec<(Operator<'a>, u64)>) -> Result<()>
         // On Ok what was added is the walk of the one tree that the bytes encode; else the longest beginning of one.
         ensures rest { (before : List Operator) → StoodBefore before self.old
-            → ReadsRest (Adds out.old.items out.new.items) IsAny EncodesAllowed OperatorFault Anywhere before result self.old self.new }
+            → ReadsRest (Adds out.old.items out.new.items) IsAny EncodesAllowed OperatorFault Anywhere
+            before result self.old self.new }
         // Whatever was read before: which operators were added, where the reader stands, and why no more came.
-        ensures runs { RunsToEnd (Adds out.old.items out.new.items) EncodesAllowed OperatorFault Anywhere result self.old self.new }
+        ensures runs { RunsToEnd (Adds out.old.items out.new.items) EncodesAllowed OperatorFault Anywhere
+            result self.old self.new }
         // The same without trees, by the frames alone.
         ensures flat { ReadsFlat (Adds out.old.items out.new.items) IsAny result self.old }
         // Few frames are opened.
         ensures depth { IsWithinDepth self.old self.new }
         // Memory is refused only where one read may ask for it, or where `out` is full.
-        ensures memory { IfErr result (λ e. e.message ≡ Message.OutOfMemory → NeedsNext EncodesAllowed self.new ⊎ (vec_capacity out.new < vec_len out.new + 1)) }
+        ensures memory { IfErr result
+            (λ e. e.message ≡ Message.OutOfMemory
+            → NeedsNext EncodesAllowed self.new ⊎ (vec_capacity out.new < vec_len out.new + 1)) }
     {
         self.read_to_end(out)
     }
@@ -72,7 +79,8 @@ impl<'a> OperatorsReader<'a> {
     where
         V: VisitOperator<'a> + VisitSimdOperator,
         V::Output: Copy,
-        ensures { RunsToEnd (Visited V.visits v.old v.new) EncodesAllowed OperatorFault (NeedsNext EncodesAllowed) result self.old self.new }
+        ensures { RunsToEnd (Visited V.visits v.old v.new) EncodesAllowed OperatorFault (NeedsNext EncodesAllowed)
+            result self.old self.new }
     {
         'visits: while !self.eof() {
             match self.visit_operator_simd(v) {
@@ -93,11 +101,14 @@ impl<'a> OperatorsReader<'a> {
     where
         V: VisitOperator<'a> + VisitSimdOperator,
         V::Output: Copy,
-        // On Ok the visitor went along the walk of the one tree that the bytes encode; else along the longest beginning of one.
+        // On Ok the visitor went along the walk of the one tree that the bytes encode; else along the longest beginning
+        // of one.
         ensures rest { (before : List Operator) → StoodBefore before self.old
-            → ReadsRest (Visited V.visits v.old v.new) IsAny EncodesAllowed OperatorFault (NeedsNext EncodesAllowed) before result self.old self.new }
+            → ReadsRest (Visited V.visits v.old v.new) IsAny EncodesAllowed OperatorFault (NeedsNext EncodesAllowed)
+            before result self.old self.new }
         // Whatever was read before: which operators were visited, where the reader stands, and why no more came.
-        ensures runs { RunsToEnd (Visited V.visits v.old v.new) EncodesAllowed OperatorFault (NeedsNext EncodesAllowed) result self.old self.new }
+        ensures runs { RunsToEnd (Visited V.visits v.old v.new) EncodesAllowed OperatorFault (NeedsNext EncodesAllowed)
+            result self.old self.new }
         // The same without trees, by the frames alone.
         ensures flat { ReadsFlat (Visited V.visits v.old v.new) IsAny result self.old }
         // Few frames are opened.
@@ -110,7 +121,8 @@ impl<'a> OperatorsReader<'a> {
     fn visit_to_end<V: VisitOperator<'a>>(&mut self, v: &mut V) -> Result<()>
     where
         V::Output: Copy,
-        ensures { RunsToEnd (VisitedPlain V.visits v.old v.new) EncodesPlain PlainOperatorFault (NeedsNext EncodesPlain) result self.old self.new }
+        ensures { RunsToEnd (VisitedPlain V.visits v.old v.new) EncodesPlain PlainOperatorFault (NeedsNext EncodesPlain)
+            result self.old self.new }
     {
         'plain_visits: while !self.eof() {
             match self.visit_operator(v) {
@@ -130,12 +142,15 @@ impl<'a> OperatorsReader<'a> {
     pub fn visit_all<V: VisitOperator<'a>>(&mut self, v: &mut V) -> Result<()>
     where
         V::Output: Copy,
-        // On Ok the visitor went along the walk of the one tree that the bytes encode, which has no vector operator; else along the longest
-        // beginning of one that has none, and a vector operator behind it is refused as such.
+        // On Ok the visitor went along the walk of the one tree that the bytes encode, which has no vector operator;
+        // else along the longest beginning of one that has none, and a vector operator behind it is refused as such.
         ensures rest { (before : List Operator) → StoodBefore before self.old
-            → ReadsRest (VisitedPlain V.visits v.old v.new) IsPlain EncodesPlain PlainOperatorFault (NeedsNext EncodesPlain) before result self.old self.new }
-        // Whatever was read before: which operators were visited, none a vector operator, where the reader stands, and why no more came.
-        ensures runs { RunsToEnd (VisitedPlain V.visits v.old v.new) EncodesPlain PlainOperatorFault (NeedsNext EncodesPlain) result self.old self.new }
+            → ReadsRest (VisitedPlain V.visits v.old v.new) IsPlain EncodesPlain PlainOperatorFault
+            (NeedsNext EncodesPlain) before result self.old self.new }
+        // Whatever was read before: which operators were visited, none a vector operator, where the reader stands, and
+        // why no more came.
+        ensures runs { RunsToEnd (VisitedPlain V.visits v.old v.new) EncodesPlain PlainOperatorFault
+            (NeedsNext EncodesPlain) result self.old self.new }
         // The same without trees, by the frames alone.
         ensures flat { ReadsFlat (VisitedPlain V.visits v.old v.new) IsPlain result self.old }
         // Few frames are opened.

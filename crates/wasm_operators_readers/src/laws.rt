@@ -25,7 +25,7 @@ pub fn refused_again()
         → (d.message ≡ e.message) × (d.offset ≡ e.offset) }
 {}
 
-/// It does not succeed.
+/// What was refused is not taken when the same read is made again, allocation failure aside.
 pub fn not_taken()
     ensures any { (e : Error) (old mid new : State) (op : Operator)
         → StopsNext EncodesAllowed OperatorFault e old mid → e.message ≢ Message.OutOfMemory
@@ -40,15 +40,24 @@ pub fn not_taken()
 /// and offset.
 pub fn one_answer()
     ensures reads { (before : List Operator) (d e : Error) (old new end : State) (placed others : Placed)
-        → ReadsBeginning IsAny EncodesAllowed OperatorFault Anywhere before d old new placed → d.message ≢ Message.OutOfMemory
-        → ReadsBeginning IsAny EncodesAllowed OperatorFault Anywhere before e old end others → e.message ≢ Message.OutOfMemory
-        → (placed ≡ others) × (end.reader ≡ new.reader) × (end.frames ≡ new.frames) × (d.message ≡ e.message) × (d.offset ≡ e.offset) }
+        → ReadsBeginning IsAny EncodesAllowed OperatorFault Anywhere before d old new placed
+        → d.message ≢ Message.OutOfMemory
+        → ReadsBeginning IsAny EncodesAllowed OperatorFault Anywhere before e old end others
+        → e.message ≢ Message.OutOfMemory
+        → (placed ≡ others) × (end.reader ≡ new.reader) × (end.frames ≡ new.frames) × (d.message ≡ e.message)
+        × (d.offset ≡ e.offset) }
     ensures visits { (before : List Operator) (d e : Error) (old new end : State) (placed others : Placed)
-        → ReadsBeginning IsAny EncodesAllowed OperatorFault (NeedsNext EncodesAllowed) before d old new placed → d.message ≢ Message.OutOfMemory
-        → ReadsBeginning IsAny EncodesAllowed OperatorFault (NeedsNext EncodesAllowed) before e old end others → e.message ≢ Message.OutOfMemory
-        → (placed ≡ others) × (end.reader ≡ new.reader) × (end.frames ≡ new.frames) × (d.message ≡ e.message) × (d.offset ≡ e.offset) }
+        → ReadsBeginning IsAny EncodesAllowed OperatorFault (NeedsNext EncodesAllowed) before d old new placed
+        → d.message ≢ Message.OutOfMemory
+        → ReadsBeginning IsAny EncodesAllowed OperatorFault (NeedsNext EncodesAllowed) before e old end others
+        → e.message ≢ Message.OutOfMemory
+        → (placed ≡ others) × (end.reader ≡ new.reader) × (end.frames ≡ new.frames) × (d.message ≡ e.message)
+        × (d.offset ≡ e.offset) }
     ensures plain { (before : List Operator) (d e : Error) (old new end : State) (placed others : Placed)
-        → ReadsBeginning IsPlain EncodesPlain PlainOperatorFault (NeedsNext EncodesPlain) before d old new placed → d.message ≢ Message.OutOfMemory
-        → ReadsBeginning IsPlain EncodesPlain PlainOperatorFault (NeedsNext EncodesPlain) before e old end others → e.message ≢ Message.OutOfMemory
-        → (placed ≡ others) × (end.reader ≡ new.reader) × (end.frames ≡ new.frames) × (d.message ≡ e.message) × (d.offset ≡ e.offset) }
+        → ReadsBeginning IsPlain EncodesPlain PlainOperatorFault (NeedsNext EncodesPlain) before d old new placed
+        → d.message ≢ Message.OutOfMemory
+        → ReadsBeginning IsPlain EncodesPlain PlainOperatorFault (NeedsNext EncodesPlain) before e old end others
+        → e.message ≢ Message.OutOfMemory
+        → (placed ≡ others) × (end.reader ≡ new.reader) × (end.frames ≡ new.frames) × (d.message ≡ e.message)
+        × (d.offset ≡ e.offset) }
 {}

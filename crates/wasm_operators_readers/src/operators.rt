@@ -8,6 +8,7 @@ ghost use Rattle.wasm_operators_readers.specs.Next.{ReadsNext, VisitsNext, Visit
 mod stack;
 
 use crate::begin::{advance, begin};
+use crate::step::leaves_frames;
 use crate::{ControlStack, OperatorsReaderAllocations};
 use std::alloc::Global;
 use std::marker::Model;
@@ -15,7 +16,7 @@ use wasm_decode::below::{BinaryReader, Error, Message, Result};
 use wasm_decode::grammar::FrameKind;
 use wasm_decode::instr::Operator;
 use wasm_decode::visitors::{VisitOperator, VisitSimdOperator};
-use wasm_decode::{control_behind, read_behind, visit_behind, visit_behind_simd};
+use wasm_decode::{read_behind, visit_behind, visit_behind_simd, visit_below_20};
 
 /// Reads the operators of an expression one after another, and keeps the kinds of the open frames.
 ///
@@ -139,8 +140,7 @@ impl<'a> OperatorsReader<'a> {
     {
         match begin(&mut self.reader, &mut self.control) {
             Ok(at) => {
-                // No opcode from 20 on does anything to the frames.
-                if at.code >= 0x20 {
+                if leaves_frames(at.code) {
                     return visit_behind_simd(
                         v,
                         self.alloc,
@@ -150,7 +150,7 @@ impl<'a> OperatorsReader<'a> {
                         at.code,
                     );
                 }
-                match control_behind(v, self.alloc, &mut self.reader, at.start, at.frame, at.code) {
+                match visit_below_20(v, self.alloc, &mut self.reader, at.start, at.frame, at.code) {
                     Ok(answer) => {
                         advance(&mut self.control, at.code);
                         Ok(answer)
@@ -171,8 +171,7 @@ impl<'a> OperatorsReader<'a> {
     {
         match begin(&mut self.reader, &mut self.control) {
             Ok(at) => {
-                // No opcode from 20 on does anything to the frames.
-                if at.code >= 0x20 {
+                if leaves_frames(at.code) {
                     return visit_behind(
                         v,
                         self.alloc,
@@ -182,7 +181,7 @@ impl<'a> OperatorsReader<'a> {
                         at.code,
                     );
                 }
-                match control_behind(v, self.alloc, &mut self.reader, at.start, at.frame, at.code) {
+                match visit_below_20(v, self.alloc, &mut self.reader, at.start, at.frame, at.code) {
                     Ok(answer) => {
                         advance(&mut self.control, at.code);
                         Ok(answer)

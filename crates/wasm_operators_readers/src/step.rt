@@ -1,5 +1,5 @@
 //! What operators do to the open frames.
-ghost use Rattle.std.specs.Prelude.{◌≡◌, ◌↔◌, IsTrue};
+ghost use Rattle.std.specs.Prelude.{◌≡◌, ◌↔◌, ◌≤◌, IsTrue};
 ghost use Rattle.wasm_operators_readers.specs.Step.{Opens, step_at};
 
 /// What an operator does to the open frames: its role in the structure, without what it carries.
@@ -72,4 +72,13 @@ impl FrameStep {
             | FrameStep::Ends => false,
         }
     }
+}
+
+/// Whether the opcode stands behind all those whose operators do anything to the frames: these are
+/// below 20.
+#[inline(always)]
+pub fn leaves_frames(opcode: u8) -> bool
+    ensures { IsTrue result ↔ (0x20 ≤ opcode) }
+{
+    opcode >= 0x20
 }

@@ -2,8 +2,7 @@
 
 use crate::told::{Listed, Told};
 use std::alloc::Global;
-use wasm_operators_readers::below::BinaryReader;
-use wasm_operators_readers::{OperatorsReader, OperatorsReaderAllocations};
+use wasm_operators::{BinaryReader, OperatorsReader, OperatorsReaderAllocations};
 
 /// The items of `OperatorsIterator`. Where memory was refused they are taken again.
 pub fn items<'a>(alloc: Global, reader: &BinaryReader<'a>, list: Listed<'_, 'a>) -> Told {

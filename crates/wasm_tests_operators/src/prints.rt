@@ -2,8 +2,7 @@
 
 use crate::told::Listed;
 use std::fmt::{self, Write};
-use wasm_operators_readers::instr::{BrTable, Operator};
-use wasm_operators_readers::visitors::{VisitFixed, VisitOperator, VisitSimdOperator, Visitor};
+use wasm_operators::{BrTable, Operator, VisitFixed, VisitOperator, VisitSimdOperator, Visitor};
 
 /// How many operators there were, and a fingerprint (FNV-1a, 64 bits) of their texts.
 #[derive(Clone, Copy, Debug, PartialEq, Eq)]

@@ -1,9 +1,7 @@
 //! The calls that read.
 
 use crate::told::{Listed, Told, is_memory};
-use wasm_operators_readers::OperatorsReader;
-use wasm_operators_readers::below::Result;
-use wasm_operators_readers::instr::{FrameStack, Operator};
+use wasm_operators::{FrameStack, Operator, OperatorsReader, Result};
 
 /// What `read_all` adds to the list. Where memory is refused, what was read stays, and a second call
 /// goes on from there.

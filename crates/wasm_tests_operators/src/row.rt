@@ -8,9 +8,9 @@ use crate::visits::{visit_all, visit_all_simd, visit_boxed};
 use bitflags::Flags;
 use std::alloc::Global;
 use std::io::{self, Print};
-use wasm_operators_readers::OperatorsReader;
-use wasm_operators_readers::below::{BinaryReader, Error, WasmFeatures};
-use wasm_operators_readers::instr::{FrameKind, FrameStack, Operator};
+use wasm_operators::{
+    BinaryReader, Error, FrameKind, FrameStack, Operator, OperatorsReader, WasmFeatures,
+};
 
 /// How many operators are printed one by one, and read by clones.
 const FEW: usize = 16;

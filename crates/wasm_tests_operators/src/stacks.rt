@@ -4,9 +4,10 @@ use crate::prints::Prints;
 use crate::told::is_memory;
 use std::alloc::Global;
 use std::io::{self, Print};
-use wasm_operators_readers::below::{BinaryReader, Result};
-use wasm_operators_readers::instr::{FrameKind, FrameStack};
-use wasm_operators_readers::{ControlStack, OperatorsReader, OperatorsReaderAllocations};
+use wasm_operators::{
+    BinaryReader, ControlStack, FrameKind, FrameStack, OperatorsReader, OperatorsReaderAllocations,
+    Result,
+};
 
 /// Three blocks inside one another, which are not closed.
 static OPEN: [u8; 6] = [0x02, 0x40, 0x03, 0x40, 0x02, 0x40];

@@ -2,11 +2,9 @@
 
 use std::alloc::Global;
 use std::io::{self, Print};
-use wasm_operators_readers::OperatorsReader;
-use wasm_operators_readers::below::{BinaryReader, Result};
-use wasm_operators_readers::instr::{BrTable, MiscOperator, Operator};
-use wasm_operators_readers::visitors::{
-    VisitFixed, VisitMisc, VisitOperator, VisitSimdOperator, Visitor, decode, dispatch,
+use wasm_operators::{
+    BinaryReader, BrTable, MiscOperator, Operator, OperatorsReader, Result, VisitFixed, VisitMisc,
+    VisitOperator, VisitSimdOperator, Visitor, decode, dispatch,
 };
 
 /// Twice `data.drop`, then `drop` and `end`.

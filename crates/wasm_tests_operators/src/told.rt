@@ -1,7 +1,6 @@
 //! How a call went along a row.
 
-use wasm_operators_readers::below::Error;
-use wasm_operators_readers::instr::Operator;
+use wasm_operators::{Error, Operator};
 
 /// The operators of an expression, each with the offset of its first byte.
 pub type Listed<'l, 'a> = &'l [(Operator<'a>, u64)];

@@ -3,8 +3,7 @@
 use crate::prints::Prints;
 use crate::told::{Listed, Told, is_memory, offset_at};
 use std::alloc::Global;
-use wasm_operators_readers::OperatorsReader;
-use wasm_operators_readers::below::{BinaryReader, Error, Message, Result};
+use wasm_operators::{BinaryReader, Error, Message, OperatorsReader, Result};
 
 /// The visits of `visit_all_simd`. Where memory was refused, none was made of that operator, and a
 /// second call goes on from there.

@@ -21,7 +21,7 @@ impl VisitFixed for Factory {
     }
 
     #[inline(always)]
-    fn decode_control(
+    fn decode_below_20(
         &mut self,
         alloc: Global,
         reader: &mut BinaryReader<'_>,

@@ -1,11 +1,8 @@
 //! Visitors of the operators that are neither vector operators nor branch tables.
 ghost use Rattle.std.specs.Prelude.{◌≡◌, ◌≤◌, ◌<◌, [], Some, None};
-ghost use Rattle.wasm_decode_groups.specs.below.Source.{at_position};
 ghost use Rattle.wasm_decode_groups.specs.grammar.declared.frame_kind.FrameKind.{FrameKind};
 ghost use Rattle.wasm_decode_groups.specs.instr.declared.operator.Operator.{Operator};
-ghost use Rattle.wasm_decode_groups.specs.opcodes.Allowed.{EncodesAllowed};
-ghost use Rattle.wasm_decode_groups.specs.opcodes.Decoding.{Decodes, StandsBehind, VisitsRow};
-ghost use Rattle.wasm_decode_groups.specs.opcodes.OperatorFaults.{OperatorFault};
+ghost use Rattle.wasm_decode_groups.specs.opcodes.Decoding.{StandsBehind, VisitsRow, DecodesAt};
 ghost use Rattle.wasm_decode_groups.specs.OneByte.{IsOneByteCode};
 ghost use Rattle.wasm_decode_groups.specs.groups.Groups.{IsOneByte};
 
@@ -93,7 +90,7 @@ pub trait VisitFixed: Visitor {
         Self: Sized,
         requires behind { StandsBehind start None code reader.old }
         requires apart { IsOneByteCode code }
-        ensures { Decodes Self.visits (EncodesAllowed reader.old.features frame) (OperatorFault reader.old.features frame) result (at_position reader.old start) reader.new self.old self.new }
+        ensures { DecodesAt Self.visits frame start result reader.old reader.new self.old self.new }
     {
         decode::one_byte(
             &mut ByAny { visitor: self },
@@ -112,7 +109,7 @@ pub trait VisitFixed: Visitor {
     /// A visitor with visits in `VisitOneByte` says
     /// `decode::one_byte(self, alloc, reader, start, frame, code)` here too.
     #[inline(always)]
-    fn decode_control(
+    fn decode_below_20(
         &mut self,
         alloc: Global,
         reader: &mut BinaryReader<'_>,
@@ -125,7 +122,7 @@ pub trait VisitFixed: Visitor {
         requires behind { StandsBehind start None code reader.old }
         requires apart { IsOneByteCode code }
         requires low { code < 0x20 }
-        ensures { Decodes Self.visits (EncodesAllowed reader.old.features frame) (OperatorFault reader.old.features frame) result (at_position reader.old start) reader.new self.old self.new }
+        ensures { DecodesAt Self.visits frame start result reader.old reader.new self.old self.new }
     {
         decode::one_byte(
             &mut ByAny { visitor: self },
@@ -161,7 +158,8 @@ pub trait VisitFixed: Visitor {
         code: u32,
     ) -> Result<Self::Output>
         requires behind { StandsBehind start (Some 0xfb) code reader.old }
-        ensures { (frame : FrameKind) → Decodes Self.visits (EncodesAllowed reader.old.features frame) (OperatorFault reader.old.features frame) result (at_position reader.old start) reader.new self.old self.new }
+        ensures { (frame : FrameKind)
+            → DecodesAt Self.visits frame start result reader.old reader.new self.old self.new }
     {
         match Factory.decode_gc(reader, start, code) {
             Ok(op) => Ok(self.visit_any(op)),
@@ -181,7 +179,8 @@ pub trait VisitFixed: Visitor {
         code: u32,
     ) -> Result<Self::Output>
         requires behind { StandsBehind start (Some 0xfc) code reader.old }
-        ensures { (frame : FrameKind) → Decodes Self.visits (EncodesAllowed reader.old.features frame) (OperatorFault reader.old.features frame) result (at_position reader.old start) reader.new self.old self.new }
+        ensures { (frame : FrameKind)
+            → DecodesAt Self.visits frame start result reader.old reader.new self.old self.new }
     {
         match Factory.decode_misc(reader, start, code) {
             Ok(op) => Ok(self.visit_any(op)),
@@ -201,7 +200,8 @@ pub trait VisitFixed: Visitor {
         code: u32,
     ) -> Result<Self::Output>
         requires behind { StandsBehind start (Some 0xfe) code reader.old }
-        ensures { (frame : FrameKind) → Decodes Self.visits (EncodesAllowed reader.old.features frame) (OperatorFault reader.old.features frame) result (at_position reader.old start) reader.new self.old self.new }
+        ensures { (frame : FrameKind)
+            → DecodesAt Self.visits frame start result reader.old reader.new self.old self.new }
     {
         match Factory.decode_atomic(reader, start, code) {
             Ok(op) => Ok(self.visit_any(op)),

@@ -23,9 +23,9 @@ pub use operator::VisitOperator;
 pub use owned::{visit_owned, visit_owned_simd};
 pub use vectors::VisitSimdOperator;
 pub use wasm_decode_groups as decode;
-pub use wasm_decode_groups::{below, grammar, imm, instr, opcodes};
-pub use wasm_visit_factory as layer_factory;
-pub use wasm_visit_groups::{
+pub use wasm_decode_groups::groups::{
     VisitAtomic, VisitGc, VisitMisc, VisitNumeric, VisitOneByte, VisitSimdHigh, VisitSimdLow,
     Visitor,
 };
+pub use wasm_decode_groups::{below, grammar, imm, instr, opcodes};
+pub use wasm_visit_factory as layer_factory;

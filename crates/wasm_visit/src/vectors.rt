@@ -1,11 +1,8 @@
 //! Visitors of the vector operators.
 ghost use Rattle.std.specs.Prelude.{◌≤◌, ◌<◌, Some};
-ghost use Rattle.wasm_decode_groups.specs.below.Source.{at_position};
 ghost use Rattle.wasm_decode_groups.specs.grammar.declared.frame_kind.FrameKind.{FrameKind};
 ghost use Rattle.wasm_decode_groups.specs.instr.declared.operator.Operator.{Operator};
-ghost use Rattle.wasm_decode_groups.specs.opcodes.Allowed.{EncodesAllowed};
-ghost use Rattle.wasm_decode_groups.specs.opcodes.Decoding.{Decodes, StandsBehind};
-ghost use Rattle.wasm_decode_groups.specs.opcodes.OperatorFaults.{OperatorFault};
+ghost use Rattle.wasm_decode_groups.specs.opcodes.Decoding.{StandsBehind, DecodesAt};
 ghost use Rattle.wasm_decode_groups.specs.groups.Groups.{IsSimdHigh, IsSimdLow};
 
 use wasm_decode_groups::below::{BinaryReader, Result};
@@ -54,7 +51,8 @@ pub trait VisitSimdOperator: Visitor {
     ) -> Result<Self::Output>
         requires behind { StandsBehind start (Some 0xfd) code reader.old }
         requires half { code < 0x80 }
-        ensures { (frame : FrameKind) → Decodes Self.visits (EncodesAllowed reader.old.features frame) (OperatorFault reader.old.features frame) result (at_position reader.old start) reader.new self.old self.new }
+        ensures { (frame : FrameKind)
+            → DecodesAt Self.visits frame start result reader.old reader.new self.old self.new }
     {
         match Factory.decode_simd_low(reader, start, code) {
             Ok(op) => Ok(self.visit_any(op)),
@@ -75,7 +73,8 @@ pub trait VisitSimdOperator: Visitor {
     ) -> Result<Self::Output>
         requires behind { StandsBehind start (Some 0xfd) code reader.old }
         requires half { 0x80 ≤ code }
-        ensures { (frame : FrameKind) → Decodes Self.visits (EncodesAllowed reader.old.features frame) (OperatorFault reader.old.features frame) result (at_position reader.old start) reader.new self.old self.new }
+        ensures { (frame : FrameKind)
+            → DecodesAt Self.visits frame start result reader.old reader.new self.old self.new }
     {
         match Factory.decode_simd_high(reader, start, code) {
             Ok(op) => Ok(self.visit_any(op)),

@@ -518,7 +518,8 @@ pub trait VisitAtomic: Visitor {
     /// Visits `I32AtomicRmw16CmpxchgU`.
     #[inline(always)]
     fn visit_i32_atomic_rmw16_cmpxchg_u(&mut self, memarg: MemArg) -> Self::Output
-        ensures { Self.visits self.old (Operator.Atomic (AtomicOperator.I32AtomicRmw16CmpxchgU memarg)) result self.new }
+        ensures { Self.visits self.old (Operator.Atomic (AtomicOperator.I32AtomicRmw16CmpxchgU memarg))
+            result self.new }
     {
         self.visit_any(Operator::Atomic(AtomicOperator::I32AtomicRmw16CmpxchgU { memarg }))
     }
@@ -534,7 +535,8 @@ pub trait VisitAtomic: Visitor {
     /// Visits `I64AtomicRmw16CmpxchgU`.
     #[inline(always)]
     fn visit_i64_atomic_rmw16_cmpxchg_u(&mut self, memarg: MemArg) -> Self::Output
-        ensures { Self.visits self.old (Operator.Atomic (AtomicOperator.I64AtomicRmw16CmpxchgU memarg)) result self.new }
+        ensures { Self.visits self.old (Operator.Atomic (AtomicOperator.I64AtomicRmw16CmpxchgU memarg))
+            result self.new }
     {
         self.visit_any(Operator::Atomic(AtomicOperator::I64AtomicRmw16CmpxchgU { memarg }))
     }
@@ -542,7 +544,8 @@ pub trait VisitAtomic: Visitor {
     /// Visits `I64AtomicRmw32CmpxchgU`.
     #[inline(always)]
     fn visit_i64_atomic_rmw32_cmpxchg_u(&mut self, memarg: MemArg) -> Self::Output
-        ensures { Self.visits self.old (Operator.Atomic (AtomicOperator.I64AtomicRmw32CmpxchgU memarg)) result self.new }
+        ensures { Self.visits self.old (Operator.Atomic (AtomicOperator.I64AtomicRmw32CmpxchgU memarg))
+            result self.new }
     {
         self.visit_any(Operator::Atomic(AtomicOperator::I64AtomicRmw32CmpxchgU { memarg }))
     }
@@ -550,7 +553,8 @@ pub trait VisitAtomic: Visitor {
     /// Visits `GlobalAtomicGet`.
     #[inline(always)]
     fn visit_global_atomic_get(&mut self, ordering: Ordering, global_index: u32) -> Self::Output
-        ensures { Self.visits self.old (Operator.Atomic (AtomicOperator.GlobalAtomicGet ordering global_index)) result self.new }
+        ensures { Self.visits self.old (Operator.Atomic (AtomicOperator.GlobalAtomicGet ordering global_index))
+            result self.new }
     {
         self.visit_any(Operator::Atomic(AtomicOperator::GlobalAtomicGet {
             ordering,
@@ -561,7 +565,8 @@ pub trait VisitAtomic: Visitor {
     /// Visits `GlobalAtomicSet`.
     #[inline(always)]
     fn visit_global_atomic_set(&mut self, ordering: Ordering, global_index: u32) -> Self::Output
-        ensures { Self.visits self.old (Operator.Atomic (AtomicOperator.GlobalAtomicSet ordering global_index)) result self.new }
+        ensures { Self.visits self.old (Operator.Atomic (AtomicOperator.GlobalAtomicSet ordering global_index))
+            result self.new }
     {
         self.visit_any(Operator::Atomic(AtomicOperator::GlobalAtomicSet {
             ordering,
@@ -572,7 +577,8 @@ pub trait VisitAtomic: Visitor {
     /// Visits `GlobalAtomicRmwAdd`.
     #[inline(always)]
     fn visit_global_atomic_rmw_add(&mut self, ordering: Ordering, global_index: u32) -> Self::Output
-        ensures { Self.visits self.old (Operator.Atomic (AtomicOperator.GlobalAtomicRmwAdd ordering global_index)) result self.new }
+        ensures { Self.visits self.old (Operator.Atomic (AtomicOperator.GlobalAtomicRmwAdd ordering global_index))
+            result self.new }
     {
         self.visit_any(Operator::Atomic(AtomicOperator::GlobalAtomicRmwAdd {
             ordering,
@@ -583,7 +589,8 @@ pub trait VisitAtomic: Visitor {
     /// Visits `GlobalAtomicRmwSub`.
     #[inline(always)]
     fn visit_global_atomic_rmw_sub(&mut self, ordering: Ordering, global_index: u32) -> Self::Output
-        ensures { Self.visits self.old (Operator.Atomic (AtomicOperator.GlobalAtomicRmwSub ordering global_index)) result self.new }
+        ensures { Self.visits self.old (Operator.Atomic (AtomicOperator.GlobalAtomicRmwSub ordering global_index))
+            result self.new }
     {
         self.visit_any(Operator::Atomic(AtomicOperator::GlobalAtomicRmwSub {
             ordering,
@@ -594,7 +601,8 @@ pub trait VisitAtomic: Visitor {
     /// Visits `GlobalAtomicRmwAnd`.
     #[inline(always)]
     fn visit_global_atomic_rmw_and(&mut self, ordering: Ordering, global_index: u32) -> Self::Output
-        ensures { Self.visits self.old (Operator.Atomic (AtomicOperator.GlobalAtomicRmwAnd ordering global_index)) result self.new }
+        ensures { Self.visits self.old (Operator.Atomic (AtomicOperator.GlobalAtomicRmwAnd ordering global_index))
+            result self.new }
     {
         self.visit_any(Operator::Atomic(AtomicOperator::GlobalAtomicRmwAnd {
             ordering,
@@ -605,7 +613,8 @@ pub trait VisitAtomic: Visitor {
     /// Visits `GlobalAtomicRmwOr`.
     #[inline(always)]
     fn visit_global_atomic_rmw_or(&mut self, ordering: Ordering, global_index: u32) -> Self::Output
-        ensures { Self.visits self.old (Operator.Atomic (AtomicOperator.GlobalAtomicRmwOr ordering global_index)) result self.new }
+        ensures { Self.visits self.old (Operator.Atomic (AtomicOperator.GlobalAtomicRmwOr ordering global_index))
+            result self.new }
     {
         self.visit_any(Operator::Atomic(AtomicOperator::GlobalAtomicRmwOr {
             ordering,
@@ -616,7 +625,8 @@ pub trait VisitAtomic: Visitor {
     /// Visits `GlobalAtomicRmwXor`.
     #[inline(always)]
     fn visit_global_atomic_rmw_xor(&mut self, ordering: Ordering, global_index: u32) -> Self::Output
-        ensures { Self.visits self.old (Operator.Atomic (AtomicOperator.GlobalAtomicRmwXor ordering global_index)) result self.new }
+        ensures { Self.visits self.old (Operator.Atomic (AtomicOperator.GlobalAtomicRmwXor ordering global_index))
+            result self.new }
     {
         self.visit_any(Operator::Atomic(AtomicOperator::GlobalAtomicRmwXor {
             ordering,
@@ -631,7 +641,8 @@ pub trait VisitAtomic: Visitor {
         ordering: Ordering,
         global_index: u32,
     ) -> Self::Output
-        ensures { Self.visits self.old (Operator.Atomic (AtomicOperator.GlobalAtomicRmwXchg ordering global_index)) result self.new }
+        ensures { Self.visits self.old (Operator.Atomic (AtomicOperator.GlobalAtomicRmwXchg ordering global_index))
+            result self.new }
     {
         self.visit_any(Operator::Atomic(AtomicOperator::GlobalAtomicRmwXchg {
             ordering,
@@ -646,7 +657,8 @@ pub trait VisitAtomic: Visitor {
         ordering: Ordering,
         global_index: u32,
     ) -> Self::Output
-        ensures { Self.visits self.old (Operator.Atomic (AtomicOperator.GlobalAtomicRmwCmpxchg ordering global_index)) result self.new }
+        ensures { Self.visits self.old (Operator.Atomic (AtomicOperator.GlobalAtomicRmwCmpxchg ordering global_index))
+            result self.new }
     {
         self.visit_any(Operator::Atomic(AtomicOperator::GlobalAtomicRmwCmpxchg {
             ordering,
@@ -657,7 +669,8 @@ pub trait VisitAtomic: Visitor {
     /// Visits `TableAtomicGet`.
     #[inline(always)]
     fn visit_table_atomic_get(&mut self, ordering: Ordering, table_index: u32) -> Self::Output
-        ensures { Self.visits self.old (Operator.Atomic (AtomicOperator.TableAtomicGet ordering table_index)) result self.new }
+        ensures { Self.visits self.old (Operator.Atomic (AtomicOperator.TableAtomicGet ordering table_index))
+            result self.new }
     {
         self.visit_any(Operator::Atomic(AtomicOperator::TableAtomicGet {
             ordering,
@@ -668,7 +681,8 @@ pub trait VisitAtomic: Visitor {
     /// Visits `TableAtomicSet`.
     #[inline(always)]
     fn visit_table_atomic_set(&mut self, ordering: Ordering, table_index: u32) -> Self::Output
-        ensures { Self.visits self.old (Operator.Atomic (AtomicOperator.TableAtomicSet ordering table_index)) result self.new }
+        ensures { Self.visits self.old (Operator.Atomic (AtomicOperator.TableAtomicSet ordering table_index))
+            result self.new }
     {
         self.visit_any(Operator::Atomic(AtomicOperator::TableAtomicSet {
             ordering,
@@ -679,7 +693,8 @@ pub trait VisitAtomic: Visitor {
     /// Visits `TableAtomicRmwXchg`.
     #[inline(always)]
     fn visit_table_atomic_rmw_xchg(&mut self, ordering: Ordering, table_index: u32) -> Self::Output
-        ensures { Self.visits self.old (Operator.Atomic (AtomicOperator.TableAtomicRmwXchg ordering table_index)) result self.new }
+        ensures { Self.visits self.old (Operator.Atomic (AtomicOperator.TableAtomicRmwXchg ordering table_index))
+            result self.new }
     {
         self.visit_any(Operator::Atomic(AtomicOperator::TableAtomicRmwXchg {
             ordering,
@@ -694,7 +709,8 @@ pub trait VisitAtomic: Visitor {
         ordering: Ordering,
         table_index: u32,
     ) -> Self::Output
-        ensures { Self.visits self.old (Operator.Atomic (AtomicOperator.TableAtomicRmwCmpxchg ordering table_index)) result self.new }
+        ensures { Self.visits self.old (Operator.Atomic (AtomicOperator.TableAtomicRmwCmpxchg ordering table_index))
+            result self.new }
     {
         self.visit_any(Operator::Atomic(AtomicOperator::TableAtomicRmwCmpxchg {
             ordering,
@@ -710,7 +726,8 @@ pub trait VisitAtomic: Visitor {
         struct_type_index: u32,
         field_index: u32,
     ) -> Self::Output
-        ensures { Self.visits self.old (Operator.Atomic (AtomicOperator.StructAtomicGet ordering struct_type_index field_index)) result self.new }
+        ensures { Self.visits self.old
+            (Operator.Atomic (AtomicOperator.StructAtomicGet ordering struct_type_index field_index)) result self.new }
     {
         self.visit_any(Operator::Atomic(AtomicOperator::StructAtomicGet {
             ordering,
@@ -727,7 +744,8 @@ pub trait VisitAtomic: Visitor {
         struct_type_index: u32,
         field_index: u32,
     ) -> Self::Output
-        ensures { Self.visits self.old (Operator.Atomic (AtomicOperator.StructAtomicGetS ordering struct_type_index field_index)) result self.new }
+        ensures { Self.visits self.old
+            (Operator.Atomic (AtomicOperator.StructAtomicGetS ordering struct_type_index field_index)) result self.new }
     {
         self.visit_any(Operator::Atomic(AtomicOperator::StructAtomicGetS {
             ordering,
@@ -744,7 +762,8 @@ pub trait VisitAtomic: Visitor {
         struct_type_index: u32,
         field_index: u32,
     ) -> Self::Output
-        ensures { Self.visits self.old (Operator.Atomic (AtomicOperator.StructAtomicGetU ordering struct_type_index field_index)) result self.new }
+        ensures { Self.visits self.old
+            (Operator.Atomic (AtomicOperator.StructAtomicGetU ordering struct_type_index field_index)) result self.new }
     {
         self.visit_any(Operator::Atomic(AtomicOperator::StructAtomicGetU {
             ordering,
@@ -761,7 +780,8 @@ pub trait VisitAtomic: Visitor {
         struct_type_index: u32,
         field_index: u32,
     ) -> Self::Output
-        ensures { Self.visits self.old (Operator.Atomic (AtomicOperator.StructAtomicSet ordering struct_type_index field_index)) result self.new }
+        ensures { Self.visits self.old
+            (Operator.Atomic (AtomicOperator.StructAtomicSet ordering struct_type_index field_index)) result self.new }
     {
         self.visit_any(Operator::Atomic(AtomicOperator::StructAtomicSet {
             ordering,
@@ -778,7 +798,9 @@ pub trait VisitAtomic: Visitor {
         struct_type_index: u32,
         field_index: u32,
     ) -> Self::Output
-        ensures { Self.visits self.old (Operator.Atomic (AtomicOperator.StructAtomicRmwAdd ordering struct_type_index field_index)) result self.new }
+        ensures { Self.visits self.old
+            (Operator.Atomic (AtomicOperator.StructAtomicRmwAdd ordering struct_type_index field_index))
+            result self.new }
     {
         self.visit_any(Operator::Atomic(AtomicOperator::StructAtomicRmwAdd {
             ordering,
@@ -795,7 +817,9 @@ pub trait VisitAtomic: Visitor {
         struct_type_index: u32,
         field_index: u32,
     ) -> Self::Output
-        ensures { Self.visits self.old (Operator.Atomic (AtomicOperator.StructAtomicRmwSub ordering struct_type_index field_index)) result self.new }
+        ensures { Self.visits self.old
+            (Operator.Atomic (AtomicOperator.StructAtomicRmwSub ordering struct_type_index field_index))
+            result self.new }
     {
         self.visit_any(Operator::Atomic(AtomicOperator::StructAtomicRmwSub {
             ordering,
@@ -812,7 +836,9 @@ pub trait VisitAtomic: Visitor {
         struct_type_index: u32,
         field_index: u32,
     ) -> Self::Output
-        ensures { Self.visits self.old (Operator.Atomic (AtomicOperator.StructAtomicRmwAnd ordering struct_type_index field_index)) result self.new }
+        ensures { Self.visits self.old
+            (Operator.Atomic (AtomicOperator.StructAtomicRmwAnd ordering struct_type_index field_index))
+            result self.new }
     {
         self.visit_any(Operator::Atomic(AtomicOperator::StructAtomicRmwAnd {
             ordering,
@@ -829,7 +855,9 @@ pub trait VisitAtomic: Visitor {
         struct_type_index: u32,
         field_index: u32,
     ) -> Self::Output
-        ensures { Self.visits self.old (Operator.Atomic (AtomicOperator.StructAtomicRmwOr ordering struct_type_index field_index)) result self.new }
+        ensures { Self.visits self.old
+            (Operator.Atomic (AtomicOperator.StructAtomicRmwOr ordering struct_type_index field_index))
+            result self.new }
     {
         self.visit_any(Operator::Atomic(AtomicOperator::StructAtomicRmwOr {
             ordering,
@@ -846,7 +874,9 @@ pub trait VisitAtomic: Visitor {
         struct_type_index: u32,
         field_index: u32,
     ) -> Self::Output
-        ensures { Self.visits self.old (Operator.Atomic (AtomicOperator.StructAtomicRmwXor ordering struct_type_index field_index)) result self.new }
+        ensures { Self.visits self.old
+            (Operator.Atomic (AtomicOperator.StructAtomicRmwXor ordering struct_type_index field_index))
+            result self.new }
     {
         self.visit_any(Operator::Atomic(AtomicOperator::StructAtomicRmwXor {
             ordering,
@@ -863,7 +893,9 @@ pub trait VisitAtomic: Visitor {
         struct_type_index: u32,
         field_index: u32,
     ) -> Self::Output
-        ensures { Self.visits self.old (Operator.Atomic (AtomicOperator.StructAtomicRmwXchg ordering struct_type_index field_index)) result self.new }
+        ensures { Self.visits self.old
+            (Operator.Atomic (AtomicOperator.StructAtomicRmwXchg ordering struct_type_index field_index))
+            result self.new }
     {
         self.visit_any(Operator::Atomic(AtomicOperator::StructAtomicRmwXchg {
             ordering,
@@ -880,7 +912,9 @@ pub trait VisitAtomic: Visitor {
         struct_type_index: u32,
         field_index: u32,
     ) -> Self::Output
-        ensures { Self.visits self.old (Operator.Atomic (AtomicOperator.StructAtomicRmwCmpxchg ordering struct_type_index field_index)) result self.new }
+        ensures { Self.visits self.old
+            (Operator.Atomic (AtomicOperator.StructAtomicRmwCmpxchg ordering struct_type_index field_index))
+            result self.new }
     {
         self.visit_any(Operator::Atomic(AtomicOperator::StructAtomicRmwCmpxchg {
             ordering,
@@ -892,7 +926,8 @@ pub trait VisitAtomic: Visitor {
     /// Visits `ArrayAtomicGet`.
     #[inline(always)]
     fn visit_array_atomic_get(&mut self, ordering: Ordering, array_type_index: u32) -> Self::Output
-        ensures { Self.visits self.old (Operator.Atomic (AtomicOperator.ArrayAtomicGet ordering array_type_index)) result self.new }
+        ensures { Self.visits self.old (Operator.Atomic (AtomicOperator.ArrayAtomicGet ordering array_type_index))
+            result self.new }
     {
         self.visit_any(Operator::Atomic(AtomicOperator::ArrayAtomicGet {
             ordering,
@@ -907,7 +942,8 @@ pub trait VisitAtomic: Visitor {
         ordering: Ordering,
         array_type_index: u32,
     ) -> Self::Output
-        ensures { Self.visits self.old (Operator.Atomic (AtomicOperator.ArrayAtomicGetS ordering array_type_index)) result self.new }
+        ensures { Self.visits self.old (Operator.Atomic (AtomicOperator.ArrayAtomicGetS ordering array_type_index))
+            result self.new }
     {
         self.visit_any(Operator::Atomic(AtomicOperator::ArrayAtomicGetS {
             ordering,
@@ -922,7 +958,8 @@ pub trait VisitAtomic: Visitor {
         ordering: Ordering,
         array_type_index: u32,
     ) -> Self::Output
-        ensures { Self.visits self.old (Operator.Atomic (AtomicOperator.ArrayAtomicGetU ordering array_type_index)) result self.new }
+        ensures { Self.visits self.old (Operator.Atomic (AtomicOperator.ArrayAtomicGetU ordering array_type_index))
+            result self.new }
     {
         self.visit_any(Operator::Atomic(AtomicOperator::ArrayAtomicGetU {
             ordering,
@@ -933,7 +970,8 @@ pub trait VisitAtomic: Visitor {
     /// Visits `ArrayAtomicSet`.
     #[inline(always)]
     fn visit_array_atomic_set(&mut self, ordering: Ordering, array_type_index: u32) -> Self::Output
-        ensures { Self.visits self.old (Operator.Atomic (AtomicOperator.ArrayAtomicSet ordering array_type_index)) result self.new }
+        ensures { Self.visits self.old (Operator.Atomic (AtomicOperator.ArrayAtomicSet ordering array_type_index))
+            result self.new }
     {
         self.visit_any(Operator::Atomic(AtomicOperator::ArrayAtomicSet {
             ordering,
@@ -948,7 +986,8 @@ pub trait VisitAtomic: Visitor {
         ordering: Ordering,
         array_type_index: u32,
     ) -> Self::Output
-        ensures { Self.visits self.old (Operator.Atomic (AtomicOperator.ArrayAtomicRmwAdd ordering array_type_index)) result self.new }
+        ensures { Self.visits self.old (Operator.Atomic (AtomicOperator.ArrayAtomicRmwAdd ordering array_type_index))
+            result self.new }
     {
         self.visit_any(Operator::Atomic(AtomicOperator::ArrayAtomicRmwAdd {
             ordering,
@@ -963,7 +1002,8 @@ pub trait VisitAtomic: Visitor {
         ordering: Ordering,
         array_type_index: u32,
     ) -> Self::Output
-        ensures { Self.visits self.old (Operator.Atomic (AtomicOperator.ArrayAtomicRmwSub ordering array_type_index)) result self.new }
+        ensures { Self.visits self.old (Operator.Atomic (AtomicOperator.ArrayAtomicRmwSub ordering array_type_index))
+            result self.new }
     {
         self.visit_any(Operator::Atomic(AtomicOperator::ArrayAtomicRmwSub {
             ordering,
@@ -978,7 +1018,8 @@ pub trait VisitAtomic: Visitor {
         ordering: Ordering,
         array_type_index: u32,
     ) -> Self::Output
-        ensures { Self.visits self.old (Operator.Atomic (AtomicOperator.ArrayAtomicRmwAnd ordering array_type_index)) result self.new }
+        ensures { Self.visits self.old (Operator.Atomic (AtomicOperator.ArrayAtomicRmwAnd ordering array_type_index))
+            result self.new }
     {
         self.visit_any(Operator::Atomic(AtomicOperator::ArrayAtomicRmwAnd {
             ordering,
@@ -993,7 +1034,8 @@ pub trait VisitAtomic: Visitor {
         ordering: Ordering,
         array_type_index: u32,
     ) -> Self::Output
-        ensures { Self.visits self.old (Operator.Atomic (AtomicOperator.ArrayAtomicRmwOr ordering array_type_index)) result self.new }
+        ensures { Self.visits self.old (Operator.Atomic (AtomicOperator.ArrayAtomicRmwOr ordering array_type_index))
+            result self.new }
     {
         self.visit_any(Operator::Atomic(AtomicOperator::ArrayAtomicRmwOr {
             ordering,
@@ -1008,7 +1050,8 @@ pub trait VisitAtomic: Visitor {
         ordering: Ordering,
         array_type_index: u32,
     ) -> Self::Output
-        ensures { Self.visits self.old (Operator.Atomic (AtomicOperator.ArrayAtomicRmwXor ordering array_type_index)) result self.new }
+        ensures { Self.visits self.old (Operator.Atomic (AtomicOperator.ArrayAtomicRmwXor ordering array_type_index))
+            result self.new }
     {
         self.visit_any(Operator::Atomic(AtomicOperator::ArrayAtomicRmwXor {
             ordering,
@@ -1023,7 +1066,8 @@ pub trait VisitAtomic: Visitor {
         ordering: Ordering,
         array_type_index: u32,
     ) -> Self::Output
-        ensures { Self.visits self.old (Operator.Atomic (AtomicOperator.ArrayAtomicRmwXchg ordering array_type_index)) result self.new }
+        ensures { Self.visits self.old (Operator.Atomic (AtomicOperator.ArrayAtomicRmwXchg ordering array_type_index))
+            result self.new }
     {
         self.visit_any(Operator::Atomic(AtomicOperator::ArrayAtomicRmwXchg {
             ordering,
@@ -1038,7 +1082,8 @@ pub trait VisitAtomic: Visitor {
         ordering: Ordering,
         array_type_index: u32,
     ) -> Self::Output
-        ensures { Self.visits self.old (Operator.Atomic (AtomicOperator.ArrayAtomicRmwCmpxchg ordering array_type_index)) result self.new }
+        ensures { Self.visits self.old
+            (Operator.Atomic (AtomicOperator.ArrayAtomicRmwCmpxchg ordering array_type_index)) result self.new }
     {
         self.visit_any(Operator::Atomic(AtomicOperator::ArrayAtomicRmwCmpxchg {
             ordering,

@@ -30,7 +30,8 @@ pub trait VisitGc: Visitor {
     /// Visits `StructGet`.
     #[inline(always)]
     fn visit_struct_get(&mut self, struct_type_index: u32, field_index: u32) -> Self::Output
-        ensures { Self.visits self.old (Operator.Gc (GcOperator.StructGet struct_type_index field_index)) result self.new }
+        ensures { Self.visits self.old (Operator.Gc (GcOperator.StructGet struct_type_index field_index))
+            result self.new }
     {
         self.visit_any(Operator::Gc(GcOperator::StructGet {
             struct_type_index,
@@ -41,7 +42,8 @@ pub trait VisitGc: Visitor {
     /// Visits `StructGetS`.
     #[inline(always)]
     fn visit_struct_get_s(&mut self, struct_type_index: u32, field_index: u32) -> Self::Output
-        ensures { Self.visits self.old (Operator.Gc (GcOperator.StructGetS struct_type_index field_index)) result self.new }
+        ensures { Self.visits self.old (Operator.Gc (GcOperator.StructGetS struct_type_index field_index))
+            result self.new }
     {
         self.visit_any(Operator::Gc(GcOperator::StructGetS {
             struct_type_index,
@@ -52,7 +54,8 @@ pub trait VisitGc: Visitor {
     /// Visits `StructGetU`.
     #[inline(always)]
     fn visit_struct_get_u(&mut self, struct_type_index: u32, field_index: u32) -> Self::Output
-        ensures { Self.visits self.old (Operator.Gc (GcOperator.StructGetU struct_type_index field_index)) result self.new }
+        ensures { Self.visits self.old (Operator.Gc (GcOperator.StructGetU struct_type_index field_index))
+            result self.new }
     {
         self.visit_any(Operator::Gc(GcOperator::StructGetU {
             struct_type_index,
@@ -63,7 +66,8 @@ pub trait VisitGc: Visitor {
     /// Visits `StructSet`.
     #[inline(always)]
     fn visit_struct_set(&mut self, struct_type_index: u32, field_index: u32) -> Self::Output
-        ensures { Self.visits self.old (Operator.Gc (GcOperator.StructSet struct_type_index field_index)) result self.new }
+        ensures { Self.visits self.old (Operator.Gc (GcOperator.StructSet struct_type_index field_index))
+            result self.new }
     {
         self.visit_any(Operator::Gc(GcOperator::StructSet {
             struct_type_index,
@@ -90,7 +94,8 @@ pub trait VisitGc: Visitor {
     /// Visits `ArrayNewFixed`.
     #[inline(always)]
     fn visit_array_new_fixed(&mut self, array_type_index: u32, array_size: u32) -> Self::Output
-        ensures { Self.visits self.old (Operator.Gc (GcOperator.ArrayNewFixed array_type_index array_size)) result self.new }
+        ensures { Self.visits self.old (Operator.Gc (GcOperator.ArrayNewFixed array_type_index array_size))
+            result self.new }
     {
         self.visit_any(Operator::Gc(GcOperator::ArrayNewFixed {
             array_type_index,
@@ -101,7 +106,8 @@ pub trait VisitGc: Visitor {
     /// Visits `ArrayNewData`.
     #[inline(always)]
     fn visit_array_new_data(&mut self, array_type_index: u32, array_data_index: u32) -> Self::Output
-        ensures { Self.visits self.old (Operator.Gc (GcOperator.ArrayNewData array_type_index array_data_index)) result self.new }
+        ensures { Self.visits self.old (Operator.Gc (GcOperator.ArrayNewData array_type_index array_data_index))
+            result self.new }
     {
         self.visit_any(Operator::Gc(GcOperator::ArrayNewData {
             array_type_index,
@@ -112,7 +118,8 @@ pub trait VisitGc: Visitor {
     /// Visits `ArrayNewElem`.
     #[inline(always)]
     fn visit_array_new_elem(&mut self, array_type_index: u32, array_elem_index: u32) -> Self::Output
-        ensures { Self.visits self.old (Operator.Gc (GcOperator.ArrayNewElem array_type_index array_elem_index)) result self.new }
+        ensures { Self.visits self.old (Operator.Gc (GcOperator.ArrayNewElem array_type_index array_elem_index))
+            result self.new }
     {
         self.visit_any(Operator::Gc(GcOperator::ArrayNewElem {
             array_type_index,
@@ -175,7 +182,8 @@ pub trait VisitGc: Visitor {
         array_type_index_dst: u32,
         array_type_index_src: u32,
     ) -> Self::Output
-        ensures { Self.visits self.old (Operator.Gc (GcOperator.ArrayCopy array_type_index_dst array_type_index_src)) result self.new }
+        ensures { Self.visits self.old (Operator.Gc (GcOperator.ArrayCopy array_type_index_dst array_type_index_src))
+            result self.new }
     {
         self.visit_any(Operator::Gc(GcOperator::ArrayCopy {
             array_type_index_dst,
@@ -190,7 +198,8 @@ pub trait VisitGc: Visitor {
         array_type_index: u32,
         array_data_index: u32,
     ) -> Self::Output
-        ensures { Self.visits self.old (Operator.Gc (GcOperator.ArrayInitData array_type_index array_data_index)) result self.new }
+        ensures { Self.visits self.old (Operator.Gc (GcOperator.ArrayInitData array_type_index array_data_index))
+            result self.new }
     {
         self.visit_any(Operator::Gc(GcOperator::ArrayInitData {
             array_type_index,
@@ -205,7 +214,8 @@ pub trait VisitGc: Visitor {
         array_type_index: u32,
         array_elem_index: u32,
     ) -> Self::Output
-        ensures { Self.visits self.old (Operator.Gc (GcOperator.ArrayInitElem array_type_index array_elem_index)) result self.new }
+        ensures { Self.visits self.old (Operator.Gc (GcOperator.ArrayInitElem array_type_index array_elem_index))
+            result self.new }
     {
         self.visit_any(Operator::Gc(GcOperator::ArrayInitElem {
             array_type_index,
@@ -253,7 +263,8 @@ pub trait VisitGc: Visitor {
         from_ref_type: RefType,
         to_ref_type: RefType,
     ) -> Self::Output
-        ensures { Self.visits self.old (Operator.Gc (GcOperator.BrOnCast relative_depth from_ref_type to_ref_type)) result self.new }
+        ensures { Self.visits self.old (Operator.Gc (GcOperator.BrOnCast relative_depth from_ref_type to_ref_type))
+            result self.new }
     {
         self.visit_any(Operator::Gc(GcOperator::BrOnCast {
             relative_depth,
@@ -270,7 +281,8 @@ pub trait VisitGc: Visitor {
         from_ref_type: RefType,
         to_ref_type: RefType,
     ) -> Self::Output
-        ensures { Self.visits self.old (Operator.Gc (GcOperator.BrOnCastFail relative_depth from_ref_type to_ref_type)) result self.new }
+        ensures { Self.visits self.old (Operator.Gc (GcOperator.BrOnCastFail relative_depth from_ref_type to_ref_type))
+            result self.new }
     {
         self.visit_any(Operator::Gc(GcOperator::BrOnCastFail {
             relative_depth,
@@ -330,7 +342,8 @@ pub trait VisitGc: Visitor {
     /// Visits `StructNewDefaultDesc`.
     #[inline(always)]
     fn visit_struct_new_default_desc(&mut self, struct_type_index: u32) -> Self::Output
-        ensures { Self.visits self.old (Operator.Gc (GcOperator.StructNewDefaultDesc struct_type_index)) result self.new }
+        ensures { Self.visits self.old (Operator.Gc (GcOperator.StructNewDefaultDesc struct_type_index))
+            result self.new }
     {
         self.visit_any(Operator::Gc(GcOperator::StructNewDefaultDesc { struct_type_index }))
     }
@@ -367,7 +380,8 @@ pub trait VisitGc: Visitor {
         from_ref_type: RefType,
         to_ref_type: RefType,
     ) -> Self::Output
-        ensures { Self.visits self.old (Operator.Gc (GcOperator.BrOnCastDescEq relative_depth from_ref_type to_ref_type)) result self.new }
+        ensures { Self.visits self.old
+            (Operator.Gc (GcOperator.BrOnCastDescEq relative_depth from_ref_type to_ref_type)) result self.new }
     {
         self.visit_any(Operator::Gc(GcOperator::BrOnCastDescEq {
             relative_depth,
@@ -384,7 +398,8 @@ pub trait VisitGc: Visitor {
         from_ref_type: RefType,
         to_ref_type: RefType,
     ) -> Self::Output
-        ensures { Self.visits self.old (Operator.Gc (GcOperator.BrOnCastDescEqFail relative_depth from_ref_type to_ref_type)) result self.new }
+        ensures { Self.visits self.old
+            (Operator.Gc (GcOperator.BrOnCastDescEqFail relative_depth from_ref_type to_ref_type)) result self.new }
     {
         self.visit_any(Operator::Gc(GcOperator::BrOnCastDescEqFail {
             relative_depth,

@@ -3,7 +3,7 @@ use super::value_type;
 use std::test::Fail;
 use wasm_imm::below::{
     AbstractHeapType, BinaryReader, Error, FromReader, HeapType, Message, RefType, SizeName,
-    TypeName, ValType,
+    TakesMemory, TypeName, ValType,
 };
 
 /// A reference type of this.

@@ -7,7 +7,7 @@ pub returns-then-is_err : goal.returns-then-is_err
 returns-then-is_err g c =
     let h = c.loop.invariant in
     let Encodes = g.T.FromReader.encodes in
-    let memory = g.T.FromReader.takes_memory in
+    let memory = g.T.Memory.MemoryUse.TAKES in
     let r = subst (λ f. ReadsValue (Encodes f) memory c.read.result c.loop.reader c.read.new.self) h.features c.read.ensures.reads in
     h.reads_on c.read.new.self (one_refused (Encodes c.args.reader.now.features) memory c.read.result c.args.count c.loop.counter c.loop.reader
     c.read.new.self c.loop-test.true (sym c.is_err.ensures.value ∙ c.if-is_err.true) r)
@@ -15,14 +15,14 @@ returns-then-is_err g c =
 pub returns : goal.returns
 returns g c =
     let h = c.loop.invariant in
-    h.reads_on c.loop.reader (none_left_to_read (g.T.FromReader.encodes c.args.reader.now.features) g.T.FromReader.takes_memory
+    h.reads_on c.loop.reader (none_left_to_read (g.T.FromReader.encodes c.args.reader.now.features) g.T.Memory.MemoryUse.TAKES
     (c.args.count - c.loop.counter) c.loop.reader (omega arith))
 
 pub loop-preserved : goal.loop-preserved
 loop-preserved g c =
     let h = c.loop.invariant in
     let Encodes = g.T.FromReader.encodes in
-    let memory = g.T.FromReader.takes_memory in
+    let memory = g.T.Memory.MemoryUse.TAKES in
     let r = subst (λ f. ReadsValue (Encodes f) memory c.read.result c.loop.reader c.read.new.self) h.features c.read.ensures.reads in
     record {
       within = omega arith;

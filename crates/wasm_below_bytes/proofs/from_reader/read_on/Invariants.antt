@@ -7,6 +7,6 @@ abbrev pub invariant-loop : goal.invariant-loop
 invariant-loop g l = record {
   within : l.counter ≤ l.count;
   features : l.reader.features ≡ l.fn.reader.features;
-  reads_on : (last : Reader) → ReadsOn (g.T.FromReader.encodes l.fn.reader.features) g.T.FromReader.takes_memory (l.count - l.counter) l.reader last →
-      ReadsOn (g.T.FromReader.encodes l.fn.reader.features) g.T.FromReader.takes_memory l.fn.count l.fn.reader last;
+  reads_on : (last : Reader) → ReadsOn (g.T.FromReader.encodes l.fn.reader.features) g.T.Memory.MemoryUse.TAKES (l.count - l.counter) l.reader last →
+      ReadsOn (g.T.FromReader.encodes l.fn.reader.features) g.T.Memory.MemoryUse.TAKES l.fn.count l.fn.reader last;
 }

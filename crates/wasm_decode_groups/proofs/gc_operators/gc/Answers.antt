@@ -1,6 +1,6 @@
 -- Written by tools/lists.py from tools/operators.tsv.
 use Rattle.std.proofs.Common.{refl, arith}
-use Rattle.wasm_decode_groups.proofs.Codes.{gc_unsigned_00, gc_unsigned_06, gc_unsigned_0b, gc_unsigned_20, gc_two_unsigned_02, gc_two_unsigned_08, gc_two_unsigned_11, gc_plain_1a, gc_heap_type_14, gc_heap_type_23, gc_cast_18, gc_cast_25, gc_unknown}
+use Rattle.wasm_decode_groups.proofs.Codes.{gc_unsigned_00, gc_unsigned_06, gc_unsigned_0b, gc_unsigned_20, gc_two_unsigned_02, gc_two_unsigned_08, gc_two_unsigned_11, gc_without_immediates_1a, gc_heap_type_14, gc_heap_type_23, gc_cast_18, gc_cast_25, gc_unknown}
 use Rattle.wasm_decode_groups.proofs.gc_operators.gc.Goals as goal
 
 pub unsigned-requires-in-0-to-1-clause-kinds : goal.unsigned-requires-in-0-to-1-clause-kinds
@@ -24,8 +24,8 @@ two_unsigned-requires-in-8-to-10-clause-kinds g c = gc_two_unsigned_08 c.args.co
 pub two_unsigned-requires-in-17-to-19-clause-kinds : goal.two_unsigned-requires-in-17-to-19-clause-kinds
 two_unsigned-requires-in-17-to-19-clause-kinds g c = gc_two_unsigned_11 c.args.code (omega (arith, c.in-17-to-19)) (omega (arith, c.in-17-to-19))
 
-pub plain-requires-in-26-to-30-clause-kinds : goal.plain-requires-in-26-to-30-clause-kinds
-plain-requires-in-26-to-30-clause-kinds g c = gc_plain_1a c.args.code (omega (arith, c.in-26-to-30)) (omega (arith, c.in-26-to-30))
+pub without_immediates-requires-in-26-to-30-clause-kinds : goal.without_immediates-requires-in-26-to-30-clause-kinds
+without_immediates-requires-in-26-to-30-clause-kinds g c = gc_without_immediates_1a c.args.code (omega (arith, c.in-26-to-30)) (omega (arith, c.in-26-to-30))
 
 pub heap_type-requires-clause-kinds : goal.heap_type-requires-clause-kinds
 heap_type-requires-clause-kinds g c = gc_heap_type_14 c.args.code (omega (arith, c.in-20-to-23)) (omega (arith, c.in-20-to-23))

@@ -1,13 +1,13 @@
 -- Written by tools/lists.py from tools/operators.tsv.
 use Rattle.std.proofs.Common.{refl, arith}
-use Rattle.wasm_decode_groups.proofs.Codes.{misc_plain_00, misc_plain_13, misc_unsigned_0f, misc_unknown}
+use Rattle.wasm_decode_groups.proofs.Codes.{misc_without_immediates_00, misc_without_immediates_13, misc_unsigned_0f, misc_unknown}
 use Rattle.wasm_decode_groups.proofs.misc_operators.misc.Goals as goal
 
-pub plain-requires-clause-kinds : goal.plain-requires-clause-kinds
-plain-requires-clause-kinds g c = misc_plain_00 c.args.code (omega (arith, c.in-0-to-7)) (omega (arith, c.in-0-to-7))
+pub without_immediates-requires-clause-kinds : goal.without_immediates-requires-clause-kinds
+without_immediates-requires-clause-kinds g c = misc_without_immediates_00 c.args.code (omega (arith, c.in-0-to-7)) (omega (arith, c.in-0-to-7))
 
-pub plain-requires-in-19-to-22-clause-kinds : goal.plain-requires-in-19-to-22-clause-kinds
-plain-requires-in-19-to-22-clause-kinds g c = misc_plain_13 c.args.code (omega (arith, c.in-19-to-22)) (omega (arith, c.in-19-to-22))
+pub without_immediates-requires-in-19-to-22-clause-kinds : goal.without_immediates-requires-in-19-to-22-clause-kinds
+without_immediates-requires-in-19-to-22-clause-kinds g c = misc_without_immediates_13 c.args.code (omega (arith, c.in-19-to-22)) (omega (arith, c.in-19-to-22))
 
 pub unsigned-requires-in-15-to-18-clause-kinds : goal.unsigned-requires-in-15-to-18-clause-kinds
 unsigned-requires-in-15-to-18-clause-kinds g c = misc_unsigned_0f c.args.code (omega (arith, c.in-15-to-18)) (omega (arith, c.in-15-to-18))

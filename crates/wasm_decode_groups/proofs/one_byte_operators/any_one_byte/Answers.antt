@@ -1,19 +1,19 @@
 -- Written by tools/lists.py from tools/operators.tsv.
 use Rattle.std.proofs.Common.{refl, arith}
-use Rattle.wasm_decode_groups.proofs.Codes.{one_byte_plain_00, one_byte_plain_0a, one_byte_plain_1a, one_byte_plain_d3, one_byte_block_type_02, one_byte_unsigned_08, one_byte_unsigned_0c, one_byte_unsigned_14, one_byte_unsigned_20, one_byte_unsigned_d5, one_byte_memory_28, one_byte_memory_index_3f, one_byte_unknown}
+use Rattle.wasm_decode_groups.proofs.Codes.{one_byte_without_immediates_00, one_byte_without_immediates_0a, one_byte_without_immediates_1a, one_byte_without_immediates_d3, one_byte_block_type_02, one_byte_unsigned_08, one_byte_unsigned_0c, one_byte_unsigned_14, one_byte_unsigned_20, one_byte_unsigned_d5, one_byte_memory_28, one_byte_memory_index_3f, one_byte_unknown}
 use Rattle.wasm_decode_groups.proofs.one_byte_operators.any_one_byte.Goals as goal
 
-pub plain-requires-in-0-to-1-clause-kinds : goal.plain-requires-in-0-to-1-clause-kinds
-plain-requires-in-0-to-1-clause-kinds g c = one_byte_plain_00 c.args.code (omega (arith, c.in-0-to-1)) (omega (arith, c.in-0-to-1))
+pub without_immediates-requires-in-0-to-1-clause-kinds : goal.without_immediates-requires-in-0-to-1-clause-kinds
+without_immediates-requires-in-0-to-1-clause-kinds g c = one_byte_without_immediates_00 c.args.code (omega (arith, c.in-0-to-1)) (omega (arith, c.in-0-to-1))
 
-pub plain-requires-in-10-to-11-clause-kinds : goal.plain-requires-in-10-to-11-clause-kinds
-plain-requires-in-10-to-11-clause-kinds g c = one_byte_plain_0a c.args.code (omega (arith, c.in-10-to-11)) (omega (arith, c.in-10-to-11))
+pub without_immediates-requires-in-10-to-11-clause-kinds : goal.without_immediates-requires-in-10-to-11-clause-kinds
+without_immediates-requires-in-10-to-11-clause-kinds g c = one_byte_without_immediates_0a c.args.code (omega (arith, c.in-10-to-11)) (omega (arith, c.in-10-to-11))
 
-pub plain-requires-in-26-to-27-clause-kinds : goal.plain-requires-in-26-to-27-clause-kinds
-plain-requires-in-26-to-27-clause-kinds g c = one_byte_plain_1a c.args.code (omega (arith, c.in-26-to-27)) (omega (arith, c.in-26-to-27))
+pub without_immediates-requires-in-26-to-27-clause-kinds : goal.without_immediates-requires-in-26-to-27-clause-kinds
+without_immediates-requires-in-26-to-27-clause-kinds g c = one_byte_without_immediates_1a c.args.code (omega (arith, c.in-26-to-27)) (omega (arith, c.in-26-to-27))
 
-pub plain-requires-in-211-to-212-clause-kinds : goal.plain-requires-in-211-to-212-clause-kinds
-plain-requires-in-211-to-212-clause-kinds g c = one_byte_plain_d3 c.args.code (omega (arith, c.in-211-to-212)) (omega (arith, c.in-211-to-212))
+pub without_immediates-requires-in-211-to-212-clause-kinds : goal.without_immediates-requires-in-211-to-212-clause-kinds
+without_immediates-requires-in-211-to-212-clause-kinds g c = one_byte_without_immediates_d3 c.args.code (omega (arith, c.in-211-to-212)) (omega (arith, c.in-211-to-212))
 
 pub block_type-requires-clause-kinds : goal.block_type-requires-clause-kinds
 block_type-requires-clause-kinds g c = one_byte_block_type_02 c.args.code (omega (arith, c.in-2-to-4)) (omega (arith, c.in-2-to-4))

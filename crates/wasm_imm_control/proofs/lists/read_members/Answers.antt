@@ -17,8 +17,8 @@ returns-in-Err-from_reader-clause-reads g c =
     let i = c.loop-member.invariant in
     let same : now.features ≡ f = ap (λ (r : Reader). r.features) i.2.moved in
     let h = subst (λ (z : WasmFeatures). (c.from_reader.new.reader ≡ now) ×
-    IsRefused (g.T.FromReader.encodes z) g.T.FromReader.takes_memory c.in-Err-from_reader.e now) same c.in-Err-from_reader.ensures.reads in
-    member_refused (g.T.FromReader.encodes f) g.T.FromReader.takes_memory c.in-Err-from_reader.e c.args.reader.now now c.from_reader.new.reader
+    IsRefused (g.T.FromReader.encodes z) g.T.Memory.MemoryUse.TAKES c.in-Err-from_reader.e now) same c.in-Err-from_reader.ensures.reads in
+    member_refused (g.T.FromReader.encodes f) g.T.Memory.MemoryUse.TAKES c.in-Err-from_reader.e c.args.reader.now now c.from_reader.new.reader
     c.rewind.new.self i.0 c.loop-member.items.items c.loop-member._member c.args.count c.current_position-start.result c.requires.lean
     (λ a b x y m n p q e. (c.is_prefix_code.ensures f a b x y m n p q e).0) i.1 c.loop-member-test.true i.2 h c.current_position-start.ensures
     c.rewind.ensures
@@ -29,7 +29,7 @@ loop-member-preserved g c =
     let now = c.loop-member.reader in
     let i = c.loop-member.invariant in
     let same : now.features ≡ f = ap (λ (r : Reader). r.features) i.2.moved in
-    let r = subst (λ (z : WasmFeatures). ReadsValue (g.T.FromReader.encodes z) g.T.FromReader.takes_memory (Ok c.in-Ok-from_reader.item) now
+    let r = subst (λ (z : WasmFeatures). ReadsValue (g.T.FromReader.encodes z) g.T.Memory.MemoryUse.TAKES (Ok c.in-Ok-from_reader.item) now
     c.from_reader.new.reader) same c.in-Ok-from_reader.ensures.reads in
     let items : c.push.new.self.items ≡ c.loop-member.items.items ++ c.in-Ok-from_reader.item ∷ [] = search rules in
     let more = many_more (g.T.FromReader.encodes f) c.loop-member._member i.0 r.0 c.loop-member.items.items c.in-Ok-from_reader.item i.1 r.1 in
@@ -51,7 +51,7 @@ returns-in-Err-from_reader-clause-fault g c =
     let P = g.T.FromReader.encodes f in
     let same : now.features ≡ f = ap (λ (r : Reader). r.features) i.2.moved in
     let h = subst (λ (z : WasmFeatures). (c.from_reader.new.reader ≡ now) ×
-    IsRefused (g.T.FromReader.encodes z) g.T.FromReader.takes_memory e now) same c.in-Err-from_reader.ensures.reads in
+    IsRefused (g.T.FromReader.encodes z) g.T.Memory.MemoryUse.TAKES e now) same c.in-Err-from_reader.ensures.reads in
     let few : length c.loop-member.items.items < c.args.count = omega (arith, i.1.0, c.loop-member-test.true) in
     λ some. many_fault P g.T.FromReader.fault c.args.count c.loop-member.items.items i.0 c.args.reader.now now e.message e.offset few i.1.1 i.2
     (none_here P e.message now some h.1.refuses) (c.in-Err-from_reader.ensures.fault some)

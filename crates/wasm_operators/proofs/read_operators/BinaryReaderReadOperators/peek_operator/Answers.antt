@@ -1,6 +1,4 @@
 use Rattle.std.proofs.Common.{subst}
-use Rattle.wasm_operators_readers.specs.opcodes.Allowed.{EncodesAllowed, EncodesIn}
-use Rattle.wasm_operators_readers.specs.opcodes.OperatorFaults.{OperatorFault, FaultIn}
 use Rattle.wasm_operators.specs.Single.{PeeksOperator}
 use Rattle.wasm_operators.proofs.read_operators.BinaryReaderReadOperators.peek_operator.Goals as goal
 
@@ -9,7 +7,5 @@ pub returns : goal.returns
 returns g c =
     let copy = c.clone-ahead.result in
     let frame = g.S.FrameStack.frame c.args.stack.now in
-    let read = subst (λ k. PeeksOperator (EncodesIn (EncodesAllowed copy.features) k) (FaultIn (OperatorFault copy.features) k) c.read_operator.result copy)
-    c.current_frame.ensures (c.read_operator.new.reader, c.read_operator.ensures) in
-    subst (λ r. PeeksOperator (EncodesIn (EncodesAllowed r.features) frame) (FaultIn (OperatorFault r.features) frame) c.read_operator.result r)
-    c.clone-ahead.ensures read
+    let read = subst (λ k. PeeksOperator k c.read_operator.result copy) c.current_frame.ensures (c.read_operator.new.reader, c.read_operator.ensures) in
+    subst (λ r. PeeksOperator frame c.read_operator.result r) c.clone-ahead.ensures read

@@ -1,0 +1,191 @@
+//! Decoding of the operators of one byte whose feature and frame are looked at, or that may own a list.
+ghost use Rattle.std.specs.Prelude.{None};
+ghost use Rattle.wasm_visit_groups.specs.grammar.declared.frame_kind.FrameKind.{FrameKind};
+ghost use Rattle.wasm_decode_opcodes.specs.Decoding.{StandsBehind, DecodesAt};
+
+use std::alloc::Global;
+use wasm_decode_opcodes::{Guard, immediates};
+use wasm_visit_groups::VisitOneByte;
+use wasm_visit_groups::below::{BinaryReader, Result};
+use wasm_visit_groups::grammar::FrameKind;
+use wasm_visit_groups::imm::Select;
+
+/// `else`.
+#[inline(always)]
+pub fn else_in_if<V: VisitOneByte>(
+    v: &mut V,
+    reader: &mut BinaryReader<'_>,
+    start: usize,
+    frame: FrameKind,
+) -> Result<V::Output>
+    requires behind { StandsBehind start None 0x05 reader.old }
+    ensures { DecodesAt V.visits frame start result reader.old reader.new v.old v.new }
+{
+    match Guard::Else.check(reader, start, frame) {
+        Ok(()) => Ok(v.visit_else()),
+        Err(e) => Err(e),
+    }
+}
+
+/// `try` of the legacy exceptions.
+#[inline(always)]
+pub fn legacy_try<V: VisitOneByte>(
+    v: &mut V,
+    reader: &mut BinaryReader<'_>,
+    start: usize,
+    frame: FrameKind,
+) -> Result<V::Output>
+    requires behind { StandsBehind start None 0x06 reader.old }
+    ensures { DecodesAt V.visits frame start result reader.old reader.new v.old v.new }
+{
+    match Guard::Try.check(reader, start, frame) {
+        Ok(()) => match immediates::block_type(reader, start) {
+            Ok(it) => Ok(v.visit_try(it)),
+            Err(e) => Err(e),
+        },
+        Err(e) => Err(e),
+    }
+}
+
+/// `catch` of the legacy exceptions.
+#[inline(always)]
+pub fn legacy_catch<V: VisitOneByte>(
+    v: &mut V,
+    reader: &mut BinaryReader<'_>,
+    start: usize,
+    frame: FrameKind,
+) -> Result<V::Output>
+    requires behind { StandsBehind start None 0x07 reader.old }
+    ensures { DecodesAt V.visits frame start result reader.old reader.new v.old v.new }
+{
+    match Guard::Catch.check(reader, start, frame) {
+        Ok(()) => match immediates::unsigned(reader, start) {
+            Ok(it) => Ok(v.visit_catch(it)),
+            Err(e) => Err(e),
+        },
+        Err(e) => Err(e),
+    }
+}
+
+/// `delegate` of the legacy exceptions.
+#[inline(always)]
+pub fn legacy_delegate<V: VisitOneByte>(
+    v: &mut V,
+    reader: &mut BinaryReader<'_>,
+    start: usize,
+    frame: FrameKind,
+) -> Result<V::Output>
+    requires behind { StandsBehind start None 0x18 reader.old }
+    ensures { DecodesAt V.visits frame start result reader.old reader.new v.old v.new }
+{
+    match Guard::Delegate.check(reader, start, frame) {
+        Ok(()) => match immediates::unsigned(reader, start) {
+            Ok(it) => Ok(v.visit_delegate(it)),
+            Err(e) => Err(e),
+        },
+        Err(e) => Err(e),
+    }
+}
+
+/// `catch_all` of the legacy exceptions.
+#[inline(always)]
+pub fn legacy_catch_all<V: VisitOneByte>(
+    v: &mut V,
+    reader: &mut BinaryReader<'_>,
+    start: usize,
+    frame: FrameKind,
+) -> Result<V::Output>
+    requires behind { StandsBehind start None 0x19 reader.old }
+    ensures { DecodesAt V.visits frame start result reader.old reader.new v.old v.new }
+{
+    match Guard::CatchAll.check(reader, start, frame) {
+        Ok(()) => Ok(v.visit_catch_all()),
+        Err(e) => Err(e),
+    }
+}
+
+/// `select` with types.
+#[inline(always)]
+pub fn typed_select<V: VisitOneByte>(
+    v: &mut V,
+    alloc: Global,
+    reader: &mut BinaryReader<'_>,
+    start: usize,
+) -> Result<V::Output>
+    requires behind { StandsBehind start None 0x1c reader.old }
+    ensures { (frame : FrameKind) → DecodesAt V.visits frame start result reader.old reader.new v.old v.new }
+{
+    match immediates::select(alloc, reader, start) {
+        Ok(Select::One { ty }) => Ok(v.visit_typed_select(ty)),
+        Ok(Select::Multi { tys }) => Ok(v.visit_typed_select_multi(tys)),
+        Err(e) => Err(e),
+    }
+}
+
+/// `try_table`.
+#[inline(always)]
+pub fn try_table<V: VisitOneByte>(
+    v: &mut V,
+    alloc: Global,
+    reader: &mut BinaryReader<'_>,
+    start: usize,
+) -> Result<V::Output>
+    requires behind { StandsBehind start None 0x1f reader.old }
+    ensures { (frame : FrameKind) → DecodesAt V.visits frame start result reader.old reader.new v.old v.new }
+{
+    match immediates::try_table(alloc, reader, start) {
+        Ok(it) => Ok(v.visit_try_table(it)),
+        Err(e) => Err(e),
+    }
+}
+
+/// `resume`. Proposal stack switching.
+#[inline(always)]
+pub fn resume<V: VisitOneByte>(
+    v: &mut V,
+    alloc: Global,
+    reader: &mut BinaryReader<'_>,
+    start: usize,
+) -> Result<V::Output>
+    requires behind { StandsBehind start None 0xe3 reader.old }
+    ensures { (frame : FrameKind) → DecodesAt V.visits frame start result reader.old reader.new v.old v.new }
+{
+    match immediates::resume(alloc, reader, start) {
+        Ok(it) => Ok(v.visit_resume(it.0, it.1)),
+        Err(e) => Err(e),
+    }
+}
+
+/// `resume_throw`. Proposal stack switching.
+#[inline(always)]
+pub fn resume_throw<V: VisitOneByte>(
+    v: &mut V,
+    alloc: Global,
+    reader: &mut BinaryReader<'_>,
+    start: usize,
+) -> Result<V::Output>
+    requires behind { StandsBehind start None 0xe4 reader.old }
+    ensures { (frame : FrameKind) → DecodesAt V.visits frame start result reader.old reader.new v.old v.new }
+{
+    match immediates::resume_throw(alloc, reader, start) {
+        Ok((index, rest)) => Ok(v.visit_resume_throw(index, rest.0, rest.1)),
+        Err(e) => Err(e),
+    }
+}
+
+/// `resume_throw_ref`. Proposal stack switching.
+#[inline(always)]
+pub fn resume_throw_ref<V: VisitOneByte>(
+    v: &mut V,
+    alloc: Global,
+    reader: &mut BinaryReader<'_>,
+    start: usize,
+) -> Result<V::Output>
+    requires behind { StandsBehind start None 0xe5 reader.old }
+    ensures { (frame : FrameKind) → DecodesAt V.visits frame start result reader.old reader.new v.old v.new }
+{
+    match immediates::resume(alloc, reader, start) {
+        Ok(it) => Ok(v.visit_resume_throw_ref(it.0, it.1)),
+        Err(e) => Err(e),
+    }
+}

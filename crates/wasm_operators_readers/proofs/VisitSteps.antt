@@ -1,0 +1,62 @@
+-- A visit behind its opcode: below 20 the stack makes its step, from 20 on nothing is left to do to the frames.
+use Rattle.std.proofs.Common.{◌≡◌, ℕ, ◌+◌, ◌≤◌, List, Some, Result, Ok, Err, sym, subst, ap, arith}
+use Rattle.std.specs.Prelude.{IsSome}
+use Rattle.wasm_decode.specs.below.bytes.error.Error.{Error}
+use Rattle.wasm_decode.specs.below.bytes.features.WasmFeatures.{WasmFeatures}
+use Rattle.wasm_decode.specs.below.Source.{at_position}
+use Rattle.wasm_decode.specs.grammar.declared.frame_kind.FrameKind.{FrameKind}
+use Rattle.wasm_decode.specs.grammar.Frames.{Allows, frames_after}
+use Rattle.wasm_decode.proofs.of_grammar.Innermost.{steps_stay}
+use Rattle.wasm_decode.specs.instr.declared.operator.Operator.{Operator}
+use Rattle.wasm_decode.specs.instr.Roles.{role_of}
+use Rattle.wasm_decode.specs.opcodes.Decoding.{Decodes}
+use Rattle.wasm_operators_readers.specs.Step.{role_of_step, step_at, Opens}
+use Rattle.wasm_operators_readers.proofs.Bytes.{stays_from_20}
+use Rattle.wasm_operators_readers.specs.Reading.{Taking, Refusing, State, VisitsOperator}
+use Rattle.wasm_operators_readers.proofs.Premises.{IsSound}
+use Rattle.wasm_operators_readers.specs.Next.{NeedsNext, BeginsOperator}
+use Rattle.wasm_operators_readers.proofs.Taken.{begun_allows, begun_took, begun_stopped}
+
+-- What is taken is allowed by the frame.
+abbrev pub TakesAllowed : Taking → Type 0
+TakesAllowed Encodes = (f : WasmFeatures) (kind : FrameKind) (text : List ℕ) (op : Operator) → Encodes f kind text op → Allows kind (role_of op)
+
+module _ {V A : Type 0} (visits : V → Operator → A → V → Type 0) (Encodes : Taking) (Fault : Refusing) where
+  -- What stands behind the opcode was decoded and visited, or refused.
+  abbrev pub Behind : State → State → FrameKind → ℕ → Result A Error → V → V → Type 0
+  Behind mid new kind start result v w =
+      Decodes visits (Encodes mid.reader.features kind) (Fault mid.reader.features kind) result (at_position mid.reader start) new.reader v w
+
+  -- The frame allows the step.
+  pub step_allowed_behind : IsSound Encodes → TakesAllowed Encodes → (old mid new : State) (kind : FrameKind) (code start : ℕ) (a : A) (v w : V) →
+      BeginsOperator old mid kind start code (step_at code) → Behind mid new kind start (Ok a) v w → IsSome (frames_after mid.frames (role_of_step (step_at code)))
+  step_allowed_behind sound allowed old mid new kind code start a v w b (text, op, encodes, takes, visit) =
+      begun_allows Encodes sound allowed old mid kind code start (step_at code) op text new.reader b encodes takes
+
+  -- The stack made the step.
+  pub visited_with_step : IsSound Encodes → (old mid new : State) (kind : FrameKind) (code start : ℕ) (a : A) (v w : V) →
+      BeginsOperator old mid kind start code (step_at code) → Behind mid new kind start (Ok a) v w →
+      frames_after mid.frames (role_of_step (step_at code)) ≡ Some new.frames → mid.room ≤ new.room + 1 → ((Opens (step_at code) → ⊥) → mid.room ≤ new.room) →
+      VisitsOperator visits Encodes Fault (NeedsNext Encodes) (Ok a) old new v w
+  visited_with_step sound old mid new kind code start a v w b (text, op, encodes, takes, visit) frames opened other =
+      (op, begun_took Encodes sound old mid new kind code start (step_at code) op text b encodes takes frames opened other, visit)
+
+  -- It was refused; the frames stayed.
+  pub refused_behind : (old mid new : State) (kind : FrameKind) (code start : ℕ) (e : Error) (v w : V) → BeginsOperator old mid kind start code (step_at code) →
+      Behind mid new kind start (Err e) v w → new.frames ≡ mid.frames → new.room ≡ mid.room →
+      VisitsOperator visits Encodes Fault (NeedsNext Encodes) (Err e) old new v w
+  refused_behind old mid new kind code start e v w b (same, refused) frames room =
+      let stops = begun_stopped Encodes Fault old mid new kind code start (step_at code) e b refused frames room in (stops.0, same, stops.1)
+
+  -- The opcode is 20 or more: whatever came of it, the frames stayed.
+  pub visited_from_20 : IsSound Encodes → TakesAllowed Encodes → (old mid new : State) (kind : FrameKind) (code start : ℕ) (result : Result A Error) (v w : V) →
+      0x20 ≤ code → BeginsOperator old mid kind start code (step_at code) → Behind mid new kind start result v w → new.frames ≡ mid.frames → new.room ≡ mid.room →
+      VisitsOperator visits Encodes Fault (NeedsNext Encodes) result old new v w
+  visited_from_20 sound allowed old mid new kind code start (Ok a) v w high b behind frames room =
+      let allows = step_allowed_behind sound allowed old mid new kind code start a v w b behind in
+      let stays : frames_after mid.frames (role_of_step (step_at code)) ≡ Some mid.frames =
+      steps_stay mid.frames (role_of_step (step_at code)) tt (ap role_of_step (stays_from_20 code high)) allows in
+      visited_with_step sound old mid new kind code start a v w b behind
+      (subst (λ z. frames_after mid.frames (role_of_step (step_at code)) ≡ Some z) (sym frames) stays) (omega (arith, room)) (λ _. omega (arith, room))
+  visited_from_20 sound allowed old mid new kind code start (Err e) v w high b behind frames room =
+      refused_behind old mid new kind code start e v w b behind frames room

@@ -1,0 +1,131 @@
+"""The operators of the original, read from tools/original and from nothing else."""
+
+import csv
+from pathlib import Path
+
+FOLDER = Path(__file__).resolve().parent.parent / "original"
+
+# The words of the original's list for immediates, and those of the table. `types` goes by the field.
+KINDS = {
+    "none": "",
+    "bt": "block_type",
+    "u32": "unsigned",
+    "s32": "signed_32",
+    "s64": "signed_64",
+    "4 bytes": "float_32",
+    "8 bytes": "float_64",
+    "16 bytes": "vector",
+    "16 lanes": "lane_list",
+    "lane": "lane_index",
+    "memory index": "memory_index",
+    "table index": "table_index",
+    "ord": "ordered",
+    "fence": "fence",
+    "ht": "heap_type",
+    "cast": "cast",
+    "branch table": "branch_table",
+    "try table": "try_table",
+    "rt": "resume_table",
+}
+# The enum that holds the operators behind a prefix byte.
+GROUPS = {"fb": "Gc", "fc": "Misc", "fd": "Simd", "fe": "Atomic"}
+
+
+def lines_of(name):
+    """The rows of one of the files, each by the names of the columns."""
+    with open(FOLDER / name, encoding="utf-8", newline="") as lines:
+        return list(csv.DictReader(lines, delimiter="\t"))
+
+
+def kind_of(word, fields):
+    """An immediate of an operator with these fields, in the table's words."""
+    if word == "types":
+        return "types" if "SelectTypes" in fields else "one_type"
+    if word.startswith("mem "):
+        return "memory " + word[len("mem "):]
+    return KINDS[word]
+
+
+class Original:
+    """An operator of the original, in the words of this repository."""
+
+    def __init__(self, row, arity):
+        self.proposal = row["proposal"]
+        self.name = row["name"]
+        self.visit = row["visit"]
+        self.prefix = row["prefix"]
+        self.code = int(row["code"], 16)
+        fields = row["fields"].replace("$crate::", "").replace("Vec<ValType>", "SelectTypes")
+        self.fields = [tuple(field.split(": ")) for field in fields.split(", ") if field]
+        kinds = [kind_of(word, fields) for word in row["immediates"].split(", ")]
+        self.immediates = [kind for kind in kinds if kind]
+        self.is_by_rule = arity["takes"] == "variable"
+        self.takes = "by rule" if self.is_by_rule else arity["takes"]
+        self.leaves = "by rule" if self.is_by_rule else arity["leaves"]
+        if arity["one more with Array target"] == "yes":
+            self.takes += " and an array"
+
+    @property
+    def group(self):
+        """The enum that has the operator."""
+        if self.prefix:
+            return GROUPS[self.prefix]
+        return "Numeric" if 0x45 <= self.code <= 0xC4 else "Own"
+
+    @property
+    def is_simd(self):
+        """Whether its proposal is one of the two of vector operators."""
+        return self.proposal in ("simd", "relaxed_simd")
+
+
+def originals():
+    """The operators in the order of the original's list."""
+    arities = {row["name"]: row for row in lines_of("arity.tsv")}
+    return [Original(row, arities[row["name"]]) for row in lines_of("operators.tsv")]
+
+
+def proposals():
+    """How many operators each proposal brought, in order."""
+    return {row["proposal"]: int(row["operators"]) for row in lines_of("proposals.tsv")}
+
+
+# What of a row is compared, with the words for it in an error.
+COMPARED = {
+    "proposal": "proposal",
+    "visit": "visit",
+    "prefix": "prefix byte",
+    "code": "code",
+    "fields": "fields",
+    "immediates": "immediates",
+    "takes": "operands",
+    "leaves": "results",
+}
+
+
+def differences(ops):
+    """What the table has otherwise than the original: a text for each."""
+    found = {op.name: op for op in ops}
+    listed = originals()
+    out = []
+    for old in listed:
+        op = found.pop(old.name, None)
+        if op is None:
+            out.append(f"{old.name}: an operator of the original, and not in the table")
+            continue
+        for column, word in COMPARED.items():
+            has, wants = getattr(op, column), getattr(old, column)
+            if has != wants:
+                out.append(f"{op.place}: {word} {shown(has)}, and in the original {shown(wants)}")
+    out += [f"{op.place}: no operator of the original" for op in found.values()]
+    if not out and [op.name for op in ops] != [old.name for old in listed]:
+        out.append("the operators do not stand in the order of the original")
+    return out
+
+
+def shown(value):
+    """A value of a row as the table writes it."""
+    if isinstance(value, int):
+        return f"{value:02x}"
+    if isinstance(value, list):
+        return ", ".join(": ".join(part) if isinstance(part, tuple) else part for part in value) or "none"
+    return value or "none"

@@ -1,0 +1,247 @@
+"""The one table of the operators, and the enums that they are variants of."""
+
+import re
+from pathlib import Path
+
+TOP = Path(__file__).resolve().parent.parent.parent
+TABLE = TOP / "tools" / "operators.tsv"
+HEAD = "Written by tools/lists.py from tools/operators.tsv."
+WIDTH = 100
+COLUMNS = ["proposal", "name", "visit", "prefix", "code", "fields", "immediates", "takes", "leaves"]
+# The enum of the operators behind each prefix byte.
+PREFIXES = {"fb": "Gc", "fc": "Misc", "fd": "Simd", "fe": "Atomic"}
+
+
+class Operator:
+    """A row of the table, and the line that it stands in."""
+
+    def __init__(self, cells, place="tools/operators.tsv"):
+        row = dict(zip(COLUMNS, cells))
+        self.proposal = row["proposal"]
+        self.name = row["name"]
+        self.visit = row["visit"]
+        self.prefix = row["prefix"]
+        self.code = int(row["code"], 16)
+        self.fields = [tuple(f.split(": ")) for f in row["fields"].split(", ") if f]
+        self.immediates = [i for i in row["immediates"].split(", ") if i]
+        self.takes = row["takes"]
+        self.leaves = row["leaves"]
+        self.place = f"{place}: {self.name}"
+
+    @property
+    def group(self):
+        """The enum of the operator."""
+        if self.prefix:
+            return PREFIXES[self.prefix]
+        return "Numeric" if 0x45 <= self.code <= 0xC4 else "Own"
+
+    @property
+    def is_by_rule(self):
+        """Whether what it takes and leaves depends on the module or the open frames."""
+        return self.takes == "by rule"
+
+    @property
+    def holds_list(self):
+        """Whether it owns a list."""
+        return any(ty in OWNING for _, ty in self.fields)
+
+    def hex(self):
+        return f"0x{self.code:02x}"
+
+
+def rows_of(path=TABLE):
+    """The cells of each row, by the number of its line. The first line names the columns."""
+    text = path.read_text(encoding="utf-8")
+    lines = text.removesuffix("\n").split("\n")
+    return {number: line.split("\t") for number, line in enumerate(lines, 1)}
+
+
+def table(path=TABLE):
+    """The operators, in the order of the table, whose rows have been found good."""
+    return [Operator(cells, f"{named(path)}:{n}") for n, cells in rows_of(path).items() if n > 1]
+
+
+def named(path):
+    """The path as an error names it."""
+    return path.relative_to(TOP) if path.is_relative_to(TOP) else path
+
+
+class Enum:
+    """An enum of operators: where it stands, and what is said of it."""
+
+    def __init__(self, group, crate, module, title, doc, section):
+        self.group = group
+        self.crate = crate
+        self.module = module
+        self.title = title
+        self.doc = doc
+        self.section = section
+        self.type = "Operator" if group == "Own" else f"{group}Operator"
+        # The words for the column of opcodes: behind a prefix byte stand subopcodes.
+        self.opcode = f"{module}_opcode" if group == "Numeric" else f"{module}_subopcode"
+
+
+ENUMS = [
+    Enum(
+        "Numeric",
+        "wasm_instr_ops",
+        "numeric",
+        "the numeric operators of one byte",
+        ["The numeric operators of one byte, 45 to c4, which have no immediates. Numeric Instructions."],
+        "Numeric Instructions",
+    ),
+    Enum(
+        "Gc",
+        "wasm_instr_ops",
+        "gc",
+        "the operators behind the byte fb",
+        ["The operators behind the byte fb: structures, arrays and casts. Aggregate Instructions, and the", "proposal custom descriptors."],
+        "Aggregate Instructions; proposal custom descriptors",
+    ),
+    Enum(
+        "Misc",
+        "wasm_instr_ops",
+        "misc",
+        "the operators behind the byte fc",
+        ["The operators behind the byte fc: saturating truncations, bulk memory and tables, and wide", "arithmetic. Numeric, Memory and Table Instructions, and the proposals memory control and wide", "arithmetic."],
+        "Numeric, Memory and Table Instructions; proposals memory control and wide arithmetic",
+    ),
+    Enum(
+        "Atomic",
+        "wasm_instr_ops",
+        "atomic",
+        "the operators behind the byte fe",
+        ["The operators behind the byte fe. Proposals threads, shared-everything threads and", "acquire-release atomics."],
+        "proposals threads, shared-everything threads and acquire-release atomics",
+    ),
+    Enum(
+        "Simd",
+        "wasm_instr_simd",
+        "simd",
+        "the operators behind the byte fd",
+        ["The operators behind the byte fd. Vector Instructions, relaxed ones too."],
+        "Vector Instructions",
+    ),
+]
+# The enums that Operator holds, in the order of its last variants.
+HELD = ["Numeric", "Gc", "Misc", "Simd", "Atomic"]
+
+
+def held():
+    """Those enums."""
+    return sorted(ENUMS, key=lambda enum: HELD.index(enum.group))
+
+
+class Kind:
+    """A kind of immediates: the types of its fields, the term over them, and their values in a list."""
+
+    def __init__(self, types, term, values):
+        self.types = types
+        self.term = term
+        self.values = values
+
+
+CAST = "cast (record {{ relative_depth = {0}; from = {1}; to = {2} }})"
+KINDS = {
+    "unsigned": Kind(["u32"], "unsigned_32 {0}", ["number_in"]),
+    "signed_32": Kind(["i32"], "signed_32 {0}", ["integer_in"]),
+    "signed_64": Kind(["i64"], "signed_64 {0}", ["integer_in"]),
+    "float_32": Kind(["Ieee32"], "float_32 {0}", ["number_in"]),
+    "float_64": Kind(["Ieee64"], "float_64 {0}", ["number_in"]),
+    "lane_index": Kind(["u8"], "one_lane {0}", ["number_in"]),
+    "lane_list": Kind(["[u8; 16]"], "sixteen_lanes {0}", ["bytes_in"]),
+    "vector": Kind(["V128"], "vector {0}", ["vector_in"]),
+    "memory": Kind(["MemArg"], "memory_argument kind.{sort} {align} {0}", ["argument_in"]),
+    "memory_index": Kind(["u32"], "memory_index {0}", ["number_in"]),
+    "table_index": Kind(["u32"], "table_index_32 {0}", ["number_in"]),
+    "ordered": Kind(["Ordering"], "order {0}", ["order_in"]),
+    "fence": Kind(["Ordering"], "fence_order {0}", ["order_in"]),
+    "heap_type": Kind(["HeapType"], "heap_type {0}", ["heap_type_in"]),
+    "cast": Kind(["u32", "RefType", "RefType"], CAST, ["depth_in", "from_in", "to_in"]),
+    "block_type": Kind(["BlockType"], "block_type {0}", ["block_type_in"]),
+    "branch_table": Kind(["BrTable<'a>"], "branch_table {0}", ["branch_table_in"]),
+    "one_type": Kind(["ValType"], "select_types (select.One {0})", ["one_type_in"]),
+    "types": Kind(["SelectTypes"], "select_types (select.Multi {0})", ["types_in"]),
+    "try_table": Kind(["TryTable"], "try_clauses {0}", ["try_table_in"]),
+    "resume_table": Kind(["ResumeTable"], "resume_clauses {0}", ["resume_table_in"]),
+}
+# The kinds of memory arguments, and the largest alignment that an operator may have as its own.
+MEMORY_SORTS = ("Plain", "Op", "Rmw")
+LARGEST_ALIGN = 4
+# The types that own a list.
+OWNING = ("SelectTypes", "TryTable", "ResumeTable")
+# The two that share an opcode.
+SHARED = ("TypedSelect", "TypedSelectMulti")
+PROPOSALS = (
+    "mvp", "sign_extension", "gc", "custom_descriptors", "saturating_float_to_int", "bulk_memory",
+    "reference_types", "tail_call", "memory_control", "threads", "simd", "relaxed_simd", "exceptions",
+    "legacy_exceptions", "shared_everything_threads", "function_references", "stack_switching",
+    "wide_arithmetic", "acquire_release_atomics",
+)
+
+
+def immediates_of(op):
+    """The list of the immediates of an operator, in antt."""
+    names = [name for name, _ in op.fields]
+    out = []
+    for immediate in op.immediates:
+        word, *more = immediate.split()
+        kind = KINDS[word]
+        count = len(kind.types)
+        out.append(kind.term.format(*names[:count], **dict(zip(("sort", "align"), more))))
+        del names[:count]
+    return " ∷ ".join(out + ["[]"])
+
+
+def made_of(op, alias):
+    """The operator, made of the values in a list of immediates named `is`."""
+    values = []
+    rest = "is"
+    for immediate in op.immediates:
+        values += [f"({value} {rest})" for value in KINDS[immediate.split()[0]].values]
+        rest = f"(behind {rest})"
+    return " ".join([f"{alias}.{op.name}"] + values)
+
+
+def imported(text, names):
+    """Those of the names that the text has, its comments aside."""
+    words = set(re.findall(r"[\w'-]+", re.sub("--.*", "", text)))
+    return [name for name in names if name in words]
+
+
+def pattern(op, alias, named=True):
+    """A pattern of antt at an operator."""
+    if not op.fields:
+        return f"{alias}.{op.name}"
+    names = " ".join(name if named else "_" for name, _ in op.fields)
+    return f"({alias}.{op.name} {names})"
+
+
+# The words of the definitions of immediates, and of their values in a list, that a file may import.
+ROW_WORDS = [
+    "unsigned_32", "signed_32", "signed_64", "float_32", "float_64", "vector", "one_lane",
+    "sixteen_lanes", "memory_argument", "memory_index", "table_index_32", "order", "fence_order",
+    "heap_type", "cast", "block_type", "branch_table", "select_types", "try_clauses",
+    "resume_clauses",
+]
+VALUE_WORDS = ["behind", *dict.fromkeys(it for kind in KINDS.values() for it in kind.values)]
+VALUE_WORDS.insert(VALUE_WORDS.index("one_type_in"), "select_in")
+
+
+def enum_uses(enum):
+    path = f"Rattle.{enum.crate}.specs.declared.{enum.module}.{enum.type}"
+    return [f"use {path}.{{{enum.type}}}", f"use {path}.TheVariants as {enum.module}"]
+
+
+def by_cases(lemma, first, alias, proof):
+    """A lemma whose proof is the same at each variant."""
+    return [f"{lemma} {pattern(first, alias)} = {proof}", f"{lemma} op = {proof}"]
+
+
+def grouped(ops, value):
+    """The operators by a value of each, in the order of the first, and the value that most have last."""
+    found = {}
+    for op in ops:
+        found.setdefault(value(op), []).append(op)
+    most = max(found, key=lambda it: len(found[it]))
+    return [(it, found[it]) for it in found if it != most] + [(most, found[most])]
