@@ -1,5 +1,5 @@
 -- The counts behind visits of a list, and that none comes to the greatest u64.
-use Rattle.std.proofs.Common.{◌≡◌, ◌≢◌, inl, inr, ℕ, ◌+◌, ◌-◌, ◌^◌, ◌≤◌, List, [], ◌∷◌, length, map, refl, sym, subst, ap, ◌∙◌, arith, cond, Bool, true, false, nat_eq, Result, Ok, Err, IfErr, OnOk}
+use Rattle.std.proofs.Common.{◌≡◌, ◌≢◌, inl, inr, ℕ, ◌+◌, ◌-◌, ◌^◌, ◌≤◌, List, [], ◌∷◌, length, map, refl, sym, subst, ap, ◌∙◌, arith, cond, Bool, true, false, nat_eq, Result, Ok, Err}
 use Rattle.std.proofs.lemmas.List.{length-append}
 use Rattle.std.specs.Cmp.Lexicographic.{pointwise}
 use Rattle.wasm_operators.specs.below.bytes.error.Error.{Error}
@@ -10,11 +10,11 @@ use Rattle.wasm_operators.specs.instr.declared.operator.Operator.{Operator}
 use Rattle.wasm_operators.specs.instr.Row.{proposal_of}
 use Rattle.wasm_operators.specs.opcodes.Allowed.{EncodesAllowed}
 use Rattle.wasm_operators.specs.opcodes.OperatorFaults.{OperatorFault}
-use Rattle.wasm_operators.specs.readers.Expression.{Placed, LaidOut}
+use Rattle.wasm_operators.specs.readers.Expression.{Placed, IsAny, LaidOut}
 use Rattle.wasm_operators.specs.readers.Visiting.{VisitRun, Visited}
 use Rattle.wasm_operators.proofs.of_readers.LayoutLemmas.{encoded_some}
 use Rattle.wasm_operators.specs.readers.Reading.{Needing, State}
-use Rattle.wasm_operators.specs.readers.Headline.{ReadsTree, ReadsBeginning, VisitsAlong}
+use Rattle.wasm_operators.specs.readers.Headline.{ReadsRest}
 use Rattle.wasm_operators.specs.Locals.{Declaration, RefusesLocals}
 use Rattle.wasm_operators.specs.Body.{OpensBody, StopsBody}
 use Rattle.wasm_operators.proofs.Bodies.{body_tree, body_beginning}
@@ -120,15 +120,14 @@ refused_counts X e body before h = λ other. ([], inl (record { refused = h; not
 
 -- Counting the operators of a body whose locals were read.
 pub opened_counts : {X : Type 0} (Needs : Needing) (r : Result X Error) (body : Reader) (opened new : State) (before after : List ℕ) →
-    OpensBody (Ok opened) body → OnOk r (VisitsAlong {A = Unit {0}} (λ s op a t. CountsVisit s op t) before after (ReadsTree [] opened new)) →
-    IfErr r (λ e. VisitsAlong {A = Unit {0}} (λ s op a t. CountsVisit s op t) before after
-    (ReadsBeginning EncodesAllowed OperatorFault Needs [] e opened new)) →
+    OpensBody (Ok opened) body →
+    ReadsRest (Visited {A = Unit {0}} (λ s op a t. CountsVisit s op t) before after) IsAny EncodesAllowed OperatorFault Needs [] r opened new →
     CountsBody r body before after
-opened_counts Needs (Ok x) body opened new before after opens tree beginning =
-    let whole = body_tree body opened new tree.0 opens tree.2 in
-    (whole.0, tree.0, whole.1, tree.1)
-opened_counts Needs (Err e) body opened new before after opens tree beginning =
-    λ other. (beginning.0, inr (body_beginning Needs e body opened new beginning.0 opens beginning.2))
+opened_counts Needs (Ok x) body opened new before after opens h =
+    let whole = body_tree body opened new h.tree.0 opens h.tree.2 in
+    (whole.0, h.tree.0, whole.1, h.tree.1)
+opened_counts Needs (Err e) body opened new before after opens h =
+    λ other. (h.beginning.0, inr (body_beginning Needs e body opened new h.beginning.0 opens h.beginning.2))
 
 -- The counts of a whole body.
 pub whole_counts : (r : Result (Unit {0}) Error) (x : Unit {0}) (input : Reader) (before after : List ℕ) → r ≡ Ok x → CountsBody r input before after →

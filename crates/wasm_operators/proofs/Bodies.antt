@@ -1,5 +1,5 @@
 -- A body that is read from its locals on.
-use Rattle.std.proofs.Common.{◌≡◌, ℕ, ◌+◌, List, [], ◌++◌, length, Result, Ok, Err, refl, sym, subst, ap, ◌∙◌, arith, inl, inr, IfErr, OnOk}
+use Rattle.std.proofs.Common.{◌≡◌, ℕ, ◌+◌, List, [], ◌++◌, length, Result, Ok, Err, refl, sym, subst, ap, ◌∙◌, arith, inl, inr}
 use Rattle.std.proofs.lemmas.List.{append-nil}
 use Rattle.wasm_operators_readers.specs.below.bytes.error.Error.{Error}
 use Rattle.wasm_operators_readers.specs.below.bytes.features.WasmFeatures.{WasmFeatures}
@@ -8,9 +8,9 @@ use Rattle.wasm_operators_readers.proofs.of_below.Blocks.{refused_now}
 use Rattle.wasm_operators_readers.proofs.of_below.TakesLemmas.{same_rest}
 use Rattle.wasm_operators_readers.specs.opcodes.Allowed.{EncodesAllowed}
 use Rattle.wasm_operators_readers.specs.opcodes.OperatorFaults.{OperatorFault}
-use Rattle.wasm_operators_readers.specs.Expression.{Placed, EncodesExpression}
-use Rattle.wasm_operators_readers.specs.Reading.{Needing, State, StopsRun, Anywhere}
-use Rattle.wasm_operators_readers.specs.Headline.{ReadsTree, ReadsBeginning, Appends}
+use Rattle.wasm_operators_readers.specs.Expression.{Placed, IsAny, EncodesExpression}
+use Rattle.wasm_operators_readers.specs.Reading.{Needing, State, StopsRun, Anywhere, Adds}
+use Rattle.wasm_operators_readers.specs.Headline.{ReadsTree, ReadsBeginning, ReadsRest}
 use Rattle.wasm_operators.specs.Locals.{Declaration, EncodesLocals, RefusesLocals}
 use Rattle.wasm_operators.specs.Body.{source_behind, EncodesBody, OpensBody, NoExpression, ReadsBody}
 use Rattle.wasm_operators.proofs.LocalsLemmas.{locals_prefix_code}
@@ -49,7 +49,7 @@ anywhere Needs e s (inr (some, inr (inr memory))) = inr (some, inr (inr (memory.
 
 -- The locals, and the longest beginning of an expression behind them.
 pub body_beginning : (Needs : Needing) (e : Error) (body : Reader) (opened new : State) (placed : Placed) → OpensBody (Ok opened) body →
-    ReadsBeginning EncodesAllowed OperatorFault Needs [] e opened new placed → NoExpression e body placed
+    ReadsBeginning IsAny EncodesAllowed OperatorFault Needs [] e opened new placed → NoExpression e body placed
 body_beginning Needs e body opened new placed opens h =
     record {
       opened = opened;
@@ -82,10 +82,10 @@ refused_body X e body out h = λ other. ([], sym (append-nil out), inl (record {
 
 -- Reading the operators of a body whose locals were read.
 pub opened_body : {X : Type 0} (Needs : Needing) (r : Result X Error) (body : Reader) (opened new : State) (out_old out_new : Placed) →
-    OpensBody (Ok opened) body → OnOk r (Appends out_old out_new (ReadsTree [] opened new)) →
-    IfErr r (λ e. Appends out_old out_new (ReadsBeginning EncodesAllowed OperatorFault Needs [] e opened new)) → ReadsBody r body out_old out_new
-opened_body Needs (Ok x) body opened new out_old out_new opens tree beginning =
-    let whole = body_tree body opened new tree.0 opens tree.2 in
-    (whole.0, tree.0, tree.1, whole.1)
-opened_body Needs (Err e) body opened new out_old out_new opens tree beginning =
-    λ other. (beginning.0, beginning.1, inr (body_beginning Needs e body opened new beginning.0 opens beginning.2))
+    OpensBody (Ok opened) body → ReadsRest (Adds out_old out_new) IsAny EncodesAllowed OperatorFault Needs [] r opened new →
+    ReadsBody r body out_old out_new
+opened_body Needs (Ok x) body opened new out_old out_new opens h =
+    let whole = body_tree body opened new h.tree.0 opens h.tree.2 in
+    (whole.0, h.tree.0, h.tree.1, whole.1)
+opened_body Needs (Err e) body opened new out_old out_new opens h =
+    λ other. (h.beginning.0, h.beginning.1, inr (body_beginning Needs e body opened new h.beginning.0 opens h.beginning.2))

@@ -10,12 +10,12 @@ use Rattle.wasm_operators_readers.proofs.of_grammar.Paths.{run_path}
 use Rattle.wasm_operators_readers.specs.instr.Roles.{roles_of}
 use Rattle.wasm_operators_readers.specs.opcodes.Allowed.{EncodesAllowed}
 use Rattle.wasm_operators_readers.specs.opcodes.OperatorFaults.{OperatorFault}
-use Rattle.wasm_operators_readers.specs.Expression.{Placed, operators}
+use Rattle.wasm_operators_readers.specs.Expression.{Placed, IsAny, operators}
 use Rattle.wasm_operators_readers.specs.Reading.{State, StopsRun, Ran, Anywhere}
 use Rattle.wasm_operators_readers.proofs.Ends.{run_determined}
 use Rattle.wasm_operators_readers.proofs.Premises.{Everything}
 use Rattle.wasm_operators_readers.proofs.Runs.{run_only, fresh_before}
-use Rattle.wasm_operators_readers.proofs.Decoder.{takes_all}
+use Rattle.wasm_operators_readers.proofs.Decoder.{takes_all, keeps_all}
 use Rattle.wasm_operators_readers.proofs.of_decoder.DeterminedOperatorRefusals.{operator_determines}
 use Rattle.wasm_operators.specs.Body.{EncodesBody, OpensBody, NoExpression, StopsBody}
 use Rattle.wasm_operators.specs.Locals.{Declaration, EncodesLocals, RefusesLocals}
@@ -66,9 +66,9 @@ pub stopped_none : (e : Error) (body : Reader) (placed whole : Placed) (declarat
     StopsBody e body placed → EncodesBody (source_of body) declarations whole → ⊥
 stopped_none e body placed whole declarations other (inl h) encodes = no_body e body declarations whole h.refused encodes
 stopped_none e body placed whole declarations other (inr h) encodes =
-    other (run_only EncodesAllowed OperatorFault Anywhere takes_all [] e (roomless h.opened) (roomless h.stopped) placed whole
-    (fresh_before (roomless h.opened) h.opens.1) (ran_behind e body placed h) (stops_roomless e h.stopped h.reads.stops)
-    (expression_behind body h.opened declarations whole h.opens encodes))
+    other (run_only Everything IsAny EncodesAllowed OperatorFault Anywhere keeps_all [] e (roomless h.opened) (roomless h.stopped) placed whole
+    (fresh_before (roomless h.opened) h.opens.1) (ran_behind e body placed h) tt (stops_roomless e h.stopped h.reads.stops)
+    (expression_behind body h.opened declarations whole h.opens encodes) tt)
 
 -- which operators were read, and which refusal it is
 pub stopped_same : (d e : Error) (body : Reader)

@@ -6,7 +6,7 @@ use Rattle.wasm_operators_readers.specs.below.bytes.message.Message.TheVariants 
 use Rattle.wasm_operators_readers.specs.below.Source.{Source, Reader, source_of}
 use Rattle.wasm_operators_readers.specs.opcodes.Allowed.{EncodesAllowed}
 use Rattle.wasm_operators_readers.specs.opcodes.OperatorFaults.{OperatorFault}
-use Rattle.wasm_operators_readers.specs.Expression.{Placed, EncodesExpression}
+use Rattle.wasm_operators_readers.specs.Expression.{Placed, IsAny, EncodesExpression}
 use Rattle.wasm_operators_readers.specs.Reading.{State, IsFresh, Anywhere}
 use Rattle.wasm_operators_readers.specs.Headline.{ReadsBeginning}
 use Rattle.wasm_operators.specs.Locals.{Declaration, EncodesLocals, RefusesLocals, ReadsPastLocals}
@@ -24,7 +24,7 @@ pub record EncodesBody (s : Source) (declarations : List Declaration) (placed : 
   pub encodes_locals : EncodesLocals locals declarations
   pub encodes_expression : EncodesExpression (source_behind s locals expression) placed
 
--- The reader of a body's operators: behind the locals, and fresh.
+-- The reader of a body's operators: behind the locals, and fresh, so that no operator stood before it.
 abbrev pub OpensBody : Result State Error → Reader → Type 0
 OpensBody (Ok s) body = ReadsPastLocals (Ok s.reader) body × IsFresh s
 OpensBody (Err e) body = RefusesLocals e body
@@ -40,7 +40,7 @@ pub record NoExpression (e : Error) (body : Reader) (placed : Placed) : Type 0 w
   pub opened : State
   pub opens : OpensBody (Ok opened) body
   pub stopped : State
-  pub reads : ReadsBeginning EncodesAllowed OperatorFault Anywhere [] e opened stopped placed
+  pub reads : ReadsBeginning IsAny EncodesAllowed OperatorFault Anywhere [] e opened stopped placed
 
 -- The bytes encode no body, and these operators were read of it.
 abbrev pub StopsBody : Error → Reader → Placed → Type 0

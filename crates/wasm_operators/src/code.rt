@@ -1,10 +1,11 @@
 //! The body of a function.
-ghost use Rattle.std.specs.Prelude.{◌≡◌, false, IfOk, IfErr};
+ghost use Rattle.std.specs.Prelude.{◌≡◌, [], false, IfOk, IfErr};
 ghost use Rattle.wasm_operators_readers.specs.below.bytes.features.WasmFeatures.{WasmFeatures};
 ghost use Rattle.wasm_operators_readers.specs.below.Fault.{HasFault, DeterminesRefusal};
 ghost use Rattle.wasm_operators_readers.specs.below.FromReader.{ReadsValue, EncodesReader, ReaderFault, SameReader};
 ghost use Rattle.wasm_operators_readers.specs.below.Sequence.{PrefixCodeUpTo};
 ghost use Rattle.wasm_operators_readers.specs.below.Source.{Reads, rest, offset_of, end_of};
+ghost use Rattle.wasm_operators_readers.specs.Headline.{StoodBefore};
 ghost use Rattle.wasm_operators.specs.Body.{OpensBody};
 ghost use Rattle.wasm_operators.specs.Locals.{OpensLocals, ReadsPastLocals};
 
@@ -118,7 +119,8 @@ impl<'a> FunctionBody<'a> {
     ///
     /// Refused as `get_binary_reader_for_operators`.
     pub fn get_operators_reader(&self, alloc: Global) -> Result<OperatorsReader<'a>>
-        ensures { OpensBody result self.now }
+        ensures opens { OpensBody result self.now }
+        ensures stood { IfOk result (λ operators. StoodBefore [] operators) }
     {
         match self.get_binary_reader_for_operators() {
             Ok(reader) => Ok(OperatorsReader::new(alloc, reader)),

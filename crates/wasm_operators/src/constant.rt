@@ -1,11 +1,12 @@
 //! Constant expressions.
-ghost use Rattle.std.specs.Prelude.{◌≡◌, true, IfOk, IfErr};
+ghost use Rattle.std.specs.Prelude.{◌≡◌, [], true, IfOk, IfErr};
 ghost use Rattle.wasm_operators_readers.specs.below.FromReader.{ReadsValue, SameReader};
 ghost use Rattle.wasm_operators_readers.specs.below.bytes.features.WasmFeatures.{WasmFeatures};
 ghost use Rattle.wasm_operators_readers.specs.below.Sequence.{PrefixCodeUpTo};
 ghost use Rattle.wasm_operators_readers.specs.below.Fault.{DeterminesRefusal, HasFault};
 ghost use Rattle.wasm_operators_readers.specs.below.Source.{offset_of};
 ghost use Rattle.wasm_operators_readers.specs.Reading.{IsFresh};
+ghost use Rattle.wasm_operators_readers.specs.Headline.{StoodBefore};
 ghost use Rattle.wasm_operators.specs.Constant.{EncodesConstantReader};
 ghost use Rattle.wasm_operators.specs.ConstantFaults.{ConstantFault};
 
@@ -75,6 +76,7 @@ impl<'a> ConstExpr<'a> {
     pub fn get_operators_reader(&self, alloc: Global) -> OperatorsReader<'a>
         ensures reader { result.reader ≡ self.now }
         ensures fresh { IsFresh result }
+        ensures stood { StoodBefore [] result }
     {
         OperatorsReader::new(alloc, self.reader.clone())
     }

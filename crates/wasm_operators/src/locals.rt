@@ -1,10 +1,11 @@
 //! Readers of a body's locals.
-ghost use Rattle.std.specs.Prelude.{◌≡◌, List, IfSome, Some};
+ghost use Rattle.std.specs.Prelude.{◌≡◌, List, [], IfSome, Some};
 ghost use Rattle.std.specs.Iterator.{at_most, UpTo};
 ghost use Rattle.std.specs.Iterator.SizeHint.{IsWithinCount};
 ghost use Rattle.wasm_operators_readers.specs.below.Source.{Reader, offset_of};
 ghost use Rattle.wasm_operators.specs.Locals.{Declaration, IsPastLocals, IsAnswerPastLocals, OpensLocals, ReadsDeclaration, StepsLocals, HasStepped, all_left};
 ghost use Rattle.wasm_operators_readers.specs.Reading.{IsFresh};
+ghost use Rattle.wasm_operators_readers.specs.Headline.{StoodBefore};
 
 use std::alloc::Global;
 use std::marker::Model;
@@ -182,6 +183,7 @@ impl<'a> LocalsIterator<'a> {
     pub fn into_operators_reader(self, alloc: Global) -> OperatorsReader<'a>
         ensures reader { result.reader ≡ self.entry.locals.reader }
         ensures fresh { IsFresh result }
+        ensures stood { StoodBefore [] result }
     {
         OperatorsReader::new(alloc, self.locals.get_binary_reader())
     }

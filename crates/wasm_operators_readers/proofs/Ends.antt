@@ -20,23 +20,24 @@ use Rattle.wasm_decode.specs.instr.declared.operator.Operator.{Operator}
 use Rattle.wasm_decode.specs.instr.declared.operator.Operator.TheVariants as operator
 use Rattle.wasm_decode.specs.instr.Encoding.{EncodesOperator}
 use Rattle.wasm_decode.specs.instr.Roles.{role_of, roles_of}
-use Rattle.wasm_operators_readers.specs.Expression.{Placed, operators, LaidOut, IsLongestBehind}
-use Rattle.wasm_operators_readers.specs.Flat.{IsFlatFrom}
+use Rattle.wasm_operators_readers.specs.Expression.{Placed, OfPlaced, operators, LaidOut, IsLongestOf}
+use Rattle.wasm_operators_readers.specs.Flat.{IsFlatOf}
 use Rattle.wasm_operators_readers.specs.Reading.{Taking, Refusing, Needing, State, Ran, StopsRun, EndsRun, ReadsOperator}
 use Rattle.wasm_operators_readers.specs.Headline.{StoodBefore, BeginningAt, ReadsBeginning, IsNotOutOfMemory, ClosesFrom, IsCut, CutFault, IsCompletedByEnds}
 use Rattle.wasm_operators_readers.proofs.LayoutLemmas.{roles_of-append, operators-append, roles_of-ends, laid_append, laid_goes_on, laid_no_longer, laid_same, one_longest, GoesOn, next_allowed, goes_allowed}
 use Rattle.wasm_operators_readers.proofs.OneRead.{refused_none, refused_not_taken, one_refusal, closed_read, read_closed}
-use Rattle.wasm_operators_readers.proofs.Premises.{Everything, TakesEach, TakesAll, IsReading, IsDetermined}
+use Rattle.wasm_operators_readers.proofs.Premises.{AreEach, Keeps, TakesEach, IsReading, IsDetermined}
 use Rattle.wasm_operators_readers.proofs.Runs.{features_stay, stood_on, IsStuckFor, stuck, run_flat, no_refusal}
 
 some_is : {X : Type 0} {x y : X} → Some x ≡ Some y → x ≡ y
 some_is e = cc e
 
 -- Two lists that are the longest by frames alone are the same.
-pub one_flat : (frames : List FrameKind) (s : Source) (first second : Placed) → IsFlatFrom frames s first → IsFlatFrom frames s second → first ≡ second
-one_flat frames s first second p q =
-    let le = p.longest second q.beginning in
-    let ge = q.longest first p.beginning in
+pub one_flat : (Kept : OfPlaced) (frames : List FrameKind) (s : Source) (first second : Placed) → IsFlatOf Kept frames s first →
+    IsFlatOf Kept frames s second → first ≡ second
+one_flat Kept frames s first second p q =
+    let le = p.longest second q.beginning q.kept in
+    let ge = q.longest first p.beginning p.kept in
     (laid_same s.features s.offset first second p.beginning.beginning q.beginning.beginning p.beginning.more q.beginning.more p.beginning.laid q.beginning.laid
     (sym p.beginning.parts ∙ q.beginning.parts) (omega arith)).0
 
@@ -65,37 +66,40 @@ closes_exactly Encodes Fault Needs (Err e) old new placed r stops = (
 )
 
 -- What was read is the longest list by frames alone, memory aside, and the answer is Ok exactly where it closes every frame.
-pub flat_run : {X : Type 0} (Encodes : Taking) (Fault : Refusing) (Needs : Needing) → TakesAll Encodes → (result : Result X Error) (old new : State)
-    (placed flat : Placed) → Ran old new placed → EndsRun Encodes Fault Needs result new → IsFlatFrom old.frames (source_of old.reader) flat →
-    IsNotOutOfMemory result → (placed ≡ flat) × (IsOk result ↔ ClosesFrom old.frames (source_of old.reader) flat)
-flat_run Encodes Fault Needs all result old new placed flat r ended h other =
-    let same = one_flat old.frames (source_of old.reader) placed flat
-    (run_flat old new placed r (stuck Encodes Fault Needs Everything all result new ended other)) h in (
+pub flat_run : {X : Type 0} (Sort : Operator → Type 0) (Kept : OfPlaced) (Encodes : Taking) (Fault : Refusing) (Needs : Needing) →
+    Keeps Sort Kept Encodes → (result : Result X Error) (old new : State) (placed flat : Placed) → Ran old new placed → Kept placed →
+    EndsRun Encodes Fault Needs result new → IsFlatOf Kept old.frames (source_of old.reader) flat → IsNotOutOfMemory result →
+    (placed ≡ flat) × (IsOk result ↔ ClosesFrom old.frames (source_of old.reader) flat)
+flat_run Sort Kept Encodes Fault Needs keeps result old new placed flat r kept ended h other =
+    let same = one_flat Kept old.frames (source_of old.reader) placed flat
+    (run_flat Sort Kept keeps.each old new placed r kept (stuck Encodes Fault Needs Sort keeps.takes result new ended other)) h in (
       same,
       subst (λ ps. IsOk result ↔ ClosesFrom old.frames (source_of old.reader) ps) same (closes_exactly Encodes Fault Needs result old new placed r ended),
     )
 
 -- Of bytes that more would make the rest of an expression, those that are left begin with an operator that the frames allow.
-record NextStands (s : State) (left : List ℕ) : Type 0 where
+record NextStands (Sort : Operator → Type 0) (s : State) (left : List ℕ) : Type 0 where
   op : Operator
+  sort : Sort op
   text : List ℕ
   after : List ℕ
   encodes : EncodesOperator s.reader.features op text
   bytes : left ≡ text ++ after
   allowed : frames_after s.frames (role_of op) ≡ None → ⊥
 
-cut_stops : (Encodes : Taking) (Fault : Refusing) (Needs : Needing) → TakesAll Encodes → (m : Message) (e : Error) (s : State) (more : List ℕ) →
-    e.message ≡ m → StopsRun Encodes Fault Needs e s → NextStands s (rest s.reader ++ more) → CutFault m (rest s.reader)
-cut_stops Encodes Fault Needs all m e s more is (inl left) next = subst (λ m. CutFault m (rest s.reader)) (sym left.2 ∙ is) left.0
-cut_stops Encodes Fault Needs all m e s more is (inr (some, inl none)) next =
+cut_stops : (Sort : Operator → Type 0) (Encodes : Taking) (Fault : Refusing) (Needs : Needing) → TakesEach Sort Encodes → (m : Message) (e : Error)
+    (s : State) (more : List ℕ) → e.message ≡ m → StopsRun Encodes Fault Needs e s → NextStands Sort s (rest s.reader ++ more) →
+    CutFault m (rest s.reader)
+cut_stops Sort Encodes Fault Needs takes m e s more is (inl left) next = subst (λ m. CutFault m (rest s.reader)) (sym left.2 ∙ is) left.0
+cut_stops Sort Encodes Fault Needs takes m e s more is (inr (some, inl none)) next =
     absurd (next.allowed (ap (λ frames. frames_after frames (role_of next.op)) none.0))
-cut_stops Encodes Fault Needs all m e s more is (inr (some, inr (inr memory))) next = subst (λ m. CutFault m (rest s.reader)) (sym memory.0 ∙ is) tt
-cut_stops Encodes Fault Needs all m e s more is (inr (some, inr (inl there))) next = by_message m is
+cut_stops Sort Encodes Fault Needs takes m e s more is (inr (some, inr (inr memory))) next = subst (λ m. CutFault m (rest s.reader)) (sym memory.0 ∙ is) tt
+cut_stops Sort Encodes Fault Needs takes m e s more is (inr (some, inr (inl there))) next = by_message m is
   where
     follows : MayFollow e.message more → ⊥
     follows follow =
         next.allowed (refused_none Encodes Fault e s there more follow next.text next.after next.op
-        (λ allows. all s.reader.features there.kind next.text next.op next.encodes allows tt) next.bytes)
+        (λ allows. takes s.reader.features there.kind next.text next.op next.encodes allows next.sort) next.bytes)
 
     by_message : (m : Message) → e.message ≡ m → CutFault m (rest s.reader)
     by_message message.OutOfMemory is = tt
@@ -107,19 +111,20 @@ right_none [] ys e = e
 right_none (x ∷ xs) ys e = absurd (cc e)
 
 -- Data that was cut is refused by its end, within an operator or between two.
-pub run_cut : (Encodes : Taking) (Fault : Refusing) (Needs : Needing) → TakesAll Encodes → (e : Error) (before : List Operator) (old new : State)
-    (placed : Placed) → StoodBefore before old → Ran old new placed → StopsRun Encodes Fault Needs e new → IsCut before (source_of old.reader) →
-    CutFault e.message (rest new.reader)
-run_cut Encodes Fault Needs all e before old new placed h r stops cut =
-    cut_stops Encodes Fault Needs all e.message e new cut.more refl stops next
+pub run_cut : (Sort : Operator → Type 0) (Kept : OfPlaced) (Encodes : Taking) (Fault : Refusing) (Needs : Needing) → Keeps Sort Kept Encodes → (e : Error)
+    (before : List Operator) (old new : State) (placed : Placed) → StoodBefore before old → Ran old new placed → StopsRun Encodes Fault Needs e new →
+    IsCut Kept before (source_of old.reader) → CutFault e.message (rest new.reader)
+run_cut Sort Kept Encodes Fault Needs keeps e before old new placed h r stops cut =
+    cut_stops Sort Encodes Fault Needs keeps.takes e.message e new cut.more refl stops next
   where
     whole : rest old.reader ++ cut.more ≡ r.text ++ (rest new.reader ++ cut.more)
     whole = ap (λ z. z ++ cut.more) r.takes.parts ∙ append_assoc r.text (rest new.reader) cut.more
 
-    goes : GoesOn old.reader.features placed cut.whole (rest new.reader ++ cut.more) → NextStands new (rest new.reader ++ cut.more)
+    goes : GoesOn old.reader.features placed cut.whole (rest new.reader ++ cut.more) → NextStands Sort new (rest new.reader ++ cut.more)
     goes g =
         record {
           op = g.next.0;
+          sort = keeps.each cut.whole cut.kept placed g.others g.next g.parts;
           text = g.text;
           after = g.more;
           encodes = subst (λ f. EncodesOperator f g.next.0 g.text) (sym (features_stay old.reader new.reader r.text r.takes)) g.encodes;
@@ -137,7 +142,7 @@ run_cut Encodes Fault Needs all e before old new placed h r stops cut =
         cut.encodes.0 r.laid e (omega arith) in
         cut.some (right_none (rest new.reader) cut.more (sym same.2))
 
-    next : NextStands new (rest new.reader ++ cut.more)
+    next : NextStands Sort new (rest new.reader ++ cut.more)
     next = elim (cases_lt (length placed) (length cut.whole)) [
       | inl lt ↦ goes (laid_goes_on old.reader.features (offset_of old.reader) placed cut.whole r.text (rest old.reader ++ cut.more)
           (rest new.reader ++ cut.more) [] r.laid cut.encodes.0 (sym whole ∙ sym (append-nil (rest old.reader ++ cut.more))) lt)
@@ -225,10 +230,6 @@ same_ends Encodes Fault Needs determined (Err d) (Ok y) s t reader frames a b ot
 same_ends Encodes Fault Needs determined (Err d) (Err e) s t reader frames a b other others =
     same_stops Encodes Fault Needs determined d e s t reader frames a b other others
 
--- Each operator of the list is of this sort.
-abbrev pub AreEach : (Operator → Type 0) → Placed → Type 0
-AreEach Kept placed = (before after : Placed) (p : Operator × ℕ) → placed ≡ before ++ p ∷ after → Kept p.0
-
 -- a run, without the room
 record RanOver (reader : Reader) (frames : List FrameKind) (new : State) (placed : Placed) : Type 0 where
   text : List ℕ
@@ -298,19 +299,19 @@ pub run_left : (Encodes : Taking) (Fault : Refusing) (Needs : Needing) → IsRea
 run_left Encodes Fault Needs reading e before old new placed h r stops is =
     run_completed before old new placed h r ((tells_left Encodes Fault Needs reading e new stops).0 is).0
 
-longest_at : (m : Message) (before : List Operator) (r : Reader) (placed : Placed) → BeginningAt m before r placed → (m ≡ message.OutOfMemory → ⊥) →
-    IsLongestBehind before (source_of r) placed
-longest_at message.OutOfMemory before r placed h other = absurd (other refl)
-longest_at _ before r placed h other = h
+longest_at : (Kept : OfPlaced) (m : Message) (before : List Operator) (r : Reader) (placed : Placed) → BeginningAt Kept m before r placed →
+    (m ≡ message.OutOfMemory → ⊥) → IsLongestOf Kept before (source_of r) placed
+longest_at Kept message.OutOfMemory before r placed h other = absurd (other refl)
+longest_at Kept _ before r placed h other = h
 
 -- Of two drivers from one place, behind the same operators, all is the same, memory aside.
-pub beginnings_same : (Encodes : Taking) (Fault : Refusing) (Needs : Needing) → IsDetermined Fault → (before : List Operator) (d e : Error)
-    (old new end : State) (placed others : Placed) → ReadsBeginning Encodes Fault Needs before d old new placed →
-    ReadsBeginning Encodes Fault Needs before e old end others → (d.message ≡ message.OutOfMemory → ⊥) → (e.message ≡ message.OutOfMemory → ⊥) →
+pub beginnings_same : (Kept : OfPlaced) (Encodes : Taking) (Fault : Refusing) (Needs : Needing) → IsDetermined Fault → (before : List Operator)
+    (d e : Error) (old new end : State) (placed others : Placed) → ReadsBeginning Kept Encodes Fault Needs before d old new placed →
+    ReadsBeginning Kept Encodes Fault Needs before e old end others → (d.message ≡ message.OutOfMemory → ⊥) → (e.message ≡ message.OutOfMemory → ⊥) →
     (placed ≡ others) × (end.reader ≡ new.reader) × (end.frames ≡ new.frames) × (d.message ≡ e.message) × (d.offset ≡ e.offset)
-beginnings_same Encodes Fault Needs determined before d e old new end placed others a b other_d other_e =
-    let same = one_longest before (source_of old.reader) placed others (longest_at d.message before old.reader placed a.at other_d)
-    (longest_at e.message before old.reader others b.at other_e) in
+beginnings_same Kept Encodes Fault Needs determined before d e old new end placed others a b other_d other_e =
+    let same = one_longest Kept before (source_of old.reader) placed others (longest_at Kept d.message before old.reader placed a.at other_d)
+    (longest_at Kept e.message before old.reader others b.at other_e) in
     let layout = laid_same old.reader.features (offset_of old.reader) placed others a.text b.text (rest new.reader) (rest end.reader) a.laid b.laid
     (sym a.takes.parts ∙ b.takes.parts) (ap length same) in
     let readers : end.reader ≡ new.reader = b.takes.moved ∙ ap (λ z. at_position old.reader (old.reader.position + length z)) (sym layout.1) ∙

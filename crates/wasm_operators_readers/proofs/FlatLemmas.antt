@@ -11,8 +11,8 @@ use Rattle.wasm_decode.proofs.of_grammar.Runs.{some_of, IsSome_of, path_run, pat
 use Rattle.wasm_decode.proofs.of_grammar.Steps.{path_start}
 use Rattle.wasm_decode.specs.instr.declared.operator.Operator.{Operator}
 use Rattle.wasm_decode.specs.instr.Roles.{roles_of}
-use Rattle.wasm_operators_readers.specs.Expression.{Placed, operators, AreEncoded, IsBeginningBehind, IsLongestBehind, IsLongestBeginning}
-use Rattle.wasm_operators_readers.specs.Flat.{IsAllowedFrom, IsFlatFrom, IsFlatBeginning}
+use Rattle.wasm_operators_readers.specs.Expression.{Placed, OfPlaced, IsAny, operators, AreEncoded, IsBeginningBehind, IsLongestOf, IsLongestBeginning}
+use Rattle.wasm_operators_readers.specs.Flat.{IsAllowedFrom, IsFlatOf, IsFlatBeginning}
 use Rattle.wasm_operators_readers.proofs.LayoutLemmas.{roles_of-append, laid_encoded, both_encoded, path_begins, begins_walk}
 
 -- Behind operators that have encodings and an open path to the frames, a list that these allow begins an expression.
@@ -45,21 +45,24 @@ begins_allowed before frames s placed path h =
       allowed = IsSome_of (frames_along frames (roles_of (operators placed))) on.0 on.1;
     }
 
-pub flat_longest : (before : List Operator) (frames : List FrameKind) (s : Source) (placed : Placed) → AreEncoded s.features before →
-    OpenPath (roles_of before) frames → IsFlatFrom frames s placed → IsLongestBehind before s placed
-flat_longest before frames s placed encodes path h =
+pub flat_longest : (Kept : OfPlaced) (before : List Operator) (frames : List FrameKind) (s : Source) (placed : Placed) → AreEncoded s.features before →
+    OpenPath (roles_of before) frames → IsFlatOf Kept frames s placed → IsLongestOf Kept before s placed
+flat_longest Kept before frames s placed encodes path h =
     record {
       beginning = allowed_begins before frames s placed encodes path h.beginning;
+      kept = h.kept;
       longest = λ others other. h.longest others (begins_allowed before frames s others path other);
     }
 
-pub longest_flat : (before : List Operator) (frames : List FrameKind) (s : Source) (placed : Placed) → AreEncoded s.features before →
-    OpenPath (roles_of before) frames → IsLongestBehind before s placed → IsFlatFrom frames s placed
-longest_flat before frames s placed encodes path h =
+pub longest_flat : (Kept : OfPlaced) (before : List Operator) (frames : List FrameKind) (s : Source) (placed : Placed) → AreEncoded s.features before →
+    OpenPath (roles_of before) frames → IsLongestOf Kept before s placed → IsFlatOf Kept frames s placed
+longest_flat Kept before frames s placed encodes path h =
     record {
       beginning = begins_allowed before frames s placed path h.beginning;
+      kept = h.kept;
       longest = λ others other. h.longest others (allowed_begins before frames s others encodes path other);
     }
 
 pub flat_is_longest : (s : Source) (placed : Placed) → IsFlatBeginning s placed ↔ IsLongestBeginning s placed
-flat_is_longest s placed = (flat_longest [] (frame.Block ∷ []) s placed tt path_start, longest_flat [] (frame.Block ∷ []) s placed tt path_start)
+flat_is_longest s placed =
+    (flat_longest IsAny [] (frame.Block ∷ []) s placed tt path_start, longest_flat IsAny [] (frame.Block ∷ []) s placed tt path_start)

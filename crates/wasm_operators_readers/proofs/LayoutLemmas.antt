@@ -19,7 +19,7 @@ use Rattle.wasm_decode.specs.instr.Encoding.{EncodesOpcode, EncodesOperator}
 use Rattle.wasm_decode.specs.instr.Roles.{role_of, roles_of}
 use Rattle.wasm_decode.specs.instr.Row.{prefix_of, opcode_of}
 use Rattle.wasm_decode.proofs.of_instr.OperatorPrefixCode.{operator_prefix_code}
-use Rattle.wasm_operators_readers.specs.Expression.{Placed, operators, LaidOut, AreEncoded, Begins, IsLongestBehind, IsBeginningOf}
+use Rattle.wasm_operators_readers.specs.Expression.{Placed, OfPlaced, operators, LaidOut, AreEncoded, Begins, IsLongestOf, IsBeginningOf}
 
 pub roles_of-append : (xs ys : List Operator) → roles_of (xs ++ ys) ≡ roles_of xs ++ roles_of ys
 roles_of-append [] ys = refl
@@ -177,11 +177,11 @@ laid_beginning f offset ps qs a b x y l m e le =
     ]
 
 -- The longest beginning is unique.
-pub one_longest : (before : List Operator) (s : Source) (first second : Placed) → IsLongestBehind before s first → IsLongestBehind before s second →
-    first ≡ second
-one_longest before s first second p q =
-    let le = p.longest second q.beginning in
-    let ge = q.longest first p.beginning in
+pub one_longest : (Kept : OfPlaced) (before : List Operator) (s : Source) (first second : Placed) → IsLongestOf Kept before s first →
+    IsLongestOf Kept before s second → first ≡ second
+one_longest Kept before s first second p q =
+    let le = p.longest second q.beginning q.kept in
+    let ge = q.longest first p.beginning p.kept in
     (laid_same s.features s.offset first second p.beginning.beginning q.beginning.beginning p.beginning.more q.beginning.more p.beginning.laid q.beginning.laid
     (sym p.beginning.parts ∙ q.beginning.parts) (omega arith)).0
 

@@ -1,31 +1,34 @@
--- The run of a visitor that takes no vector operator: along the longest beginning without one.
-use Rattle.std.proofs.Common.{◌≡◌, ℕ, Bool, true, false, List, [], ◌∷◌, ◌++◌, length, Result, Ok, Err, refl, sym, subst, ap, ◌∙◌, arith, ◌⊎◌, inl, inr}
-use Rattle.std.specs.Prelude.{◌↔◌, IsOk}
+-- Lists without vector operators: how they lie in the longest beginning, and what is refused where one stands.
+use Rattle.std.proofs.Common.{◌≡◌, ℕ, ◌+◌, ◌≤◌, Bool, true, false, cond, List, [], ◌∷◌, ◌++◌, length, Some, Result, Ok, Err, IfErr, refl, sym, subst, ap, ◌∙◌, append_assoc, length-append, arith, ◌⊎◌, inl, inr}
+use Rattle.std.specs.Prelude.{◌↔◌}
 use Rattle.std.proofs.lemmas.Bool.{cases_lt}
+use Rattle.std.proofs.lemmas.List.{append-nil}
+use Rattle.std.specs.Option.{option_and_then}
 use Rattle.wasm_decode.specs.below.bytes.error.Error.{Error}
-use Rattle.wasm_decode.specs.below.bytes.message.Message.{Message}
+use Rattle.wasm_decode.specs.below.bytes.features.WasmFeatures.{WasmFeatures}
 use Rattle.wasm_decode.specs.below.bytes.message.Message.TheVariants as message
-use Rattle.wasm_decode.specs.below.Source.{rest, offset_of, source_of, BeginsWith}
+use Rattle.wasm_decode.specs.below.Source.{Source, rest, offset_of, source_of, BeginsWith}
+use Rattle.wasm_decode.specs.grammar.declared.frame_kind.FrameKind.{FrameKind}
 use Rattle.wasm_decode.specs.grammar.Frames.{frames_after, frames_along}
-use Rattle.wasm_decode.proofs.of_grammar.Runs.{some_of}
+use Rattle.wasm_decode.specs.grammar.Beginning.{IsWalk}
+use Rattle.wasm_decode.proofs.of_grammar.Runs.{bound, some_of, IsSome_of, frames_along-append}
 use Rattle.wasm_decode.specs.instr.declared.operator.Operator.{Operator}
 use Rattle.wasm_decode.specs.instr.declared.operator.Operator.TheVariants as operator
 use Rattle.wasm_decode.specs.instr.Encoding.{EncodesOperator}
 use Rattle.wasm_decode.specs.instr.Kinds.{IsVector}
 use Rattle.wasm_decode.specs.instr.Roles.{role_of, roles_of}
 use Rattle.wasm_decode.specs.instr.Row.{prefix_of, opcode_of}
-use Rattle.wasm_operators_readers.specs.Expression.{Placed, operators, EncodesRest, IsLongestBehind, IsBeginningOf}
-use Rattle.wasm_operators_readers.specs.Flat.{IsFlatFrom}
-use Rattle.wasm_operators_readers.specs.Reading.{Taking, Refusing, Needing, State, Ran, StopsRun, EndsRun}
-use Rattle.wasm_operators_readers.specs.Headline.{StoodBefore, PlainBeginningAt, ReadsPlainBeginning, IsNotOutOfMemory, ClosesFrom}
+use Rattle.wasm_operators_readers.specs.Expression.{Placed, OfPlaced, operators, LaidOut, AreEncoded, Begins, IsBeginningBehind, IsLongestOf, IsLongestBehind, IsBeginningOf}
+use Rattle.wasm_operators_readers.specs.Flat.{IsAllowedFrom, IsFlatOf, IsFlatFrom}
+use Rattle.wasm_operators_readers.specs.Reading.{Taking, Refusing, Needing, State, Ran, StopsRun, RunsToEnd}
+use Rattle.wasm_operators_readers.specs.Headline.{StoodBefore, ClosesFrom}
 use Rattle.wasm_operators_readers.specs.Visiting.{is_vector, plain_beginning, IsPlain}
-use Rattle.wasm_operators_readers.proofs.Ends.{AreEach, run_closes, closes_run}
-use Rattle.wasm_operators_readers.proofs.LayoutLemmas.{begins_walk, not_empty, laid_beginning, laid_goes_on, laid_same, GoesOn, next_allowed, goes_allowed}
+use Rattle.wasm_operators_readers.proofs.LayoutLemmas.{roles_of-append, operators-append, begins_walk, not_empty, laid_beginning, laid_goes_on, laid_no_longer, laid_same, one_longest, GoesOn, goes_allowed}
 use Rattle.wasm_operators_readers.proofs.OneRead.{is_memory}
 use Rattle.wasm_operators_readers.proofs.OpeningLemmas.{first_byte, begins_encoding}
-use Rattle.wasm_operators_readers.proofs.Premises.{IsNoVector, TakesPlain, RefusesVectors}
-use Rattle.wasm_operators_readers.proofs.Runs.{features_stay, stood_on, ran_allowed, beginning_of_run, encoded_longest, whole_run, no_refusal, IsStuckFor, stuck_run, stuck}
-use Rattle.wasm_operators_readers.proofs.VisitLemmas.{no_vector_of, vector_of, plain_stops, plain_longest, plain_none}
+use Rattle.wasm_operators_readers.proofs.Premises.{AreEach, IsNoVector, Keeps, RefusesVectors}
+use Rattle.wasm_operators_readers.proofs.Runs.{features_stay, stood_on, beginning_of_run, IsStuckFor, stuck_run}
+use Rattle.wasm_operators_readers.proofs.VisitLemmas.{no_vector_of, vector_of, plain_append, plain_begins, plain_longest, plain_none}
 
 -- A plain list has no vector operator.
 pub each_plain : (placed : Placed) → IsPlain placed → AreEach IsNoVector placed
@@ -56,7 +59,7 @@ run_and_longest : (before : List Operator) (old new : State) (placed longest : P
     (placed ≡ longest) ⊎ GoesOn old.reader.features placed longest (rest new.reader)
 run_and_longest before old new placed longest h r l =
     let both = sym r.takes.parts ∙ l.beginning.parts in
-    let le = l.longest placed (beginning_of_run before old new placed h r) in
+    let le = l.longest placed (beginning_of_run before old new placed h r) tt in
     elim (cases_lt (length placed) (length longest)) [
       | inl lt ↦ inr (laid_goes_on old.reader.features (offset_of old.reader) placed longest r.text l.beginning.beginning (rest new.reader) l.beginning.more
           r.laid l.beginning.laid both lt)
@@ -64,65 +67,15 @@ run_and_longest before old new placed longest h r l =
           l.beginning.laid both (omega arith)).0
     ]
 
-plain_part : (before : List Operator) (old new : State) (placed longest : Placed) → StoodBefore before old → Ran old new placed → IsPlain placed →
-    IsLongestBehind before (source_of old.reader) longest → IsBeginningOf placed (plain_beginning longest)
-plain_part before old new placed longest h r plain l =
-    let le = l.longest placed (beginning_of_run before old new placed h r) in
-    plain_longest longest placed (laid_beginning old.reader.features (offset_of old.reader) placed longest r.text l.beginning.beginning (rest new.reader)
-    l.beginning.more r.laid l.beginning.laid (sym r.takes.parts ∙ l.beginning.parts) le) plain
-
-plain_whole : (before : List Operator) (old new : State) (placed longest : Placed) → StoodBefore before old → Ran old new placed → IsPlain placed →
-    IsStuckFor IsNoVector new → IsLongestBehind before (source_of old.reader) longest → placed ≡ plain_beginning longest
-plain_whole before old new placed longest h r plain none l =
-    elim (run_and_longest before old new placed longest h r l) [
-      | inl same ↦ sym plain ∙ ap plain_beginning same
-      | inr g ↦ sym (ap plain_beginning g.parts ∙ plain_stops placed g.others g.next plain (next_vector before old new placed longest h r l none g))
-    ]
-
-plain_at : (m : Message) (before : List Operator) (old new : State) (placed : Placed) → StoodBefore before old → Ran old new placed → IsPlain placed →
-    ((m ≡ message.OutOfMemory → ⊥) → IsStuckFor IsNoVector new) → PlainBeginningAt m before old.reader placed
-plain_at message.OutOfMemory before old new placed h r plain none =
-    (beginning_of_run before old new placed h r, λ longest l. plain_part before old new placed longest h r plain l)
-plain_at _ before old new placed h r plain none =
-    (beginning_of_run before old new placed h r, λ longest l. plain_whole before old new placed longest h r plain (none (λ is. absurd (cc is))) l)
-
-pub run_plain : (Encodes : Taking) (Fault : Refusing) (Needs : Needing) → TakesPlain Encodes → (before : List Operator) (e : Error) (old new : State)
-    (placed : Placed) → StoodBefore before old → Ran old new placed → IsPlain placed → StopsRun Encodes Fault Needs e new →
-    ReadsPlainBeginning Encodes Fault Needs before e old new placed
-run_plain Encodes Fault Needs takes before e old new placed h r plain stops =
-    record {
-      at = plain_at e.message before old new placed h r plain (stuck_run Encodes Fault Needs IsNoVector takes e new stops);
-      text = r.text;
-      takes = r.takes;
-      laid = r.laid;
-      stood = stood_on before old new placed h r;
-      stops = stops;
-    }
-
--- Where the bytes encode an expression without vector operators, memory alone is refused.
-pub plain_only : (Encodes : Taking) (Fault : Refusing) (Needs : Needing) → TakesPlain Encodes → (before : List Operator) (e : Error) (old new : State)
-    (placed whole : Placed) → StoodBefore before old → Ran old new placed → IsPlain placed → StopsRun Encodes Fault Needs e new →
-    EncodesRest before (source_of old.reader) whole → IsPlain whole → e.message ≡ message.OutOfMemory
-plain_only Encodes Fault Needs takes before e old new placed whole h r plain stops encodes whole_plain =
-    elim (is_memory e.message) [
-      | inl is ↦ is
-      | inr other ↦ (
-          let longest = encoded_longest before (source_of old.reader) whole h.encodes encodes in
-          let same = plain_whole before old new placed whole h r plain (stuck_run Encodes Fault Needs IsNoVector takes e new stops other) longest in
-          let end = whole_run before old new placed whole h r encodes (same ∙ whole_plain) in
-          absurd (no_refusal Encodes Fault Needs e new stops end.0 end.1)
-          )
-    ]
-
 vector_byte : (op : Operator) → IsVector op → first_byte (prefix_of op) (opcode_of op) ≡ 0xfd
 vector_byte (operator.Simd op) is = refl
 vector_byte _ is = absurd is
 
 -- Where a vector operator ends it, that is what the refusal says.
-pub plain_vector : (Encodes : Taking) (Fault : Refusing) (Needs : Needing) → TakesPlain Encodes → RefusesVectors Fault → (before : List Operator) (e : Error)
-    (old new : State) (placed longest : Placed) → StoodBefore before old → Ran old new placed → IsPlain placed → StopsRun Encodes Fault Needs e new →
+pub plain_vector : (Encodes : Taking) (Fault : Refusing) (Needs : Needing) → Keeps IsNoVector IsPlain Encodes → RefusesVectors Fault →
+    (before : List Operator) (e : Error) (old new : State) (placed longest : Placed) → StoodBefore before old → Ran old new placed → IsPlain placed → StopsRun Encodes Fault Needs e new →
     IsLongestBehind before (source_of old.reader) longest → (IsPlain longest → ⊥) → (e.message ≡ message.UnexpectedSimd) ⊎ (e.message ≡ message.OutOfMemory)
-plain_vector Encodes Fault Needs takes refuses before e old new placed longest h r plain stops l vectors =
+plain_vector Encodes Fault Needs keeps refuses before e old new placed longest h r plain stops l vectors =
     elim (is_memory e.message) [
       | inl is ↦ inr is
       | inr other ↦ inl (elim (run_and_longest before old new placed longest h r l) [
@@ -133,7 +86,7 @@ plain_vector Encodes Fault Needs takes refuses before e old new placed longest h
   where
     led : GoesOn old.reader.features placed longest (rest new.reader) → (e.message ≡ message.OutOfMemory → ⊥) → BeginsWith 0xfd (rest new.reader)
     led g other =
-        let none = stuck_run Encodes Fault Needs IsNoVector takes e new stops other in
+        let none = stuck_run Encodes Fault Needs IsNoVector keeps.takes e new stops other in
         let vector = vector_of g.next.0 (next_vector before old new placed longest h r l none g) in
         let first = begins_encoding old.reader.features g.next.0 g.text g.encodes in
         let byte = vector_byte g.next.0 vector in
@@ -151,69 +104,129 @@ plain_vector Encodes Fault Needs takes refuses before e old new placed longest h
         stopped (inr (some, inr (inl there))) = refuses new.reader.features there.kind e.message new.reader e.offset there.fault (led g other)
         stopped (inr (some, inr (inr memory))) = absurd (other memory.0)
 
--- The run and the longest list by frames alone: the same, or more follows in the list, and that is a vector operator.
-run_and_flat : (old new : State) (placed flat : Placed) → (r : Ran old new placed) → IsFlatFrom old.frames (source_of old.reader) flat →
-    (placed ≡ flat) ⊎ GoesOn old.reader.features placed flat (rest new.reader)
-run_and_flat old new placed flat r l =
-    let both = sym r.takes.parts ∙ l.beginning.parts in
-    let le = l.longest placed (ran_allowed old new placed r) in
-    elim (cases_lt (length placed) (length flat)) [
-      | inl lt ↦ inr (laid_goes_on old.reader.features (offset_of old.reader) placed flat r.text l.beginning.beginning (rest new.reader) l.beginning.more
-          r.laid l.beginning.laid both lt)
-      | inr ge ↦ inl (laid_same old.reader.features (offset_of old.reader) placed flat r.text l.beginning.beginning (rest new.reader) l.beginning.more r.laid
-          l.beginning.laid both (omega arith)).0
-    ]
+-- The same of whatever the answer is.
+pub plain_refused : {X : Type 0} (Happened : OfPlaced) (Encodes : Taking) (Fault : Refusing) (Needs : Needing) →
+    ((placed : Placed) → Happened placed → IsPlain placed) → Keeps IsNoVector IsPlain Encodes → RefusesVectors Fault → (r : Result X Error)
+    (before : List Operator) (old new : State) → RunsToEnd Happened Encodes Fault Needs r old new → StoodBefore before old → (longest : Placed) →
+    IsLongestBehind before (source_of old.reader) longest → (IsPlain longest → ⊥) →
+    IfErr r (λ e. (e.message ≡ message.UnexpectedSimd) ⊎ (e.message ≡ message.OutOfMemory))
+plain_refused Happened Encodes Fault Needs kept keeps refuses (Ok x) before old new run h longest l vectors = tt
+plain_refused Happened Encodes Fault Needs kept keeps refuses (Err e) before old new (placed, happened, ran, stops) h longest l vectors =
+    plain_vector Encodes Fault Needs keeps refuses before e old new placed longest h ran (kept placed happened) stops l vectors
 
-flat_vector : (old new : State) (placed flat : Placed) → (r : Ran old new placed) → IsFlatFrom old.frames (source_of old.reader) flat →
-    IsStuckFor IsNoVector new → (g : GoesOn old.reader.features placed flat (rest new.reader)) → is_vector g.next.0 ≡ true
-flat_vector old new placed flat r l none g =
-    elim (either (is_vector g.next.0)) [
-      | inl is ↦ is
-      | inr not ↦ (
-          let encodes = subst (λ f. EncodesOperator f g.next.0 g.text) (sym (features_stay old.reader new.reader r.text r.takes)) g.encodes in
-          let some = some_of (frames_along old.frames (roles_of (operators flat))) l.beginning.allowed in
-          absurd (next_allowed old.reader.features old.frames new.frames some.0 placed flat (rest new.reader) r.frames some.1 g
-          (none g.text g.more g.next.0 encodes (no_vector_of g.next.0 not) g.bytes))
-          )
-    ]
+-- ---- the longest list without vector operators, by the longest of all
 
-flat_part : (old new : State) (placed flat : Placed) → (r : Ran old new placed) → IsPlain placed → IsFlatFrom old.frames (source_of old.reader) flat →
-    IsStuckFor IsNoVector new → placed ≡ plain_beginning flat
-flat_part old new placed flat r plain l none =
-    elim (run_and_flat old new placed flat r l) [
-      | inl same ↦ sym plain ∙ ap plain_beginning same
-      | inr g ↦ sym (ap plain_beginning g.parts ∙ plain_stops placed g.others g.next plain (flat_vector old new placed flat r l none g))
-    ]
+-- The first of two lists stands in a prefix of the bytes.
+laid_first : (f : WasmFeatures) (offset : ℕ) (ps qs : Placed) (bytes : List ℕ) → LaidOut f offset (ps ++ qs) bytes →
+    (a b : List ℕ) × (bytes ≡ a ++ b) × LaidOut f offset ps a
+laid_first f offset [] qs bytes l = ([], bytes, refl, refl)
+laid_first f offset (p ∷ ps) qs bytes (at, text, more, parts, encodes, l) =
+    let others = laid_first f (offset + length text) ps qs more l in (
+      text ++ others.0,
+      others.1,
+      parts ∙ ap (λ z. text ++ z) others.2 ∙ sym (append_assoc text others.0 others.1),
+      (at, text, others.0, refl, encodes, others.3),
+    )
 
--- What was visited by frames alone, and when the answer is Ok.
-pub plain_flat : {X : Type 0} (Encodes : Taking) (Fault : Refusing) (Needs : Needing) → TakesPlain Encodes → (result : Result X Error) (old new : State)
-    (placed flat : Placed) → Ran old new placed → IsPlain placed → EndsRun Encodes Fault Needs result new →
-    IsFlatFrom old.frames (source_of old.reader) flat → IsNotOutOfMemory result →
-    (placed ≡ plain_beginning flat) × (IsOk result ↔ (ClosesFrom old.frames (source_of old.reader) flat × IsPlain flat))
-plain_flat {X} Encodes Fault Needs takes result old new placed flat r plain ended l other =
-    (part, exactly result ended)
+-- The first of two lists begins an expression where both do.
+begins_first : (before : List Operator) (s : Source) (ps qs : Placed) → IsBeginningBehind before s (ps ++ qs) → IsBeginningBehind before s ps
+begins_first before s ps qs h =
+    let a = laid_first s.features s.offset ps qs h.beginning h.laid in
+    let split : (before ++ operators (ps ++ qs)) ++ h.begins.0 ≡ (before ++ operators ps) ++ (operators qs ++ h.begins.0) =
+    ap (λ z. (before ++ z) ++ h.begins.0) (operators-append ps qs) ∙
+    ap (λ z. z ++ h.begins.0) (sym (append_assoc before (operators ps) (operators qs))) ∙
+    append_assoc (before ++ operators ps) (operators qs) h.begins.0 in
+    record {
+      beginning = a.0;
+      more = a.1 ++ h.more;
+      parts = h.parts ∙ ap (λ z. z ++ h.more) a.2 ∙ append_assoc a.0 a.1 h.more;
+      laid = a.3;
+      begins = (
+        operators qs ++ h.begins.0,
+        subst (λ ops. IsWalk (roles_of ops)) split h.begins.1,
+        subst (AreEncoded s.features) split h.begins.2,
+      );
+    }
+
+-- And the frames allow it.
+allowed_first : (frames : List FrameKind) (s : Source) (ps qs : Placed) → IsAllowedFrom frames s (ps ++ qs) → IsAllowedFrom frames s ps
+allowed_first frames s ps qs h =
+    let a = laid_first s.features s.offset ps qs h.beginning h.laid in
+    let some = some_of (frames_along frames (roles_of (operators (ps ++ qs)))) h.allowed in
+    let split : roles_of (operators (ps ++ qs)) ≡ roles_of (operators ps) ++ roles_of (operators qs) =
+    ap roles_of (operators-append ps qs) ∙ roles_of-append (operators ps) (operators qs) in
+    let along = sym (frames_along-append frames (roles_of (operators ps)) (roles_of (operators qs))) ∙ sym (ap (frames_along frames) split) ∙ some.1 in
+    let b = bound (λ there. frames_along there (roles_of (operators qs))) (frames_along frames (roles_of (operators ps))) some.0 along in
+    record {
+      beginning = a.0;
+      more = a.1 ++ h.more;
+      parts = h.parts ∙ ap (λ z. z ++ h.more) a.2 ∙ append_assoc a.0 a.1 h.more;
+      laid = a.3;
+      allowed = IsSome_of (frames_along frames (roles_of (operators ps))) b.0 b.1;
+    }
+
+begins_length : (ps qs : Placed) → IsBeginningOf ps qs → length ps ≤ length qs
+begins_length ps qs (more, e) = let n : length qs ≡ length ps + length more = ap length e ∙ length-append ps more in omega (arith, n)
+
+-- The plain beginning of a list is plain.
+pub plain_is_plain : (ps : Placed) → IsPlain (plain_beginning ps)
+plain_is_plain [] = refl
+plain_is_plain (p ∷ ps) = go (is_vector p.0) refl (plain_is_plain ps)
   where
-    part : placed ≡ plain_beginning flat
-    part = flat_part old new placed flat r plain l (stuck Encodes Fault Needs IsNoVector takes result new ended other)
+    go : (b : Bool) → is_vector p.0 ≡ b → IsPlain (plain_beginning ps) →
+        plain_beginning (cond b [] (p ∷ plain_beginning ps)) ≡ cond b [] (p ∷ plain_beginning ps)
+    go true is h = refl
+    go false is h = ap (λ c. cond c [] (p ∷ plain_beginning (plain_beginning ps))) is ∙ ap (λ (z : Placed). p ∷ z) h
 
-    whole : rest new.reader ≡ [] → placed ≡ flat
-    whole all = elim (run_and_flat old new placed flat r l) [
-      | inl same ↦ same
-      | inr g ↦ absurd (not_empty old.reader.features g.next.0 g.text g.more g.encodes (sym all ∙ g.bytes))
-    ]
+-- Of the longest beginning it is the longest one without vector operators,
+plain_longest_of : (before : List Operator) (s : Source) (longest : Placed) → IsLongestBehind before s longest →
+    IsLongestOf IsPlain before s (plain_beginning longest)
+plain_longest_of before s longest l =
+    let part = plain_begins longest in
+    record {
+      beginning = begins_first before s (plain_beginning longest) part.0 (subst (IsBeginningBehind before s) part.1 l.beginning);
+      kept = plain_is_plain longest;
+      longest = λ others other plain. begins_length others (plain_beginning longest) (plain_longest longest others
+          (laid_beginning s.features s.offset others longest other.beginning l.beginning.beginning other.more l.beginning.more other.laid l.beginning.laid
+          (sym other.parts ∙ l.beginning.parts) (l.longest others other tt)) plain);
+    }
 
-    closed : ClosesFrom old.frames (source_of old.reader) flat → IsPlain flat → (new.frames ≡ []) × (rest new.reader ≡ [])
-    closed closes is = closes_run old new placed r (subst (ClosesFrom old.frames (source_of old.reader)) (sym (part ∙ is)) closes)
+pub plain_exactly : (before : List Operator) (s : Source) (longest placed : Placed) → IsLongestBehind before s longest →
+    IsLongestOf IsPlain before s placed ↔ (placed ≡ plain_beginning longest)
+plain_exactly before s longest placed l = (
+  λ h. one_longest IsPlain before s placed (plain_beginning longest) h (plain_longest_of before s longest l),
+  λ same. subst (IsLongestOf IsPlain before s) (sym same) (plain_longest_of before s longest l),
+)
 
-    exactly : (one : Result X Error) → EndsRun Encodes Fault Needs one new → IsOk one ↔ (ClosesFrom old.frames (source_of old.reader) flat × IsPlain flat)
-    exactly (Ok x) (none, all) = (
-      λ ok. (
-        subst (ClosesFrom old.frames (source_of old.reader)) (whole all) (run_closes old new placed r none all),
-        subst IsPlain (whole all) plain,
-      ),
-      λ h. refl,
-    )
-    exactly (Err e) stops = (
-      λ ok. absurd (cc ok),
-      λ h. let end = closed h.0 h.1 in absurd (no_refusal Encodes Fault Needs e new stops end.0 end.1),
-    )
+-- and each beginning without them is a beginning of it.
+pub plain_part : (before : List Operator) (s : Source) (longest placed : Placed) → IsLongestBehind before s longest → IsBeginningBehind before s placed →
+    IsPlain placed → IsBeginningOf placed (plain_beginning longest)
+plain_part before s longest placed l h plain =
+    plain_longest longest placed (laid_beginning s.features s.offset placed longest h.beginning l.beginning.beginning h.more l.beginning.more h.laid
+    l.beginning.laid (sym h.parts ∙ l.beginning.parts) (l.longest placed h tt)) plain
+
+-- By frames alone too,
+pub plain_flat : (frames : List FrameKind) (s : Source) (flat : Placed) → IsFlatFrom frames s flat → IsFlatOf IsPlain frames s (plain_beginning flat)
+plain_flat frames s flat l =
+    let part = plain_begins flat in
+    record {
+      beginning = allowed_first frames s (plain_beginning flat) part.0 (subst (IsAllowedFrom frames s) part.1 l.beginning);
+      kept = plain_is_plain flat;
+      longest = λ others other plain. begins_length others (plain_beginning flat) (plain_longest flat others
+          (laid_beginning s.features s.offset others flat other.beginning l.beginning.beginning other.more l.beginning.more other.laid l.beginning.laid
+          (sym other.parts ∙ l.beginning.parts) (l.longest others other tt)) plain);
+    }
+
+-- and it takes all of the bytes and closes every frame exactly where the list does and is plain.
+pub plain_closes : (frames : List FrameKind) (s : Source) (flat : Placed) → IsFlatFrom frames s flat →
+    ClosesFrom frames s (plain_beginning flat) ↔ (ClosesFrom frames s flat × IsPlain flat)
+plain_closes frames s flat l = (
+  λ closes.
+      let le = laid_no_longer s.features s.offset (plain_beginning flat) flat s.bytes l.beginning.beginning l.beginning.more closes.0 l.beginning.laid
+      (append-nil s.bytes ∙ l.beginning.parts) in
+      let ge = begins_length (plain_beginning flat) flat (plain_begins flat) in
+      let same = (laid_same s.features s.offset (plain_beginning flat) flat s.bytes l.beginning.beginning [] l.beginning.more closes.0 l.beginning.laid
+      (append-nil s.bytes ∙ l.beginning.parts) (omega (arith, le, ge))).0 in
+      (subst (ClosesFrom frames s) same closes, same),
+  λ h. subst (ClosesFrom frames s) (sym h.1) h.0,
+)

@@ -1,6 +1,6 @@
 -- What the lemmas on reads ask of a decoder's relations: which bytes encode an operator that is taken, and which refusal is
 -- answered where none stands.
-use Rattle.std.proofs.Common.{◌≡◌, ℕ, List}
+use Rattle.std.proofs.Common.{◌≡◌, ℕ, List, ◌∷◌, ◌++◌}
 use Rattle.wasm_decode.specs.below.bytes.features.WasmFeatures.{WasmFeatures}
 use Rattle.wasm_decode.specs.below.bytes.message.Message.{Message}
 use Rattle.wasm_decode.specs.below.bytes.message.Message.TheVariants as message
@@ -13,6 +13,7 @@ use Rattle.wasm_decode.specs.instr.declared.operator.Operator.{Operator}
 use Rattle.wasm_decode.specs.instr.Encoding.{EncodesOperator}
 use Rattle.wasm_decode.specs.instr.Kinds.{IsVector}
 use Rattle.wasm_decode.specs.instr.Roles.{role_of}
+use Rattle.wasm_operators_readers.specs.Expression.{Placed, OfPlaced}
 use Rattle.wasm_operators_readers.specs.Reading.{Taking, Refusing}
 
 -- What is taken is encoded.
@@ -34,9 +35,14 @@ IsNoVector op = IsVector op → ⊥
 abbrev pub TakesAll : Taking → Type 0
 TakesAll Encodes = TakesEach Everything Encodes
 
--- Each one that is no vector operator.
-abbrev pub TakesPlain : Taking → Type 0
-TakesPlain Encodes = TakesEach IsNoVector Encodes
+-- Each operator of the list is of this sort.
+abbrev pub AreEach : (Operator → Type 0) → OfPlaced
+AreEach Sort placed = (before after : Placed) (p : Operator × ℕ) → placed ≡ before ++ p ∷ after → Sort p.0
+
+-- Operators of this sort are taken, and the lists that are kept have no others.
+pub record Keeps (Sort : Operator → Type 0) (Kept : OfPlaced) (Encodes : Taking) : Type 0 where
+  pub takes : TakesEach Sort Encodes
+  pub each : (placed : Placed) → Kept placed → AreEach Sort placed
 
 -- No vector operator is taken.
 abbrev pub TakesNoVector : Taking → Type 0

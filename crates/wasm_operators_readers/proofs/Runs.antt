@@ -19,16 +19,16 @@ use Rattle.wasm_decode.proofs.of_grammar.Steps.{path_start}
 use Rattle.wasm_decode.specs.instr.declared.operator.Operator.{Operator}
 use Rattle.wasm_decode.specs.instr.Encoding.{EncodesOperator}
 use Rattle.wasm_decode.specs.instr.Roles.{role_of, roles_of}
-use Rattle.wasm_operators_readers.specs.Expression.{Placed, operators, LaidOut, AreEncoded, EncodesRest, IsBeginningBehind, IsLongestBehind}
-use Rattle.wasm_operators_readers.specs.Flat.{IsAllowedFrom, IsFlatFrom}
+use Rattle.wasm_operators_readers.specs.Expression.{Placed, OfPlaced, operators, LaidOut, AreEncoded, EncodesRest, IsBeginningBehind, IsLongestOf}
+use Rattle.wasm_operators_readers.specs.Flat.{IsAllowedFrom, IsFlatOf}
 use Rattle.wasm_operators_readers.specs.Openings.{opened_by, opened_along}
 use Rattle.wasm_operators_readers.specs.Reading.{Taking, Refusing, Needing, State, StopsRead, IsFresh, IsUnchanged, TakesOperator, Ran, StopsRun, Finishes, StopsFinish, EndsRun}
 use Rattle.wasm_operators_readers.specs.Headline.{StoodBefore, ReadsTree, BeginningAt, ReadsBeginning, IsWithinDepth, IsNotOutOfMemory}
 use Rattle.wasm_operators_readers.proofs.FlatLemmas.{allowed_begins, flat_longest}
 use Rattle.wasm_operators_readers.proofs.LayoutLemmas.{roles_of-append, operators-append, laid_push, laid_encoded, both_encoded, path_begins, not_empty, laid_goes_on, laid_no_longer, laid_same, one_longest, GoesOn, next_allowed}
-use Rattle.wasm_operators_readers.proofs.OneRead.{may_end, refused_none, is_memory}
+use Rattle.wasm_operators_readers.proofs.OneRead.{may_end, refused_none, is_memory, path_on, read_depth}
 use Rattle.wasm_operators_readers.proofs.OpeningLemmas.{twice_opened_along, along_length, opened_along-append}
-use Rattle.wasm_operators_readers.proofs.Premises.{Everything, IsSound, TakesEach, TakesAll}
+use Rattle.wasm_operators_readers.proofs.Premises.{AreEach, IsSound, Keeps, TakesEach}
 
 pub ran_start : (s : State) → Ran s s []
 ran_start s = record { text = []; takes = takes_none s.reader; laid = refl; frames = refl; room = omega arith }
@@ -92,6 +92,32 @@ stood_on before old new placed h r =
       path = subst (λ roles. OpenPath roles new.frames) (sym (roles_of-append before (operators placed))) path;
     }
 
+-- One operator more stands before the reader, where it was taken,
+pub stood_push : (Encodes : Taking) → IsSound Encodes → (before : List Operator) (op : Operator) (old new : State) → TakesOperator Encodes op old new →
+    StoodBefore before old → StoodBefore (before ++ op ∷ []) new
+stood_push Encodes sound before op old new t h =
+    let one : AreEncoded old.reader.features (op ∷ []) = ((t.text, sound old.reader.features t.kind t.text op t.encodes), tt) in
+    record {
+      encodes = subst (λ f. AreEncoded f (before ++ op ∷ [])) (sym (features_stay old.reader new.reader t.text t.takes))
+          (both_encoded old.reader.features before (op ∷ []) h.encodes one);
+      path = path_on before op old.frames new.frames h.path t.frames;
+    }
+
+-- and none where nothing changed.
+pub stood_still : (before : List Operator) (old new : State) → IsUnchanged old new → StoodBefore before old → StoodBefore before new
+stood_still before old new same h =
+    record {
+      encodes = subst (λ (r : Reader). AreEncoded r.features before) (sym same.0) h.encodes;
+      path = subst (OpenPath (roles_of before)) (sym same.1) h.path;
+    }
+
+-- Twice the frames that one operator added is at most the bytes that it took.
+pub taken_depth : (Encodes : Taking) → IsSound Encodes → (op : Operator) (old new : State) → TakesOperator Encodes op old new → IsWithinDepth old new
+taken_depth Encodes sound op old new t =
+    let few = read_depth Encodes sound op old new t in
+    let position : new.reader.position ≡ old.reader.position + length t.text = ap (λ (r : Reader). r.position) t.takes.moved in
+    omega (arith, few, position)
+
 -- Twice the frames that were added is at most the bytes that were taken.
 pub run_depth : (old new : State) (placed : Placed) → Ran old new placed → IsWithinDepth old new
 run_depth old new placed r =
@@ -153,56 +179,36 @@ ran_allowed old new placed r =
       allowed = IsSome_of (frames_along old.frames (roles_of (operators placed))) new.frames r.frames;
     }
 
--- Where nothing may follow it is the longest list.
-pub run_flat : (old new : State) (placed : Placed) → Ran old new placed → IsStuckFor Everything new → IsFlatFrom old.frames (source_of old.reader) placed
-run_flat old new placed r none = record { beginning = ran_allowed old new placed r; longest = not_longer }
+-- Where no operator of this sort may follow it is the longest list of those that are kept.
+pub run_flat : (Sort : Operator → Type 0) (Kept : OfPlaced) → ((ps : Placed) → Kept ps → AreEach Sort ps) → (old new : State) (placed : Placed) →
+    Ran old new placed → Kept placed → IsStuckFor Sort new → IsFlatOf Kept old.frames (source_of old.reader) placed
+run_flat Sort Kept each old new placed r kept none = record { beginning = ran_allowed old new placed r; kept = kept; longest = not_longer }
   where
-    goes_on : (others : Placed) → IsAllowedFrom old.frames (source_of old.reader) others → GoesOn old.reader.features placed others (rest new.reader) → ⊥
-    goes_on others other g =
+    goes_on : (others : Placed) → IsAllowedFrom old.frames (source_of old.reader) others → Kept others →
+        GoesOn old.reader.features placed others (rest new.reader) → ⊥
+    goes_on others other too g =
         let some = some_of (frames_along old.frames (roles_of (operators others))) other.allowed in
         let encodes = subst (λ f. EncodesOperator f g.next.0 g.text) (sym (features_stay old.reader new.reader r.text r.takes)) g.encodes in
         next_allowed old.reader.features old.frames new.frames some.0 placed others (rest new.reader) r.frames some.1 g
-        (none g.text g.more g.next.0 encodes tt g.bytes)
+        (none g.text g.more g.next.0 encodes (each others too placed g.others g.next g.parts) g.bytes)
 
-    not_longer : (others : Placed) → IsAllowedFrom old.frames (source_of old.reader) others → length others ≤ length placed
-    not_longer others other =
+    not_longer : (others : Placed) → IsAllowedFrom old.frames (source_of old.reader) others → Kept others → length others ≤ length placed
+    not_longer others other too =
         elim (cases_lt (length placed) (length others)) [
-          | inl lt ↦ absurd (goes_on others other (laid_goes_on old.reader.features (offset_of old.reader) placed others r.text other.beginning
+          | inl lt ↦ absurd (goes_on others other too (laid_goes_on old.reader.features (offset_of old.reader) placed others r.text other.beginning
               (rest new.reader) other.more r.laid other.laid (sym r.takes.parts ∙ other.parts) lt))
           | inr le ↦ le
         ]
-
-pub run_longest : (before : List Operator) (old new : State) (placed : Placed) → StoodBefore before old → Ran old new placed → IsStuckFor Everything new →
-    IsLongestBehind before (source_of old.reader) placed
-run_longest before old new placed h r none = flat_longest before old.frames (source_of old.reader) placed h.encodes h.path (run_flat old new placed r none)
 
 pub beginning_of_run : (before : List Operator) (old new : State) (placed : Placed) → StoodBefore before old → Ran old new placed →
     IsBeginningBehind before (source_of old.reader) placed
 beginning_of_run before old new placed h r =
     allowed_begins before old.frames (source_of old.reader) placed h.encodes h.path (ran_allowed old new placed r)
 
-beginning_at : (m : Message) (before : List Operator) (old new : State) (placed : Placed) → StoodBefore before old → Ran old new placed →
-    ((m ≡ message.OutOfMemory → ⊥) → IsStuckFor Everything new) → BeginningAt m before old.reader placed
-beginning_at message.OutOfMemory before old new placed h r none = beginning_of_run before old new placed h r
-beginning_at _ before old new placed h r none = run_longest before old new placed h r (none (λ is. absurd (cc is)))
-
-pub run_beginning : (Encodes : Taking) (Fault : Refusing) (Needs : Needing) → TakesAll Encodes → (before : List Operator) (e : Error) (old new : State)
-    (placed : Placed) → StoodBefore before old → Ran old new placed → StopsRun Encodes Fault Needs e new →
-    ReadsBeginning Encodes Fault Needs before e old new placed
-run_beginning Encodes Fault Needs all before e old new placed h r stops =
-    record {
-      at = beginning_at e.message before old new placed h r (stuck_run Encodes Fault Needs Everything all e new stops);
-      text = r.text;
-      takes = r.takes;
-      laid = r.laid;
-      stood = stood_on before old new placed h r;
-      stops = stops;
-    }
-
 -- What the bytes encode whole is the longest list.
-pub encoded_longest : (before : List Operator) (s : Source) (whole : Placed) → AreEncoded s.features before → EncodesRest before s whole →
-    IsLongestBehind before s whole
-encoded_longest before s whole encodes (laid, walked) =
+pub encoded_longest : (Kept : OfPlaced) (before : List Operator) (s : Source) (whole : Placed) → AreEncoded s.features before → EncodesRest before s whole →
+    Kept whole → IsLongestOf Kept before s whole
+encoded_longest Kept before s whole encodes (laid, walked) kept =
     record {
       beginning = record {
         beginning = s.bytes;
@@ -212,7 +218,8 @@ encoded_longest before s whole encodes (laid, walked) =
         begins = path_begins s.features (before ++ operators whole) [] walked
             (both_encoded s.features before (operators whole) encodes (laid_encoded s.features s.offset whole s.bytes laid));
       };
-      longest = λ others other.
+      kept = kept;
+      longest = λ others other too.
           laid_no_longer s.features s.offset whole others s.bytes other.beginning other.more laid other.laid (append-nil s.bytes ∙ other.parts);
     }
 
@@ -234,19 +241,45 @@ pub no_refusal : (Encodes : Taking) (Fault : Refusing) (Needs : Needing) (e : Er
 no_refusal Encodes Fault Needs e s (inl left) closed all = left.1 closed
 no_refusal Encodes Fault Needs e s (inr (left, stops)) closed all = left all
 
-pub run_only : (Encodes : Taking) (Fault : Refusing) (Needs : Needing) → TakesAll Encodes → (before : List Operator) (e : Error) (old new : State)
-    (placed whole : Placed) → StoodBefore before old → Ran old new placed → StopsRun Encodes Fault Needs e new →
-    EncodesRest before (source_of old.reader) whole → e.message ≡ message.OutOfMemory
-run_only Encodes Fault Needs all before e old new placed whole h r stops encodes =
-    elim (is_memory e.message) [
-      | inl is ↦ is
-      | inr other ↦ (
-          let longest = run_longest before old new placed h r (stuck_run Encodes Fault Needs Everything all e new stops other) in
-          let same = one_longest before (source_of old.reader) placed whole longest (encoded_longest before (source_of old.reader) whole h.encodes encodes) in
-          let end = whole_run before old new placed whole h r encodes same in
-          absurd (no_refusal Encodes Fault Needs e new stops end.0 end.1)
-          )
-    ]
+module _ (Sort : Operator → Type 0) (Kept : OfPlaced) (Encodes : Taking) (Fault : Refusing) (Needs : Needing) (keeps : Keeps Sort Kept Encodes) where
+  -- What was read is the longest list of those that are kept, memory aside.
+  pub run_longest : (before : List Operator) (e : Error) (old new : State) (placed : Placed) → StoodBefore before old → Ran old new placed → Kept placed →
+      StopsRun Encodes Fault Needs e new → (e.message ≡ message.OutOfMemory → ⊥) → IsLongestOf Kept before (source_of old.reader) placed
+  run_longest before e old new placed h r kept stops other =
+      flat_longest Kept before old.frames (source_of old.reader) placed h.encodes h.path
+      (run_flat Sort Kept keeps.each old new placed r kept (stuck_run Encodes Fault Needs Sort keeps.takes e new stops other))
+
+  beginning_at : (m : Message) (before : List Operator) (old new : State) (placed : Placed) → StoodBefore before old → Ran old new placed →
+      ((m ≡ message.OutOfMemory → ⊥) → IsLongestOf Kept before (source_of old.reader) placed) → BeginningAt Kept m before old.reader placed
+  beginning_at message.OutOfMemory before old new placed h r longest = beginning_of_run before old new placed h r
+  beginning_at _ before old new placed h r longest = longest (λ is. absurd (cc is))
+
+  pub run_beginning : (before : List Operator) (e : Error) (old new : State) (placed : Placed) → StoodBefore before old → Ran old new placed →
+      Kept placed → StopsRun Encodes Fault Needs e new → ReadsBeginning Kept Encodes Fault Needs before e old new placed
+  run_beginning before e old new placed h r kept stops =
+      record {
+        at = beginning_at e.message before old new placed h r (run_longest before e old new placed h r kept stops);
+        text = r.text;
+        takes = r.takes;
+        laid = r.laid;
+        stood = stood_on before old new placed h r;
+        stops = stops;
+      }
+
+  -- Where the bytes encode the rest of an expression that is kept, memory alone is refused.
+  pub run_only : (before : List Operator) (e : Error) (old new : State) (placed whole : Placed) → StoodBefore before old → Ran old new placed →
+      Kept placed → StopsRun Encodes Fault Needs e new → EncodesRest before (source_of old.reader) whole → Kept whole → e.message ≡ message.OutOfMemory
+  run_only before e old new placed whole h r kept stops encodes too =
+      elim (is_memory e.message) [
+        | inl is ↦ is
+        | inr other ↦ (
+            let longest = run_longest before e old new placed h r kept stops other in
+            let same = one_longest Kept before (source_of old.reader) placed whole longest
+            (encoded_longest Kept before (source_of old.reader) whole h.encodes encodes too) in
+            let end = whole_run before old new placed whole h r encodes same in
+            absurd (no_refusal Encodes Fault Needs e new stops end.0 end.1)
+            )
+      ]
 
 -- The reader's answer, by what it finds at the end of the data.
 finish_stops : (Encodes : Taking) (Fault : Refusing) (Needs : Needing) (m : Message) (e : Error) (s : State) → e.message ≡ m → rest s.reader ≡ [] →

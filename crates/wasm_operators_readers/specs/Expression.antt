@@ -15,6 +15,14 @@ Placed = List (Operator × ℕ)
 abbrev pub operators : Placed → List Operator
 operators placed = map (λ p. p.0) placed
 
+-- What is said of such a list.
+abbrev pub OfPlaced : Type 1
+OfPlaced = Placed → Type 0
+
+-- Nothing is: any list will do.
+abbrev pub IsAny : OfPlaced
+IsAny placed = Unit {0}
+
 -- The bytes are one encoding of each operator, joined, and each offset is where that encoding stands.
 abbrev pub LaidOut : WasmFeatures → ℕ → Placed → List ℕ → Type 0
 LaidOut f offset [] bytes = bytes ≡ []
@@ -50,10 +58,15 @@ pub record IsBeginningBehind (before : List Operator) (s : Source) (placed : Pla
   pub laid : LaidOut s.features s.offset placed beginning
   pub begins : Begins s.features (before ++ operators placed)
 
--- The longest such list.
-pub record IsLongestBehind (before : List Operator) (s : Source) (placed : Placed) : Type 0 where
+-- The longest such list of those of which this is so.
+pub record IsLongestOf (Kept : OfPlaced) (before : List Operator) (s : Source) (placed : Placed) : Type 0 where
   pub beginning : IsBeginningBehind before s placed
-  pub longest : (others : Placed) → IsBeginningBehind before s others → length others ≤ length placed
+  pub kept : Kept placed
+  pub longest : (others : Placed) → IsBeginningBehind before s others → Kept others → length others ≤ length placed
+
+-- The longest such list.
+abbrev pub IsLongestBehind : List Operator → Source → Placed → Type 0
+IsLongestBehind before s placed = IsLongestOf IsAny before s placed
 
 -- The longest list that some prefix of the bytes encodes and that begins an expression.
 abbrev pub IsLongestBeginning : Source → Placed → Type 0

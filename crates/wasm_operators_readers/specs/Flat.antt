@@ -8,7 +8,7 @@ use Rattle.wasm_decode.specs.grammar.declared.frame_kind.FrameKind.{FrameKind}
 use Rattle.wasm_decode.specs.grammar.declared.frame_kind.FrameKind.TheVariants as frame
 use Rattle.wasm_decode.specs.grammar.Frames.{frames_along}
 use Rattle.wasm_decode.specs.instr.Roles.{roles_of}
-use Rattle.wasm_operators_readers.specs.Expression.{Placed, operators, LaidOut}
+use Rattle.wasm_operators_readers.specs.Expression.{Placed, OfPlaced, IsAny, operators, LaidOut}
 
 -- Some prefix of the bytes encodes these operators, and from these frames on each is allowed.
 pub record IsAllowedFrom (frames : List FrameKind) (s : Source) (placed : Placed) : Type 0 where
@@ -18,10 +18,15 @@ pub record IsAllowedFrom (frames : List FrameKind) (s : Source) (placed : Placed
   pub laid : LaidOut s.features s.offset placed beginning
   pub allowed : IsSome (frames_along frames (roles_of (operators placed)))
 
--- The longest such list.
-pub record IsFlatFrom (frames : List FrameKind) (s : Source) (placed : Placed) : Type 0 where
+-- The longest such list of those of which this is so.
+pub record IsFlatOf (Kept : OfPlaced) (frames : List FrameKind) (s : Source) (placed : Placed) : Type 0 where
   pub beginning : IsAllowedFrom frames s placed
-  pub longest : (others : Placed) → IsAllowedFrom frames s others → length others ≤ length placed
+  pub kept : Kept placed
+  pub longest : (others : Placed) → IsAllowedFrom frames s others → Kept others → length others ≤ length placed
+
+-- The longest such list.
+abbrev pub IsFlatFrom : List FrameKind → Source → Placed → Type 0
+IsFlatFrom frames s placed = IsFlatOf IsAny frames s placed
 
 -- From the frame of the expression on.
 abbrev pub IsFlatBeginning : Source → Placed → Type 0

@@ -1,5 +1,5 @@
 -- What reading to the end says of the recursive grammar.
-use Rattle.std.specs.Prelude.{◌≡◌, ◌≢◌, ◌↔◌, ℕ, ◌+◌, ◌*◌, ◌≤◌, List, [], ◌++◌, length, replicate, Result, IsOk, IfErr, Some}
+use Rattle.std.specs.Prelude.{◌≡◌, ◌≢◌, ◌↔◌, ℕ, ◌+◌, ◌*◌, ◌≤◌, List, [], ◌++◌, length, replicate, Result, IsOk, IfErr, OnOk, Some, ◌⊎◌}
 use Rattle.wasm_decode.specs.below.bytes.error.Error.{Error}
 use Rattle.wasm_decode.specs.below.bytes.message.Message.{Message}
 use Rattle.wasm_decode.specs.below.bytes.message.Message.TheVariants as message
@@ -11,10 +11,9 @@ use Rattle.wasm_decode.specs.grammar.Frames.{frames_along}
 use Rattle.wasm_decode.specs.grammar.OpenPath.{OpenPath}
 use Rattle.wasm_decode.specs.instr.declared.operator.Operator.{Operator}
 use Rattle.wasm_decode.specs.instr.Roles.{roles_of}
-use Rattle.wasm_operators_readers.specs.Expression.{Placed, operators, LaidOut, AreEncoded, EncodesRest, IsBeginningBehind, IsLongestBehind, IsBeginningOf}
-use Rattle.wasm_operators_readers.specs.Flat.{IsFlatFrom}
+use Rattle.wasm_operators_readers.specs.Expression.{Placed, OfPlaced, operators, LaidOut, AreEncoded, EncodesRest, IsBeginningBehind, IsLongestOf, IsLongestBehind}
+use Rattle.wasm_operators_readers.specs.Flat.{IsFlatOf}
 use Rattle.wasm_operators_readers.specs.Reading.{State, Taking, Refusing, Needing, StopsRun}
-use Rattle.wasm_operators_readers.specs.Visiting.{Visited, plain_beginning, IsPlain}
 
 -- These operators stood before: they have encodings, and their open path leads to the frames of the reader. Before a fresh reader none stood.
 pub record StoodBefore (before : List Operator) (s : State) : Type 0 where
@@ -30,46 +29,24 @@ pub record ReadsTree (before : List Operator) (old new : State) (placed : Placed
   pub all : rest new.reader ≡ []
   pub takes : Takes old.reader new.reader (rest old.reader)
 
--- Which list was read where reading to the end fails: the longest, or where memory was refused a beginning of it.
-abbrev pub BeginningAt : Message → List Operator → Reader → Placed → Type 0
-BeginningAt message.OutOfMemory before r placed = IsBeginningBehind before (source_of r) placed
-BeginningAt _ before r placed = IsLongestBehind before (source_of r) placed
+-- Which list was read where reading to the end fails: of those that are kept the longest, or where memory was refused a beginning.
+abbrev pub BeginningAt : OfPlaced → Message → List Operator → Reader → Placed → Type 0
+BeginningAt Kept message.OutOfMemory before r placed = IsBeginningBehind before (source_of r) placed
+BeginningAt Kept _ before r placed = IsLongestOf Kept before (source_of r) placed
 
--- What was read is the longest beginning of an expression, the reader stands behind it, and the refusal is of what stands there.
-pub record ReadsBeginning (Encodes : Taking) (Fault : Refusing) (Needs : Needing) (before : List Operator) (e : Error) (old new : State)
+-- What was read is the longest beginning of an expression of those that are kept, the reader stands behind it, and the refusal is of what stands there.
+pub record ReadsBeginning (Kept : OfPlaced) (Encodes : Taking) (Fault : Refusing) (Needs : Needing) (before : List Operator) (e : Error) (old new : State)
     (placed : Placed) : Type 0 where
-  pub at : BeginningAt e.message before old.reader placed
+  pub at : BeginningAt Kept e.message before old.reader placed
   pub text : List ℕ
   pub takes : Takes old.reader new.reader text
   pub laid : LaidOut old.reader.features (offset_of old.reader) placed text
   pub stood : StoodBefore (before ++ operators placed) new
   pub stops : StopsRun Encodes Fault Needs e new
 
--- The same of a visitor that takes no vector operator: of the longest list it is the longest beginning without one, or where memory was refused a
--- beginning of that.
-abbrev pub PlainBeginningAt : Message → List Operator → Reader → Placed → Type 0
-PlainBeginningAt message.OutOfMemory before r placed =
-    IsBeginningBehind before (source_of r) placed × ((longest : Placed) → IsLongestBehind before (source_of r) longest →
-    IsBeginningOf placed (plain_beginning longest))
-PlainBeginningAt _ before r placed =
-    IsBeginningBehind before (source_of r) placed × ((longest : Placed) → IsLongestBehind before (source_of r) longest → placed ≡ plain_beginning longest)
-
-pub record ReadsPlainBeginning (Encodes : Taking) (Fault : Refusing) (Needs : Needing) (before : List Operator) (e : Error) (old new : State)
-    (placed : Placed) : Type 0 where
-  pub at : PlainBeginningAt e.message before old.reader placed
-  pub text : List ℕ
-  pub takes : Takes old.reader new.reader text
-  pub laid : LaidOut old.reader.features (offset_of old.reader) placed text
-  pub stood : StoodBefore (before ++ operators placed) new
-  pub stops : StopsRun Encodes Fault Needs e new
-
--- Something was added to the list, of which this is so.
-abbrev pub Appends : Placed → Placed → (Placed → Type 0) → Type 0
-Appends out_old out_new Of = (placed : Placed) × (out_new ≡ out_old ++ placed) × Of placed
-
--- A list was visited, of which this is so.
-abbrev pub VisitsAlong : {V A : Type 0} → (V → Operator → A → V → Type 0) → V → V → (Placed → Type 0) → Type 0
-VisitsAlong visits before after Of = (placed : Placed) × Visited visits before after placed × Of placed
+-- Some list of operators came, to which the first happened and of which the second is so.
+abbrev pub SomeCame : OfPlaced → OfPlaced → Type 0
+SomeCame Happened Of = (placed : Placed) × Happened placed × Of placed
 
 -- Memory was not refused.
 abbrev pub IsNotOutOfMemory : {X : Type 0} → Result X Error → Type 0
@@ -79,25 +56,12 @@ IsNotOutOfMemory result = IfErr result (λ e. e.message ≢ message.OutOfMemory)
 abbrev pub ClosesFrom : List FrameKind → Source → Placed → Type 0
 ClosesFrom frames s placed = LaidOut s.features s.offset placed s.bytes × (frames_along frames (roles_of (operators placed)) ≡ Some [])
 
--- Without trees: of the longest list that the frames allow step by step, that was read, memory aside, and the answer is Ok exactly where it takes all of
--- the bytes and closes every frame.
-abbrev pub ReadsFlat : {X : Type 0} → Result X Error → State → Placed → Placed → Type 0
-ReadsFlat result old out_old out_new =
-    (flat : Placed) → IsFlatFrom old.frames (source_of old.reader) flat → IsNotOutOfMemory result → (out_new ≡ out_old ++ flat) ×
+-- Without trees: the longest list of those that are kept that the frames allow step by step is the one that came, memory aside, and the answer is Ok exactly
+-- where it takes all of the bytes and closes every frame.
+abbrev pub ReadsFlat : {X : Type 0} → OfPlaced → OfPlaced → Result X Error → State → Type 0
+ReadsFlat Happened Kept result old =
+    (flat : Placed) → IsFlatOf Kept old.frames (source_of old.reader) flat → IsNotOutOfMemory result → Happened flat ×
     (IsOk result ↔ ClosesFrom old.frames (source_of old.reader) flat)
-
--- Without trees, of visits.
-abbrev pub VisitsFlat : {V A X : Type 0} → (V → Operator → A → V → Type 0) → Result X Error → State → V → V → Type 0
-VisitsFlat visits result old before after =
-    (flat : Placed) → IsFlatFrom old.frames (source_of old.reader) flat → IsNotOutOfMemory result → Visited visits before after flat ×
-    (IsOk result ↔ ClosesFrom old.frames (source_of old.reader) flat)
-
--- Without trees, of visits without vector operators: that list was visited up to its first vector operator, and the answer is Ok exactly where it has none,
--- takes all of the bytes and closes every frame.
-abbrev pub VisitsPlainFlat : {V A X : Type 0} → (V → Operator → A → V → Type 0) → Result X Error → State → V → V → Type 0
-VisitsPlainFlat visits result old before after =
-    (flat : Placed) → IsFlatFrom old.frames (source_of old.reader) flat → IsNotOutOfMemory result → Visited visits before after (plain_beginning flat) ×
-    (IsOk result ↔ (ClosesFrom old.frames (source_of old.reader) flat × IsPlain flat))
 
 -- Twice the frames that were added is at most the bytes that were taken.
 abbrev pub IsWithinDepth : State → State → Type 0
@@ -107,12 +71,13 @@ IsWithinDepth old new = 2 * length new.frames + old.reader.position ≤ 2 * leng
 abbrev pub with_behind : Source → List ℕ → Source
 with_behind s more = record { features = s.features; offset = s.offset; bytes = s.bytes ++ more }
 
--- More bytes make them the rest of an expression.
-pub record IsCut (before : List Operator) (s : Source) : Type 0 where
+-- More bytes make them the rest of an expression whose operators are kept.
+pub record IsCut (Kept : OfPlaced) (before : List Operator) (s : Source) : Type 0 where
   pub more : List ℕ
   pub some : more ≡ [] → ⊥
   pub whole : Placed
   pub encodes : EncodesRest before (with_behind s more) whole
+  pub kept : Kept whole
 
 -- Which refusal such bytes get, where these are left: a frame is open and all is taken; or the data ended within an operator; or memory was refused.
 abbrev pub CutFault : Message → List ℕ → Type 0
@@ -129,3 +94,21 @@ IsCompletedByEnds before s n = (whole : Placed) × EncodesRest before (with_behi
 abbrev pub IsCompletedIfCut : {X : Type 0} → List Operator → Result X Error → State → State → Type 0
 IsCompletedIfCut before result old new =
     IfErr result (λ e. e.message ≡ message.FramesRemain → IsCompletedByEnds before (source_of old.reader) (length new.frames))
+
+-- What reading or visiting to the end does behind these operators. The first word says what happened to the list that came (it was added to another, or
+-- visited), and the second which lists are kept (all, or those without vector operators).
+pub record ReadsRest {X : Type 0} (Happened Kept : OfPlaced) (Encodes : Taking) (Fault : Refusing) (Needs : Needing) (before : List Operator)
+    (result : Result X Error) (old new : State) : Type 0 where
+  -- On Ok what came is the rest of the one expression that the bytes encode: the walk of its tree.
+  pub tree : OnOk result (SomeCame Happened (ReadsTree before old new))
+  -- Where the bytes encode the rest of an expression that is kept, the answer is Ok, unless memory is refused.
+  pub only : (whole : Placed) → EncodesRest before (source_of old.reader) whole → Kept whole → IfErr result (λ e. e.message ≡ message.OutOfMemory)
+  -- On Err what came is the longest beginning of an expression of those that are kept, and the refusal is of what stands behind it.
+  pub beginning : IfErr result (λ e. SomeCame Happened (ReadsBeginning Kept Encodes Fault Needs before e old new))
+  -- Data that more bytes would make such an expression is refused by its end alone.
+  pub cut : IsCut Kept before (source_of old.reader) → IfErr result (λ e. CutFault e.message (rest new.reader))
+  -- Where all of it was taken and frames are open, as many bytes 0b complete it.
+  pub completed : IsCompletedIfCut before result old new
+  -- Where the longest beginning is not kept, its first vector operator is what is refused.
+  pub vector : (longest : Placed) → IsLongestBehind before (source_of old.reader) longest → (Kept longest → ⊥) →
+      IfErr result (λ e. (e.message ≡ message.UnexpectedSimd) ⊎ (e.message ≡ message.OutOfMemory))

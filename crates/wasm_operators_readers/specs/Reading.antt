@@ -12,9 +12,8 @@ use Rattle.wasm_decode.specs.grammar.declared.frame_kind.FrameKind.TheVariants a
 use Rattle.wasm_decode.specs.grammar.Frames.{frames_after, frames_along, innermost}
 use Rattle.wasm_decode.specs.instr.declared.operator.Operator.{Operator}
 use Rattle.wasm_decode.specs.instr.Roles.{role_of, roles_of}
-use Rattle.wasm_operators_readers.specs.Expression.{Placed, operators, LaidOut}
+use Rattle.wasm_operators_readers.specs.Expression.{Placed, OfPlaced, operators, LaidOut}
 use Rattle.wasm_operators_readers.specs.Openings.{opened_by, opened_along, LeadsFrame}
-use Rattle.wasm_operators_readers.specs.Visiting.{IsPlain, Visited}
 
 -- The text encodes an operator that is taken, under these features and in a frame of this kind.
 abbrev pub Taking : Type 1
@@ -122,17 +121,11 @@ abbrev pub EndsRun : {X : Type 0} → Taking → Refusing → Needing → Result
 EndsRun Encodes Fault Needs (Ok x) s = (s.frames ≡ []) × (rest s.reader ≡ [])
 EndsRun Encodes Fault Needs (Err e) s = StopsRun Encodes Fault Needs e s
 
--- Reading to the end: which operators came, and why no more.
-abbrev pub RunsToEnd : {X : Type 0} → Taking → Refusing → Needing → Result X Error → State → State → Placed → Placed → Type 0
-RunsToEnd Encodes Fault Needs result old new out_old out_new =
-    (placed : Placed) × (out_new ≡ out_old ++ placed) × Ran old new placed × EndsRun Encodes Fault Needs result new
+-- The list was added to another.
+abbrev pub Adds : Placed → Placed → Placed → Type 0
+Adds out_old out_new placed = out_new ≡ out_old ++ placed
 
--- Visiting to the end: which operators were visited, and why no more.
-abbrev pub VisitsToEnd : {V A X : Type 0} → (V → Operator → A → V → Type 0) → Taking → Refusing → Needing → Result X Error → State → State → V → V → Type 0
-VisitsToEnd visits Encodes Fault Needs result old new before after =
-    (placed : Placed) × Visited visits before after placed × Ran old new placed × EndsRun Encodes Fault Needs result new
-
--- The same of a visitor that takes no vector operator.
-abbrev pub VisitsPlainToEnd : {V A X : Type 0} → (V → Operator → A → V → Type 0) → Taking → Refusing → Needing → Result X Error → State → State → V → V → Type 0
-VisitsPlainToEnd visits Encodes Fault Needs result old new before after =
-    (placed : Placed) × Visited visits before after placed × IsPlain placed × Ran old new placed × EndsRun Encodes Fault Needs result new
+-- Reading or visiting to the end: which operators came, what happened to them, and why no more.
+abbrev pub RunsToEnd : {X : Type 0} → OfPlaced → Taking → Refusing → Needing → Result X Error → State → State → Type 0
+RunsToEnd Happened Encodes Fault Needs result old new =
+    (placed : Placed) × Happened placed × Ran old new placed × EndsRun Encodes Fault Needs result new

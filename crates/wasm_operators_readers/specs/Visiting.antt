@@ -28,3 +28,7 @@ plain_beginning (p ∷ ps) = cond (is_vector p.0) [] (p ∷ plain_beginning ps)
 -- The list has no vector operator.
 abbrev pub IsPlain : Placed → Type 0
 IsPlain placed = plain_beginning placed ≡ placed
+
+-- A list without vector operators was visited.
+abbrev pub VisitedPlain : {V A : Type 0} → (V → Operator → A → V → Type 0) → V → V → Placed → Type 0
+VisitedPlain visits before after placed = Visited visits before after placed × IsPlain placed

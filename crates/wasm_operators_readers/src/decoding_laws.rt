@@ -3,8 +3,9 @@ ghost use Rattle.std.specs.Prelude.{◌≡◌, ◌↔◌, ℕ, []};
 ghost use Rattle.wasm_decode.specs.below.bytes.error.Error.{Error};
 ghost use Rattle.wasm_decode.specs.below.Refusal.{IsReadFault};
 ghost use Rattle.wasm_decode.specs.below.Source.{Reader, rest, BeginsWith};
-ghost use Rattle.wasm_decode.specs.opcodes.Allowed.{EncodesAllowed};
+ghost use Rattle.wasm_decode.specs.opcodes.Allowed.{EncodesAllowed, EncodesPlain};
 ghost use Rattle.wasm_decode.specs.opcodes.OperatorFaults.{OperatorFault, PlainOperatorFault};
+ghost use Rattle.wasm_operators_readers.specs.Next.{NeedsNext};
 ghost use Rattle.wasm_operators_readers.specs.Reading.{State, StopsRun, Anywhere};
 
 use wasm_decode::below::{Message, WasmFeatures};
@@ -24,12 +25,20 @@ pub fn vector_refusals(features: WasmFeatures, frame: FrameKind)
         → BeginsWith 0xfd (rest r) → m ≡ Message.UnexpectedSimd }
 {}
 
-/// Where reading to the end is refused, the message tells whether a frame is open: allocation
-/// failure aside, it is `OperatorsRemaining` exactly where none is; and it is `FramesRemain` exactly
-/// where one is and all data is taken.
+/// Where reading or visiting to the end is refused, the message tells whether a frame is open:
+/// allocation failure aside, it is `OperatorsRemaining` exactly where none is; and it is `FramesRemain`
+/// exactly where one is and all data is taken.
 pub fn run_messages()
     ensures closed { (e : Error) (s : State) → StopsRun EncodesAllowed OperatorFault Anywhere e s
         → (e.message ≡ Message.OutOfMemory → ⊥) → (e.message ≡ Message.OperatorsRemaining) ↔ (s.frames ≡ []) }
     ensures left { (e : Error) (s : State) → StopsRun EncodesAllowed OperatorFault Anywhere e s
+        → (e.message ≡ Message.FramesRemain) ↔ ((rest s.reader ≡ []) × (s.frames ≡ [] → ⊥)) }
+    ensures visits_closed { (e : Error) (s : State) → StopsRun EncodesAllowed OperatorFault (NeedsNext EncodesAllowed) e s
+        → (e.message ≡ Message.OutOfMemory → ⊥) → (e.message ≡ Message.OperatorsRemaining) ↔ (s.frames ≡ []) }
+    ensures visits_left { (e : Error) (s : State) → StopsRun EncodesAllowed OperatorFault (NeedsNext EncodesAllowed) e s
+        → (e.message ≡ Message.FramesRemain) ↔ ((rest s.reader ≡ []) × (s.frames ≡ [] → ⊥)) }
+    ensures plain_closed { (e : Error) (s : State) → StopsRun EncodesPlain PlainOperatorFault (NeedsNext EncodesPlain) e s
+        → (e.message ≡ Message.OutOfMemory → ⊥) → (e.message ≡ Message.OperatorsRemaining) ↔ (s.frames ≡ []) }
+    ensures plain_left { (e : Error) (s : State) → StopsRun EncodesPlain PlainOperatorFault (NeedsNext EncodesPlain) e s
         → (e.message ≡ Message.FramesRemain) ↔ ((rest s.reader ≡ []) × (s.frames ≡ [] → ⊥)) }
 {}

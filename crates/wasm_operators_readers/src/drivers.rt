@@ -1,14 +1,13 @@
 //! Reading and visiting to the end of the data.
-ghost use Rattle.std.specs.Prelude.{◌≡◌, ◌+◌, ◌<◌, [], List, ◌++◌, ◌⊎◌, OnOk, IfErr, vec_capacity, vec_len};
-ghost use Rattle.wasm_decode.specs.below.Source.{rest, source_of};
+ghost use Rattle.std.specs.Prelude.{◌≡◌, ◌+◌, ◌<◌, List, ◌⊎◌, IfErr, vec_capacity, vec_len};
 ghost use Rattle.wasm_decode.specs.instr.declared.operator.Operator.{Operator};
 ghost use Rattle.wasm_decode.specs.opcodes.Allowed.{EncodesAllowed, EncodesPlain};
 ghost use Rattle.wasm_decode.specs.opcodes.OperatorFaults.{OperatorFault, PlainOperatorFault};
 ghost use Rattle.wasm_operators_readers.specs.Next.{NeedsNext};
-ghost use Rattle.wasm_operators_readers.specs.Expression.{Placed, EncodesRest, EncodesExpression, IsLongestBehind, IsLongestBeginning};
-ghost use Rattle.wasm_operators_readers.specs.Visiting.{IsPlain};
-ghost use Rattle.wasm_operators_readers.specs.Reading.{RunsToEnd, VisitsToEnd, VisitsPlainToEnd, Anywhere, IsFresh};
-ghost use Rattle.wasm_operators_readers.specs.Headline.{StoodBefore, ReadsTree, ReadsBeginning, ReadsPlainBeginning, Appends, VisitsAlong, ReadsFlat, VisitsFlat, VisitsPlainFlat, IsCut, IsCompletedIfCut, CutFault, IsWithinDepth};
+ghost use Rattle.wasm_operators_readers.specs.Expression.{IsAny};
+ghost use Rattle.wasm_operators_readers.specs.Visiting.{Visited, VisitedPlain, IsPlain};
+ghost use Rattle.wasm_operators_readers.specs.Reading.{RunsToEnd, Adds, Anywhere};
+ghost use Rattle.wasm_operators_readers.specs.Headline.{StoodBefore, ReadsRest, ReadsFlat, IsWithinDepth};
 
 use crate::operators::OperatorsReader;
 use wasm_decode::below::{Error, Message, Result};
@@ -18,7 +17,8 @@ use wasm_decode::visitors::{VisitOperator, VisitSimdOperator};
 impl<'a> OperatorsReader<'a> {
     /// Reads up to the end of the data or a refusal, and finishes.
     fn read_to_end(&mut self, out: &mut Vec<(Operator<'a>, u64)>) -> Result<()>
-        ensures runs { RunsToEnd EncodesAllowed OperatorFault Anywhere result self.old self.new out.old.items out.new.items }
+        ensures runs { RunsToEnd (Adds out.old.items out.new.items) EncodesAllowed OperatorFault Anywhere
+            result self.old self.new }
         ensures memory { IfErr result
             (λ e. e.message ≡ Message.OutOfMemory
             → NeedsNext EncodesAllowed self.new ⊎ (vec_capacity out.new < vec_len out.new + 1)) }
@@ -40,40 +40,30 @@ impl<'a> OperatorsReader<'a> {
     /// `out` with their offsets.
     ///
     /// Refusals are those of `read` and `finish`; `OutOfMemory` also where `out` can't grow, at the
-    /// position. The reader then stands behind what was added, and the call can be made again: what
-    /// the clauses whose names begin with `rest` say holds of a reader that has read operators
-    /// before, with those put before the list.
+    /// position. The reader then stands behind what was added, and the call can be made again.
+    ///
+    /// The clause `rest` is of a reader that has read operators before, and puts these before the
+    /// list. Before a new one none stood (`OperatorsReader::new`, clause `stood`).
+    ///
+    /// # Examples
+    ///
+    /// What this answers of bytes that encode an expression is its walk, unless memory is refused;
+    /// a caller has it from `read_all.ensures.rest [] (new.ensures.stood)`, fields `tree` and `only`.
+    ///
+    /// ```
+    /// let mut found = Vec::new(alloc);
+    /// OperatorsReader::new(alloc, BinaryReader::new(bytes, 0)).read_all(&mut found)?;
+    /// ```
     pub fn read_all(&mut self, out: &mut Vec<(Operator<'a>, u64)>) -> Result<()>
-        // On Ok what was added is the walk of the one tree that the bytes encode.
-        ensures tree { IsFresh self.old
-            → OnOk result (Appends out.old.items out.new.items (ReadsTree [] self.old self.new)) }
-        // Where the bytes encode an expression, it is read, unless memory is refused.
-        ensures only { IsFresh self.old → (placed : Placed) → EncodesExpression (source_of self.old.reader) placed
-            → IfErr result (λ e. e.message ≡ Message.OutOfMemory) }
-        // Else what was added is the longest beginning of an expression, and the refusal is of what stands behind it.
-        ensures beginning { IsFresh self.old
-            → IfErr result (λ e. Appends out.old.items out.new.items
-            (ReadsBeginning EncodesAllowed OperatorFault Anywhere [] e self.old self.new)) }
-        // Data that more bytes would make an expression is refused by its end alone.
-        ensures cut { IsFresh self.old → IsCut [] (source_of self.old.reader)
-            → IfErr result (λ e. CutFault e.message (rest self.new.reader)) }
-        ensures rest_tree { (before : List Operator) → StoodBefore before self.old
-            → OnOk result (Appends out.old.items out.new.items (ReadsTree before self.old self.new)) }
-        ensures rest_only { (before : List Operator) → StoodBefore before self.old
-            → (placed : Placed) → EncodesRest before (source_of self.old.reader) placed
-            → IfErr result (λ e. e.message ≡ Message.OutOfMemory) }
-        ensures rest_beginning { (before : List Operator) → StoodBefore before self.old
-            → IfErr result (λ e. Appends out.old.items out.new.items
-            (ReadsBeginning EncodesAllowed OperatorFault Anywhere before e self.old self.new)) }
-        ensures rest_cut { (before : List Operator) → StoodBefore before self.old
-            → IsCut before (source_of self.old.reader)
-            → IfErr result (λ e. CutFault e.message (rest self.new.reader)) }
-        // Where all of it was read and frames are open, as many bytes 0b complete it.
-        ensures completed { IsFresh self.old → IsCompletedIfCut [] result self.old self.new }
-        ensures rest_completed { (before : List Operator) → StoodBefore before self.old
-            → IsCompletedIfCut before result self.old self.new }
+        // On Ok what was added is the walk of the one tree that the bytes encode; else the longest beginning of one.
+        ensures rest { (before : List Operator) → StoodBefore before self.old
+            → ReadsRest (Adds out.old.items out.new.items) IsAny EncodesAllowed OperatorFault Anywhere
+            before result self.old self.new }
+        // Whatever was read before: which operators were added, where the reader stands, and why no more came.
+        ensures runs { RunsToEnd (Adds out.old.items out.new.items) EncodesAllowed OperatorFault Anywhere
+            result self.old self.new }
         // The same without trees, by the frames alone.
-        ensures flat { ReadsFlat result self.old out.old.items out.new.items }
+        ensures flat { ReadsFlat (Adds out.old.items out.new.items) IsAny result self.old }
         // Few frames are opened.
         ensures depth { IsWithinDepth self.old self.new }
         // Memory is refused only where one read may ask for it, or where `out` is full.
@@ -89,8 +79,8 @@ impl<'a> OperatorsReader<'a> {
     where
         V: VisitOperator<'a> + VisitSimdOperator,
         V::Output: Copy,
-        ensures { VisitsToEnd V.visits EncodesAllowed OperatorFault (NeedsNext EncodesAllowed)
-            result self.old self.new v.old v.new }
+        ensures { RunsToEnd (Visited V.visits v.old v.new) EncodesAllowed OperatorFault (NeedsNext EncodesAllowed)
+            result self.old self.new }
     {
         'visits: while !self.eof() {
             match self.visit_operator_simd(v) {
@@ -105,41 +95,22 @@ impl<'a> OperatorsReader<'a> {
     /// finishes. What the visits answer is not kept.
     ///
     /// Refusals are those of `visit_operator_simd` and `finish`. The reader then stands behind what
-    /// was visited, and the call can be made again, as that of `read_all`.
+    /// was visited, and the call can be made again. The clauses are those of `read_all`, of what was
+    /// visited.
     pub fn visit_all_simd<V>(&mut self, v: &mut V) -> Result<()>
     where
         V: VisitOperator<'a> + VisitSimdOperator,
         V::Output: Copy,
-        // On Ok the visitor went along the walk of the one tree that the bytes encode.
-        ensures tree { IsFresh self.old
-            → OnOk result (VisitsAlong V.visits v.old v.new (ReadsTree [] self.old self.new)) }
-        // Where the bytes encode an expression, it is visited, unless memory is refused.
-        ensures only { IsFresh self.old → (placed : Placed) → EncodesExpression (source_of self.old.reader) placed
-            → IfErr result (λ e. e.message ≡ Message.OutOfMemory) }
-        // Else the visitor went along the longest beginning of an expression, and the refusal is of what stands behind it.
-        ensures beginning { IsFresh self.old
-            → IfErr result (λ e. VisitsAlong V.visits v.old v.new
-            (ReadsBeginning EncodesAllowed OperatorFault (NeedsNext EncodesAllowed) [] e self.old self.new)) }
-        // Data that more bytes would make an expression is refused by its end alone.
-        ensures cut { IsFresh self.old → IsCut [] (source_of self.old.reader)
-            → IfErr result (λ e. CutFault e.message (rest self.new.reader)) }
-        ensures rest_tree { (before : List Operator) → StoodBefore before self.old
-            → OnOk result (VisitsAlong V.visits v.old v.new (ReadsTree before self.old self.new)) }
-        ensures rest_only { (before : List Operator) → StoodBefore before self.old
-            → (placed : Placed) → EncodesRest before (source_of self.old.reader) placed
-            → IfErr result (λ e. e.message ≡ Message.OutOfMemory) }
-        ensures rest_beginning { (before : List Operator) → StoodBefore before self.old
-            → IfErr result (λ e. VisitsAlong V.visits v.old v.new
-            (ReadsBeginning EncodesAllowed OperatorFault (NeedsNext EncodesAllowed) before e self.old self.new)) }
-        ensures rest_cut { (before : List Operator) → StoodBefore before self.old
-            → IsCut before (source_of self.old.reader)
-            → IfErr result (λ e. CutFault e.message (rest self.new.reader)) }
-        // Where all of it was visited and frames are open, as many bytes 0b complete it.
-        ensures completed { IsFresh self.old → IsCompletedIfCut [] result self.old self.new }
-        ensures rest_completed { (before : List Operator) → StoodBefore before self.old
-            → IsCompletedIfCut before result self.old self.new }
+        // On Ok the visitor went along the walk of the one tree that the bytes encode; else along the longest beginning
+        // of one.
+        ensures rest { (before : List Operator) → StoodBefore before self.old
+            → ReadsRest (Visited V.visits v.old v.new) IsAny EncodesAllowed OperatorFault (NeedsNext EncodesAllowed)
+            before result self.old self.new }
+        // Whatever was read before: which operators were visited, where the reader stands, and why no more came.
+        ensures runs { RunsToEnd (Visited V.visits v.old v.new) EncodesAllowed OperatorFault (NeedsNext EncodesAllowed)
+            result self.old self.new }
         // The same without trees, by the frames alone.
-        ensures flat { VisitsFlat V.visits result self.old v.old v.new }
+        ensures flat { ReadsFlat (Visited V.visits v.old v.new) IsAny result self.old }
         // Few frames are opened.
         ensures depth { IsWithinDepth self.old self.new }
     {
@@ -150,8 +121,8 @@ impl<'a> OperatorsReader<'a> {
     fn visit_to_end<V: VisitOperator<'a>>(&mut self, v: &mut V) -> Result<()>
     where
         V::Output: Copy,
-        ensures { VisitsPlainToEnd V.visits EncodesPlain PlainOperatorFault (NeedsNext EncodesPlain)
-            result self.old self.new v.old v.new }
+        ensures { RunsToEnd (VisitedPlain V.visits v.old v.new) EncodesPlain PlainOperatorFault (NeedsNext EncodesPlain)
+            result self.old self.new }
     {
         'plain_visits: while !self.eof() {
             match self.visit_operator(v) {
@@ -166,45 +137,22 @@ impl<'a> OperatorsReader<'a> {
     /// finishes. What the visits answer is not kept.
     ///
     /// Refusals are those of `visit_operator` and `finish`. The reader then stands behind what was
-    /// visited, and the call can be made again, as that of `read_all`.
+    /// visited, and the call can be made again. The clauses are those of `read_all`, of what was
+    /// visited, where lists without vector operators are kept.
     pub fn visit_all<V: VisitOperator<'a>>(&mut self, v: &mut V) -> Result<()>
     where
         V::Output: Copy,
-        // On Ok the visitor went along the walk of the one tree that the bytes encode, which has no vector operator.
-        ensures tree { IsFresh self.old
-            → OnOk result (VisitsAlong V.visits v.old v.new
-            (λ placed. ReadsTree [] self.old self.new placed × IsPlain placed)) }
-        // Where the bytes encode an expression without vector operators, it is visited, unless memory is refused.
-        ensures only { IsFresh self.old → (placed : Placed) → EncodesExpression (source_of self.old.reader) placed
-            → IsPlain placed
-            → IfErr result (λ e. e.message ≡ Message.OutOfMemory) }
-        // Else the visitor went along the longest beginning of an expression up to its first vector operator.
-        ensures beginning { IsFresh self.old
-            → IfErr result (λ e. VisitsAlong V.visits v.old v.new
-            (ReadsPlainBeginning EncodesPlain PlainOperatorFault (NeedsNext EncodesPlain) [] e self.old self.new)) }
-        // Where it has one, the refusal says so.
-        ensures vector { IsFresh self.old → (longest : Placed) → IsLongestBeginning (source_of self.old.reader) longest
-            → ¬ IsPlain longest
-            → IfErr result (λ e. (e.message ≡ Message.UnexpectedSimd) ⊎ (e.message ≡ Message.OutOfMemory)) }
-        ensures rest_tree { (before : List Operator) → StoodBefore before self.old
-            → OnOk result (VisitsAlong V.visits v.old v.new
-            (λ placed. ReadsTree before self.old self.new placed × IsPlain placed)) }
-        ensures rest_only { (before : List Operator) → StoodBefore before self.old
-            → (placed : Placed) → EncodesRest before (source_of self.old.reader) placed → IsPlain placed
-            → IfErr result (λ e. e.message ≡ Message.OutOfMemory) }
-        ensures rest_beginning { (before : List Operator) → StoodBefore before self.old
-            → IfErr result (λ e. VisitsAlong V.visits v.old v.new
-            (ReadsPlainBeginning EncodesPlain PlainOperatorFault (NeedsNext EncodesPlain)
-            before e self.old self.new)) }
-        ensures rest_vector { (before : List Operator) → StoodBefore before self.old
-            → (longest : Placed) → IsLongestBehind before (source_of self.old.reader) longest → ¬ IsPlain longest
-            → IfErr result (λ e. (e.message ≡ Message.UnexpectedSimd) ⊎ (e.message ≡ Message.OutOfMemory)) }
-        // Where all of it was visited and frames are open, as many bytes 0b complete it.
-        ensures completed { IsFresh self.old → IsCompletedIfCut [] result self.old self.new }
-        ensures rest_completed { (before : List Operator) → StoodBefore before self.old
-            → IsCompletedIfCut before result self.old self.new }
+        // On Ok the visitor went along the walk of the one tree that the bytes encode, which has no vector operator;
+        // else along the longest beginning of one that has none, and a vector operator behind it is refused as such.
+        ensures rest { (before : List Operator) → StoodBefore before self.old
+            → ReadsRest (VisitedPlain V.visits v.old v.new) IsPlain EncodesPlain PlainOperatorFault
+            (NeedsNext EncodesPlain) before result self.old self.new }
+        // Whatever was read before: which operators were visited, none a vector operator, where the reader stands, and
+        // why no more came.
+        ensures runs { RunsToEnd (VisitedPlain V.visits v.old v.new) EncodesPlain PlainOperatorFault
+            (NeedsNext EncodesPlain) result self.old self.new }
         // The same without trees, by the frames alone.
-        ensures flat { VisitsPlainFlat V.visits result self.old v.old v.new }
+        ensures flat { ReadsFlat (VisitedPlain V.visits v.old v.new) IsPlain result self.old }
         // Few frames are opened.
         ensures depth { IsWithinDepth self.old self.new }
     {

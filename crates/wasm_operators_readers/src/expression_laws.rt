@@ -2,11 +2,13 @@
 //! a function that does nothing.
 ghost use Rattle.std.specs.Prelude.{◌≡◌, ◌↔◌, ◌*◌, ◌<◌, ◌≤◌, ℕ, List, [], ◌∷◌, ◌++◌, length};
 ghost use Rattle.wasm_decode.specs.below.Source.{Source, BeginsWith};
+ghost use Rattle.wasm_decode.specs.grammar.declared.frame_kind.FrameKind.{FrameKind};
 ghost use Rattle.wasm_decode.specs.instr.declared.operator.Operator.{Operator};
 ghost use Rattle.wasm_decode.specs.instr.Encoding.{EncodesOperator};
 ghost use Rattle.wasm_decode.specs.instr.Kinds.{IsVector};
-ghost use Rattle.wasm_operators_readers.specs.Expression.{Placed, LaidOut, EncodesExpression, IsBeginningOf, IsLongestBeginning};
-ghost use Rattle.wasm_operators_readers.specs.Flat.{IsFlatBeginning};
+ghost use Rattle.wasm_operators_readers.specs.Expression.{Placed, LaidOut, EncodesExpression, IsBeginningOf, IsBeginningBehind, IsLongestOf, IsLongestBehind, IsLongestBeginning};
+ghost use Rattle.wasm_operators_readers.specs.Flat.{IsFlatOf, IsFlatFrom, IsFlatBeginning};
+ghost use Rattle.wasm_operators_readers.specs.Headline.{ClosesFrom};
 ghost use Rattle.wasm_operators_readers.specs.Openings.{opened_by, LeadsFrame};
 ghost use Rattle.wasm_operators_readers.specs.Visiting.{plain_beginning, IsPlain};
 
@@ -53,6 +55,20 @@ pub fn plain_beginnings()
         → plain_beginning placed ≡ before ++ (op, at) ∷ after → ¬ IsVector op }
     ensures longest { (placed others : Placed)
         → IsBeginningOf others placed → IsPlain others → IsBeginningOf others (plain_beginning placed) }
+{}
+
+/// The longest beginning without vector operators is the plain beginning of the longest one, and each
+/// beginning without them is a beginning of that; by frames alone too. That it takes all of the bytes
+/// and closes every frame, the longest does where it is plain.
+pub fn plain_longest()
+    ensures exactly { (before : List Operator) (s : Source) (longest placed : Placed) → IsLongestBehind before s longest
+        → IsLongestOf IsPlain before s placed ↔ (placed ≡ plain_beginning longest) }
+    ensures part { (before : List Operator) (s : Source) (longest placed : Placed) → IsLongestBehind before s longest
+        → IsBeginningBehind before s placed → IsPlain placed → IsBeginningOf placed (plain_beginning longest) }
+    ensures flat { (frames : List FrameKind) (s : Source) (flat : Placed) → IsFlatFrom frames s flat
+        → IsFlatOf IsPlain frames s (plain_beginning flat) }
+    ensures closes { (frames : List FrameKind) (s : Source) (flat : Placed) → IsFlatFrom frames s flat
+        → ClosesFrom frames s (plain_beginning flat) ↔ (ClosesFrom frames s flat × IsPlain flat) }
 {}
 
 /// Twice the frames that an operator opens is at most the bytes that it takes; and it opens one

@@ -5,9 +5,10 @@ ghost use Rattle.wasm_decode.specs.instr.declared.operator.Operator.{Operator};
 ghost use Rattle.wasm_decode.specs.opcodes.Allowed.{EncodesAllowed, EncodesPlain};
 ghost use Rattle.wasm_decode.specs.opcodes.OperatorFaults.{OperatorFault, PlainOperatorFault};
 ghost use Rattle.wasm_operators_readers.specs.Next.{NeedsNext, StopsNext};
-ghost use Rattle.wasm_operators_readers.specs.Expression.{Placed};
+ghost use Rattle.wasm_operators_readers.specs.Expression.{Placed, IsAny};
 ghost use Rattle.wasm_operators_readers.specs.Reading.{State, TakesOperator, Anywhere};
 ghost use Rattle.wasm_operators_readers.specs.Headline.{ReadsBeginning};
+ghost use Rattle.wasm_operators_readers.specs.Visiting.{IsPlain};
 
 use wasm_decode::below::Message;
 
@@ -39,14 +40,23 @@ pub fn not_taken()
 /// and offset.
 pub fn one_answer()
     ensures reads { (before : List Operator) (d e : Error) (old new end : State) (placed others : Placed)
-        → ReadsBeginning EncodesAllowed OperatorFault Anywhere before d old new placed → d.message ≢ Message.OutOfMemory
-        → ReadsBeginning EncodesAllowed OperatorFault Anywhere before e old end others → e.message ≢ Message.OutOfMemory
+        → ReadsBeginning IsAny EncodesAllowed OperatorFault Anywhere before d old new placed
+        → d.message ≢ Message.OutOfMemory
+        → ReadsBeginning IsAny EncodesAllowed OperatorFault Anywhere before e old end others
+        → e.message ≢ Message.OutOfMemory
         → (placed ≡ others) × (end.reader ≡ new.reader) × (end.frames ≡ new.frames) × (d.message ≡ e.message)
         × (d.offset ≡ e.offset) }
     ensures visits { (before : List Operator) (d e : Error) (old new end : State) (placed others : Placed)
-        → ReadsBeginning EncodesAllowed OperatorFault (NeedsNext EncodesAllowed) before d old new placed
+        → ReadsBeginning IsAny EncodesAllowed OperatorFault (NeedsNext EncodesAllowed) before d old new placed
         → d.message ≢ Message.OutOfMemory
-        → ReadsBeginning EncodesAllowed OperatorFault (NeedsNext EncodesAllowed) before e old end others
+        → ReadsBeginning IsAny EncodesAllowed OperatorFault (NeedsNext EncodesAllowed) before e old end others
+        → e.message ≢ Message.OutOfMemory
+        → (placed ≡ others) × (end.reader ≡ new.reader) × (end.frames ≡ new.frames) × (d.message ≡ e.message)
+        × (d.offset ≡ e.offset) }
+    ensures plain { (before : List Operator) (d e : Error) (old new end : State) (placed others : Placed)
+        → ReadsBeginning IsPlain EncodesPlain PlainOperatorFault (NeedsNext EncodesPlain) before d old new placed
+        → d.message ≢ Message.OutOfMemory
+        → ReadsBeginning IsPlain EncodesPlain PlainOperatorFault (NeedsNext EncodesPlain) before e old end others
         → e.message ≢ Message.OutOfMemory
         → (placed ≡ others) × (end.reader ≡ new.reader) × (end.frames ≡ new.frames) × (d.message ≡ e.message)
         × (d.offset ≡ e.offset) }

@@ -2,6 +2,7 @@
 ghost use Rattle.std.specs.Prelude.{◌≡◌, ◌↔◌, ◌≤◌, ◌∷◌, [], IsTrue, IfOk, IfErr};
 ghost use Rattle.wasm_decode.specs.below.Source.{rest, offset_of};
 ghost use Rattle.wasm_operators_readers.specs.Reading.{Finishes, IsFresh};
+ghost use Rattle.wasm_operators_readers.specs.Headline.{StoodBefore};
 ghost use Rattle.wasm_operators_readers.specs.Next.{ReadsNext, VisitsNext, VisitsNextPlain};
 
 mod stack;
@@ -37,11 +38,12 @@ impl<'a> Model for OperatorsReader<'a> {
 }
 
 impl<'a> OperatorsReader<'a> {
-    /// A reader of the expression that begins where this reader stands: one frame is open. It takes
-    /// no memory.
+    /// A reader of the expression that begins where this reader stands: one frame is open, and no
+    /// operator stood before it. It takes no memory.
     pub fn new(alloc: Global, reader: BinaryReader<'a>) -> OperatorsReader<'a>
         ensures reader { result.reader ≡ reader.entry }
         ensures fresh { IsFresh result }
+        ensures stood { StoodBefore [] result }
     {
         OperatorsReader::new_with_allocs(alloc, reader, OperatorsReaderAllocations::new(alloc))
     }
@@ -54,6 +56,7 @@ impl<'a> OperatorsReader<'a> {
     ) -> OperatorsReader<'a>
         ensures reader { result.reader ≡ reader.entry }
         ensures fresh { IsFresh result }
+        ensures stood { StoodBefore [] result }
         ensures room { allocs ≤ result.room }
     {
         OperatorsReader {

@@ -1,9 +1,28 @@
 //! Laws of readers of operators. Each is the contract of a function that does nothing.
-ghost use Rattle.std.specs.Prelude.{[], List};
-ghost use Rattle.wasm_operators_readers.specs.Reading.{State, IsFresh};
-ghost use Rattle.wasm_operators_readers.specs.Headline.{StoodBefore};
+ghost use Rattle.std.specs.Prelude.{[], ◌∷◌, ◌++◌, List};
+ghost use Rattle.wasm_decode.specs.instr.declared.operator.Operator.{Operator};
+ghost use Rattle.wasm_decode.specs.opcodes.Allowed.{EncodesAllowed, EncodesPlain};
+ghost use Rattle.wasm_operators_readers.specs.Reading.{State, IsFresh, IsUnchanged, TakesOperator};
+ghost use Rattle.wasm_operators_readers.specs.Headline.{StoodBefore, IsWithinDepth};
 
 /// Before a reader that has read nothing, no operator stood.
 pub fn fresh_readers()
     ensures { (s : State) → IsFresh s → StoodBefore [] s }
+{}
+
+/// Behind one operator that was taken it stands with those before it; behind a refusal these stand
+/// alone. So the clauses of `read_all` and its kin are of use behind single reads and visits too.
+pub fn one_operator()
+    ensures any { (before : List Operator) (op : Operator) (old new : State)
+        → TakesOperator EncodesAllowed op old new → StoodBefore before old → StoodBefore (before ++ op ∷ []) new }
+    ensures plain { (before : List Operator) (op : Operator) (old new : State)
+        → TakesOperator EncodesPlain op old new → StoodBefore before old → StoodBefore (before ++ op ∷ []) new }
+    ensures refused { (before : List Operator) (old new : State)
+        → IsUnchanged old new → StoodBefore before old → StoodBefore before new }
+{}
+
+/// Twice the frames that one operator added is at most the bytes that it took.
+pub fn one_depth()
+    ensures any { (op : Operator) (old new : State) → TakesOperator EncodesAllowed op old new → IsWithinDepth old new }
+    ensures plain { (op : Operator) (old new : State) → TakesOperator EncodesPlain op old new → IsWithinDepth old new }
 {}
