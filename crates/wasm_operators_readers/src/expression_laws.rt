@@ -6,7 +6,7 @@ ghost use Rattle.wasm_decode.specs.grammar.declared.frame_kind.FrameKind.{FrameK
 ghost use Rattle.wasm_decode.specs.instr.declared.operator.Operator.{Operator};
 ghost use Rattle.wasm_decode.specs.instr.Encoding.{EncodesOperator};
 ghost use Rattle.wasm_decode.specs.instr.Kinds.{IsVector};
-ghost use Rattle.wasm_operators_readers.specs.Expression.{Placed, LaidOut, EncodesExpression, IsBeginningOf, IsBeginningBehind, IsLongestOf, IsLongestBehind, IsLongestBeginning};
+ghost use Rattle.wasm_operators_readers.specs.Expression.{Placed, LaidOut, AreEncoded, EncodesRest, EncodesExpression, IsBeginningOf, IsBeginningBehind, IsLongestOf, IsLongestBehind, IsLongestBeginning};
 ghost use Rattle.wasm_operators_readers.specs.Flat.{IsFlatOf, IsFlatFrom, IsFlatBeginning};
 ghost use Rattle.wasm_operators_readers.specs.Headline.{ClosesFrom};
 ghost use Rattle.wasm_operators_readers.specs.Openings.{opened_by, LeadsFrame};
@@ -41,6 +41,12 @@ pub fn one_expression(features: WasmFeatures)
 pub fn one_longest_beginning()
     ensures { (s : Source) (first second : Placed)
         → IsLongestBeginning s first → IsLongestBeginning s second → first ≡ second }
+{}
+
+/// What the bytes encode whole is the longest beginning, behind the operators before it.
+pub fn whole_is_longest()
+    ensures { (before : List Operator) (s : Source) (whole : Placed)
+        → AreEncoded s.features before → EncodesRest before s whole → IsLongestBehind before s whole }
 {}
 
 /// It is the longest of which each operator is allowed by the frame that those before it have left.
