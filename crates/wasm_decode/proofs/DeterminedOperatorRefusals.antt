@@ -17,8 +17,8 @@ use Rattle.wasm_visit.specs.grammar.declared.frame_kind.FrameKind.{FrameKind}
 use Rattle.wasm_visit.specs.grammar.Frames.{Allows}
 use Rattle.wasm_visit.specs.imm.MemoryArgumentFaults.{CheckFault}
 use Rattle.wasm_visit.proofs.of_imm.DeterminedMemoryArgumentRefusals.{check_determines, memarg_determines}
-use Rattle.wasm_visit.proofs.of_imm.DeterminedMemoryRefusals.{index_determines, ordering_byte_determines, fence_determines}
-use Rattle.wasm_visit.proofs.of_imm.DeterminedConstantRefusals.{lanes_determines}
+use Rattle.wasm_visit.proofs.of_imm.DeterminedRefusals.{index_determines, ordering_byte_determines, fence_determines}
+use Rattle.wasm_visit.proofs.of_imm.ConstantDeterminedRefusals.{lanes_determines}
 use Rattle.wasm_visit.proofs.of_imm.DeterminedControlRefusals.{branch_determines, select_determines, block_determines, cast_determines, try_determines, resume_determines}
 use Rattle.wasm_visit.specs.instr.Immediate.{Kind, is_unsigned_32, is_signed_32, is_signed_64, is_float_32, is_float_64, is_vector, is_one_lane, is_sixteen_lanes, is_memory_argument, is_memory_index, is_table_index, is_order, is_fence_order, is_heap_type, is_cast, is_block_type, is_branch_table, is_select_types, is_try_clauses, is_resume_clauses}
 use Rattle.wasm_visit.specs.opcodes.declared.guard.Guard.{Guard}

@@ -93,14 +93,14 @@ pub begun_closed : (Encodes : Taking) (Fault : Refusing) (old : Reader) (s : Ope
 begun_closed Encodes Fault old s e none is at = none_open Encodes Fault (state_of old s) e (empty_of_innermost s.frames none) is at
 
 -- No room was made.
-pub begun_without_room : (Encodes : Taking) (Fault : Refusing) (old mid new : Reader) (s t : OpenFrames) (code start : ℕ) (f : FrameStep) (e : Error) →
-    Reads IsByte (Ok code) old mid → start ≡ old.position → f ≡ step_at code → Opens f → s.room ≡ 0 → t ≡ s → new ≡ at_position mid start →
+pub begun_without_room : (Encodes : Taking) (Fault : Refusing) (old mid new : Reader) (s t : OpenFrames) (kind : FrameKind) (code start : ℕ) (f : FrameStep) (e : Error) →
+    innermost s.frames ≡ Some kind → Reads IsByte (Ok code) old mid → start ≡ old.position → f ≡ step_at code → Opens f → s.room ≡ 0 → t ≡ s → new ≡ at_position mid start →
     e.message ≡ message.OutOfMemory → e.offset ≡ mid.start + start → StopsNext Encodes Fault e (state_of old s) (state_of new t)
-begun_without_room Encodes Fault old mid new s t code start f e reads same step opens none stays went is at =
+begun_without_room Encodes Fault old mid new s t kind code start f e open_frame reads same step opens none stays went is at =
     let b = back_to old mid code start reads same in
     let begin : mid.start ≡ old.start = ap (λ (r : Reader). r.start) b.1 in
     let room : s.room ≤ t.room = subst (λ (x : OpenFrames). s.room ≤ x.room) (sym stays) (omega arith) in
-    room_refused Encodes Fault (state_of old s) (state_of new t) code e (went ∙ b.1) (ap (λ (x : OpenFrames). x.frames) stays) room b.2
+    room_refused Encodes Fault (state_of old s) (state_of new t) kind code e open_frame (went ∙ b.1) (ap (λ (x : OpenFrames). x.frames) stays) room b.2
     (subst Opens step opens) (ap (λ (x : OpenFrames). x.room) stays ∙ none) is (omega (arith, at, begin, same))
 
 -- No byte is left.

@@ -75,12 +75,16 @@ begun_stopped Encodes Fault old mid new kind code start s e b refused frames roo
     (frames ∙ b.frames) (subst (λ (n : ℕ). old.room ≤ n) (sym room) b.room)
 
 -- No room was made for the frame that the next operator opens.
-pub room_refused : (Encodes : Taking) (Fault : Refusing) (old new : State) (code : ℕ) (e : Error) → new.reader ≡ old.reader → new.frames ≡ old.frames →
-    old.room ≤ new.room → BeginsWith code (rest old.reader) → Opens (step_at code) → new.room ≡ 0 → e.message ≡ message.OutOfMemory → e.offset ≡ offset_of old.reader →
+pub room_refused : (Encodes : Taking) (Fault : Refusing) (old new : State) (kind : FrameKind) (code : ℕ) (e : Error) → innermost old.frames ≡ Some kind →
+    new.reader ≡ old.reader → new.frames ≡ old.frames → old.room ≤ new.room → BeginsWith code (rest old.reader) → Opens (step_at code) → new.room ≡ 0 → e.message ≡ message.OutOfMemory → e.offset ≡ offset_of old.reader →
     IsUnchanged old new × StopsRead Encodes Fault (NeedsNext Encodes) e new
-room_refused Encodes Fault old new code e same frames room begins opens none is at = (
+room_refused Encodes Fault old new kind code e open_frame same frames room begins opens none is at = (
   (same, frames, room),
-  inr (inr (is, at ∙ ap offset_of (sym same), inl (code, subst (λ (r : Reader). BeginsWith code (rest r)) (sym same) begins, opens_leads code opens, none))),
+  inr (inr (
+    is,
+    at ∙ ap offset_of (sym same),
+    inl (kind, ap innermost frames ∙ open_frame, code, subst (λ (r : Reader). BeginsWith code (rest r)) (sym same) begins, opens_leads code opens, none),
+  )),
 )
 
 -- No frame is open.

@@ -71,9 +71,9 @@ NoMemory Needs e s = (e.message ≡ message.OutOfMemory) × (e.offset ≡ offset
 abbrev pub Anywhere : Needing
 Anywhere s = Unit {0}
 
--- Memory may be refused to the frame that the next operator opens: no room is left.
+-- Memory may be refused to the frame that the next operator opens inside the open ones: no room is left.
 abbrev pub NeedsRoom : Needing
-NeedsRoom s = (byte : ℕ) × BeginsWith byte (rest s.reader) × LeadsFrame byte × (s.room ≡ 0)
+NeedsRoom s = (kind : FrameKind) × (innermost s.frames ≡ Some kind) × (byte : ℕ) × BeginsWith byte (rest s.reader) × LeadsFrame byte × (s.room ≡ 0)
 
 -- What is so where a read answers this error.
 abbrev pub StopsRead : Taking → Refusing → Needing → Error → State → Type 0
