@@ -18,7 +18,7 @@ use Rattle.wasm_operators_readers.specs.instr.Encoding.{EncodesOperator}
 use Rattle.wasm_operators_readers.specs.instr.Roles.{role_of, roles_of}
 use Rattle.wasm_operators_readers.proofs.of_instr.OperatorPrefixCode.{operator_prefix_code}
 use Rattle.wasm_operators_readers.specs.opcodes.OperatorFaults.{OperatorFault}
-use Rattle.wasm_operators_readers.proofs.Decoder.{takes_all}
+use Rattle.wasm_operators_readers.proofs.DecoderPremises.{takes_all}
 use Rattle.wasm_operators_readers.specs.Expression.{operators}
 use Rattle.wasm_operators_readers.proofs.LayoutLemmas.{GoesOn, laid_goes_on, laid_same, next_allowed, one_whole, operators-append}
 use Rattle.wasm_operators_readers.proofs.of_decoder.DeterminedOperatorRefusals.{operator_determines}

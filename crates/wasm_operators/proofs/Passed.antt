@@ -13,7 +13,7 @@ use Rattle.wasm_operators_readers.specs.instr.declared.operator.Operator.TheVari
 use Rattle.wasm_operators_readers.specs.instr.Encoding.{EncodesOperator}
 use Rattle.wasm_operators_readers.specs.instr.Roles.{role_of, roles_of}
 use Rattle.wasm_operators_readers.specs.opcodes.Allowed.{EncodesAllowed}
-use Rattle.wasm_operators_readers.proofs.Decoder.{sound}
+use Rattle.wasm_operators_readers.proofs.DecoderPremises.{sound}
 use Rattle.wasm_operators_readers.specs.Expression.{Placed, operators}
 use Rattle.wasm_operators_readers.proofs.LayoutLemmas.{laid_goes_on, laid_beginning, laid_same, next_allowed}
 use Rattle.wasm_operators_readers.specs.Reading.{State, IsFresh, Ran, TakesOperator}

@@ -7,7 +7,7 @@ use Rattle.wasm_operators_readers.specs.instr.declared.operator.Operator.{Operat
 use Rattle.wasm_operators_readers.specs.instr.declared.operator.Operator.TheVariants as operator
 use Rattle.wasm_operators_readers.specs.instr.Roles.{roles_of}
 use Rattle.wasm_operators_readers.specs.opcodes.Allowed.{EncodesAllowed}
-use Rattle.wasm_operators_readers.proofs.Decoder.{sound}
+use Rattle.wasm_operators_readers.proofs.DecoderPremises.{sound}
 use Rattle.wasm_operators_readers.specs.Expression.{Placed, operators, LaidOut, AreWalk}
 use Rattle.wasm_operators_readers.specs.Reading.{State, IsFresh, Ran, TakesOperator}
 use Rattle.wasm_operators_readers.proofs.Runs.{ran_push, fresh_before, stood_on}

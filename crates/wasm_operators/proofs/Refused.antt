@@ -15,7 +15,7 @@ use Rattle.wasm_operators_readers.specs.instr.Roles.{role_of}
 use Rattle.wasm_operators_readers.specs.opcodes.Allowed.{EncodesAllowed}
 use Rattle.wasm_operators_readers.specs.opcodes.OperatorFaults.{OperatorFault}
 use Rattle.wasm_operators_readers.specs.Next.{NeedsNext}
-use Rattle.wasm_operators_readers.proofs.Decoder.{takes_all}
+use Rattle.wasm_operators_readers.proofs.DecoderPremises.{takes_all}
 use Rattle.wasm_operators_readers.specs.Expression.{Placed, operators}
 use Rattle.wasm_operators_readers.specs.Reading.{State, IsFresh, IsUnchanged, Ran, TakesOperator, StopsRead}
 use Rattle.wasm_operators_readers.proofs.OneRead.{is_memory, may_end, refused_none}

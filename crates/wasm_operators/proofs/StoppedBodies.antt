@@ -15,7 +15,7 @@ use Rattle.wasm_operators_readers.specs.Reading.{State, StopsRun, Ran, Anywhere}
 use Rattle.wasm_operators_readers.proofs.Ends.{run_determined}
 use Rattle.wasm_operators_readers.proofs.Premises.{Everything}
 use Rattle.wasm_operators_readers.proofs.Runs.{run_only, fresh_before}
-use Rattle.wasm_operators_readers.proofs.Decoder.{takes_all, keeps_all}
+use Rattle.wasm_operators_readers.proofs.DecoderPremises.{takes_all, keeps_all}
 use Rattle.wasm_operators_readers.proofs.of_decoder.DeterminedOperatorRefusals.{operator_determines}
 use Rattle.wasm_operators.specs.Body.{EncodesBody, OpensBody, NoExpression, StopsBody}
 use Rattle.wasm_operators.specs.Locals.{Declaration, EncodesLocals, RefusesLocals}

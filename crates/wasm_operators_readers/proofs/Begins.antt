@@ -22,7 +22,7 @@ use Rattle.wasm_operators_readers.proofs.LayoutLemmas.{not_empty}
 use Rattle.wasm_operators_readers.proofs.Premises.{IsSound}
 use Rattle.wasm_operators_readers.specs.Reading.{Taking, Refusing}
 use Rattle.wasm_operators_readers.specs.Next.{BeginsOperator, StopsNext, state_of}
-use Rattle.wasm_operators_readers.proofs.Decoder.{sound, plain_sound}
+use Rattle.wasm_operators_readers.proofs.DecoderPremises.{sound, plain_sound}
 use Rattle.wasm_operators_readers.proofs.Taken.{refused_unchanged, room_refused, none_open}
 
 -- ---- the opcode

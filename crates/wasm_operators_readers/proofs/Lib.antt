@@ -14,7 +14,7 @@ pub mod Plain
 pub mod Clauses
 pub mod StepLemmas
 pub mod Messages
-pub mod Decoder
+pub mod DecoderPremises
 pub mod Taken
 pub mod Begins
 pub use Rattle.wasm_decode.proofs.of_below as of_below

@@ -1,7 +1,7 @@
 use Rattle.std.proofs.Common.{[], ◌∷◌, ◌++◌, subst, ◌∙◌}
 use Rattle.wasm_operators_readers.specs.below.Source.{offset_of}
 use Rattle.wasm_operators_readers.specs.opcodes.Allowed.{EncodesAllowed}
-use Rattle.wasm_operators_readers.proofs.Decoder.{sound}
+use Rattle.wasm_operators_readers.proofs.DecoderPremises.{sound}
 use Rattle.wasm_operators_readers.specs.Reading.{TakesOperator}
 use Rattle.wasm_operators_readers.proofs.Runs.{ran_push}
 use Rattle.wasm_operators.proofs.OneEnd.{passed_more}

@@ -3,7 +3,7 @@ use Rattle.wasm_decode.specs.opcodes.OperatorFaults.{OperatorFault, PlainOperato
 use Rattle.wasm_operators_readers.specs.Next.{NeedsNext}
 use Rattle.wasm_operators_readers.specs.Reading.{Anywhere}
 use Rattle.wasm_operators_readers.proofs.Ends.{tells_closed, tells_left}
-use Rattle.wasm_operators_readers.proofs.Decoder.{is_reading, plain_is_reading}
+use Rattle.wasm_operators_readers.proofs.DecoderPremises.{is_reading, plain_is_reading}
 use Rattle.wasm_operators_readers.proofs.decoding_laws.run_messages.Goals as goal
 
 pub returns-clause-closed : goal.returns-clause-closed

@@ -1,4 +1,4 @@
-use Rattle.wasm_operators_readers.proofs.Decoder.{refuses_vectors}
+use Rattle.wasm_operators_readers.proofs.DecoderPremises.{refuses_vectors}
 use Rattle.wasm_operators_readers.proofs.decoding_laws.vector_refusals.Goals as goal
 
 pub returns : goal.returns

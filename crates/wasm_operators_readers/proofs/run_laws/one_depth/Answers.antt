@@ -1,5 +1,5 @@
 use Rattle.wasm_decode.specs.opcodes.Allowed.{EncodesAllowed, EncodesPlain}
-use Rattle.wasm_operators_readers.proofs.Decoder.{sound, plain_sound}
+use Rattle.wasm_operators_readers.proofs.DecoderPremises.{sound, plain_sound}
 use Rattle.wasm_operators_readers.proofs.Runs.{taken_depth}
 use Rattle.wasm_operators_readers.proofs.run_laws.one_depth.Goals as goal
 

@@ -4,7 +4,7 @@ use Rattle.wasm_decode.specs.opcodes.OperatorFaults.{OperatorFault}
 use Rattle.wasm_operators_readers.specs.Step.{step_at}
 use Rattle.wasm_operators_readers.specs.Reading.{State, TakesOperator}
 use Rattle.wasm_operators_readers.specs.Next.{StopsNext, state_of}
-use Rattle.wasm_operators_readers.proofs.Decoder.{sound}
+use Rattle.wasm_operators_readers.proofs.DecoderPremises.{sound}
 use Rattle.wasm_operators_readers.proofs.Taken.{begun_allows, begun_took, begun_stopped}
 use Rattle.wasm_operators_readers.proofs.operators.OperatorsReader.read.Goals as goal
 

@@ -3,7 +3,7 @@ use Rattle.wasm_decode.specs.opcodes.OperatorFaults.{OperatorFault}
 use Rattle.wasm_operators_readers.specs.Expression.{IsAny}
 use Rattle.wasm_operators_readers.specs.Reading.{Adds, Anywhere}
 use Rattle.wasm_operators_readers.proofs.Clauses.{runs_rest, runs_flat, runs_within_depth}
-use Rattle.wasm_operators_readers.proofs.Decoder.{keeps_all, is_reading}
+use Rattle.wasm_operators_readers.proofs.DecoderPremises.{keeps_all, is_reading}
 use Rattle.wasm_operators_readers.proofs.Premises.{Everything}
 use Rattle.wasm_operators_readers.proofs.operators.OperatorsReader.read_all.Goals as goal
 

@@ -8,7 +8,7 @@ use Rattle.wasm_operators_readers.proofs.OneRead.{needs_more}
 use Rattle.wasm_operators_readers.proofs.Runs.{ran_push, ran_unchanged, run_stops, pushed}
 use Rattle.wasm_operators_readers.specs.Next.{NeedsNext}
 use Rattle.wasm_decode.specs.opcodes.Allowed.{EncodesAllowed}
-use Rattle.wasm_operators_readers.proofs.Decoder.{sound, is_reading}
+use Rattle.wasm_operators_readers.proofs.DecoderPremises.{sound, is_reading}
 use Rattle.wasm_operators_readers.proofs.MemoryLemmas.{memory_needs}
 use Rattle.wasm_operators_readers.proofs.operators.OperatorsReader.read_to_end.Goals as goal
 

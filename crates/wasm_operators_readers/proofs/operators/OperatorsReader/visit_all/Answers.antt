@@ -3,7 +3,7 @@ use Rattle.wasm_decode.specs.opcodes.OperatorFaults.{PlainOperatorFault}
 use Rattle.wasm_operators_readers.specs.Next.{NeedsNext}
 use Rattle.wasm_operators_readers.specs.Visiting.{VisitedPlain, IsPlain}
 use Rattle.wasm_operators_readers.proofs.Clauses.{runs_rest, runs_flat, runs_within_depth}
-use Rattle.wasm_operators_readers.proofs.Decoder.{keeps_plain, plain_is_reading, refuses_vectors}
+use Rattle.wasm_operators_readers.proofs.DecoderPremises.{keeps_plain, plain_is_reading, refuses_vectors}
 use Rattle.wasm_operators_readers.proofs.Plain.{plain_refused}
 use Rattle.wasm_operators_readers.proofs.Premises.{IsNoVector}
 use Rattle.wasm_operators_readers.proofs.operators.OperatorsReader.visit_all.Goals as goal

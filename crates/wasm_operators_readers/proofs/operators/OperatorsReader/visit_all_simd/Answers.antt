@@ -4,7 +4,7 @@ use Rattle.wasm_operators_readers.specs.Expression.{IsAny}
 use Rattle.wasm_operators_readers.specs.Next.{NeedsNext}
 use Rattle.wasm_operators_readers.specs.Visiting.{Visited}
 use Rattle.wasm_operators_readers.proofs.Clauses.{runs_rest, runs_flat, runs_within_depth}
-use Rattle.wasm_operators_readers.proofs.Decoder.{keeps_all, is_reading}
+use Rattle.wasm_operators_readers.proofs.DecoderPremises.{keeps_all, is_reading}
 use Rattle.wasm_operators_readers.proofs.Premises.{Everything}
 use Rattle.wasm_operators_readers.proofs.operators.OperatorsReader.visit_all_simd.Goals as goal
 

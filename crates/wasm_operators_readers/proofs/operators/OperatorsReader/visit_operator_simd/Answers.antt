@@ -3,7 +3,7 @@ use Rattle.wasm_decode.specs.opcodes.Allowed.{EncodesAllowed}
 use Rattle.wasm_decode.specs.opcodes.OperatorFaults.{OperatorFault}
 use Rattle.wasm_operators_readers.specs.Reading.{State, VisitsOperator}
 use Rattle.wasm_operators_readers.specs.Next.{NeedsNext, state_of}
-use Rattle.wasm_operators_readers.proofs.Decoder.{sound}
+use Rattle.wasm_operators_readers.proofs.DecoderPremises.{sound}
 use Rattle.wasm_operators_readers.proofs.VisitSteps.{step_allowed_behind, visited_with_step, refused_behind, visited_from_20}
 use Rattle.wasm_operators_readers.proofs.operators.OperatorsReader.visit_operator_simd.Goals as goal
 

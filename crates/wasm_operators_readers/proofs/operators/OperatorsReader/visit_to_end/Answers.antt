@@ -6,7 +6,7 @@ use Rattle.wasm_operators_readers.specs.Visiting.{VisitedPlain}
 use Rattle.wasm_operators_readers.proofs.VisitLemmas.{visited_push, plain_push}
 use Rattle.wasm_operators_readers.proofs.Runs.{ran_push, ran_unchanged, run_stops}
 use Rattle.wasm_operators_readers.specs.Next.{NeedsNext}
-use Rattle.wasm_operators_readers.proofs.Decoder.{plain_sound, no_vector}
+use Rattle.wasm_operators_readers.proofs.DecoderPremises.{plain_sound, no_vector}
 use Rattle.wasm_operators_readers.proofs.operators.OperatorsReader.visit_to_end.Goals as goal
 
 pub plain_visits-preserved : goal.plain_visits-preserved

@@ -6,7 +6,7 @@ use Rattle.wasm_operators_readers.specs.Visiting.{Visited}
 use Rattle.wasm_operators_readers.proofs.VisitLemmas.{visited_push}
 use Rattle.wasm_operators_readers.proofs.Runs.{ran_push, ran_unchanged, run_stops}
 use Rattle.wasm_operators_readers.specs.Next.{NeedsNext}
-use Rattle.wasm_operators_readers.proofs.Decoder.{sound}
+use Rattle.wasm_operators_readers.proofs.DecoderPremises.{sound}
 use Rattle.wasm_operators_readers.proofs.operators.OperatorsReader.visit_to_end_simd.Goals as goal
 
 pub visits-preserved : goal.visits-preserved
