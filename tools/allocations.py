@@ -12,13 +12,15 @@ with its second, and so on until none is. Each run has to end by itself, with no
 - a program ends with a status of its own. One that has a file `refused` beside its src/ ends
   as that file says, or as it does when no allocation is refused. The file has three lines: the status,
   what it writes and what it complains; or one line `as ever`, of a program that ends as it does when
-  no allocation is refused, whichever was.
+  no allocation is refused, whichever was; or one line `first N`, of a program that takes too many: only
+  the first N are refused, and it ends with a status of its own.
 
 The allocations are counted in the C library's `malloc` and `realloc`, which is where Rattle's go:
 `refuse_allocation.c` is built with the kit's own compiler and loaded first.
 """
 
 import os
+import re
 import resource
 import signal
 import subprocess
@@ -32,6 +34,8 @@ SECONDS = 60
 MOST = 1000
 # The file `refused` of a program whose end no refused allocation changes.
 AS_EVER = "as ever\n"
+# The file of one of whose allocations only the first are refused.
+FIRST = re.compile(r"first (\d+)\n")
 
 
 def built_library(folder):
@@ -72,10 +76,10 @@ def is_own_end(status):
     return status is not None and (status >= 0 or status == -signal.SIGABRT)
 
 
-def followed(label, words, given, library, allowed):
-    """Runs a program through its refusals, and returns how many there were and what was wrong."""
+def followed(label, words, given, library, allowed, first=None):
+    """Runs a program through its refusals, or the first of them, and returns how many there were and what was wrong."""
     wrong = []
-    for number in range(1, MOST + 1):
+    for number in range(1, (first or MOST) + 1):
         ran = Run(words, given, library, number)
         if not allowed(ran):
             said = (ran.complained or ran.wrote).decode(errors="replace").strip()[-200:]
@@ -83,6 +87,8 @@ def followed(label, words, given, library, allowed):
             wrong.append(f"{label}: {which}: status {ran.status}; {said}")
         if not ran.was_refused:
             return number - 1, wrong
+    if first:
+        return first, wrong
     return MOST, [*wrong, f"{label}: it takes more than {MOST} allocations"]
 
 
@@ -100,17 +106,29 @@ def follow_tests(program, library):
         yield test, followed(f"{program.name} {test}", [program, test], b"", library, allowed)
 
 
+def refused_text(crate):
+    """The file `refused`, empty where there is none."""
+    path = crate / "refused"
+    return path.read_text(encoding="utf-8") if path.exists() else ""
+
+
+def first_refused(crate):
+    """How many allocations are refused of a program that takes too many, else None."""
+    found = FIRST.fullmatch(refused_text(crate))
+    return int(found[1]) if found else None
+
+
 def refused_shapes(crate, plain):
     """How the program may end where an allocation was refused, or None where nothing is said of that.
 
     `plain` is how it ends where none was.
     """
-    path = crate / "refused"
-    if not path.exists():
+    text = refused_text(crate)
+    if not text or FIRST.fullmatch(text):
         return None
-    if path.read_text(encoding="utf-8") == AS_EVER:
+    if text == AS_EVER:
         return plain
-    status, wrote, complained = path.read_text(encoding="utf-8").split("\n")[:3]
+    status, wrote, complained = text.split("\n")[:3]
     line = lambda text: f"{text}\n".encode() if text else b""
     return int(status), line(wrote), line(complained)
 
@@ -125,7 +143,7 @@ def follow_program(program, crate, library):
         allowed = lambda ran: ran.status is not None and ran.status >= 0
     else:
         allowed = lambda ran: ran.shape == (refused if ran.was_refused else plain)
-    return followed(program.name, words, read("stdin"), library, allowed)
+    return followed(program.name, words, read("stdin"), library, allowed, first_refused(crate))
 
 
 def has_tests(crate):

@@ -8,7 +8,8 @@ it: `rt ci` and `rt run` leave `crates/NAME/out/NAME`, and `rt ci` also `NAME.by
 these columns, parted by tabs:
 
     case       what the case shows
-    words      the arguments, parted by spaces
+    words      the arguments, parted by spaces; `""` is an argument without a letter, and \\xNN in one a byte,
+               as in \\xff, with which no text begins
     input      standard input, in hexadecimal; `unreadable` where a folder stands in its place
     status     the exit status
     output     what the program writes, with \\n for a line feed; `unwritable` where the device is full
@@ -16,6 +17,7 @@ these columns, parted by tabs:
 """
 
 import csv
+import re
 import subprocess
 import sys
 import tempfile
@@ -35,6 +37,13 @@ def cases_of(path):
         return list(rows)
 
 
+def words_of(text):
+    """The arguments that a row has."""
+    byte = lambda found: bytes.fromhex(found[1].decode())
+    words = [b"" if word == '""' else word.encode() for word in text.split()]
+    return [re.sub(rb"\\x([0-9a-f]{2})", byte, word) for word in words]
+
+
 def opened(folder, case):
     """The files that stand for the program's input and output."""
     if case["input"] == "unreadable":
@@ -52,7 +61,7 @@ def ended(program, case):
         given, taken = opened(folder, case)
         # (a shell opens the files, since Python opens no folder)
         script = 'exec "$@" < "$GIVEN" > "$TAKEN"'
-        words = ["sh", "-c", script, "", program, *case["words"].split()]
+        words = ["sh", "-c", script, "", program, *words_of(case["words"])]
         env = {"PATH": "/usr/bin:/bin", "GIVEN": given, "TAKEN": taken}
         ran = subprocess.run(words, env=env, stderr=subprocess.PIPE, timeout=SECONDS)
         wrote = b"unwritable" if taken == "/dev/full" else Path(taken).read_bytes()

@@ -195,6 +195,10 @@ class Cases(unittest.TestCase):
         script = 'echo "$# $1"; echo "of $2" >&2; exit 2'
         self.assertEqual(self.ended(script, words="one two"), ("2", "2 one\\n", "of two"))
 
+    def test_words(self):
+        self.assertEqual(cases.words_of('all "" A|\\xff\\xc3'), [b"all", b"", b"A|\xff\xc3"])
+        self.assertEqual(self.ended('printf "$# %s" "$2" | od -An -tx1', words='"" \\xff'), ("0", " 32 20 ff\\n", ""))
+
     def test_input(self):
         self.assertEqual(self.ended("cat", input="6f6e65"), ("0", "one", ""))
         self.assertEqual(self.ended("cat 2>/dev/null", input="unreadable")[0], "1")
@@ -223,6 +227,9 @@ class Allocations(unittest.TestCase):
             self.assertEqual(allocations.refused_shapes(Path(folder), plain), (3, b"", b"out of memory\n"))
             (Path(folder) / "refused").write_text("as ever\n", encoding="utf-8")
             self.assertEqual(allocations.refused_shapes(Path(folder), plain), plain)
+            (Path(folder) / "refused").write_text("first 24\n", encoding="utf-8")
+            self.assertIsNone(allocations.refused_shapes(Path(folder), plain))
+            self.assertEqual(allocations.first_refused(Path(folder)), 24)
 
     def test_ends(self):
         self.assertEqual([allocations.is_own_end(it) for it in (0, 1, -6, -11, None)], [True, True, True, False, False])
