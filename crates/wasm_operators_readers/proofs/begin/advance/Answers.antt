@@ -1,10 +1,10 @@
-use Rattle.std.proofs.Common.{ap, arith}
+use Rattle.std.proofs.Common.{ap}
 use Rattle.wasm_decode.proofs.of_grammar.Innermost.{steps_stay}
 use Rattle.wasm_operators_readers.specs.Step.{role_of_step, step_at}
 use Rattle.wasm_operators_readers.proofs.Bytes.{stays_from_20}
 use Rattle.wasm_operators_readers.proofs.begin.advance.Goals as goal
 
-pub returns-then-code-ge32-clause-frames : goal.returns-then-code-ge32-clause-frames
-returns-then-code-ge32-clause-frames c =
+pub returns-then-leaves_frames-clause-frames : goal.returns-then-leaves_frames-clause-frames
+returns-then-leaves_frames-clause-frames c =
     steps_stay c.args.control.now.frames (role_of_step (step_at c.args.code)) tt
-    (ap role_of_step (stays_from_20 c.args.code (omega (arith, c.if-code-ge32)))) c.requires.allowed
+    (ap role_of_step (stays_from_20 c.args.code (c.leaves_frames.ensures.0 c.if-leaves_frames))) c.requires.allowed

@@ -18,4 +18,4 @@ returns-clause-visits c = λ before d e old new end placed others first other se
 
 pub returns-clause-plain : goal.returns-clause-plain
 returns-clause-plain c = λ before d e old new end placed others first other second not.
-    beginnings_same IsPlain EncodesPlain PlainOperatorFault (NeedsNext EncodesPlain) plain_determines before d e old new end placed others first other second not
+    beginnings_same IsPlain EncodesPlain PlainOperatorFault (NeedsNext EncodesPlain) plain_determines before d e old new end placed others first second other not
