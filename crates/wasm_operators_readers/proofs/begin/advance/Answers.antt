@@ -7,4 +7,4 @@ use Rattle.wasm_operators_readers.proofs.begin.advance.Goals as goal
 pub returns-then-leaves_frames-clause-frames : goal.returns-then-leaves_frames-clause-frames
 returns-then-leaves_frames-clause-frames c =
     steps_stay c.args.control.now.frames (role_of_step (step_at c.args.code)) tt
-    (ap role_of_step (stays_from_20 c.args.code (c.leaves_frames.ensures.0 c.if-leaves_frames))) c.requires.allowed
+    (ap role_of_step (stays_from_20 c.args.code (c.leaves_frames.ensures.0 c.if-leaves_frames.true))) c.requires.allowed

@@ -48,6 +48,6 @@ returns-then-leaves_frames g c =
     let mid = state_of c.begin.new.reader c.begin.new.control in
     let new = state_of c.visit_behind.new.reader c.begin.new.control in
     let made = visited_from_20 g.V.Visitor.visits EncodesPlain PlainOperatorFault plain_sound (λ f kind text op h. h.0.1) old mid new at.frame at.code at.start c.visit_behind.result c.args.v.now c.visit_behind.new.v
-    (c.leaves_frames.ensures.0 c.if-leaves_frames) c.in-Ok.ensures.begun c.visit_behind.ensures refl refl in
+    (c.leaves_frames.ensures.0 c.if-leaves_frames.true) c.in-Ok.ensures.begun c.visit_behind.ensures refl refl in
     let is : State → Type 0 = λ s. VisitsOperator g.V.Visitor.visits EncodesPlain PlainOperatorFault (NeedsNext EncodesPlain) c.visit_behind.result s new c.args.v.now c.visit_behind.new.v in
     subst is c.self.view_is made
