@@ -40,7 +40,7 @@ stuck e t more (inr (inr memory)) follow text behind op encodes eq = absurd (sub
 
 -- Where the next operator wants memory, a byte stands there.
 some_byte : (t : State) → NeedsNext EncodesAllowed t → (byte : ℕ) × BeginsWith byte (rest t.reader)
-some_byte t (inl room) = (room.0, room.1)
+some_byte t (inl room) = (room.2, room.3)
 some_byte t (inr list) = (list.2.leads.0, list.2.leads.2)
 
 there_fault : (e : Error) (s t : State) (placed : Placed) → IsFresh s → Ran s t placed → HasNoEnd (operators placed) → Stops e t →
