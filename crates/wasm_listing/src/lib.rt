@@ -3,7 +3,7 @@
 //! The theorem stands on [`run`], over any reader and writer.
 #![tactic(auto)]
 
-mod census;
+mod body_census;
 mod counting;
 mod dump;
 mod fault;
@@ -13,7 +13,7 @@ mod lines;
 mod tests;
 mod words;
 
-pub use census::census;
+pub use body_census::census;
 pub use counting::Census;
 pub use dump::run;
 pub use fault::DumpFault;

@@ -1,5 +1,5 @@
 //! The program's texts, counts, and readers and writers that fail.
-use crate::census::census;
+use crate::body_census::census;
 use crate::dump::run;
 use crate::fault::DumpFault;
 use crate::words::features_of;

@@ -5,7 +5,7 @@ use Rattle.wasm_operators.specs.opcodes.Allowed.{EncodesAllowed}
 use Rattle.wasm_operators.specs.readers.Next.{NeedsNext}
 use Rattle.wasm_operators.proofs.Bodies.{no_body, expression_behind}
 use Rattle.wasm_listing.proofs.CensusLemmas.{refused_counts, opened_counts}
-use Rattle.wasm_listing.proofs.census.count_body.Goals as goal
+use Rattle.wasm_listing.proofs.body_census.count_body.Goals as goal
 
 pub returns-in_err-operators-clause-counts : goal.returns-in_err-operators-clause-counts
 returns-in_err-operators-clause-counts c =

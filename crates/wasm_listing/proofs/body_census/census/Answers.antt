@@ -3,7 +3,7 @@ use Rattle.wasm_operators.specs.below.bytes.message.Message.TheVariants as messa
 use Rattle.wasm_listing.specs.Census.{Counts}
 use Rattle.wasm_listing.specs.Dump.{input_of}
 use Rattle.wasm_listing.proofs.CensusLemmas.{whole_counts, other_counts}
-use Rattle.wasm_listing.proofs.census.census.Goals as goal
+use Rattle.wasm_listing.proofs.body_census.census.Goals as goal
 
 pub returns-in-Ok-clause-counts : goal.returns-in-Ok-clause-counts
 returns-in-Ok-clause-counts c =
