@@ -1,0 +1,20 @@
+use Rattle.std.proofs.Common.{ap, length}
+use Rattle.std.specs.Int.{w32}
+use Rattle.wasm_below.specs.Number.{EncodesFixed}
+use Rattle.wasm_module.proofs.Parts.{back, both_read, second_refused}
+use Rattle.wasm_module.proofs.preamble.read_preamble.Goals as goal
+
+pub returns-in-Ok-read_u32-clause-reads : goal.returns-in-Ok-read_u32-clause-reads
+returns-in-Ok-read_u32-clause-reads c =
+    both_read (EncodesFixed w32) (EncodesFixed w32) c.args.reader.now c.read_u32.new.self c.read_u32-2.new.self c.in-Ok.magic c.in-Ok-read_u32.version
+    c.in-Ok.ensures.reads c.in-Ok-read_u32.ensures.reads
+
+pub returns-in-Err-read_u32-clause-reads : goal.returns-in-Err-read_u32-clause-reads
+returns-in-Err-read_u32-clause-reads c =
+    let first = c.in-Ok.ensures.reads in
+    let h = c.in-Err-read_u32.ensures.reads in (
+      back c.args.reader.now c.read_u32.new.self c.read_u32-2.new.self c.rewind.new.self first.0 c.current_position-start.result first.2 h.0
+          c.current_position-start.ensures c.rewind.ensures,
+      second_refused (EncodesFixed w32) (EncodesFixed w32) (λ p. p.magic) (λ p. p.version) 4 (λ text x p. ap length p.0) c.in-Err-read_u32.e
+          c.args.reader.now c.read_u32.new.self c.in-Ok.magic first h.1,
+    )

@@ -1,0 +1,2 @@
+pub mod Module
+pub use Rattle.wasm_below.specs as below

@@ -1,0 +1,50 @@
+-- The preamble and the sections of a module.
+-- WebAssembly Core Specification 3.0, Binary Format, Modules: Modules, Sections.
+use Rattle.std.specs.Prelude.{◌≡◌, ◌==◌, ℕ, ◌+◌, ◌⊎◌, List, ◌++◌, if◌then◌else◌}
+use Rattle.std.specs.Int.{w32}
+use Rattle.wasm_below.specs.bytes.features.WasmFeatures.{WasmFeatures}
+use Rattle.wasm_below.specs.bytes.message.Message.{Message}
+use Rattle.wasm_below.specs.FromReader.{EncodesReader, ReaderFault}
+use Rattle.wasm_below.specs.Number.{EncodesFixed}
+use Rattle.wasm_below.specs.Source.{Reader, IsByte, EndFault, EndsWithin, at_position}
+use Rattle.wasm_module.specs.declared.preamble.Preamble.{Preamble}
+use Rattle.wasm_module.specs.declared.preamble.PreambleKind.{PreambleKind}
+use Rattle.wasm_module.specs.declared.preamble.PreambleKind.TheVariants as kind
+
+-- Two values, one behind the other.
+abbrev pub Both : {X Y : Type 0} → (List ℕ → X → Type 0) → (List ℕ → Y → Type 0) → List ℕ → X → Y → Type 0
+Both P Q text x y = (first second : List ℕ) × (text ≡ first ++ second) × P first x × Q second y
+
+-- The magic number and the version, each of four bytes, the lowest first.
+--   magic ::= 0x00 0x61 0x73 0x6d    version ::= 0x01 0x00 0x00 0x00
+abbrev pub EncodesPreamble : List ℕ → Preamble → Type 0
+EncodesPreamble text p = Both (EncodesFixed w32) (EncodesFixed w32) text p.magic p.version
+
+-- What the two numbers say. That of components is of the proposal component model: version 13, layer 1.
+abbrev pub preamble_kind : Preamble → PreambleKind
+preamble_kind p =
+    if p.magic == 0x6d736100
+    then (if p.version == 1 then kind.Module else if p.version == 0x1000d then kind.Component else kind.OtherVersion)
+    else kind.NotWasm
+
+-- A section: its number and a reader of its contents.
+pub record SectionParts : Type 0 where
+  pub id : ℕ
+  pub contents : Reader
+
+-- The bytes are a section: its number, the length of its contents, and these.
+--   section_N(X) ::= N:byte len:u32 en*:X
+abbrev pub EncodesSection : WasmFeatures → List ℕ → SectionParts → Type 0
+EncodesSection features text s = Both IsByte (EncodesReader features) text s.id s.contents
+
+-- The reader behind this many bytes more.
+abbrev pub past : ℕ → Reader → Reader
+past n r = at_position r (r.position + n)
+
+-- Which refusal a preamble has: the data ends within the first number, or within the second.
+abbrev pub PreambleFault : Message → Reader → ℕ → Type 0
+PreambleFault m r offset = EndsWithin 4 m r offset ⊎ EndsWithin 4 m (past 4 r) offset
+
+-- Which refusal a section has: the data ends at its number, or it is that of the length and the contents behind the number.
+abbrev pub SectionFault : Message → Reader → ℕ → Type 0
+SectionFault m r offset = EndFault m r offset ⊎ ReaderFault m (past 1 r) offset

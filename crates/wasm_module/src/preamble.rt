@@ -1,0 +1,88 @@
+//! The eight bytes that a module begins with.
+ghost use Rattle.std.specs.Prelude.{◌≡◌, IfErr};
+ghost use Rattle.wasm_below.specs.Source.{Reads};
+ghost use Rattle.wasm_module.specs.Module.{EncodesPreamble, PreambleFault, preamble_kind};
+
+use std::fmt;
+use wasm_below::{BinaryReader, Result};
+
+/// The bytes `\0asm` as a number.
+const MAGIC: u32 = 0x6d73_6100;
+
+/// The version of modules.
+const MODULE: u32 = 0x0000_0001;
+
+/// The version and the layer of components.
+const COMPONENT: u32 = 0x0001_000d;
+
+/// The preamble of a binary: a magic number, and a version, each of four bytes, the lowest first.
+#[derive(Clone, Copy, Debug, PartialEq, Eq)]
+pub struct Preamble {
+    /// What says that the binary is one of WebAssembly.
+    pub magic: u32,
+    /// What sort of binary it is, and of which version.
+    pub version: u32,
+}
+
+/// What a preamble says of a binary.
+#[derive(Clone, Copy, Debug, PartialEq, Eq)]
+pub enum PreambleKind {
+    /// A module of version 1.
+    Module,
+    /// A component, of the proposal component model.
+    Component,
+    /// A binary of WebAssembly of another version.
+    OtherVersion,
+    /// No binary of WebAssembly.
+    NotWasm,
+}
+
+impl Preamble {
+    /// What it says of the binary. Modules.
+    pub fn kind(&self) -> PreambleKind
+        ensures { result ≡ preamble_kind self.now }
+    {
+        if self.magic != MAGIC {
+            return PreambleKind::NotWasm;
+        }
+        if self.version == MODULE {
+            return PreambleKind::Module;
+        }
+        if self.version == COMPONENT {
+            return PreambleKind::Component;
+        }
+        PreambleKind::OtherVersion
+    }
+}
+
+impl fmt::Display for PreambleKind {
+    fn fmt<W: fmt::Write>(&self, f: &mut fmt::Formatter<W>) -> fmt::Result {
+        f.write_str(match self {
+            PreambleKind::Module => "a WebAssembly module",
+            PreambleKind::Component => "a WebAssembly component, and no module",
+            PreambleKind::OtherVersion => "WebAssembly of another version than 1",
+            PreambleKind::NotWasm => "no WebAssembly: it does not begin with the bytes 00 61 73 6d",
+        })
+    }
+}
+
+/// A preamble, whatever it says. Modules.
+///
+/// `EndOfData` where a number of it begins of which the data has fewer bytes than four.
+pub fn read_preamble(reader: &mut BinaryReader<'_>) -> Result<Preamble>
+    ensures reads { Reads EncodesPreamble result reader.old reader.new }
+    ensures fault { IfErr result (λ e. PreambleFault e.message reader.old e.offset) }
+{
+    let start = reader.current_position();
+    let magic = match reader.read_u32() {
+        Ok(magic) => magic,
+        Err(e) => return Err(e),
+    };
+    match reader.read_u32() {
+        Ok(version) => Ok(Preamble { magic, version }),
+        Err(e) => {
+            reader.rewind(start);
+            Err(e)
+        }
+    }
+}

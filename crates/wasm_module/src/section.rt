@@ -1,0 +1,60 @@
+//! One section.
+ghost use Rattle.std.specs.Prelude.{◌≡◌, IfOk, IfErr};
+ghost use Rattle.wasm_below.specs.Source.{Reads, offset_of, end_of};
+ghost use Rattle.wasm_module.specs.Module.{EncodesSection, SectionFault};
+
+use std::marker::Model;
+use wasm_below::{BinaryReader, Result};
+
+/// A section of a module: its number, and a reader of its contents.
+#[derive(Debug, Drop)]
+pub struct Section<'a> {
+    id: u8,
+    contents: BinaryReader<'a>,
+}
+
+impl<'a> Model for Section<'a> {
+    ghost use Rattle.wasm_module.specs.Module.{SectionParts};
+
+    ghost Value = { SectionParts };
+
+    ghost view = { λ s. record { id = s.id; contents = s.contents } };
+}
+
+impl<'a> Section<'a> {
+    /// The number, which says what the section has. Sections.
+    pub fn id(&self) -> u8
+        ensures { result ≡ self.now.id }
+    {
+        self.id
+    }
+
+    /// A reader of the contents, with the offsets of the module.
+    pub fn contents(&self) -> BinaryReader<'a>
+        ensures { result ≡ self.now.contents }
+    {
+        self.contents.clone()
+    }
+}
+
+/// The next section: a byte, a number of 32 bits, and that many bytes. Sections.
+///
+/// `EndOfData` at the end of the data; else refused as `read_reader` behind the byte.
+pub fn read_section<'a>(reader: &mut BinaryReader<'a>) -> Result<Section<'a>>
+    ensures reads { Reads (EncodesSection reader.old.features) result reader.old reader.new }
+    ensures placed { IfOk result (λ s. end_of s.contents ≡ offset_of reader.new) }
+    ensures fault { IfErr result (λ e. SectionFault e.message reader.old e.offset) }
+{
+    let start = reader.current_position();
+    let id = match reader.read_u8() {
+        Ok(id) => id,
+        Err(e) => return Err(e),
+    };
+    match reader.read_reader() {
+        Ok(contents) => Ok(Section { id, contents }),
+        Err(e) => {
+            reader.rewind(start);
+            Err(e)
+        }
+    }
+}

@@ -1,0 +1,3 @@
+pub mod Fractions
+pub mod Pieces
+pub mod Targets

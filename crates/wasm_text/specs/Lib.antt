@@ -1,0 +1,4 @@
+pub mod Names
+pub mod Values
+pub mod Floats
+pub mod Operands

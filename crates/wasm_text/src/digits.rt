@@ -1,0 +1,59 @@
+//! Bytes in hexadecimal.
+ghost use Rattle.std.specs.Prelude.{◌≡◌, ◌++◌, OnOk, string_bytes, false, ◌∷◌, [], ◌<◌};
+ghost use Rattle.std.specs.Fmt.{digit_glyph};
+ghost use Rattle.wasm_text.specs.Values.{byte_text, words_text, word_text};
+
+use crate::values::Written;
+
+/// The digits.
+static DIGITS: [&str; 16] = [
+    "0", "1", "2", "3", "4", "5", "6", "7", "8", "9", "a", "b", "c", "d", "e", "f",
+];
+
+/// The digit of a number below sixteen.
+fn digit_of(value: u8) -> &'static str
+    requires { value < 16 }
+    ensures { result.now ≡ digit_glyph false value ∷ [] }
+{
+    DIGITS[value as usize]
+}
+
+/// Writes a digit.
+pub fn write_digit(out: &mut String, value: u8) -> Written
+    requires { value < 16 }
+    ensures { OnOk result (string_bytes out.new ≡ string_bytes out.old ++ digit_glyph false value ∷ []) }
+{
+    out.push_str(digit_of(value))
+}
+
+/// Writes a byte as two digits in hexadecimal.
+///
+/// Where memory is refused, nothing is said of how much of it was written.
+pub fn write_byte(out: &mut String, byte: u8) -> Written
+    ensures { OnOk result (string_bytes out.new ≡ string_bytes out.old ++ byte_text byte) }
+{
+    write_digit(out, byte / 16)?;
+    write_digit(out, byte % 16)
+}
+
+/// Writes four bytes from a place on, the highest first.
+fn write_word(out: &mut String, bytes: &[u8; 16], at: usize) -> Written
+    requires { at < 13 }
+    ensures { OnOk result (string_bytes out.new ≡ string_bytes out.old ++ word_text bytes.now at) }
+{
+    out.push_str(" 0x")?;
+    write_byte(out, bytes[at + 3])?;
+    write_byte(out, bytes[at + 2])?;
+    write_byte(out, bytes[at + 1])?;
+    write_byte(out, bytes[at])
+}
+
+/// Writes sixteen bytes as four words, the lowest first.
+pub fn write_words(out: &mut String, bytes: &[u8; 16]) -> Written
+    ensures { OnOk result (string_bytes out.new ≡ string_bytes out.old ++ words_text bytes.now) }
+{
+    write_word(out, bytes, 0)?;
+    write_word(out, bytes, 4)?;
+    write_word(out, bytes, 8)?;
+    write_word(out, bytes, 12)
+}

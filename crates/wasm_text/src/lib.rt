@@ -1,0 +1,21 @@
+//! Operators in the text format: their names, and their operands as a disassembly shows them.
+//!
+//! The theorem stands on [`write_operator`].
+#![tactic(auto)]
+
+mod digits;
+mod floats;
+mod lists;
+mod names;
+mod operands;
+mod operators;
+mod types;
+mod values;
+mod write;
+
+pub use digits::write_byte;
+pub use names::text_name;
+pub use types::write_value_type;
+pub use values::Written;
+pub use wasm_instr as instr;
+pub use write::write_operator;

@@ -1,0 +1,236 @@
+//! Operands by the kinds of the immediates that they are, each behind a space.
+ghost use Rattle.std.specs.Prelude.{◌≡◌, ◌++◌, ◌∷◌, [], true, false, OnOk, string_bytes};
+ghost use Rattle.wasm_instr.specs.Immediate.{unsigned_32, signed_32, signed_64, float_32, float_64, vector, one_lane, sixteen_lanes, order, fence_order, heap_type, cast, block_type, branch_table, select_types, try_clauses, resume_clauses};
+ghost use Rattle.wasm_instr.specs.imm.control.select.Select.TheVariants as select;
+ghost use Rattle.wasm_text.specs.Operands.{immediates_text, indirect_text};
+ghost use Rattle.wasm_text.specs.Values.{memory_argument_text, number_text, reference_text};
+
+use crate::digits::write_words;
+use crate::floats::{write_float_32, write_float_64};
+use crate::lists::{write_branch_table, write_catches, write_handles, write_types};
+use crate::types::{
+    write_block_type, write_heap_type, write_reference, write_reference_type, write_value_type,
+};
+pub use crate::values::Written;
+use crate::values::{write_fence, write_memory_argument, write_number, write_order, write_signed};
+use wasm_instr::below::{HeapType, RefType, ValType};
+use wasm_instr::{
+    BlockType, BrTable, Ieee32, Ieee64, MemArg, Ordering, ResumeTable, SelectTypes, TryTable, V128,
+};
+
+/// Writes an index.
+pub fn one_number(out: &mut String, value: &u32) -> Written
+    ensures { OnOk result (string_bytes out.new ≡ string_bytes out.old ++ (immediates_text (unsigned_32 value.now ∷ []))) }
+{
+    write_number(out, *value)
+}
+
+/// Writes two indices.
+pub fn two_numbers(out: &mut String, first: &u32, second: &u32) -> Written
+    ensures { OnOk result (string_bytes out.new ≡ string_bytes out.old ++ (immediates_text (unsigned_32 first.now ∷ unsigned_32 second.now ∷ []))) }
+{
+    write_number(out, *first)?;
+    write_number(out, *second)
+}
+
+/// Writes a table, and the type of the function that is called through it.
+pub fn indirect(out: &mut String, type_index: &u32, table_index: &u32) -> Written
+    ensures { OnOk result (string_bytes out.new ≡ string_bytes out.old ++ (indirect_text type_index.now table_index.now)) }
+{
+    write!(out, " {table_index} (type {type_index})")
+}
+
+/// Writes a constant of 32 bits.
+pub fn signed_32(out: &mut String, value: &i32) -> Written
+    ensures { OnOk result (string_bytes out.new ≡ string_bytes out.old ++ (immediates_text (signed_32 value.now ∷ []))) }
+{
+    write_signed(out, i64::from(*value))
+}
+
+/// Writes a constant of 64 bits.
+pub fn signed_64(out: &mut String, value: &i64) -> Written
+    ensures { OnOk result (string_bytes out.new ≡ string_bytes out.old ++ (immediates_text (signed_64 value.now ∷ []))) }
+{
+    write_signed(out, *value)
+}
+
+/// Writes a constant of 32 bits.
+pub fn float_32(out: &mut String, value: &Ieee32) -> Written
+    ensures { OnOk result (string_bytes out.new ≡ string_bytes out.old ++ (immediates_text (float_32 value.now ∷ []))) }
+{
+    write_float_32(out, *value)
+}
+
+/// Writes a constant of 64 bits.
+pub fn float_64(out: &mut String, value: &Ieee64) -> Written
+    ensures { OnOk result (string_bytes out.new ≡ string_bytes out.old ++ (immediates_text (float_64 value.now ∷ []))) }
+{
+    write_float_64(out, *value)
+}
+
+/// Writes a constant vector.
+pub fn vector(out: &mut String, value: &V128) -> Written
+    ensures { OnOk result (string_bytes out.new ≡ string_bytes out.old ++ (immediates_text (vector value.now ∷ []))) }
+{
+    write_words(out, value.bytes())
+}
+
+/// Writes the index of a lane.
+pub fn lane(out: &mut String, lane: &u8) -> Written
+    ensures { OnOk result (string_bytes out.new ≡ string_bytes out.old ++ (immediates_text (one_lane lane.now ∷ []))) }
+{
+    write_number(out, u32::from(*lane))
+}
+
+/// Writes the lanes of a shuffle.
+pub fn lanes(out: &mut String, lanes: &[u8; 16]) -> Written
+    ensures { OnOk result (string_bytes out.new ≡ string_bytes out.old ++ (immediates_text (sixteen_lanes lanes.now ∷ []))) }
+{
+    write_words(out, lanes)
+}
+
+/// Writes a memory argument.
+pub fn memory_argument(out: &mut String, memarg: &MemArg) -> Written
+    ensures { OnOk result (string_bytes out.new ≡ string_bytes out.old ++ (memory_argument_text memarg.now ++ [])) }
+{
+    write_memory_argument(out, memarg)
+}
+
+/// Writes a memory argument and the index of a lane.
+pub fn memory_argument_and_lane(out: &mut String, memarg: &MemArg, lane: &u8) -> Written
+    ensures { OnOk result (string_bytes out.new ≡ string_bytes out.old ++ (memory_argument_text memarg.now ++ immediates_text (one_lane lane.now ∷ []))) }
+{
+    write_memory_argument(out, memarg)?;
+    write_number(out, u32::from(*lane))
+}
+
+/// Writes an ordering.
+pub fn order(out: &mut String, ordering: &Ordering) -> Written
+    ensures { OnOk result (string_bytes out.new ≡ string_bytes out.old ++ (immediates_text (order ordering.now ∷ []))) }
+{
+    write_order(out, *ordering)
+}
+
+/// Writes an ordering and an index.
+pub fn ordered_number(out: &mut String, ordering: &Ordering, value: &u32) -> Written
+    ensures { OnOk result (string_bytes out.new ≡ string_bytes out.old ++ (immediates_text (order ordering.now ∷ unsigned_32 value.now ∷ []))) }
+{
+    write_order(out, *ordering)?;
+    write_number(out, *value)
+}
+
+/// Writes an ordering and two indices.
+pub fn ordered_numbers(out: &mut String, ordering: &Ordering, first: &u32, second: &u32) -> Written
+    ensures { OnOk result (string_bytes out.new ≡ string_bytes out.old ++ (immediates_text (order ordering.now ∷ unsigned_32 first.now ∷ unsigned_32 second.now ∷ []))) }
+{
+    write_order(out, *ordering)?;
+    write_number(out, *first)?;
+    write_number(out, *second)
+}
+
+/// Writes the ordering of a fence.
+pub fn fence(out: &mut String, ordering: &Ordering) -> Written
+    ensures { OnOk result (string_bytes out.new ≡ string_bytes out.old ++ (immediates_text (fence_order ordering.now ∷ []))) }
+{
+    write_fence(out, *ordering)
+}
+
+/// Writes a heap type.
+pub fn heap_type(out: &mut String, hty: &HeapType) -> Written
+    ensures { OnOk result (string_bytes out.new ≡ string_bytes out.old ++ (immediates_text (heap_type hty.now ∷ []))) }
+{
+    write_heap_type(out, *hty)
+}
+
+/// Writes the type of references to this with null.
+pub fn reference_with_null(out: &mut String, hty: &HeapType) -> Written
+    ensures { OnOk result (string_bytes out.new ≡ string_bytes out.old ++ (reference_text true hty.now)) }
+{
+    write_reference(out, true, *hty)
+}
+
+/// Writes the type of references to this without null.
+pub fn reference_without_null(out: &mut String, hty: &HeapType) -> Written
+    ensures { OnOk result (string_bytes out.new ≡ string_bytes out.old ++ (reference_text false hty.now)) }
+{
+    write_reference(out, false, *hty)
+}
+
+/// Writes a label and the two types of a cast.
+pub fn cast(
+    out: &mut String,
+    relative_depth: &u32,
+    from_ref_type: &RefType,
+    to_ref_type: &RefType,
+) -> Written
+    ensures { OnOk result (string_bytes out.new ≡ string_bytes out.old ++ (immediates_text (cast (record { relative_depth = relative_depth.now; from = from_ref_type.now; to = to_ref_type.now }) ∷ []))) }
+{
+    write_number(out, *relative_depth)?;
+    write_reference_type(out, *from_ref_type)?;
+    write_reference_type(out, *to_ref_type)
+}
+
+/// Writes a block type.
+pub fn block_type(out: &mut String, blockty: &BlockType) -> Written
+    ensures { OnOk result (string_bytes out.new ≡ string_bytes out.old ++ (immediates_text (block_type blockty.now ∷ []))) }
+{
+    write_block_type(out, *blockty)
+}
+
+/// Writes a branch table.
+pub fn branch_table(out: &mut String, targets: &BrTable<'_>) -> Written
+    ensures { OnOk result (string_bytes out.new ≡ string_bytes out.old ++ (immediates_text (branch_table targets.now ∷ []))) }
+{
+    write_branch_table(out, targets)
+}
+
+/// Writes the type of a select.
+pub fn one_type(out: &mut String, ty: &ValType) -> Written
+    ensures { OnOk result (string_bytes out.new ≡ string_bytes out.old ++ (immediates_text (select_types (select.One ty.now) ∷ []))) }
+{
+    write_value_type(out, *ty)
+}
+
+/// Writes the types of a select.
+pub fn types(out: &mut String, tys: &SelectTypes) -> Written
+    ensures { OnOk result (string_bytes out.new ≡ string_bytes out.old ++ (immediates_text (select_types (select.Multi tys.now) ∷ []))) }
+{
+    write_types(out, tys.as_slice())
+}
+
+/// Writes a block type and catches.
+pub fn try_table(out: &mut String, try_table: &TryTable) -> Written
+    ensures { OnOk result (string_bytes out.new ≡ string_bytes out.old ++ (immediates_text (try_clauses try_table.now ∷ []))) }
+{
+    write_block_type(out, try_table.ty)?;
+    write_catches(out, try_table.catches.as_slice())
+}
+
+/// Writes the clauses of a resume table.
+pub fn clauses(out: &mut String, table: &ResumeTable) -> Written
+    ensures { OnOk result (string_bytes out.new ≡ string_bytes out.old ++ (immediates_text (resume_clauses table.now ∷ []))) }
+{
+    write_handles(out, table.handlers.as_slice())
+}
+
+/// Writes an index and the clauses of a resume table.
+pub fn number_and_clauses(out: &mut String, index: &u32, table: &ResumeTable) -> Written
+    ensures { OnOk result (string_bytes out.new ≡ string_bytes out.old ++ (immediates_text (unsigned_32 index.now ∷ resume_clauses table.now ∷ []))) }
+{
+    write_number(out, *index)?;
+    write_handles(out, table.handlers.as_slice())
+}
+
+/// Writes two indices and the clauses of a resume table.
+pub fn numbers_and_clauses(
+    out: &mut String,
+    first: &u32,
+    second: &u32,
+    table: &ResumeTable,
+) -> Written
+    ensures { OnOk result (string_bytes out.new ≡ string_bytes out.old ++ (immediates_text (unsigned_32 first.now ∷ unsigned_32 second.now ∷ resume_clauses table.now ∷ []))) }
+{
+    write_number(out, *first)?;
+    write_number(out, *second)?;
+    write_handles(out, table.handlers.as_slice())
+}

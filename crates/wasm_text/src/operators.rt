@@ -1,0 +1,7 @@
+//! The operands of the operators, enum by enum.
+
+mod atomic;
+mod gc;
+mod misc;
+pub mod own;
+mod simd;

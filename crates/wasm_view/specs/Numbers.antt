@@ -1,0 +1,81 @@
+-- Types, orderings and lengths as numbers.
+-- WebAssembly Core Specification 3.0: Binary Format, Types; Binary Format, Instructions, Control Instructions.
+use Rattle.std.specs.Prelude.{ℕ, ◌+◌, List, true, false, if◌then◌else◌, Option, Some, None, length, min}
+use Rattle.wasm_instr.specs.below.declared.types.HeapType.{HeapType}
+use Rattle.wasm_instr.specs.below.declared.types.HeapType.TheVariants as heap
+use Rattle.wasm_instr.specs.below.declared.types.ValType.{ValType}
+use Rattle.wasm_instr.specs.below.declared.types.ValType.TheVariants as value
+use Rattle.wasm_instr.specs.below.Reference.{Reference}
+use Rattle.wasm_instr.specs.below.TypeEncoding.{heap_type_byte}
+use Rattle.wasm_instr.specs.imm.control.block_type.BlockType.{BlockType}
+use Rattle.wasm_instr.specs.imm.control.block_type.BlockType.TheVariants as block
+use Rattle.wasm_instr.specs.imm.declared.memory_argument.MemArgTarget.{MemArgTarget}
+use Rattle.wasm_instr.specs.imm.declared.memory_argument.MemArgTarget.TheVariants as target
+use Rattle.wasm_instr.specs.imm.declared.memory_argument.MemArgOrdering.{MemArgOrdering}
+use Rattle.wasm_instr.specs.imm.declared.memory_argument.MemArgOrdering.TheVariants as ordering
+use Rattle.wasm_instr.specs.imm.declared.ordering.Ordering.{Ordering}
+use Rattle.wasm_instr.specs.imm.MemoryArgument.{ordering_byte}
+
+-- A heap type: the byte of an abstract one, and 256 where it is shared; 1 at an index for its type and those below it, 2 for its type alone.
+abbrev pub heap_kind : HeapType → ℕ
+heap_kind (heap.Abstract false ty) = heap_type_byte ty
+heap_kind (heap.Abstract true ty) = heap_type_byte ty + 256
+heap_kind (heap.Concrete index) = 1
+heap_kind (heap.Exact index) = 2
+
+-- The index beside it.
+abbrev pub heap_index : HeapType → ℕ
+heap_index (heap.Abstract shared ty) = 0
+heap_index (heap.Concrete index) = index
+heap_index (heap.Exact index) = index
+
+-- A reference type: its heap type, and 512 where null is in it.
+abbrev pub reference_kind : Reference → ℕ
+reference_kind r = heap_kind r.heap_type + (if r.nullable then 512 else 0)
+
+-- A value type: the byte of a number or vector type; or a reference type, and 1024.
+abbrev pub value_kind : ValType → ℕ
+value_kind value.I32 = 0x7f
+value_kind value.I64 = 0x7e
+value_kind value.F32 = 0x7d
+value_kind value.F64 = 0x7c
+value_kind value.V128 = 0x7b
+value_kind (value.Ref r) = reference_kind r + 1024
+
+abbrev pub value_index : ValType → ℕ
+value_index (value.Ref r) = heap_index r.heap_type
+value_index _ = 0
+
+-- A block type: the byte 40 for none, a value type, or 0 at the index of a function type.
+abbrev pub block_kind : BlockType → ℕ
+block_kind block.Empty = 0x40
+block_kind (block.Value ty) = value_kind ty
+block_kind (block.FuncType index) = 0
+
+abbrev pub block_index : BlockType → ℕ
+block_index block.Empty = 0
+block_index (block.Value ty) = value_index ty
+block_index (block.FuncType index) = index
+
+-- What a memory argument accesses: a memory or an array, and its index.
+abbrev pub target_number : MemArgTarget → ℕ
+target_number (target.Memory index) = 0
+target_number (target.Array index) = 1
+
+abbrev pub target_index : MemArgTarget → ℕ
+target_index (target.Memory index) = index
+target_index (target.Array index) = index
+
+-- An ordering by itself.
+abbrev pub order_number : Ordering → ℕ
+order_number o = 1 + ordering_byte o
+
+-- The ordering of a memory argument, if it has one.
+abbrev pub ordering_number : Option MemArgOrdering → ℕ
+ordering_number None = 0
+ordering_number (Some (ordering.Op o)) = 1 + ordering_byte o
+ordering_number (Some (ordering.Rmw o)) = 3 + ordering_byte o
+
+-- How many members a list has, as far as 32 bits tell.
+abbrev pub count : {X : Type 0} → List X → ℕ
+count items = min (length items) 4294967295

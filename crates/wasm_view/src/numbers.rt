@@ -1,0 +1,175 @@
+//! Types, orderings and lengths as numbers.
+ghost use Rattle.std.specs.Prelude.{◌≡◌, ◌≤◌, length, min};
+ghost use Rattle.wasm_instr.specs.below.TypeEncoding.{heap_type_byte};
+ghost use Rattle.wasm_instr.specs.imm.MemoryArgument.{ordering_byte};
+ghost use Rattle.wasm_view.specs.Numbers.{heap_kind, heap_index, reference_kind, value_kind, value_index, block_kind, block_index, target_number, target_index, order_number, ordering_number};
+
+use wasm_instr::below::{AbstractHeapType, HeapType, RefType, ValType};
+use wasm_instr::imm::{BlockType, MemArgOrdering, MemArgTarget, Ordering};
+
+/// The byte of an abstract heap type. Heap Types.
+fn heap_type_byte(ty: AbstractHeapType) -> u32
+    ensures is { result ≡ heap_type_byte ty }
+    ensures byte { result ≤ 0x75 }
+{
+    match ty {
+        AbstractHeapType::NoCont => 0x75,
+        AbstractHeapType::NoExn => 0x74,
+        AbstractHeapType::NoFunc => 0x73,
+        AbstractHeapType::NoExtern => 0x72,
+        AbstractHeapType::None => 0x71,
+        AbstractHeapType::Func => 0x70,
+        AbstractHeapType::Extern => 0x6f,
+        AbstractHeapType::Any => 0x6e,
+        AbstractHeapType::Eq => 0x6d,
+        AbstractHeapType::I31 => 0x6c,
+        AbstractHeapType::Struct => 0x6b,
+        AbstractHeapType::Array => 0x6a,
+        AbstractHeapType::Exn => 0x69,
+        AbstractHeapType::Cont => 0x68,
+    }
+}
+
+/// The kind of a heap type: the byte of an abstract one, and 256 where it is shared; 1 for the type of
+/// an index and those below it, 2 for that type alone.
+pub fn heap_kind(ty: HeapType) -> u32
+    ensures is { result ≡ heap_kind ty }
+    ensures small { result ≤ 0x175 }
+{
+    match ty {
+        HeapType::Abstract { shared: false, ty } => heap_type_byte(ty),
+        HeapType::Abstract { shared: true, ty } => heap_type_byte(ty) + 256,
+        HeapType::Concrete(_) => 1,
+        HeapType::Exact(_) => 2,
+    }
+}
+
+/// The index in a heap type, else 0.
+pub fn heap_index(ty: HeapType) -> u32
+    ensures { result ≡ heap_index ty }
+{
+    match ty {
+        HeapType::Abstract { .. } => 0,
+        HeapType::Concrete(index) | HeapType::Exact(index) => index,
+    }
+}
+
+/// The kind of a reference type: that of its heap type, and 512 where null is in it.
+pub fn reference_kind(ty: RefType) -> u32
+    ensures is { result ≡ reference_kind ty }
+    ensures small { result ≤ 0x375 }
+{
+    let kind = heap_kind(ty.heap_type());
+    if ty.is_nullable() { kind + 512 } else { kind }
+}
+
+/// The index in a reference type, else 0.
+pub fn reference_index(ty: RefType) -> u32
+    ensures { result ≡ heap_index ty.heap_type }
+{
+    heap_index(ty.heap_type())
+}
+
+/// The kind of a value type: the byte of a number or vector type; that of a reference type, and 1024.
+pub fn value_kind(ty: &ValType) -> u32
+    ensures { result ≡ value_kind ty.now }
+{
+    match ty {
+        ValType::I32 => 0x7f,
+        ValType::I64 => 0x7e,
+        ValType::F32 => 0x7d,
+        ValType::F64 => 0x7c,
+        ValType::V128 => 0x7b,
+        ValType::Ref(reference) => reference_kind(*reference) + 1024,
+    }
+}
+
+/// The index in a value type, else 0.
+pub fn value_index(ty: &ValType) -> u32
+    ensures { result ≡ value_index ty.now }
+{
+    match ty {
+        ValType::Ref(reference) => reference_index(*reference),
+        _ => 0,
+    }
+}
+
+/// The kind of a block type: the byte 40 for none, that of a value type, or 0 at the index of a function
+/// type.
+pub fn block_kind(ty: &BlockType) -> u32
+    ensures { result ≡ block_kind ty.now }
+{
+    match ty {
+        BlockType::Empty => 0x40,
+        BlockType::Value(ty) => value_kind(ty),
+        BlockType::FuncType(_) => 0,
+    }
+}
+
+/// The index in a block type, else 0.
+pub fn block_index(ty: &BlockType) -> u32
+    ensures { result ≡ block_index ty.now }
+{
+    match ty {
+        BlockType::Empty => 0,
+        BlockType::Value(ty) => value_index(ty),
+        BlockType::FuncType(index) => *index,
+    }
+}
+
+/// What a memory argument accesses: 0 a memory, 1 an array.
+#[inline(always)]
+pub fn target_number(target: MemArgTarget) -> u16
+    ensures { result ≡ target_number target }
+{
+    match target {
+        MemArgTarget::Memory(_) => 0,
+        MemArgTarget::Array(_) => 1,
+    }
+}
+
+/// The index of the memory or of the array's type.
+#[inline(always)]
+pub fn target_index(target: MemArgTarget) -> u32
+    ensures { result ≡ target_index target }
+{
+    match target {
+        MemArgTarget::Memory(index) | MemArgTarget::Array(index) => index,
+    }
+}
+
+/// An ordering: 1 sequentially consistent, 2 acquire and release.
+pub fn order_number(order: Ordering) -> u16
+    ensures { result ≡ order_number order }
+{
+    match order {
+        Ordering::SeqCst => 1,
+        Ordering::AcqRel => 2,
+    }
+}
+
+/// The ordering of a memory argument: 0 where it has none, else as `order_number`; 2 more of a
+/// read-modify-write.
+#[inline(always)]
+pub fn ordering_number(ordering: Option<MemArgOrdering>) -> u16
+    ensures { result ≡ ordering_number ordering }
+{
+    match ordering {
+        None => 0,
+        Some(MemArgOrdering::Op(Ordering::SeqCst)) => 1,
+        Some(MemArgOrdering::Op(Ordering::AcqRel)) => 2,
+        Some(MemArgOrdering::Rmw(Ordering::SeqCst)) => 3,
+        Some(MemArgOrdering::Rmw(Ordering::AcqRel)) => 4,
+    }
+}
+
+/// A length in 32 bits; a longer one is the largest number of these.
+pub fn length_32(length: usize) -> u32
+    ensures { result ≡ min length 4294967295 }
+{
+    if length < 4294967295 {
+        length as u32
+    } else {
+        4294967295
+    }
+}

@@ -1,0 +1,68 @@
+//! The plain data of an operator.
+ghost use Rattle.std.specs.Prelude.{◌≡◌};
+ghost use Rattle.wasm_view.specs.View.{bare};
+
+/// An operator as plain data: 64 bytes without gaps. `shape` says which of the fields have a meaning;
+/// the others are 0.
+#[repr(C)]
+#[derive(Clone, Copy, Debug, PartialEq, Eq)]
+pub struct WasmOperator {
+    /// The offset of its first byte.
+    pub offset: u64,
+    /// A constant: an integer in two's complement, its sign repeated up to bit 63, or the bits of a
+    /// float; or the static offset of a memory argument, in bytes.
+    pub wide: u64,
+    /// The opcode; behind a prefix byte the subopcode, and 65536 times the prefix byte.
+    pub opcode: u32,
+    /// The first index, or the number of members of a list.
+    pub first: u32,
+    /// The second index, or the number of members of a list.
+    pub second: u32,
+    /// The third index, or the number of members of a list.
+    pub third: u32,
+    /// A type: its byte in the binary format, and what is added to it.
+    pub kind: u32,
+    /// The type that a cast tests for.
+    pub other_kind: u32,
+    /// Which fields have a meaning.
+    pub shape: u8,
+    /// The alignment that a memory argument gives, as the exponent of a power of two.
+    pub align: u8,
+    /// The operator's natural alignment, as the exponent of a power of two.
+    pub max_align: u8,
+    /// The index of a lane.
+    pub lane: u8,
+    /// What a memory argument accesses: 0 the memory of index `first`, 1 an array of that type.
+    pub target: u16,
+    /// The memory ordering: 0 none, 1 sequentially consistent, 2 acquire and release; of a memory
+    /// argument of a read-modify-write 3 and 4.
+    pub ordering: u16,
+    /// A vector of 128 bits, the lowest byte first; or the sixteen lanes of a shuffle.
+    pub bytes: [u8; 16],
+}
+
+impl WasmOperator {
+    /// An operator of this shape whose immediates are not filled in.
+    #[inline(always)]
+    pub fn bare(offset: u64, opcode: u32, shape: u8) -> WasmOperator
+        ensures { result ≡ bare offset opcode shape }
+    {
+        WasmOperator {
+            offset,
+            wide: 0,
+            opcode,
+            first: 0,
+            second: 0,
+            third: 0,
+            kind: 0,
+            other_kind: 0,
+            shape,
+            align: 0,
+            max_align: 0,
+            lane: 0,
+            target: 0,
+            ordering: 0,
+            bytes: [0; 16],
+        }
+    }
+}
