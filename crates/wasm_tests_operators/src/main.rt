@@ -9,6 +9,7 @@ mod reads;
 mod row;
 mod stacks;
 mod tally;
+mod texts;
 mod told;
 mod visits;
 
@@ -16,6 +17,7 @@ use crate::input::{read_input, row_of};
 use crate::row::run_row;
 use crate::stacks::print_stacks;
 use crate::tally::print_tallies;
+use crate::texts::print_texts;
 use std::alloc::Global;
 use std::io::{self, Print};
 
@@ -31,7 +33,8 @@ fn main(rt: HostRuntime) -> io::Result<()> {
         run_line(&rt, alloc, &mut bytes, line)?;
     }
     print_stacks(&rt, alloc)?;
-    print_tallies(&rt, alloc)
+    print_tallies(&rt, alloc)?;
+    print_texts(&rt, alloc)
 }
 
 /// One line of the input: a heading, or the features and the bytes of an expression.

@@ -2,7 +2,7 @@
 
 use crate::told::Listed;
 use std::fmt::{self, Write};
-use wasm_operators::{BrTable, Operator, VisitFixed, VisitOperator, VisitSimdOperator, Visitor};
+use wasm_operators::{BrTable, Operator, VisitGroups, VisitOperator, VisitSimdOperator, Visitor};
 
 /// How many operators there were, and a fingerprint (FNV-1a, 64 bits) of their texts.
 #[derive(Clone, Copy, Debug, PartialEq, Eq)]
@@ -56,7 +56,7 @@ impl Visitor for Prints {
     }
 }
 
-impl VisitFixed for Prints {}
+impl VisitGroups for Prints {}
 
 impl<'a> VisitOperator<'a> for Prints {
     fn visit_br_table(&mut self, targets: BrTable<'a>) {

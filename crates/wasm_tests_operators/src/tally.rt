@@ -3,7 +3,7 @@
 use std::alloc::Global;
 use std::io::{self, Print};
 use wasm_operators::{
-    BinaryReader, BrTable, MiscOperator, Operator, OperatorsReader, Result, VisitFixed, VisitMisc,
+    BinaryReader, BrTable, MiscOperator, Operator, OperatorsReader, Result, VisitGroups, VisitMisc,
     VisitOperator, VisitSimdOperator, Visitor, decode, dispatch,
 };
 
@@ -34,7 +34,7 @@ impl VisitMisc for Tally {
     }
 }
 
-impl VisitFixed for Tally {
+impl VisitGroups for Tally {
     fn dispatch_misc(&mut self, op: MiscOperator) {
         dispatch::misc(self, op)
     }

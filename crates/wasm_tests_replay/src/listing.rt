@@ -1,0 +1,107 @@
+//! The listing of a body.
+
+use crate::answers::fingerprint;
+use std::alloc::Global;
+use wasm_listing::operators::{Error, WasmFeatures};
+use wasm_listing::{DumpFault, run};
+use wasm_tests_texts::Written;
+
+/// The lines that `run` wrote, and how it ended.
+#[derive(Drop)]
+pub struct Listing {
+    pub text: Vec<u8>,
+    pub end: Result<(), DumpFault>,
+}
+
+impl Listing {
+    /// The listing of a body.
+    pub fn of(alloc: Global, features: WasmFeatures, body: &[u8]) -> Listing {
+        let mut reader = body;
+        let mut text = Vec::new(alloc);
+        let end = run(alloc, features, &mut reader, &mut text);
+        Listing { text, end }
+    }
+
+    /// The lines.
+    pub fn lines(&self) -> &str {
+        str::from_utf8(self.text.as_slice()).unwrap_or("")
+    }
+
+    /// The refusal, where the body was refused.
+    pub fn refusal(&self) -> Option<Error> {
+        match self.end {
+            Err(DumpFault::Refused(e)) => Some(e),
+            _ => None,
+        }
+    }
+
+    /// The status that the program would end with.
+    pub fn write_status(&self, out: &mut String) -> Written {
+        match self.end {
+            Ok(()) => out.push_str("0"),
+            Err(fault) => {
+                let status = fault.status();
+                write!(out, "{status}")
+            }
+        }
+    }
+
+    /// The number of the refusal, or 0.
+    pub fn write_number(&self, out: &mut String) -> Written {
+        let number = match self.refusal() {
+            None => 0,
+            Some(e) => e.message().number(),
+        };
+        write!(out, "{number}")
+    }
+
+    /// The offset of the refusal, or nothing.
+    pub fn write_offset(&self, out: &mut String) -> Written {
+        match self.refusal() {
+            None => Ok(()),
+            Some(e) => {
+                let offset = e.offset();
+                write!(out, "{offset}")
+            }
+        }
+    }
+
+    /// The text of the refusal, or nothing.
+    pub fn write_text(&self, out: &mut String) -> Written {
+        match self.refusal() {
+            None => Ok(()),
+            Some(e) => {
+                let message = e.message();
+                write!(out, "{message}")
+            }
+        }
+    }
+
+    /// How many lines there are.
+    pub fn write_count(&self, out: &mut String) -> Written {
+        let count = self.lines().lines().count();
+        write!(out, "{count}")
+    }
+
+    /// The lines' fingerprint.
+    pub fn write_print(&self, out: &mut String) -> Written {
+        let print = fingerprint(self.text.as_slice());
+        write!(out, "{print:016x}")
+    }
+
+    /// The lines with a semicolon between them; `*` where there are more than six.
+    pub fn write_lines(&self, out: &mut String) -> Written {
+        if self.lines().lines().count() > 6 {
+            return out.push_str("*");
+        }
+        let mut is_first = true;
+        for line in self.lines().lines() {
+            if !is_first {
+                out.push_str(";")?;
+            }
+            is_first = false;
+            out.push_str(line)?;
+        }
+        Ok(())
+    }
+}

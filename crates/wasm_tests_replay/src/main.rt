@@ -1,0 +1,28 @@
+//! Replays answers of the original: reads the same bodies of functions by each call that reads one,
+//! and prints each answer that differs.
+#![tactic(auto)]
+
+mod answers;
+mod listing;
+mod parts;
+mod reading;
+mod replay;
+mod row;
+mod visits;
+
+use crate::replay::Replay;
+use std::io;
+use wasm_tests_texts::read_input;
+
+fn main(rt: HostRuntime) -> io::Result<()> {
+    let alloc = rt.alloc();
+    let input = read_input(alloc, &mut rt.reader())?;
+    let Ok(text) = str::from_utf8(input.as_slice()) else {
+        return println!(rt; "the input is no text");
+    };
+    let mut replay = Replay::new(alloc);
+    for line in text.lines() {
+        replay.line(&rt, line)?;
+    }
+    println!(rt; "{} cases, {} differ", replay.cases, replay.differ)
+}

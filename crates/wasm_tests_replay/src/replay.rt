@@ -1,0 +1,172 @@
+//! Answers beside those of the original.
+
+use crate::answers::{fingerprint, write_visits};
+use crate::listing::Listing;
+use crate::parts::{write_constant, write_locals, write_section};
+use crate::reading::write_fields;
+use crate::row::{Row, Sample, is_heading, row_of, sample_of};
+use crate::visits::{write_all, write_plain};
+use bitflags::Flags;
+use std::alloc::Global;
+use std::io::{self, Print};
+use wasm_listing::operators::WasmFeatures;
+use wasm_tests_texts::read_hex;
+
+/// The cases so far.
+#[derive(Drop)]
+pub struct Replay {
+    alloc: Global,
+    pub cases: u64,
+    /// How many of them differ.
+    pub differ: u64,
+    /// Whether this one does.
+    differs: bool,
+    /// The answer of a call.
+    answer: String,
+}
+
+impl Replay {
+    /// No case yet.
+    pub fn new(alloc: Global) -> Replay {
+        Replay {
+            alloc,
+            cases: 0,
+            differ: 0,
+            differs: false,
+            answer: String::new(alloc),
+        }
+    }
+
+    /// One line of the input. Behind its differences it is printed itself.
+    pub fn line<R: Print>(&mut self, rt: &R, line: &str) -> io::Result<()> {
+        if is_heading(line) {
+            return Ok(());
+        }
+        self.differs = false;
+        if let Some(row) = row_of(line) {
+            self.row(rt, &row)?;
+        } else if let Some(sample) = sample_of(line) {
+            self.sample(rt, &sample)?;
+        } else {
+            self.differs = true;
+        }
+        if self.differs {
+            self.differ = self.differ.saturating_add(1);
+            println!(rt; "differs: {line}")?;
+        }
+        self.cases = self.cases.saturating_add(1);
+        Ok(())
+    }
+
+    /// One body, by each call.
+    fn row<R: Print>(&mut self, rt: &R, row: &Row<'_>) -> io::Result<()> {
+        let mut bytes = Vec::new(self.alloc);
+        read_hex(&mut bytes, row.body)?;
+        let body = bytes.as_slice();
+        self.listing(rt, row, body)?;
+        self.reading(rt, row, body)?;
+        self.visits(rt, row, body)?;
+        self.parts(rt, row, body)
+    }
+
+    /// The listing, and how it ends.
+    fn listing<R: Print>(&mut self, rt: &R, row: &Row<'_>, body: &[u8]) -> io::Result<()> {
+        let listing = Listing::of(self.alloc, row.features, body);
+        listing.write_status(&mut self.answer)?;
+        self.compare(rt, "status", row.status)?;
+        listing.write_number(&mut self.answer)?;
+        self.compare(rt, "number", row.number)?;
+        listing.write_offset(&mut self.answer)?;
+        self.compare(rt, "offset", row.offset)?;
+        listing.write_text(&mut self.answer)?;
+        self.compare(rt, "text", row.text)?;
+        listing.write_count(&mut self.answer)?;
+        self.compare(rt, "operators", row.operators)?;
+        listing.write_print(&mut self.answer)?;
+        self.compare(rt, "listing", row.listing)?;
+        listing.write_lines(&mut self.answer)?;
+        self.compare(rt, "lines", row.lines)
+    }
+
+    /// The operators with all their fields, which are printed where they differ.
+    fn reading<R: Print>(&mut self, rt: &R, row: &Row<'_>, body: &[u8]) -> io::Result<()> {
+        let mut text = String::new(self.alloc);
+        let end = write_fields(self.alloc, row.features, body, &mut text)?;
+        let print = fingerprint(text.as_bytes());
+        write!(self.answer, "{print:016x}")?;
+        if self.answer.as_str() != row.fields {
+            print!(rt; "{text}")?;
+        }
+        self.compare(rt, "fields", row.fields)?;
+        write_visits(&mut self.answer, text.lines().count() as u64, end)?;
+        self.compare_end(rt, "read_all", row)
+    }
+
+    /// The visits of visitors that count.
+    fn visits<R: Print>(&mut self, rt: &R, row: &Row<'_>, body: &[u8]) -> io::Result<()> {
+        write_all(self.alloc, row.features, body, &mut self.answer)?;
+        self.compare_end(rt, "visit_all_simd", row)?;
+        write_plain(self.alloc, row.features, body, &mut self.answer)?;
+        self.compare(rt, "visit_all", row.plain)
+    }
+
+    /// The same bytes as what else they may be.
+    fn parts<R: Print>(&mut self, rt: &R, row: &Row<'_>, body: &[u8]) -> io::Result<()> {
+        write_constant(self.alloc, row.features, body, &mut self.answer)?;
+        self.compare(rt, "constant expression", row.constant)?;
+        write_locals(row.features, body, &mut self.answer)?;
+        self.compare(rt, "locals", row.locals)?;
+        write_section(self.alloc, row.features, body, &mut self.answer)?;
+        self.compare(rt, "code section", row.section)
+    }
+
+    /// Compares the answer with how many operators the original reads, and how that ends.
+    fn compare_end<R: Print>(&mut self, rt: &R, what: &str, row: &Row<'_>) -> io::Result<()> {
+        let mut wanted = String::new(self.alloc);
+        match row.status {
+            "0" => write!(wanted, "{} Ok", row.operators)?,
+            _ => write!(wanted, "{} E{}@{}", row.operators, row.number, row.offset)?,
+        }
+        self.compare(rt, what, wanted.as_str())
+    }
+
+    /// Compares the answer with the wanted one, and forgets it.
+    fn compare<R: Print>(&mut self, rt: &R, what: &str, wanted: &str) -> io::Result<()> {
+        if self.answer.as_str() != wanted {
+            self.differs = true;
+            println!(rt; "{what}: {}, and not {wanted}", self.answer)?;
+        }
+        self.answer.clear();
+        Ok(())
+    }
+
+    /// One operator in a body: its line in the listing, and the one with all its fields.
+    fn sample<R: Print>(&mut self, rt: &R, sample: &Sample<'_>) -> io::Result<()> {
+        let hexadecimal = format!(in self.alloc;
+            "{}{}{}",
+            sample.before, sample.operator, sample.behind
+        )?;
+        let mut bytes = Vec::new(self.alloc);
+        read_hex(&mut bytes, hexadecimal.as_str())?;
+        let body = bytes.as_slice();
+        let offset = sample.before.len() / 2;
+        let listing = Listing::of(self.alloc, WasmFeatures::all(), body);
+        listing.write_status(&mut self.answer)?;
+        self.compare(rt, "status", "0")?;
+        let wanted = format!(in self.alloc; "{offset} {}", sample.name)?;
+        self.find(rt, listing.lines(), wanted.as_str())?;
+        let mut text = String::new(self.alloc);
+        let _end = write_fields(self.alloc, WasmFeatures::all(), body, &mut text)?;
+        let wanted = format!(in self.alloc; "{offset} {}", sample.fields)?;
+        self.find(rt, text.as_str(), wanted.as_str())
+    }
+
+    /// Looks for a line, and prints all where it is not there.
+    fn find<R: Print>(&mut self, rt: &R, text: &str, wanted: &str) -> io::Result<()> {
+        if text.lines().any(|line| line == wanted) {
+            return Ok(());
+        }
+        self.differs = true;
+        println!(rt; "no line {wanted}, but\n{text}")
+    }
+}

@@ -1,0 +1,95 @@
+//! Visitors that count.
+
+use crate::answers::write_visits;
+use std::alloc::Global;
+use wasm_listing::operators::{
+    BinaryReader, BrTable, FunctionBody, Operator, OperatorsReader, Result, VisitGroups,
+    VisitOperator, VisitSimdOperator, Visitor, WasmFeatures,
+};
+use wasm_tests_texts::Written;
+
+/// Counts visits, and takes no vector operator.
+#[derive(Debug, Drop)]
+struct Plain {
+    visits: u64,
+}
+
+impl Visitor for Plain {
+    type Output = ();
+
+    // Whatever the operator.
+    ghost visits = { λ before op answer after. Unit {0} };
+
+    fn visit_any(&mut self, _op: Operator<'static>) {
+        self.visits = self.visits.saturating_add(1);
+    }
+}
+
+impl VisitGroups for Plain {}
+
+impl<'a> VisitOperator<'a> for Plain {
+    fn visit_br_table(&mut self, _targets: BrTable<'a>) {
+        self.visits = self.visits.saturating_add(1);
+    }
+}
+
+/// Counts visits, those of vector operators too.
+#[derive(Debug, Drop)]
+struct All {
+    visits: u64,
+}
+
+impl Visitor for All {
+    type Output = ();
+
+    // Whatever the operator.
+    ghost visits = { λ before op answer after. Unit {0} };
+
+    fn visit_any(&mut self, _op: Operator<'static>) {
+        self.visits = self.visits.saturating_add(1);
+    }
+}
+
+impl VisitGroups for All {}
+
+impl<'a> VisitOperator<'a> for All {
+    fn visit_br_table(&mut self, _targets: BrTable<'a>) {
+        self.visits = self.visits.saturating_add(1);
+    }
+}
+
+impl VisitSimdOperator for All {}
+
+/// The reader behind a body's locals.
+fn behind_locals<'a>(
+    alloc: Global,
+    features: WasmFeatures,
+    body: &'a [u8],
+) -> Result<OperatorsReader<'a>> {
+    FunctionBody::new(BinaryReader::new_features(body, 0, features)).get_operators_reader(alloc)
+}
+
+/// How many visits `visit_all` makes of a visitor that takes no vector operator, and how it ends.
+pub fn write_plain(
+    alloc: Global,
+    features: WasmFeatures,
+    body: &[u8],
+    out: &mut String,
+) -> Written {
+    let mut plain = Plain { visits: 0 };
+    let answer = match behind_locals(alloc, features, body) {
+        Ok(mut operators) => operators.visit_all(&mut plain),
+        Err(e) => Err(e),
+    };
+    write_visits(out, plain.visits, answer)
+}
+
+/// How many visits `visit_all_simd` makes, and how it ends.
+pub fn write_all(alloc: Global, features: WasmFeatures, body: &[u8], out: &mut String) -> Written {
+    let mut all = All { visits: 0 };
+    let answer = match behind_locals(alloc, features, body) {
+        Ok(mut operators) => operators.visit_all_simd(&mut all),
+        Err(e) => Err(e),
+    };
+    write_visits(out, all.visits, answer)
+}

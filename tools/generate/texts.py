@@ -1,0 +1,209 @@
+"""The names of the operators in the text format, and the calls that write their operands."""
+
+from source import arms, rust_binding
+from table import ENUMS, HEAD, KINDS, held, pattern
+
+CRATE = "crates/wasm_text"
+# The function of src/operands.rt that writes immediates of these kinds.
+WRITERS = {
+    ("unsigned",): "one_number",
+    ("memory_index",): "one_number",
+    ("unsigned", "unsigned"): "two_numbers",
+    ("unsigned", "table_index"): "indirect",
+    ("table_index",): "one_number",
+    ("signed_32",): "signed_32",
+    ("signed_64",): "signed_64",
+    ("float_32",): "float_32",
+    ("float_64",): "float_64",
+    ("vector",): "vector",
+    ("lane_index",): "lane",
+    ("lane_list",): "lanes",
+    ("memory",): "memory_argument",
+    ("memory", "lane_index"): "memory_argument_and_lane",
+    ("ordered",): "order",
+    ("ordered", "unsigned"): "ordered_number",
+    ("ordered", "unsigned", "unsigned"): "ordered_numbers",
+    ("fence",): "fence",
+    ("heap_type",): "heap_type",
+    ("cast",): "cast",
+    ("block_type",): "block_type",
+    ("branch_table",): "branch_table",
+    ("one_type",): "one_type",
+    ("types",): "types",
+    ("try_table",): "try_table",
+    ("resume_table",): "clauses",
+    ("unsigned", "resume_table"): "number_and_clauses",
+    ("unsigned", "unsigned", "resume_table"): "numbers_and_clauses",
+}
+# The operators whose operands are not their immediates in order, as `operands_of` says.
+OTHERS = {
+    "ReturnCallIndirect": "indirect",
+    "RefTestNonNull": "reference_without_null",
+    "RefCastNonNull": "reference_without_null",
+    "RefCastDescEqNonNull": "reference_without_null",
+    "RefTestNullable": "reference_with_null",
+    "RefCastNullable": "reference_with_null",
+    "RefCastDescEqNullable": "reference_with_null",
+}
+
+
+def inner_uses(enum):
+    """The lines that bring in an inner enum, as the layer of all operators has it."""
+    path = f"Rattle.wasm_instr.specs.{'simd' if enum.group == 'Simd' else 'ops'}.{enum.module}.{enum.type}"
+    return [f"use {path}.{{{enum.type}}}", f"use {path}.TheVariants as {enum.module}"]
+
+
+def kinds_of(op):
+    """The kinds of the immediates of an operator, without what some say of it besides."""
+    return tuple(it.split()[0] for it in op.immediates)
+
+
+def call_of(op):
+    """What writes the operands of an operator: one call, or one for each immediate."""
+    names = [name for name, _ in op.fields]
+    if not names:
+        return "Ok(())"
+    writer = OTHERS.get(op.name) or WRITERS.get(kinds_of(op))
+    if writer:
+        return f"operands::{writer}(out, {', '.join(names)})"
+    calls = []
+    for kind in kinds_of(op):
+        count = len(KINDS[kind].types)
+        calls.append(f"operands::{WRITERS[kind,]}(out, {', '.join(names[:count])})")
+        del names[:count]
+    return f"{{ {'?; '.join(calls)} }}"
+
+
+def name_specs(ops):
+    """The names as definitions."""
+    out = [
+        f"-- {HEAD}",
+        "-- The names of the operators in the text format.",
+        "-- WebAssembly Core Specification 3.0, Text Format, Instructions; and the proposals.",
+        "use Rattle.std.specs.Prelude.{ℕ, List, codes}",
+        "use Rattle.wasm_instr.specs.declared.operator.Operator.{Operator}",
+        "use Rattle.wasm_instr.specs.declared.operator.Operator.TheVariants as operator",
+    ]
+    for enum in held():
+        out += inner_uses(enum)
+    for enum in held():
+        low = enum.module
+        out += ["", f"abbrev pub {low}_text_name : {enum.type} → List ℕ"]
+        out += [f'{low}_text_name {pattern(op, low, False)} = codes "{op.text}"' for op in ops if op.group == enum.group]
+    out += ["", "abbrev pub text_name : Operator → List ℕ"]
+    out += [f'text_name {pattern(op, "operator", False)} = codes "{op.text}"' for op in ops if op.group == "Own"]
+    out += [f"text_name (operator.{enum.group} op) = {enum.module}_text_name op" for enum in held()]
+    return "\n".join([*out, ""])
+
+
+def name_function(name, given, ty, those, more=()):
+    """The function that answers the name of an operator of an enum."""
+    shown = "pub fn" if ty == "Operator" else "fn"
+    return [
+        "",
+        "/// The operator's name in the text format." if ty == "Operator" else "/// The name of such an operator.",
+        f"{shown} {name}(op: &{given}) -> &'static str",
+        f"ensures {{ result.now ≡ {name} op.now }}",
+        "{",
+        "match op {",
+        *arms(those, ty, lambda op: f'"{op.text}"'),
+        *more,
+        "}",
+        "}",
+    ]
+
+
+def name_source(ops):
+    """The names in code."""
+    words = ", ".join(["text_name", *(f"{enum.module}_text_name" for enum in held())])
+    types = ", ".join(sorted(["Operator", *(enum.type for enum in ENUMS)]))
+    out = [
+        f"//! The names of the operators in the text format. {HEAD}",
+        "ghost use Rattle.std.specs.Prelude.{◌≡◌};",
+        f"ghost use Rattle.wasm_text.specs.Names.{{{words}}};",
+        "",
+        f"use wasm_instr::{{{types}}};",
+    ]
+    own = [op for op in ops if op.group == "Own"]
+    more = [f"Operator::{enum.group}(inner) => {enum.module}_text_name(inner)," for enum in held()]
+    out += name_function("text_name", "Operator<'_>", "Operator", own, more)
+    for enum in held():
+        those = [op for op in ops if op.group == enum.group]
+        out += name_function(f"{enum.module}_text_name", enum.type, enum.type, those)
+    return "\n".join([*out, ""])
+
+
+def operand_arms(ops, ty):
+    """The arms over operators, those of the same function and fields together."""
+    found = {}
+    for op in ops:
+        found.setdefault(call_of(op), []).append(op)
+    return [f"{' | '.join(rust_binding(op, ty) for op in those)} => {call}," for call, those in found.items()]
+
+
+def operand_function(name, ty, those, meaning, more=()):
+    """The function that writes the operands of an operator of an enum."""
+    given = "Operator<'_>" if ty == "Operator" else ty
+    return [
+        f"/// Writes the operands of {meaning}, each behind a space.",
+        f"pub fn {name}(out: &mut String, op: &{given}) -> Written",
+        "{",
+        "match op {",
+        *operand_arms(those, ty),
+        *more,
+        "}",
+        "}",
+        "",
+    ]
+
+
+def operand_files(ops):
+    """A file for each enum, with the function that writes its operators' operands."""
+    out = {}
+    for enum in held():
+        if enum.group == "Numeric":
+            continue
+        low = enum.module
+        those = [op for op in ops if op.group == enum.group]
+        claim = "gc_operands op.now" if low == "gc" else f"immediates_text ({low}_immediates op.now)"
+        words = "gc_operands" if low == "gc" else "immediates_text"
+        text = operand_function(low, enum.type, those, enum.title)
+        text.insert(2, f"ensures {{ OnOk result (string_bytes out.new ≡ string_bytes out.old ++ {claim}) }}")
+        row = [] if low == "gc" else [f"ghost use Rattle.wasm_instr.specs.{enum.group}.{{{low}_immediates}};"]
+        out[f"{CRATE}/src/operators/{low}.rt"] = "\n".join([
+            f"//! The operands of {enum.title}. {HEAD}",
+            "ghost use Rattle.std.specs.Prelude.{◌≡◌, ◌++◌, OnOk, string_bytes};",
+            *row,
+            f"ghost use Rattle.wasm_text.specs.Operands.{{{words}}};",
+            "",
+            "use crate::operands::{self, Written};",
+            f"use wasm_instr::{enum.type};",
+            "",
+            *text,
+        ])
+    own = [op for op in ops if op.group == "Own"]
+    inner = [f"Operator::{e.group}(inner) => {e.module}::{e.module}(out, inner)," for e in held() if e.group != "Numeric"]
+    text = operand_function("own", "Operator", own, "an operator", ["Operator::Numeric(_) => Ok(()),", *inner])
+    text.insert(2, "ensures { OnOk result (string_bytes out.new ≡ string_bytes out.old ++ operands_of op.now) }")
+    modules = ", ".join(e.module for e in sorted(held(), key=lambda e: e.module) if e.group != "Numeric")
+    out[f"{CRATE}/src/operators/own.rt"] = "\n".join([
+        f"//! The operands of all operators. {HEAD}",
+        "ghost use Rattle.std.specs.Prelude.{◌≡◌, ◌++◌, OnOk, string_bytes};",
+        "ghost use Rattle.wasm_text.specs.Operands.{operands_of};",
+        "",
+        "use crate::operands::{self, Written};",
+        f"use crate::operators::{{{modules}}};",
+        "use wasm_instr::Operator;",
+        "",
+        *text,
+    ])
+    return out
+
+
+def text_files(ops):
+    """Each file of the text that is made of the table."""
+    return {
+        f"{CRATE}/specs/Names.antt": name_specs(ops),
+        f"{CRATE}/src/names.rt": name_source(ops),
+        **operand_files(ops),
+    }

@@ -1,0 +1,123 @@
+#!/usr/bin/env python3
+"""Compares the names of the text format in the table with those that wabt prints.
+
+    tools/text_names.py       needs wasm-objdump (package wabt)
+
+For each operator a module is made of one function with this operator alone, and `wasm-objdump -d` lists it.
+The names of those that wabt has not are compared with tools/original/text_names.tsv, which is written by
+hand from the texts of the proposals and from nothing here. An operator that neither names is a fault, and so
+is one of that list which wabt names. It is no step of the gate, whose machine has no wabt.
+"""
+
+import re
+import subprocess
+import sys
+import tempfile
+from pathlib import Path
+
+sys.path.insert(0, str(Path(__file__).resolve().parent / "generate"))
+
+from table import TOP, table
+
+BY_HAND = TOP / "tools" / "original" / "text_names.tsv"
+# Names that the proposal changed after this wabt: what it prints, and what the standard has.
+OLDER = {
+    "i16x8.dot_i8x16_i7x16_s": "i16x8.relaxed_dot_i8x16_i7x16_s",
+    "i32x4.dot_i8x16_i7x16_add_s": "i32x4.relaxed_dot_i8x16_i7x16_add_s",
+}
+# The least encoding of an immediate of each kind, in hexadecimal.
+LEAST = {
+    "float_32": "00000000", "float_64": "0000000000000000", "vector": "00" * 16, "lane_list": "00" * 16,
+    "heap_type": "70", "cast": "00007070", "block_type": "40", "branch_table": "0000", "one_type": "017f",
+    "types": "027f7f", "try_table": "4000",
+}
+OPENERS = ("Block", "Loop", "If", "Try", "TryTable")
+# Those that stand in a construct only, and what opens it.
+INSIDE = {"Else": "0440", "Catch": "0640", "CatchAll": "0640", "Delegate": "0640", "Rethrow": "064019"}
+
+
+def leb128(number):
+    """An unsigned number."""
+    out = bytearray()
+    while number >= 0x80:
+        out.append(number & 0x7F | 0x80)
+        number >>= 7
+    return bytes(out + bytes([number]))
+
+
+def encoding(op):
+    """The least encoding of an operator."""
+    out = bytes.fromhex(op.prefix) + (leb128(op.code) if op.prefix else bytes([op.code]))
+    for immediate in op.immediates:
+        word, *more = immediate.split()
+        if word == "memory":
+            out += bytes([int(more[1]), 0])
+        else:
+            out += bytes.fromhex(LEAST.get(word, "00"))
+    return out
+
+
+def section(number, contents):
+    return bytes([number]) + leb128(len(contents)) + contents
+
+
+def module(op):
+    """A module with all that an operator may name, and a function with this operator alone."""
+    before = bytes.fromhex(INSIDE.get(op.name, ""))
+    closed = op.name in ("Delegate", "End")
+    ends = b"\x0b" * (((op.name in OPENERS or bool(before)) and not closed) + (op.name != "End"))
+    body = b"\x00" + before + encoding(op) + ends
+    parts = [
+        (1, "01600000"), (3, "0100"), (4, "01700000"), (5, "01030101"), (13, "010000"),
+        (6, "017f0141000b"), (9, "01010000"), (12, "01"),
+    ]
+    out = bytes.fromhex("0061736d01000000")
+    for number, contents in parts:
+        out += section(number, bytes.fromhex(contents))
+    out += section(10, b"\x01" + leb128(len(body)) + body)
+    return out + section(11, bytes.fromhex("010100"))
+
+
+def wabt_name(op, path):
+    """The name that wabt prints; nothing where it knows none."""
+    path.write_bytes(module(op))
+    shown = subprocess.run(["wasm-objdump", "-d", path], capture_output=True, text=True, check=False).stdout
+    wanted = encoding(op)[:9].hex(" ")
+    for line in shown.splitlines():
+        found = re.match(r" [0-9a-f]{6}: ((?:[0-9a-f]{2} )+) *\| *(\S+)", line)
+        if found and found[1].strip() == wanted:
+            return OLDER.get(found[2], found[2])
+    return None
+
+
+def by_hand():
+    """The names that are written by hand, by prefix and code."""
+    rows = [line.split("\t") for line in BY_HAND.read_text(encoding="utf-8").splitlines()[1:]]
+    return {(prefix, int(code, 16), immediates): name for prefix, code, immediates, name in rows}
+
+
+def main():
+    if sys.argv[1:]:
+        print(__doc__)
+        sys.exit(sys.argv[1:] not in (["--help"], ["-h"]))
+    written = by_hand()
+    known, faults = 0, []
+    with tempfile.TemporaryDirectory() as folder:
+        for op in table():
+            name = wabt_name(op, Path(folder) / "one.wasm")
+            key = (op.prefix, op.code, "types" if op.name == "TypedSelectMulti" else "")
+            other = written.pop(key, None)
+            known += name is not None
+            if name is not None and other is not None:
+                faults.append(f"{op.place}: wabt names it {name}: take it out of {BY_HAND.name}")
+            wanted = name or other
+            if wanted != op.text:
+                faults.append(f"{op.place}: {op.text}, and {'wabt' if name else 'the list by hand'} has {wanted or 'none'}")
+    faults += [f"{BY_HAND.name}: {prefix} {code:02x}: no such operator" for prefix, code, _ in written]
+    print(f"{known} names as wabt prints them, {len(table()) - known} as the list by hand has them, {len(faults)} faults")
+    sys.exit("\n".join(faults) or None)
+
+
+if __name__ == "__main__":
+    sys.dont_write_bytecode = True
+    main()
