@@ -1,0 +1,58 @@
+-- Where a reader stands behind several calls that read to the end, as behind one.
+use Rattle.std.proofs.Common.{◌≡◌, ℕ, ◌+◌, List, [], ◌++◌, length, refl, sym, ap, subst, ◌∙◌, arith, append_assoc, length-append}
+use Rattle.wasm_operators.specs.below.bytes.features.WasmFeatures.{WasmFeatures}
+use Rattle.wasm_operators.specs.below.Source.{Reader, rest, offset_of, source_of, at_position, Takes}
+use Rattle.wasm_operators.specs.instr.declared.operator.Operator.{Operator}
+use Rattle.wasm_operators.specs.Expression.{Placed, operators, LaidOut, AreWalk, EncodesRest, EncodesExpression}
+use Rattle.wasm_operators.specs.Reading.{State}
+use Rattle.wasm_operators.specs.Headline.{StoodBefore}
+use Rattle.uses.specs.Again.{StandsBehind}
+use Rattle.uses.proofs.Parts.{operators_join, laid_join}
+
+-- What is laid out from a reader on that took a text of another is laid out behind that text.
+laid_behind : (r old : Reader) (text : List ℕ) (placed : Placed) (more : List ℕ) → Takes r old text → LaidOut old.features (offset_of old) placed more →
+    LaidOut r.features (offset_of r + length text) placed more
+laid_behind r old text placed more takes laid =
+    let features : old.features ≡ r.features = ap (λ (s : Reader). s.features) takes.moved in
+    let offset : offset_of old ≡ offset_of r + length text = ap offset_of takes.moved ∙ omega arith in
+    subst (λ o. LaidOut r.features o placed more) offset (subst (λ f. LaidOut f (offset_of old) placed more) features laid)
+
+takes_both : (r old new : Reader) (a b : List ℕ) → Takes r old a → Takes old new b → Takes r new (a ++ b)
+takes_both r old new a b first second =
+    let sum = length-append a b in
+    let place : old.position + length b ≡ r.position + length (a ++ b) = ap (λ (s : Reader). s.position + length b) first.moved ∙ omega (arith, sum) in
+    record {
+      moved = second.moved ∙ ap (λ (s : Reader). at_position s (old.position + length b)) first.moved ∙ ap (at_position r) place;
+      parts = first.parts ∙ ap (λ t. a ++ t) second.parts ∙ sym (append_assoc a b (rest new));
+    }
+
+-- Before the first call.
+pub stands_first : (r : Reader) (now : State) → now.reader ≡ r → StoodBefore [] now → StandsBehind r now []
+stands_first r now same stood =
+    let place : r.position ≡ r.position + 0 = omega arith in
+    record {
+      text = [];
+      takes = record { moved = same ∙ ap (at_position r) place; parts = ap rest (sym same) };
+      laid = refl;
+      stood = stood;
+    }
+
+-- A call more that was refused.
+pub stands_on : (r : Reader) (old new : State) (found placed : Placed) (text : List ℕ) → StandsBehind r old found →
+    Takes old.reader new.reader text → LaidOut old.reader.features (offset_of old.reader) placed text →
+    StoodBefore (operators found ++ operators placed) new → StandsBehind r new (found ++ placed)
+stands_on r old new found placed text h takes laid stood = record {
+  text = h.text ++ text;
+  takes = takes_both r old.reader new.reader h.text text h.takes takes;
+  laid = laid_join r.features (offset_of r) found placed h.text text h.laid (laid_behind r old.reader h.text placed text h.takes laid);
+  stood = subst (λ ops. StoodBefore ops new) (sym (operators_join found placed)) stood;
+}
+
+-- A call more that read to the end.
+pub whole_behind : (r : Reader) (old : State) (found placed : Placed) → StandsBehind r old found →
+    EncodesRest (operators found) (source_of old.reader) placed → EncodesExpression (source_of r) (found ++ placed)
+whole_behind r old found placed h (laid, walk) =
+    let all = laid_join r.features (offset_of r) found placed h.text (rest old.reader) h.laid (laid_behind r old.reader h.text placed (rest old.reader) h.takes laid) in (
+      subst (λ bytes. LaidOut r.features (offset_of r) (found ++ placed) bytes) (sym h.takes.parts) all,
+      subst AreWalk (sym (operators_join found placed)) walk,
+    )

@@ -1,0 +1,10 @@
+pub mod Beginnings
+pub mod Behind
+pub mod Bodies
+pub mod CallsAlong
+pub mod ConstantText
+pub mod Counting
+pub mod Frames
+pub mod Lengths
+pub mod Parts
+pub mod Singles

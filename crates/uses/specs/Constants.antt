@@ -1,0 +1,26 @@
+-- Constant expressions as offsets of segments.
+-- WebAssembly Core Specification 3.0: Binary Format, Modules, Data Section; Instructions, Numeric Instructions.
+use Rattle.std.specs.Prelude.{◌≡◌, ℕ, ℤ, List, ◌∷◌, [], Option, Some, None}
+use Rattle.wasm_operators.specs.below.Source.{Source, Reader, offset_of, Takes}
+use Rattle.wasm_operators.specs.instr.declared.operator.Operator.{Operator}
+use Rattle.wasm_operators.specs.instr.declared.operator.Operator.TheVariants as operator
+use Rattle.wasm_operators.specs.Constant.{EncodesConstant}
+use Rattle.wasm_operators.specs.Expression.{Placed, operators, EncodesExpression}
+
+-- The number of an `i32.const` and one operator behind it, which in an expression is its `end`.
+abbrev pub i32_of : List Operator → Option ℤ
+i32_of (operator.I32Const n ∷ last ∷ []) = Some n
+i32_of _ = None
+
+-- These bytes, the first at this offset, under these features.
+abbrev pub text_at : Reader → List ℕ → Source
+text_at r text = record { features = r.features; offset = offset_of r; bytes = text }
+
+-- The text of a constant expression with these operators was taken, and this is its number if it is one `i32.const`.
+pub record TakesOffset (number : Option ℤ) (old new : Reader) : Type 0 where
+  pub text : List ℕ
+  pub takes : Takes old new text
+  pub constant : EncodesConstant (text_at old text)
+  pub placed : Placed
+  pub encodes : EncodesExpression (text_at old text) placed
+  pub number_is : number ≡ i32_of (operators placed)

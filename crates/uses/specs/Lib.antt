@@ -1,0 +1,5 @@
+pub mod Again
+pub mod Calls
+pub mod Constants
+pub mod Frames
+pub mod Input

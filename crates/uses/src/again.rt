@@ -1,0 +1,36 @@
+//! A reader that goes on after allocation failure.
+ghost use Rattle.std.specs.Prelude.{IfOk};
+ghost use Rattle.wasm_operators.specs.Expression.{EncodesExpression};
+ghost use Rattle.uses.specs.Input.{input};
+
+use std::alloc::Global;
+use wasm_operators::{
+    BinaryReader, Error, Message, Operator, OperatorsReader, Result, WasmFeatures,
+};
+
+/// The operators of an expression, where memory may be refused so many times but one: the same list
+/// as if it had never been.
+///
+/// Behind a call that was refused for memory, the clause `beginning` says that what was found stands
+/// before the reader; the clause `tree` of the next call is over what was found before it.
+pub fn operators_again<'a>(
+    alloc: Global,
+    features: WasmFeatures,
+    bytes: &'a [u8],
+    tries: u32,
+) -> Result<Vec<(Operator<'a>, u64)>>
+    ensures { IfOk result (λ found. EncodesExpression (input features bytes.now) found.items) }
+{
+    let mut found = Vec::new(alloc);
+    let mut reader = OperatorsReader::new(alloc, BinaryReader::new_features(bytes, 0, features));
+    'tries: for _try in 0..tries {
+        match reader.read_all(&mut found) {
+            Ok(()) => return Ok(found),
+            Err(error) => match error.message() {
+                Message::OutOfMemory => {}
+                _ => return Err(error),
+            },
+        }
+    }
+    Err(Error::new(Message::OutOfMemory, reader.original_position()))
+}

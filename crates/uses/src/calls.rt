@@ -1,0 +1,78 @@
+//! The functions that a body calls.
+ghost use Rattle.std.specs.Prelude.{◌≡◌, List, IfOk};
+ghost use Rattle.wasm_operators.specs.Body.{EncodesBody};
+ghost use Rattle.wasm_operators.specs.Expression.{Placed};
+ghost use Rattle.wasm_operators.specs.Locals.{Declaration};
+ghost use Rattle.uses.specs.Calls.{calls_of, CallsVisit};
+ghost use Rattle.uses.specs.Input.{input};
+
+use std::alloc::Global;
+use std::marker::Model;
+use wasm_operators::{
+    BinaryReader, BrTable, Error, FunctionBody, Message, Operator, Result, VisitGroups,
+    VisitOperator, VisitSimdOperator, Visitor, WasmFeatures,
+};
+
+/// A visitor that finds calls.
+#[derive(Drop)]
+struct Calls {
+    calls: Vec<u32>,
+    refused: bool,
+}
+
+impl Model for Calls {
+    ghost use Rattle.uses.specs.Calls.{Found};
+
+    ghost Value = { Found };
+
+    ghost view = { λ c. record { calls = c.calls.items; refused = c.refused } };
+}
+
+impl Visitor for Calls {
+    type Output = ();
+
+    // A visit adds what the operator calls.
+    ghost visits = { λ before op answer after. CallsVisit before op after };
+
+    fn visit_any(&mut self, op: Operator<'static>) {
+        match op {
+            Operator::Call { function_index } | Operator::ReturnCall { function_index } => {
+                if self.calls.push(function_index).is_err() {
+                    self.refused = true;
+                }
+            }
+            _ => {}
+        }
+    }
+}
+
+impl VisitGroups for Calls {}
+
+impl<'a> VisitOperator<'a> for Calls {
+    fn visit_br_table(&mut self, _targets: BrTable<'a>) {}
+}
+
+impl VisitSimdOperator for Calls {}
+
+/// The functions that a body calls by their indices, in order: exactly those of the one expression
+/// that stands behind its locals.
+///
+/// The clause `tree` of `visit_all_simd` gives that expression, and the visitor's relation along it;
+/// `get_operators_reader` says where it begins.
+pub fn called_functions(alloc: Global, features: WasmFeatures, bytes: &[u8]) -> Result<Vec<u32>>
+    ensures { IfOk result (λ calls. (declarations : List Declaration) × (placed : Placed)
+        × EncodesBody (input features bytes.now) declarations placed × (calls.items ≡ calls_of placed)) }
+{
+    let mut found = Calls {
+        calls: Vec::new(alloc),
+        refused: false,
+    };
+    let body = FunctionBody::new(BinaryReader::new_features(bytes, 0, features));
+    body.get_operators_reader(alloc)?
+        .visit_all_simd(&mut found)?;
+    let Calls { calls, refused } = found;
+    if refused {
+        return Err(Error::new(Message::OutOfMemory, 0));
+    }
+    Ok(calls)
+}

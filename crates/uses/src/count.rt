@@ -1,0 +1,54 @@
+//! How many operators an expression has.
+ghost use Rattle.std.specs.Prelude.{◌≡◌, ◌+◌, ◌-◌, ◌^◌, ◌<◌, length, IfOk, IfErr};
+ghost use Rattle.wasm_operators.specs.Expression.{Placed, EncodesExpression};
+ghost use Rattle.uses.specs.Input.{input};
+
+use std::alloc::Global;
+use wasm_operators::{
+    BinaryReader, BrTable, Message, Operator, OperatorsReader, Result, VisitGroups, VisitOperator,
+    VisitSimdOperator, Visitor, WasmFeatures,
+};
+
+/// How many operators were visited.
+#[derive(Debug, Drop)]
+pub struct Count {
+    pub operators: u64,
+}
+
+impl Visitor for Count {
+    type Output = ();
+
+    // A visit counts one more.
+    ghost visits = { λ before op answer after. before.operators < 2 ^ 64 - 1 → after.operators ≡ before.operators + 1 };
+
+    fn visit_any(&mut self, _op: Operator<'static>) {
+        self.operators = self.operators.saturating_add(1);
+    }
+}
+
+impl VisitGroups for Count {}
+
+impl<'a> VisitOperator<'a> for Count {
+    fn visit_br_table(&mut self, _targets: BrTable<'a>) {
+        self.operators = self.operators.saturating_add(1);
+    }
+}
+
+impl VisitSimdOperator for Count {}
+
+/// How many operators an expression has.
+///
+/// The visitor's relation counts one visit; along the list of the clause `tree` it counts them all,
+/// since a list that is laid out is no longer than its bytes. Where the bytes encode an expression,
+/// nothing but memory is refused: the clause `only`.
+pub fn count_operators(alloc: Global, features: WasmFeatures, bytes: &[u8]) -> Result<u64>
+    ensures counts { IfOk result (λ count. (placed : Placed)
+        × EncodesExpression (input features bytes.now) placed × (count ≡ length placed)) }
+    ensures whole { (placed : Placed) → EncodesExpression (input features bytes.now) placed
+        → IfErr result (λ e. e.message ≡ Message.OutOfMemory) }
+{
+    let mut count = Count { operators: 0 };
+    let mut reader = OperatorsReader::new(alloc, BinaryReader::new_features(bytes, 0, features));
+    reader.visit_all_simd(&mut count)?;
+    Ok(count.operators)
+}

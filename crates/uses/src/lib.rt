@@ -1,0 +1,21 @@
+//! Proved callers of `wasm_operators`: each shows how a conclusion follows from public contracts and
+//! laws alone.
+#![tactic(auto)]
+
+mod again;
+mod calls;
+mod constant;
+mod count;
+mod list;
+mod longest;
+mod own_visits;
+mod single;
+
+pub use again::operators_again;
+pub use calls::called_functions;
+pub use constant::read_offset;
+pub use count::{Count, count_operators};
+pub use list::operators;
+pub use longest::{Kept, longest_beginning};
+pub use own_visits::{Moves, count_moves};
+pub use single::{Inside, operator_inside};

@@ -1,0 +1,22 @@
+//! The operators of an expression, in a list.
+ghost use Rattle.std.specs.Prelude.{◌≡◌, IfOk, IfErr};
+ghost use Rattle.wasm_operators.specs.below.Features.{all_features};
+ghost use Rattle.wasm_operators.specs.Expression.{Placed, EncodesExpression};
+ghost use Rattle.uses.specs.Input.{input};
+
+use std::alloc::Global;
+use wasm_operators::{BinaryReader, Message, Operator, OperatorsReader, Result};
+
+/// The operators of an expression, each with the offset of its first byte.
+///
+/// They are those of the one expression that the bytes encode: the clause `tree` of `read_all`. Where
+/// the bytes encode one, nothing but memory is refused: the clause `only`.
+pub fn operators<'a>(alloc: Global, bytes: &'a [u8]) -> Result<Vec<(Operator<'a>, u64)>>
+    ensures encodes { IfOk result (λ found. EncodesExpression (input all_features bytes.now) found.items) }
+    ensures whole { (placed : Placed) → EncodesExpression (input all_features bytes.now) placed
+        → IfErr result (λ e. e.message ≡ Message.OutOfMemory) }
+{
+    let mut found = Vec::new(alloc);
+    OperatorsReader::new(alloc, BinaryReader::new(bytes, 0)).read_all(&mut found)?;
+    Ok(found)
+}

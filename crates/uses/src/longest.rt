@@ -1,0 +1,96 @@
+//! The longest beginning of an expression that was cut short or broken, as an editor keeps it.
+ghost use Rattle.std.specs.Prelude.{◌≡◌, ◌++◌, replicate, IfOk, IfErr};
+ghost use Rattle.wasm_operators.specs.Expression.{operators, AreWalk, IsLongestBeginning};
+ghost use Rattle.uses.specs.Frames.{opens, closes, open_behind};
+ghost use Rattle.uses.specs.Input.{input};
+
+use std::alloc::Global;
+use wasm_operators::{
+    BinaryReader, Message, Operator, OperatorsReader, Result, WasmFeatures, expression_laws,
+    grammar_laws,
+};
+
+/// What is kept of an expression: its operators, and how many `end`s complete them.
+#[derive(Drop)]
+pub struct Kept<'a> {
+    pub operators: Vec<(Operator<'a>, u64)>,
+    pub ends: usize,
+}
+
+/// How many frames an operator opens.
+fn opens(op: &Operator<'_>) -> usize
+    ensures { result ≡ opens op.now }
+{
+    match op {
+        Operator::Block { .. }
+        | Operator::Loop { .. }
+        | Operator::If { .. }
+        | Operator::Try { .. }
+        | Operator::TryTable { .. } => 1,
+        _ => 0,
+    }
+}
+
+/// How many it closes.
+fn closes(op: &Operator<'_>) -> usize
+    ensures { result ≡ closes op.now }
+{
+    match op {
+        Operator::End | Operator::Delegate { .. } => 1,
+        _ => 0,
+    }
+}
+
+/// How many frames are open behind the operators of an expression.
+fn open_frames(list: &[(Operator<'_>, u64)]) -> usize
+    ensures { result ≡ open_behind 1 (operators list.now) }
+{
+    let mut open: usize = 1;
+    for (op, _offset) in list {
+        open = (open + opens(op)).saturating_sub(closes(op));
+    }
+    open
+}
+
+/// What is kept of these operators.
+fn keep<'a>(found: Vec<(Operator<'a>, u64)>) -> Kept<'a>
+    ensures operators { result.operators.items ≡ found.entry.items }
+    ensures ends { result.ends ≡ open_behind 1 (operators found.entry.items) }
+{
+    let ends = open_frames(found.as_slice());
+    Kept {
+        operators: found,
+        ends,
+    }
+}
+
+/// The longest list of operators that some prefix of the bytes encodes and that begins an expression,
+/// and how many `end`s complete it; a whole expression needs none. Only memory is refused.
+///
+/// Where `read_all` refuses the bytes, the clause `beginning` says that the list is the longest, and
+/// where its open path leads; the laws `path_is_run` and `ends_complete` of the grammar say the rest.
+/// Where it succeeds, `tree` says so, and the law `one_layout` that nothing is longer.
+pub fn longest_beginning<'a>(
+    alloc: Global,
+    features: WasmFeatures,
+    bytes: &'a [u8],
+) -> Result<Kept<'a>>
+    ensures longest { IfOk result (λ kept. IsLongestBeginning (input features bytes.now) kept.operators.items) }
+    ensures completed { IfOk result
+        (λ kept. AreWalk (operators kept.operators.items ++ replicate kept.ends Operator.End)) }
+    ensures memory { IfErr result (λ e. e.message ≡ Message.OutOfMemory) }
+{
+    expression_laws::one_layout(features);
+    grammar_laws::path_is_run::<Operator<'a>>();
+    grammar_laws::rules_accept_walks::<Operator<'a>>();
+    grammar_laws::ends_complete::<Operator<'a>>();
+    let mut found = Vec::new(alloc);
+    let mut reader = OperatorsReader::new(alloc, BinaryReader::new_features(bytes, 0, features));
+    match reader.read_all(&mut found) {
+        Ok(()) => Ok(keep(found)),
+        Err(error) => match error.message() {
+            Message::OutOfMemory => Err(error),
+            _ => Ok(keep(found)),
+        },
+    }
+}

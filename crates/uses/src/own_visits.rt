@@ -1,0 +1,79 @@
+//! A visitor with visits of its own.
+ghost use Rattle.std.specs.Prelude.{◌≡◌, ◌+◌, ◌-◌, ◌^◌, ◌<◌, length, IfOk};
+ghost use Rattle.wasm_operators.specs.Expression.{Placed, EncodesExpression};
+ghost use Rattle.uses.specs.Input.{input};
+
+use std::alloc::Global;
+use wasm_operators::{
+    BinaryReader, BrTable, MiscOperator, Operator, OperatorsReader, Result, VisitGroups, VisitMisc,
+    VisitOperator, VisitSimdOperator, Visitor, WasmFeatures, decode, dispatch,
+};
+
+/// How many operators copy or fill a stretch of memory, and how many others there were.
+#[derive(Debug, Drop)]
+pub struct Moves {
+    pub moves: u64,
+    pub others: u64,
+}
+
+impl Visitor for Moves {
+    type Output = ();
+
+    // A visit counts one more, in one of the two.
+    ghost visits = { λ before op answer after. before.moves + before.others < 2 ^ 64 - 1
+        → after.moves + after.others ≡ before.moves + before.others + 1 };
+
+    fn visit_any(&mut self, _op: Operator<'static>) {
+        self.others = self.others.saturating_add(1);
+    }
+}
+
+impl VisitMisc for Moves {
+    fn visit_memory_copy(&mut self, _dst_mem: u32, _src_mem: u32) {
+        self.moves = self.moves.saturating_add(1);
+    }
+
+    fn visit_memory_fill(&mut self, _mem: u32) {
+        self.moves = self.moves.saturating_add(1);
+    }
+}
+
+impl VisitGroups for Moves {
+    fn dispatch_misc(&mut self, op: MiscOperator) {
+        dispatch::misc(self, op)
+    }
+
+    fn decode_misc(
+        &mut self,
+        reader: &mut BinaryReader<'_>,
+        start: usize,
+        code: u32,
+    ) -> Result<()> {
+        decode::misc(self, reader, start, code)
+    }
+}
+
+impl<'a> VisitOperator<'a> for Moves {
+    fn visit_br_table(&mut self, _targets: BrTable<'a>) {
+        self.others = self.others.saturating_add(1);
+    }
+}
+
+impl VisitSimdOperator for Moves {}
+
+/// How many operators of an expression copy or fill a stretch of memory, and how many others it has:
+/// together as many as it has operators.
+///
+/// As `count_operators`, by a relation over both counts, which all visits keep.
+pub fn count_moves(alloc: Global, features: WasmFeatures, bytes: &[u8]) -> Result<Moves>
+    ensures { IfOk result (λ found. (placed : Placed)
+        × EncodesExpression (input features bytes.now) placed × (found.moves + found.others ≡ length placed)) }
+{
+    let mut found = Moves {
+        moves: 0,
+        others: 0,
+    };
+    let mut reader = OperatorsReader::new(alloc, BinaryReader::new_features(bytes, 0, features));
+    reader.visit_all_simd(&mut found)?;
+    Ok(found)
+}

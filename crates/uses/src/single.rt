@@ -1,0 +1,40 @@
+//! One operator at a time, under frames of the caller's own.
+ghost use Rattle.std.specs.Prelude.{◌≡◌, ℕ, List, ◌++◌, IfOk};
+ghost use Rattle.wasm_operators.specs.below.Source.{rest};
+ghost use Rattle.wasm_operators.specs.instr.Encoding.{EncodesOperator};
+ghost use Rattle.wasm_operators.specs.instr.Roles.{role_of};
+ghost use Rattle.wasm_operators.specs.grammar.Frames.{Allows};
+
+use std::alloc::Global;
+use wasm_operators::{BinaryReader, FrameKind, FrameStack, Operator, ReadOperators, Result};
+
+/// The frame of which one is inside.
+#[derive(Clone, Copy, Debug, PartialEq, Eq)]
+pub struct Inside {
+    pub kind: FrameKind,
+}
+
+impl FrameStack for Inside {
+    ghost use Rattle.std.specs.Prelude.{Some};
+
+    ghost frame = { λ inside. Some inside.kind };
+
+    fn current_frame(&self) -> Option<FrameKind> {
+        Some(self.kind)
+    }
+}
+
+/// The operator at the start of the rest, which stays there, inside a frame of this kind.
+///
+/// `peek_operator` answers what a reading would: a prefix of the rest encodes the operator, and the
+/// frame allows it.
+pub fn operator_inside<'a>(
+    alloc: Global,
+    reader: &BinaryReader<'a>,
+    kind: FrameKind,
+) -> Result<Operator<'a>>
+    ensures { IfOk result (λ op. (text more : List ℕ) × (rest reader.now ≡ text ++ more)
+        × EncodesOperator reader.now.features op text × Allows kind (role_of op)) }
+{
+    reader.peek_operator(alloc, &Inside { kind })
+}
