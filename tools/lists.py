@@ -23,12 +23,14 @@ from entries import entry_files
 from layout import laid_out
 from original import differences
 from paths import by_listed
+from plain import plain_files, unshaped
 from printed import made_source, values_source
 from printed_fields import printed_field_files
 from rows import enum_by_opcode, enum_rows, operator_rows, operators_by_opcode
 from rules import faults
 from source import enum_source, operator_source
 from table import ENUMS, HEAD, TOP, table
+from texts import text_files
 from visits import visit_files
 
 
@@ -53,6 +55,8 @@ def files(ops):
     out["crates/wasm_tests_lists/src/values.rt"] = values_source(ops)
     out["crates/wasm_tests_lists/src/made.rt"] = made_source(ops)
     out |= printed_field_files(ops)
+    out |= text_files(ops)
+    out |= plain_files(ops)
     return laid_out(by_listed(out))
 
 
@@ -74,7 +78,7 @@ def main():
     if sys.argv[1:] and not check:
         print(__doc__)
         sys.exit(sys.argv[1:] not in (["--help"], ["-h"]))
-    found = faults() or differences(table()) or unread(table())
+    found = faults() or differences(table()) or unread(table()) or unshaped(table())
     if found:
         sys.exit("\n".join(found))
     wanted = files(table())

@@ -478,7 +478,7 @@ def answers(part):
             "pub returns : goal.returns",
             "returns g c k =",
             f"    {first}",
-            f"    visited_plain g.V.Visitor.visits (OperatorFault r.features k) k {place} {code} c.args.start r c.args.v.now {vis}.{new} {vis}.result {is_entry} {behind} {row}",
+            f"    visited_without_immediates g.V.Visitor.visits (OperatorFault r.features k) k {place} {code} c.args.start r c.args.v.now {vis}.{new} {vis}.result {is_entry} {behind} {row}",
         ]
         return out
     call = f"c.{part.form.name}"
@@ -517,7 +517,7 @@ def answer_file(part):
     text = "\n".join(body)
     path = f"Rattle.wasm_decode_groups.proofs.{part.group.module}_operators.{part.function}.Goals"
     common = [it for it in ("[]", "Some", "None", "refl", "sym", "subst", "ap", "arith") if it in imported(text, [it]) or it in text and it == "[]"] + [f"◌{it}◌" for it in ("∷", "∙") if it in text]
-    lemmas = [it for it in ("refuses_free", "visited_free", "visited_plain") if it in text]
+    lemmas = [it for it in ("refuses_free", "visited_free", "visited_without_immediates") if it in text]
     words = [it for it in imported(text, ROW_WORDS + KIND_WORDS) if f"{it} " in text.replace("c.", "@")]
     enum = part.ops[0].group
     if "to_z" in text:

@@ -3,7 +3,7 @@
 from source import LAYERS, rust_binding
 from table import HEAD, held
 
-CRATE = "crates/wasm_tests_decode/src/fields"
+CRATE = "crates/wasm_tests_texts/src/fields"
 # The function of src/values.rt that prints a field of a type.
 PRINTERS = {
     "u32": "number",

@@ -81,6 +81,8 @@ def row_faults(op):
     out = []
     if not re.fullmatch(r"[A-Z][A-Za-z0-9]*", op.name):
         out.append("the name is not a variant's: letters and digits, the first a capital")
+    if not re.fullmatch(r"[a-z][a-z0-9_]*(\.[a-z0-9_]+)*", op.text):
+        out.append(f"the text {op.text!r} is no name of the text format: words of small letters with points between")
     if not re.fullmatch(r"visit_[a-z0-9_]+", op.visit):
         out.append(f"the visit {op.visit!r} does not begin with visit_, or has other than small letters")
     if op.proposal not in PROPOSALS:

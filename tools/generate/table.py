@@ -7,7 +7,7 @@ TOP = Path(__file__).resolve().parent.parent.parent
 TABLE = TOP / "tools" / "operators.tsv"
 HEAD = "Written by tools/lists.py from tools/operators.tsv."
 WIDTH = 100
-COLUMNS = ["proposal", "name", "visit", "prefix", "code", "fields", "immediates", "takes", "leaves"]
+COLUMNS = ["proposal", "name", "text", "visit", "prefix", "code", "fields", "immediates", "takes", "leaves"]
 # The enum of the operators behind each prefix byte.
 PREFIXES = {"fb": "Gc", "fc": "Misc", "fd": "Simd", "fe": "Atomic"}
 
@@ -19,6 +19,7 @@ class Operator:
         row = dict(zip(COLUMNS, cells))
         self.proposal = row["proposal"]
         self.name = row["name"]
+        self.text = row["text"]
         self.visit = row["visit"]
         self.prefix = row["prefix"]
         self.code = int(row["code"], 16)

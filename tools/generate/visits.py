@@ -18,7 +18,7 @@ class Group:
     @property
     def bound(self):
         """The trait of the call by which the group is reached."""
-        return "VisitSimdOperator" if self.enum == "Simd" else "VisitFixed"
+        return "VisitSimdOperator" if self.enum == "Simd" else "VisitGroups"
 
     def has(self, op):
         if op.group != self.enum or op.name == "BrTable":
@@ -40,7 +40,7 @@ GROUPS = [
     Group("simd_low", "VisitSimdLow", "Simd", "the vector operators below 80", "the vector operators of a subopcode below 80", "Vector Instructions."),
     Group("simd_high", "VisitSimdHigh", "Simd", "the vector operators from 80 on", "the vector operators of a subopcode from 80 on", "Vector Instructions."),
 ]
-# The operators whose visits stand in groups of `VisitFixed`, and in those of `VisitSimdOperator`.
+# The operators whose visits stand in groups of `VisitGroups`, and in those of `VisitSimdOperator`.
 FIXED = [group for group in GROUPS if group.enum != "Simd"]
 VECTORS = [group for group in GROUPS if group.enum == "Simd"]
 
@@ -195,6 +195,6 @@ def visit_files(ops):
     for group in GROUPS:
         out[f"crates/wasm_visit_groups/src/{group.module}.rt"] = group_trait(ops, group)
         out[f"crates/wasm_visit_factory/src/{group.module}.rt"] = group_factory(ops, group)
-    out["crates/wasm_visit/src/dispatch/fixed.rt"] = dispatch(ops, FIXED)
+    out["crates/wasm_visit/src/dispatch/groups.rt"] = dispatch(ops, FIXED)
     out["crates/wasm_visit/src/dispatch/vectors.rt"] = dispatch(ops, VECTORS)
     return out

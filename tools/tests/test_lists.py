@@ -17,6 +17,7 @@ FREE = {"Own": iter([0x16, 0x17, 0x1D, 0x1E, 0x27, *range(0xC5, 0xD0), *range(0x
 
 
 def cells_of(**row):
+    row.setdefault("text", "trial")
     return [row.get(column, "") for column in COLUMNS]
 
 

@@ -81,6 +81,9 @@ WRONG = [
     ("Nop", "name", "nop", "the name is not a variant's"),
     ("Nop", "name", "Unreachable", "the name is that of Unreachable, line 2"),
     ("Nop", "name", "UNREACHABLE", "the name is that of Unreachable, line 2"),
+    ("Nop", "text", "", "the text '' is no name of the text format"),
+    ("Nop", "text", "Nop", "the text 'Nop' is no name of the text format"),
+    ("Nop", "text", "i32..nop", "the text 'i32..nop' is no name of the text format"),
     ("Nop", "visit", "nop", "does not begin with visit_"),
     ("Nop", "visit", "visit_unreachable", "the visit is that of Unreachable, line 2"),
     ("Nop", "code", "00", "the code is that of Unreachable, line 2"),
@@ -143,19 +146,19 @@ class Rules(unittest.TestCase):
         found = faults_with(lambda rows: rows[0].reverse())
         self.assertEqual(found, [f"operators.tsv:1: the columns are {', '.join(COLUMNS)}"])
         found = faults_with(lambda rows: rows[3].pop())
-        self.assertEqual(found, ["operators.tsv:4: Block: 8 columns, and not 9"])
+        self.assertEqual(found, ["operators.tsv:4: Block: 9 columns, and not 10"])
         found = faults_with(lambda rows: rows.insert(1, []))
         self.assertIn("operators.tsv:2: a row with no name: ", found[0])
 
     def test_too_many_variants(self):
         def change(rows):
-            rows.append(["simd", "V128More", "visit_v128_more", "fd", "200", "", "", "0", "0"])
+            rows.append(["simd", "V128More", "v128.more", "visit_v128_more", "fd", "200", "", "", "0", "0"])
 
         self.assertIn("has 257 variants", faults_with(change)[0])
 
     def test_lists_in_large_enums(self):
         def change(rows):
-            row = ["simd", "V128More", "visit_v128_more", "fd", "200", "tys: SelectTypes", "types", "0", "0"]
+            row = ["simd", "V128More", "v128.more", "visit_v128_more", "fd", "200", "tys: SelectTypes", "types", "0", "0"]
             rows[line_of(rows, "I8x16Add")] = row
 
         self.assertIn("an enum with a list has at most 128 variants", faults_with(change)[0])

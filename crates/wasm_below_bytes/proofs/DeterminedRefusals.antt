@@ -9,10 +9,10 @@ use Rattle.wasm_below_bytes.specs.Refusal.{NamesNumber, NamesSize}
 use Rattle.wasm_below_bytes.specs.Sequence.{PrefixCode}
 use Rattle.wasm_below_bytes.specs.Fault.{ThenFault, DeterminesRefusal}
 use Rattle.wasm_below_bytes.specs.Number.{EncodesUnsigned}
-use Rattle.wasm_below_bytes.specs.FromReader.{EndsWithin, ReaderFault}
-use Rattle.wasm_below_bytes.specs.Source.{Reader, rest, at_position, byte_at, BeginsWith, Reads, NoPrefix, BeginsAbove, NumberFault, U32Fault, S33Fault, SizeFault, CountFault}
+use Rattle.wasm_below_bytes.specs.FromReader.{ReaderFault}
+use Rattle.wasm_below_bytes.specs.Source.{Reader, rest, at_position, byte_at, BeginsWith, Reads, NoPrefix, BeginsAbove, NumberFault, U32Fault, S33Fault, SizeFault, CountFault, EndFault, EndsWithin}
 use Rattle.wasm_below_bytes.proofs.PrefixCode.{unsigned_prefix_code}
-use Rattle.wasm_below_bytes.specs.PartFaults.{EndFault, CheckedByteFault, ZeroFault}
+use Rattle.wasm_below_bytes.specs.PartFaults.{CheckedByteFault, ZeroFault}
 use Rattle.wasm_below_bytes.proofs.Faults.{no_byte}
 
 same_byte : (r : Reader) (a b : ℕ) → a ≡ b → 128 ≤ byte_at r a → byte_at r b < 128 → ⊥

@@ -7,7 +7,7 @@ use Rattle.wasm_below_bytes.specs.declared.features.WasmFeatures.{WasmFeatures}
 use Rattle.wasm_below_bytes.specs.Number.{EncodesUnsigned}
 use Rattle.wasm_below_bytes.specs.Fault.{HasFault, ThenFault}
 use Rattle.wasm_below_bytes.specs.Sequence.{Then}
-use Rattle.wasm_below_bytes.specs.Source.{Reader, rest, offset_of, end_of, Takes, Refuses, IsAhead, U32Fault}
+use Rattle.wasm_below_bytes.specs.Source.{Reader, rest, offset_of, Takes, Refuses, IsAhead, U32Fault, EndsWithin}
 
 -- A refusal of a call that began at this reader. Of allocation failure, which a type that takes none never answers, it says no more than where the call began.
 pub record IsRefused {X : Type 0} (Encodes : List ℕ → X → Type 0) (takes_memory : Bool) (e : Error) (old : Reader) : Type 0 where
@@ -31,10 +31,6 @@ EncodesReader features = Then (EncodesUnsigned 32) (IsReaderOf features)
 -- The same reader, wherever its bytes stood.
 abbrev pub SameReader : Reader → Reader → Type 0
 SameReader r s = (r.features ≡ s.features) × (r.buffer ≡ s.buffer) × (r.position ≡ s.position)
-
--- Fewer than this many bytes stand there.
-abbrev pub EndsWithin : ℕ → Message → Reader → ℕ → Type 0
-EndsWithin n m r offset = (m ≡ message.EndOfData) × (offset ≡ offset_of r) × (end_of r < offset_of r + n)
 
 -- Which refusal such a reading has: that of the number, or the data ends within the bytes behind it.
 abbrev pub ReaderFault : Message → Reader → ℕ → Type 0

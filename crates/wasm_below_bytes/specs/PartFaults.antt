@@ -2,11 +2,7 @@
 use Rattle.std.specs.Prelude.{◌≡◌, ℕ, ◌≢◌, ◌⊎◌}
 use Rattle.wasm_below_bytes.specs.declared.message.Message.{Message}
 use Rattle.wasm_below_bytes.specs.declared.message.Message.TheVariants as message
-use Rattle.wasm_below_bytes.specs.Source.{Reader, offset_of, end_of, rest, BeginsWith}
-
--- A byte: the data ends where it is wanted.
-abbrev pub EndFault : Message → Reader → ℕ → Type 0
-EndFault m r offset = (m ≡ message.EndOfData) × (offset ≡ offset_of r) × (offset_of r ≡ end_of r)
+use Rattle.wasm_below_bytes.specs.Source.{Reader, rest, BeginsWith, EndFault}
 
 -- The byte that stands there is wrong, and is refused so, at this place.
 abbrev pub WrongByteFault : (ℕ → Type 0) → (ℕ → Message) → ℕ → Message → Reader → ℕ → Type 0

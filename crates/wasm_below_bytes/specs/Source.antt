@@ -98,13 +98,19 @@ IsByte text byte = (text ≡ byte ∷ []) × (byte < 256)
 abbrev pub IsBlock : ℕ → List ℕ → Bor (List ℕ) → Type 0
 IsBlock n text block = (block.now ≡ text) × (length text ≡ n)
 
--- The data ends where the reader stands.
-abbrev pub IsEndHere : Error → Reader → Type 0
-IsEndHere e r = (e.message ≡ message.EndOfData) × (e.offset ≡ offset_of r) × (offset_of r ≡ end_of r)
+-- The data ends where the reader stands: a message and its offset, and an error.
+abbrev pub EndFault : Message → Reader → ℕ → Type 0
+EndFault m r offset = (m ≡ message.EndOfData) × (offset ≡ offset_of r) × (offset_of r ≡ end_of r)
 
--- Fewer than this many bytes are left.
+abbrev pub IsEndHere : Error → Reader → Type 0
+IsEndHere e r = EndFault e.message r e.offset
+
+-- Fewer than this many bytes are left: a message and its offset, and an error.
+abbrev pub EndsWithin : ℕ → Message → Reader → ℕ → Type 0
+EndsWithin n m r offset = (m ≡ message.EndOfData) × (offset ≡ offset_of r) × (end_of r < offset_of r + n)
+
 abbrev pub IsShort : ℕ → Error → Reader → Type 0
-IsShort n e r = (e.message ≡ message.EndOfData) × (e.offset ≡ offset_of r) × (end_of r < offset_of r + n)
+IsShort n e r = EndsWithin n e.message r e.offset
 
 -- The byte at an offset.
 abbrev pub byte_at : Reader → ℕ → ℕ

@@ -8,7 +8,6 @@ ghost use Rattle.wasm_below_bytes.specs.Number.{EncodesFixed, EncodesSize};
 use crate::error::{Error, Result};
 use crate::features::WasmFeatures;
 use crate::message::{Message, SizeName};
-use bitflags::Flags;
 use std::alloc::AllocError;
 use std::marker::Model;
 use std::ops::Range;
@@ -62,6 +61,12 @@ impl<'a> BinaryReader<'a> {
     }
 
     /// A reader of these bytes, of which the first has this offset, with these features.
+    ///
+    /// # Examples
+    ///
+    /// ```
+    /// let reader = BinaryReader::new_features(bytes, 0, WasmFeatures::MEMORY64);
+    /// ```
     pub fn new_features(
         bytes: &'a [u8],
         original_offset: u64,

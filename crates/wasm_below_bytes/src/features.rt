@@ -1,6 +1,6 @@
 //! The features that change what is read.
-ghost use Rattle.std.specs.Prelude.{⊤, [], ◌∷◌, codes, IsTrue, ◌↔◌};
-ghost use Rattle.wasm_below_bytes.specs.Features.{HasFeature};
+ghost use Rattle.std.specs.Prelude.{◌≡◌, ◌<◌, ⊤, [], ◌∷◌, codes, IsTrue, SomeIff, ◌↔◌};
+ghost use Rattle.wasm_below_bytes.specs.Features.{HasFeature, all_features, features_of};
 
 use bitflags::{Flag, Flags, bitflag_items};
 
@@ -48,6 +48,31 @@ impl Flags for WasmFeatures {
 }
 
 impl WasmFeatures {
+    /// All six features.
+    pub fn all() -> WasmFeatures
+        ensures { result ≡ all_features }
+    {
+        WasmFeatures(63)
+    }
+
+    /// No feature.
+    pub fn none() -> WasmFeatures
+        ensures { result ≡ features_of 0 }
+    {
+        WasmFeatures(0)
+    }
+
+    /// The features of these bits, where each bit is that of a feature.
+    pub fn from_bits(bits: u32) -> Option<WasmFeatures>
+        ensures { SomeIff result (bits < 64) (features_of bits) }
+    {
+        if bits < 64 {
+            Some(WasmFeatures(bits))
+        } else {
+            None
+        }
+    }
+
     /// Whether all these features are on.
     #[inline(always)]
     pub fn contains(&self, other: WasmFeatures) -> bool

@@ -6,7 +6,7 @@ use wasm_operators_readers::below::{BinaryReader, Result};
 use wasm_operators_readers::imm::{BrTable, MemArg};
 use wasm_operators_readers::instr::{FrameKind, Operator};
 use wasm_operators_readers::visitors::{
-    VisitFixed, VisitOneByte, VisitOperator, VisitSimdOperator, Visitor, decode, dispatch,
+    VisitGroups, VisitOneByte, VisitOperator, VisitSimdOperator, Visitor, decode, dispatch,
 };
 
 /// Counts in `visit_any` alone.
@@ -27,7 +27,7 @@ impl Visitor for CountAny {
     }
 }
 
-impl VisitFixed for CountAny {}
+impl VisitGroups for CountAny {}
 
 impl<'a> VisitOperator<'a> for CountAny {
     #[inline(always)]
@@ -90,7 +90,7 @@ impl VisitOneByte for CountSome {
     }
 }
 
-impl VisitFixed for CountSome {
+impl VisitGroups for CountSome {
     fn dispatch_one_byte(&mut self, op: Operator<'_>) {
         dispatch::one_byte(self, op)
     }

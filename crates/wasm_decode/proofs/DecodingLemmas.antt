@@ -18,13 +18,13 @@ use Rattle.wasm_visit.specs.instr.Encoding.{EncodesOpcode, EncodesOperator}
 use Rattle.wasm_visit.specs.instr.Immediate.{Kind}
 use Rattle.wasm_visit.specs.instr.Kinds.{IsVector}
 use Rattle.wasm_visit.specs.instr.Row.{prefix_of, opcode_of}
-use Rattle.wasm_visit.specs.opcodes.Allowed.{EncodesAllowed, EncodesPlain, EncodesIn}
+use Rattle.wasm_visit.specs.opcodes.Allowed.{EncodesAllowed, EncodesScalar, EncodesIn}
 use Rattle.wasm_visit.specs.opcodes.Decoding.{Decodes, RefusesOperator, StandsBehind, VisitsRow}
 use Rattle.wasm_visit.specs.opcodes.declared.guard.Guard.{Guard}
 use Rattle.wasm_visit.specs.opcodes.Entry.{Entry, prefixes, guard_of, kinds_of, guarded_entry, entry_of}
 use Rattle.wasm_visit.specs.opcodes.Entries.{opcode_entries, entry_at}
-use Rattle.wasm_visit.specs.opcodes.OperatorFaults.{SubopcodeFault, EntryFault, OperatorFault, PlainOperatorFault, FaultIn}
-use Rattle.wasm_visit.specs.opcodes.Refused.{IsRefusedOperator, NeedsMemory}
+use Rattle.wasm_visit.specs.opcodes.OperatorFaults.{SubopcodeFault, EntryFault, OperatorFault, ScalarOperatorFault, FaultIn}
+use Rattle.wasm_visit.specs.opcodes.Refused.{IsRefusedOperator, MayAllocate}
 use Rattle.wasm_visit.proofs.of_opcodes.OperatorLemmas.{within_behind}
 use Rattle.wasm_visit.proofs.of_opcodes.Told.{told}
 use Rattle.wasm_visit.proofs.of_decode.Ranges.{InRanges, codes_in}
@@ -169,7 +169,7 @@ pub behind_prefix : {V A : Type 0} (visits : V → Operator → A → V → Type
 behind_prefix visits k start mid now new v w result stays h =
     subst (λ (z : Reader). Decodes visits (EncodesAllowed z.features k) (OperatorFault z.features k) result (at_position z start) new v w) stays h
 
--- ---- plain visitors
+-- ---- scalar visitors
 
 pub vector_prefix : (op : Operator) → IsVector op → prefix_of op ≡ Some 0xfd
 vector_prefix (operator.Simd op) h = refl
@@ -184,8 +184,8 @@ prefix_vector (operator.Simd op) e = tt
 prefix_vector op e = absurd (omega (arith, ap number_in e))
 
 -- an operator without the prefix byte fd in front is no vector operator
-plain_behind : (f : WasmFeatures) (op : Operator) (code : ℕ) (text after left : List ℕ) → code ≢ 0xfd → EncodesOperator f op text → code ∷ after ≡ text ++ left → ¬ IsVector op
-plain_behind f op code text after left other s eq h = go (prefix_of op) refl s.code
+scalar_behind : (f : WasmFeatures) (op : Operator) (code : ℕ) (text after left : List ℕ) → code ≢ 0xfd → EncodesOperator f op text → code ∷ after ≡ text ++ left → ¬ IsVector op
+scalar_behind f op code text after left other s eq h = go (prefix_of op) refl s.code
   where
     go : (q : Option ℕ) → prefix_of op ≡ q → EncodesOpcode q (opcode_of op) s.head → ⊥
     go None e code_is = cc (sym e ∙ vector_prefix op h)
@@ -199,8 +199,8 @@ plain_behind f op code text after left other s eq h = go (prefix_of op) refl s.c
 other_byte : (code : ℕ) (after bytes : List ℕ) → code ≢ 0xfd → bytes ≡ code ∷ after → BeginsWith 0xfd bytes → ⊥
 other_byte code after bytes other e (more, h) = other (let whole : code ∷ after ≡ 0xfd ∷ more = sym e ∙ h in cc whole)
 
-refused_plain : (f : WasmFeatures) (k : FrameKind) (e : Error) (old : Reader) → IsRefusedOperator (EncodesAllowed f k) e old → IsRefusedOperator (EncodesPlain f k) e old
-refused_plain f k e old h =
+refused_scalar : (f : WasmFeatures) (k : FrameKind) (e : Error) (old : Reader) → IsRefusedOperator (EncodesAllowed f k) e old → IsRefusedOperator (EncodesScalar f k) e old
+refused_scalar f k e old h =
     record {
       refuses = λ more follow text left op s eq. h.refuses more follow text left op s.0 eq;
       ahead = h.ahead;
@@ -210,30 +210,30 @@ refused_plain f k e old h =
           );
     }
 
--- what is decoded behind another opcode than fd, is by a plain visitor too
-pub to_plain : {V A : Type 0} (visits : V → Operator → A → V → Type 0) (k : FrameKind) (start code : ℕ) (mid new : Reader) (v w : V) (result : Result A Error) → code ≢ 0xfd →
+-- what is decoded behind another opcode than fd, is by a scalar visitor too
+pub to_scalar : {V A : Type 0} (visits : V → Operator → A → V → Type 0) (k : FrameKind) (start code : ℕ) (mid new : Reader) (v w : V) (result : Result A Error) → code ≢ 0xfd →
     StandsBehind start None code mid → Decodes visits (EncodesAllowed mid.features k) (OperatorFault mid.features k) result (at_position mid start) new v w →
-    Decodes visits (EncodesPlain mid.features k) (PlainOperatorFault mid.features k) result (at_position mid start) new v w
-to_plain {V} {A} visits k start code mid new v w result other b h = go b.opcode result h
+    Decodes visits (EncodesScalar mid.features k) (ScalarOperatorFault mid.features k) result (at_position mid start) new v w
+to_scalar {V} {A} visits k start code mid new v w result other b h = go b.opcode result h
   where
     go : Reads (λ text it. EncodesOpcode None it text) (Ok code) (at_position mid start) mid → (result : Result A Error) →
         Decodes visits (EncodesAllowed mid.features k) (OperatorFault mid.features k) result (at_position mid start) new v w →
-        Decodes visits (EncodesPlain mid.features k) (PlainOperatorFault mid.features k) result (at_position mid start) new v w
+        Decodes visits (EncodesScalar mid.features k) (ScalarOperatorFault mid.features k) result (at_position mid start) new v w
     go (head, opcode, t) (Ok a) (text, op, s, taken, vis) =
         let parts : rest (at_position mid start) ≡ code ∷ rest mid = t.parts ∙ ap (λ z. z ++ rest mid) opcode in
-        (text, op, (s, plain_behind mid.features op code text (rest mid) (rest new) other s.0 (sym parts ∙ taken.parts)), taken, vis)
+        (text, op, (s, scalar_behind mid.features op code text (rest mid) (rest new) other s.0 (sym parts ∙ taken.parts)), taken, vis)
     go (head, opcode, t) (Err e) (same, (went, h, fault)) =
         let parts : rest (at_position mid start) ≡ code ∷ rest mid = t.parts ∙ ap (λ z. z ++ rest mid) opcode in (
           same,
-          (went, refused_plain mid.features k e (at_position mid start) h, λ some. inr (other_byte code (rest mid) (rest (at_position mid start)) other parts, fault some)),
+          (went, refused_scalar mid.features k e (at_position mid start) h, λ some. inr (other_byte code (rest mid) (rest (at_position mid start)) other parts, fault some)),
         )
 
--- no byte is left, of a plain visitor
-pub refuses_end_plain : (k : FrameKind) (e : Error) (old new : Reader) → (new ≡ old) × IsRefusal IsByte e old → IsEndHere e old →
-    RefusesOperator (EncodesPlain old.features k) (PlainOperatorFault old.features k) e old new
-refuses_end_plain k e old new r end =
+-- no byte is left, of a scalar visitor
+pub refuses_end_scalar : (k : FrameKind) (e : Error) (old new : Reader) → (new ≡ old) × IsRefusal IsByte e old → IsEndHere e old →
+    RefusesOperator (EncodesScalar old.features k) (ScalarOperatorFault old.features k) e old new
+refuses_end_scalar k e old new r end =
     let h = refuses_end k e old new r end in
-    (h.0, refused_plain old.features k e old h.1, λ some. inr ((λ b. empty b.0 (sym (none_here old end.2) ∙ b.1)), h.2 some))
+    (h.0, refused_scalar old.features k e old h.1, λ some. inr ((λ b. empty b.0 (sym (none_here old end.2) ∙ b.1)), h.2 some))
   where
     empty : (more : List ℕ) → [] ≡ 0xfd ∷ more → ⊥
     empty more q = cc q
@@ -241,11 +241,11 @@ refuses_end_plain k e old new r end =
 -- the byte fd, whatever stands behind it
 pub refuses_vector : (k : FrameKind) (start : ℕ) (e : Error) (mid new : Reader) → entry_at None 0xfd ≡ prefixes → StandsBehind start None 0xfd mid → new ≡ at_position mid start →
     e.message ≡ message.UnexpectedSimd → e.offset ≡ mid.start + start →
-    RefusesOperator (EncodesPlain mid.features k) (PlainOperatorFault mid.features k) e (at_position mid start) new
+    RefusesOperator (EncodesScalar mid.features k) (ScalarOperatorFault mid.features k) e (at_position mid start) new
 refuses_vector k start e mid new is b went m at = go b.opcode
   where
     go : Reads (λ text it. EncodesOpcode None it text) (Ok 0xfd) (at_position mid start) mid →
-        RefusesOperator (EncodesPlain mid.features k) (PlainOperatorFault mid.features k) e (at_position mid start) new
+        RefusesOperator (EncodesScalar mid.features k) (ScalarOperatorFault mid.features k) e (at_position mid start) new
     go (head, opcode, t) =
         let parts : rest (at_position mid start) ≡ 0xfd ∷ rest mid = t.parts ∙ ap (λ z. z ++ rest mid) opcode in
         let within = within_behind start None 0xfd mid b in

@@ -6,10 +6,8 @@ use Rattle.wasm_visit.specs.below.bytes.message.Message.TheVariants as message
 use Rattle.wasm_visit.specs.below.bytes.message.NumberName.TheVariants as number_name
 use Rattle.wasm_visit.specs.below.Fault.{DeterminesRefusal}
 use Rattle.wasm_visit.specs.below.Features.{multi_memory, call_indirect_overlong}
-use Rattle.wasm_visit.specs.below.FromReader.{EndsWithin}
 use Rattle.wasm_visit.specs.below.Number.{EncodesUnsigned}
-use Rattle.wasm_visit.specs.below.PartFaults.{EndFault}
-use Rattle.wasm_visit.specs.below.Source.{Reader, rest, offset_of, BeginsWith, IsByte, U32Fault}
+use Rattle.wasm_visit.specs.below.Source.{Reader, rest, offset_of, BeginsWith, IsByte, U32Fault, EndFault, EndsWithin}
 use Rattle.wasm_visit.proofs.of_below.DeterminedRefusals.{number_determines, u32_determines, end_determines, then_determines}
 use Rattle.wasm_visit.proofs.of_below.DeterminedTypeRefusals.{heap_determines}
 use Rattle.wasm_visit.proofs.of_below.PrefixCode.{unsigned_prefix_code, byte_prefix_code}
@@ -25,7 +23,7 @@ use Rattle.wasm_visit.specs.opcodes.declared.guard.Guard.{Guard}
 use Rattle.wasm_visit.specs.opcodes.Entry.{Entry, unknown, prefixes, free, guarded, role_behind, instruction_behind, frame_behind}
 use Rattle.wasm_visit.specs.opcodes.Entries.{entry_at}
 use Rattle.wasm_visit.specs.opcodes.Kinds.{EncodesKind}
-use Rattle.wasm_visit.specs.opcodes.OperatorFaults.{KindFault, KindsFault, FreeFault, SubopcodeFault, LacksFeature, GuardFault, EntryFault, OpcodeFault, OperatorFault, PlainOperatorFault, FaultIn}
+use Rattle.wasm_visit.specs.opcodes.OperatorFaults.{KindFault, KindsFault, FreeFault, SubopcodeFault, LacksFeature, GuardFault, EntryFault, OpcodeFault, OperatorFault, ScalarOperatorFault, FaultIn}
 use Rattle.wasm_visit.proofs.of_opcodes.KindLemmas.{kind_prefix_code}
 
 ends_determines : (n : ℕ) → DeterminesRefusal (EndsWithin n)
@@ -88,8 +86,8 @@ operator_determines f k m n r a b h q =
     then_determines IsByte EndFault (OpcodeFault f k (offset_of r)) byte_prefix_code end_determines
     (λ code. entry_determines f k (offset_of r) code (entry_at None code)) m n r a b h q
 
-pub plain_determines : (f : WasmFeatures) (k : FrameKind) → DeterminesRefusal (PlainOperatorFault f k)
-plain_determines f k m n r a b h q =
+pub scalar_determines : (f : WasmFeatures) (k : FrameKind) → DeterminesRefusal (ScalarOperatorFault f k)
+scalar_determines f k m n r a b h q =
     check_determines (BeginsWith 0xfd (rest r)) message.UnexpectedSimd (offset_of r) (OperatorFault f k) (operator_determines f k) m n r a b h q
 
 pub in_determines : (F : FrameKind → Message → Reader → ℕ → Type 0) → ((k : FrameKind) → DeterminesRefusal (F k)) → (frame : Option FrameKind) → DeterminesRefusal (FaultIn F frame)

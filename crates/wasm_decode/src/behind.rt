@@ -11,7 +11,7 @@ ghost use Rattle.wasm_visit.specs.opcodes.Entry.{prefixes};
 use std::alloc::Global;
 use wasm_visit::below::{BinaryReader, Result};
 use wasm_visit::grammar::FrameKind;
-use wasm_visit::{VisitFixed, VisitSimdOperator};
+use wasm_visit::{VisitGroups, VisitSimdOperator};
 
 /// The subopcode behind a prefix byte that was read at the position `start`: a LEB128 number of 32
 /// bits, overlong ones too. Where it is refused the reader goes back.
@@ -34,7 +34,7 @@ fn subopcode(reader: &mut BinaryReader<'_>, start: usize, prefix: u8) -> Result<
 
 /// An operator that is neither a branch table nor a vector operator, behind its opcode.
 #[inline(always)]
-pub fn fixed_behind<V: VisitFixed>(
+pub fn group_behind<V: VisitGroups>(
     v: &mut V,
     alloc: Global,
     reader: &mut BinaryReader<'_>,
@@ -58,7 +58,7 @@ pub fn fixed_behind<V: VisitFixed>(
 
 /// An operator behind one of the prefix bytes fb, fc and fe.
 #[inline(always)]
-fn prefixed_behind<V: VisitFixed>(
+fn prefixed_behind<V: VisitGroups>(
     v: &mut V,
     reader: &mut BinaryReader<'_>,
     start: usize,
@@ -77,7 +77,7 @@ fn prefixed_behind<V: VisitFixed>(
 
 /// The subopcode behind such a prefix byte, and the operator's visit.
 #[inline(never)]
-fn prefixed_out_of_line<V: VisitFixed>(
+fn prefixed_out_of_line<V: VisitGroups>(
     v: &mut V,
     reader: &mut BinaryReader<'_>,
     start: usize,

@@ -1,6 +1,6 @@
 //! Laws on operators, each the contract of a function that does nothing.
 ghost use Rattle.wasm_visit.specs.below.Fault.{DeterminesRefusal};
-ghost use Rattle.wasm_visit.specs.opcodes.OperatorFaults.{OperatorFault, PlainOperatorFault, FaultIn};
+ghost use Rattle.wasm_visit.specs.opcodes.OperatorFaults.{OperatorFault, ScalarOperatorFault, FaultIn};
 
 use wasm_visit::below::WasmFeatures;
 use wasm_visit::grammar::FrameKind;
@@ -9,5 +9,5 @@ use wasm_visit::grammar::FrameKind;
 /// under the same features and in the same frame, are refused in one way, allocation failure aside.
 pub fn operator_refusals(features: WasmFeatures, frame: Option<FrameKind>)
     ensures any { DeterminesRefusal (FaultIn (OperatorFault features) frame) }
-    ensures plain { DeterminesRefusal (FaultIn (PlainOperatorFault features) frame) }
+    ensures scalar { DeterminesRefusal (FaultIn (ScalarOperatorFault features) frame) }
 {}

@@ -4,7 +4,7 @@ ghost use Rattle.wasm_decode.specs.Reading.{DecodesOperatorIn, DecodesOperatorAt
 ghost use Rattle.wasm_visit.specs.grammar.declared.frame_kind.FrameKind.{FrameKind};
 ghost use Rattle.wasm_visit.specs.opcodes.Decoding.{StandsBehind};
 
-use crate::behind::{fixed_behind, simd_behind};
+use crate::behind::{group_behind, simd_behind};
 use crate::refusals::no_frame;
 use std::alloc::Global;
 use wasm_visit::below::{BinaryReader, Result};
@@ -52,7 +52,7 @@ pub fn read_behind<'a>(
     match code {
         0x0e => read_table(reader, start),
         0xfd => read_simd(reader, start),
-        _ => read_fixed(alloc, reader, start, frame, code),
+        _ => read_group(alloc, reader, start, frame, code),
     }
 }
 
@@ -79,7 +79,7 @@ fn read_simd(reader: &mut BinaryReader<'_>, start: usize) -> Result<Operator<'st
 
 /// An operator that is neither a branch table nor a vector operator, behind its opcode.
 #[inline(always)]
-fn read_fixed(
+fn read_group(
     alloc: Global,
     reader: &mut BinaryReader<'_>,
     start: usize,
@@ -91,5 +91,5 @@ fn read_fixed(
     requires vector { code ≢ 0xfd }
     ensures { DecodesOperatorAt frame start result reader.old reader.new }
 {
-    fixed_behind(&mut Factory, alloc, reader, start, frame, code)
+    group_behind(&mut Factory, alloc, reader, start, frame, code)
 }

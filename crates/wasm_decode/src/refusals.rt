@@ -2,7 +2,7 @@
 ghost use Rattle.std.specs.Prelude.{◌≡◌, ◌≤◌, None};
 ghost use Rattle.wasm_visit.specs.below.Source.{offset_of, end_of};
 ghost use Rattle.wasm_visit.specs.grammar.declared.frame_kind.FrameKind.{FrameKind};
-ghost use Rattle.wasm_visit.specs.opcodes.Decoding.{StandsBehind, RefusesPlainAt};
+ghost use Rattle.wasm_visit.specs.opcodes.Decoding.{StandsBehind, RefusesScalarAt};
 
 use wasm_visit::below::{BinaryReader, Error, Message};
 
@@ -19,12 +19,12 @@ pub fn no_frame(reader: &BinaryReader<'_>) -> Error
     Error::new(Message::OperatorsRemaining, reader.original_position())
 }
 
-/// The byte fd, at which a plain visitor is refused, whatever stands behind it.
+/// The byte fd, at which a scalar visitor is refused, whatever stands behind it.
 #[cold]
 #[inline(never)]
 pub fn unexpected_simd(reader: &mut BinaryReader<'_>, start: usize) -> Error
     requires { StandsBehind start None 0xfd reader.old }
-    ensures { (frame : FrameKind) → RefusesPlainAt frame start result reader.old reader.new }
+    ensures { (frame : FrameKind) → RefusesScalarAt frame start result reader.old reader.new }
 {
     reader.refuse(start, Message::UnexpectedSimd)
 }

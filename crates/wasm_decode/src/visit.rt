@@ -1,9 +1,9 @@
 //! An operator is read and visited.
 ghost use Rattle.std.specs.Prelude.{◌≡◌, ◌<◌, None};
 ghost use Rattle.wasm_visit.specs.grammar.declared.frame_kind.FrameKind.{FrameKind};
-ghost use Rattle.wasm_visit.specs.opcodes.Decoding.{DecodesIn, DecodesPlainIn, StandsBehind, DecodesAt, DecodesPlainAt};
+ghost use Rattle.wasm_visit.specs.opcodes.Decoding.{DecodesIn, DecodesScalarIn, StandsBehind, DecodesAt, DecodesScalarAt};
 
-use crate::behind::{fixed_behind, simd_behind};
+use crate::behind::{group_behind, simd_behind};
 use crate::refusals::{no_frame, unexpected_simd};
 use std::alloc::Global;
 use wasm_visit::below::{BinaryReader, Result};
@@ -60,7 +60,7 @@ where
     match code {
         0x0e => table_behind(v, reader, start),
         0xfd => simd_behind(v, reader, start),
-        _ => fixed_behind(v, alloc, reader, start, frame, code),
+        _ => group_behind(v, alloc, reader, start, frame, code),
     }
 }
 
@@ -75,7 +75,7 @@ pub fn visit_operator<'a, V: VisitOperator<'a>>(
     reader: &mut BinaryReader<'a>,
     frame: Option<FrameKind>,
 ) -> Result<V::Output>
-    ensures { DecodesPlainIn V.visits frame result reader.old reader.new v.old v.new }
+    ensures { DecodesScalarIn V.visits frame result reader.old reader.new v.old v.new }
 {
     let Some(frame) = frame else {
         return Err(no_frame(reader));
@@ -101,12 +101,12 @@ pub fn visit_behind<'a, V: VisitOperator<'a>>(
     code: u8,
 ) -> Result<V::Output>
     requires { StandsBehind start None code reader.old }
-    ensures { DecodesPlainAt V.visits frame start result reader.old reader.new v.old v.new }
+    ensures { DecodesScalarAt V.visits frame start result reader.old reader.new v.old v.new }
 {
     match code {
         0x0e => table_behind(v, reader, start),
         0xfd => Err(unexpected_simd(reader, start)),
-        _ => fixed_behind(v, alloc, reader, start, frame, code),
+        _ => group_behind(v, alloc, reader, start, frame, code),
     }
 }
 
@@ -126,7 +126,7 @@ pub fn visit_below_20<'a, V: VisitOperator<'a>>(
     requires behind { StandsBehind start None code reader.old }
     requires low { code < 0x20 }
     ensures allowed { DecodesAt V.visits frame start result reader.old reader.new v.old v.new }
-    ensures plain { DecodesPlainAt V.visits frame start result reader.old reader.new v.old v.new }
+    ensures scalar { DecodesScalarAt V.visits frame start result reader.old reader.new v.old v.new }
 {
     match code {
         0x0e => table_behind(v, reader, start),

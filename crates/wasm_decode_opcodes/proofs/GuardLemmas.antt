@@ -222,9 +222,9 @@ checked_visited visits Fault k code g ks is start mid now new v w a e b stays ha
     visited_guarded visits Fault k code g ks is start mid new v w a e b has allows vis
     (subst (λ (z : Reader). (text : List ℕ) × EncodesKinds z.features ks text is × Takes z new text) stays i)
 
-pub checked_plain : {V A : Type 0} (visits : V → Operator → A → V → Type 0) (Fault : Message → Reader → ℕ → Type 0) (k : FrameKind) (code : ℕ) (g : Guard) (start : ℕ)
+pub checked_without_immediates : {V A : Type 0} (visits : V → Operator → A → V → Type 0) (Fault : Message → Reader → ℕ → Type 0) (k : FrameKind) (code : ℕ) (g : Guard) (start : ℕ)
     (mid now : Reader) (v w : V) (a : A) → entry_at None code ≡ guarded g [] → StandsBehind start None code mid → now ≡ mid →
     (NeedsLegacy g → HasFeature legacy_exceptions mid.features) → Allows k (role_behind g) → VisitsRow visits None code [] v a w →
     Decodes visits (EncodesAllowed mid.features k) Fault (Ok a) (at_position mid start) now v w
-checked_plain visits Fault k code g start mid now v w a e b stays has allows vis =
+checked_without_immediates visits Fault k code g start mid now v w a e b stays has allows vis =
     checked_visited visits Fault k code g [] [] start mid now now v w a e b stays has allows vis ([], (refl, refl), takes_none now)

@@ -23,7 +23,7 @@ use Rattle.wasm_instr.specs.imm.HandlerTables.{EncodesSelect, EncodesTryTable, E
 use Rattle.wasm_instr.specs.imm.Indices.{EncodesMemoryIndex, EncodesTableIndex}
 use Rattle.wasm_instr.specs.imm.MemoryArgument.{EncodesMemArg}
 use Rattle.wasm_instr.specs.imm.Orderings.{EncodesOrderingByte, EncodesFence, FenceFault}
-use Rattle.wasm_instr.specs.imm.OutOfMemory.{IsOutOfMemoryAt, IsBegunAt}
+use Rattle.wasm_instr.specs.imm.OutOfMemory.{IsOutOfMemoryAt, IsRefusedFrom}
 use Rattle.wasm_instr.specs.imm.Vectors.{EncodesSixteen, EncodesVector}
 use Rattle.wasm_instr.proofs.of_imm.Faults.{none_here}
 use Rattle.wasm_instr.specs.Immediate.{Immediate, unsigned_32, signed_32, signed_64, float_32, float_64, vector, one_lane, sixteen_lanes, memory_argument, memory_index, table_index_32, order, fence_order, heap_type, cast, block_type, branch_table, select_types, try_clauses, resume_clauses, Kind, is_unsigned_32, is_signed_32, is_signed_64, is_float_32, is_float_64, is_vector, is_one_lane, is_sixteen_lanes, is_memory_argument, is_memory_index, is_table_index, is_order, is_fence_order, is_heap_type, is_cast, is_block_type, is_branch_table, is_select_types, is_try_clauses, is_resume_clauses, kind_of, EncodesImmediate, EncodesImmediates}
@@ -299,7 +299,7 @@ later_read P k ks immediate old mid new x is o (first, p, t) (more, q, u) = (
 -- such an immediate is refused, and allocation failure is said where the operator began
 pub memory_refused : {X : Type 0} (P : List ℕ → X → Type 0) (k : Kind) (immediate : X → Immediate) (start : ℕ) (e told : Error) (old mid new : Reader) →
     OfKind P old.features k immediate → start ≤ old.position → offset_of old ≤ end_of old → (mid ≡ old) × IsRefused P true e old →
-    HasFault (KindFault old.features (old.start + start) k) e old → new ≡ at_position mid start → IsBegunAt (mid.start + start) e told →
+    HasFault (KindFault old.features (old.start + start) k) e old → new ≡ at_position mid start → IsRefusedFrom (mid.start + start) e told →
     RefusesKinds (k ∷ []) true start told old new
 memory_refused P k immediate start e told old mid new o begun within (same, h) fault went (kept, place) =
     let starts : mid.start + start ≡ old.start + start = ap (λ (r : Reader). r.start + start) same in

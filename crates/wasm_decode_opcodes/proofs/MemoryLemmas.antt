@@ -17,7 +17,7 @@ use Rattle.wasm_decode_opcodes.specs.Decoding.{Decodes, StandsBehind}
 use Rattle.wasm_decode_opcodes.specs.Entry.{free, kinds_of}
 use Rattle.wasm_decode_opcodes.specs.Entries.{entry_at}
 use Rattle.wasm_decode_opcodes.specs.OperatorFaults.{OperatorFault}
-use Rattle.wasm_decode_opcodes.specs.Refused.{LeadsList, NeedsMemory}
+use Rattle.wasm_decode_opcodes.specs.Refused.{LeadsList, MayAllocate}
 use Rattle.wasm_decode_opcodes.proofs.KindLemmas.{RefusesKinds}
 use Rattle.wasm_decode_opcodes.proofs.OperatorLemmas.{IsCode, own, kinds_behind, has_kinds, refused_operator, free_fault}
 
@@ -70,10 +70,10 @@ one_type f op text p k without i = absurd (cc k)
 pub needs_memory : (k : FrameKind) (code start : ℕ) (ks : List Kind) (mid : Reader) → IsCode None code → entry_at None code ≡ free ks → LeadsList code →
     StandsBehind start None code mid →
     ((op : Operator) (text left : List ℕ) → prefix_of op ≡ None → kinds_of op ≡ ks → (HoldsList op → ⊥) → EncodesImmediates mid.features (immediates_of op) text →
-    rest mid ≡ text ++ left → ⊥) → NeedsMemory (EncodesAllowed mid.features k) (at_position mid start)
+    rest mid ≡ text ++ left → ⊥) → MayAllocate (EncodesAllowed mid.features k) (at_position mid start)
 needs_memory k code start ks mid c is leads b none = go b.opcode
   where
-    go : Reads (λ text it. EncodesOpcode None it text) (Ok code) (at_position mid start) mid → NeedsMemory (EncodesAllowed mid.features k) (at_position mid start)
+    go : Reads (λ text it. EncodesOpcode None it text) (Ok code) (at_position mid start) mid → MayAllocate (EncodesAllowed mid.features k) (at_position mid start)
     go (head, h, t) =
         record {
           leads = (code, leads, (rest mid, t.parts ∙ ap (λ z. z ++ rest mid) h));
@@ -86,11 +86,11 @@ needs_memory k code start ks mid c is leads b none = go b.opcode
 
 pub needs_list : (k : FrameKind) (code start : ℕ) (ks : List Kind) (mid : Reader) → IsCode None code → entry_at None code ≡ free ks → LeadsList code →
     StandsBehind start None code mid → ((op : Operator) → prefix_of op ≡ None → kinds_of op ≡ ks → HoldsList op) →
-    NeedsMemory (EncodesAllowed mid.features k) (at_position mid start)
+    MayAllocate (EncodesAllowed mid.features k) (at_position mid start)
 needs_list k code start ks mid c is leads b owns = needs_memory k code start ks mid c is leads b (λ op text left p q without i eq. without (owns op p q))
 
 pub needs_types : (k : FrameKind) (code start : ℕ) (mid : Reader) → IsCode None code → entry_at None code ≡ free (is_select_types ∷ []) → LeadsList code →
-    StandsBehind start None code mid → NoPrefix EncodesOne (rest mid) → NeedsMemory (EncodesAllowed mid.features k) (at_position mid start)
+    StandsBehind start None code mid → NoPrefix EncodesOne (rest mid) → MayAllocate (EncodesAllowed mid.features k) (at_position mid start)
 needs_types k code start mid c is leads b lone = needs_memory k code start (is_select_types ∷ []) mid c is leads b none
   where
     none : (op : Operator) (text left : List ℕ) → prefix_of op ≡ None → kinds_of op ≡ is_select_types ∷ [] → (HoldsList op → ⊥) →
@@ -102,7 +102,7 @@ needs_types k code start mid c is leads b lone = needs_memory k code start (is_s
 -- immediates are refused behind an opcode whose operators may own a list
 pub refuses_list : {V A : Type 0} (visits : V → Operator → A → V → Type 0) (k : FrameKind) (code : ℕ) (ks : List Kind) (start : ℕ) (e : Error) (mid new : Reader) (v : V) →
     IsCode None code → entry_at None code ≡ free ks → StandsBehind start None code mid → RefusesKinds ks true start e mid new →
-    (e.message ≡ message.OutOfMemory → NeedsMemory (EncodesAllowed mid.features k) (at_position mid start)) →
+    (e.message ≡ message.OutOfMemory → MayAllocate (EncodesAllowed mid.features k) (at_position mid start)) →
     Decodes visits (EncodesAllowed mid.features k) (OperatorFault mid.features k) (Err e) (at_position mid start) new v v
 refuses_list visits k code ks start e mid new v c is b (went, h, fault) memory = (
   refl,

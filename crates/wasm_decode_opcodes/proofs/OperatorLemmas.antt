@@ -25,7 +25,7 @@ use Rattle.wasm_decode_opcodes.specs.Entry.{Entry, prefixes, unknown, free, guar
 use Rattle.wasm_decode_opcodes.specs.Entries.{entry_at}
 use Rattle.wasm_decode_opcodes.specs.Kinds.{EncodesKinds}
 use Rattle.wasm_decode_opcodes.specs.OperatorFaults.{KindsFault, FreeFault, SubopcodeFault, EntryFault, OpcodeFault, OperatorFault}
-use Rattle.wasm_decode_opcodes.specs.Refused.{IsRefusedOperator, NeedsMemory}
+use Rattle.wasm_decode_opcodes.specs.Refused.{IsRefusedOperator, MayAllocate}
 use Rattle.wasm_decode_opcodes.proofs.KindLemmas.{RefusesKinds}
 use Rattle.wasm_decode_opcodes.proofs.Told.{told, prefix_told}
 
@@ -144,7 +144,7 @@ none_behind f k p code ks head after c has h none text left op s eq =
 
 pub refused_operator : (k : FrameKind) (p : Option ℕ) (code : ℕ) (ks : List Kind) (takes : Bool) (start : ℕ) (e : Error) (mid : Reader) → IsCode p code →
     HasKinds (entry_at p code) ks → StandsBehind start p code mid → IsRefusedBehind (EncodesKinds mid.features ks) takes start e mid →
-    (takes ≡ true → e.message ≡ message.OutOfMemory → NeedsMemory (EncodesAllowed mid.features k) (at_position mid start)) →
+    (takes ≡ true → e.message ≡ message.OutOfMemory → MayAllocate (EncodesAllowed mid.features k) (at_position mid start)) →
     IsRefusedOperator (EncodesAllowed mid.features k) e (at_position mid start)
 refused_operator k p code ks takes start e mid c has b h memory = go b.opcode
   where
@@ -257,10 +257,10 @@ visited_free visits Fault k p code ks is start mid new v w a e b vis i =
     (λ op prefix opcode. let g = unguarded op p code ks prefix opcode e in (enabled_free mid.features op g, allowed_free k op g))
 
 -- an operator without immediates
-pub visited_plain : {V A : Type 0} (visits : V → Operator → A → V → Type 0) (Fault : Message → Reader → ℕ → Type 0) (k : FrameKind) (p : Option ℕ) (code : ℕ) (start : ℕ)
+pub visited_without_immediates : {V A : Type 0} (visits : V → Operator → A → V → Type 0) (Fault : Message → Reader → ℕ → Type 0) (k : FrameKind) (p : Option ℕ) (code : ℕ) (start : ℕ)
     (mid : Reader) (v w : V) (a : A) → entry_at p code ≡ free [] → StandsBehind start p code mid → VisitsRow visits p code [] v a w →
     Decodes visits (EncodesAllowed mid.features k) Fault (Ok a) (at_position mid start) mid v w
-visited_plain visits Fault k p code start mid v w a e b vis = visited_free visits Fault k p code [] [] start mid mid v w a e b vis ([], (refl, refl), takes_none mid)
+visited_without_immediates visits Fault k p code start mid v w a e b vis = visited_free visits Fault k p code [] [] start mid mid v w a e b vis ([], (refl, refl), takes_none mid)
 
 -- ---- what is no opcode
 

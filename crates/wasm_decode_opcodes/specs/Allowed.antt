@@ -13,8 +13,8 @@ abbrev pub EncodesAllowed : WasmFeatures → FrameKind → List ℕ → Operator
 EncodesAllowed f k text op = EncodesOperator f op text × Allows k (role_of op)
 
 -- The same of an operator that is no vector operator.
-abbrev pub EncodesPlain : WasmFeatures → FrameKind → List ℕ → Operator → Type 0
-EncodesPlain f k text op = EncodesAllowed f k text op × ¬ IsVector op
+abbrev pub EncodesScalar : WasmFeatures → FrameKind → List ℕ → Operator → Type 0
+EncodesScalar f k text op = EncodesAllowed f k text op × ¬ IsVector op
 
 -- Where a frame is open that is the innermost; where none is, nothing is an operator.
 abbrev pub EncodesIn : (FrameKind → List ℕ → Operator → Type 0) → Option FrameKind → List ℕ → Operator → Type 0

@@ -10,9 +10,9 @@ use Rattle.wasm_instr.specs.declared.operator.Operator.{Operator}
 use Rattle.wasm_instr.specs.Encoding.{EncodesOpcode}
 use Rattle.wasm_instr.specs.Immediate.{Immediate, Kind}
 use Rattle.wasm_instr.specs.Row.{prefix_of, opcode_of, immediates_of}
-use Rattle.wasm_decode_opcodes.specs.Allowed.{EncodesAllowed, EncodesPlain, EncodesIn}
+use Rattle.wasm_decode_opcodes.specs.Allowed.{EncodesAllowed, EncodesScalar, EncodesIn}
 use Rattle.wasm_decode_opcodes.specs.Kinds.{EncodesKinds}
-use Rattle.wasm_decode_opcodes.specs.OperatorFaults.{KindsFault, OperatorFault, PlainOperatorFault, FaultIn}
+use Rattle.wasm_decode_opcodes.specs.OperatorFaults.{KindsFault, OperatorFault, ScalarOperatorFault, FaultIn}
 use Rattle.wasm_decode_opcodes.specs.Refused.{IsRefusedOperator}
 
 -- The call refuses what stands there: nothing is taken, and the refusal is one of this fault.
@@ -30,9 +30,9 @@ DecodesAt visits frame start result old new v w =
     Decodes visits (EncodesAllowed old.features frame) (OperatorFault old.features frame) result (at_position old start) new v w
 
 -- The same of a visitor that takes no vector operator.
-abbrev pub DecodesPlainAt : {V A : Type 0} → (V → Operator → A → V → Type 0) → FrameKind → ℕ → Result A Error → Reader → Reader → V → V → Type 0
-DecodesPlainAt visits frame start result old new v w =
-    Decodes visits (EncodesPlain old.features frame) (PlainOperatorFault old.features frame) result (at_position old start) new v w
+abbrev pub DecodesScalarAt : {V A : Type 0} → (V → Operator → A → V → Type 0) → FrameKind → ℕ → Result A Error → Reader → Reader → V → V → Type 0
+DecodesScalarAt visits frame start result old new v w =
+    Decodes visits (EncodesScalar old.features frame) (ScalarOperatorFault old.features frame) result (at_position old start) new v w
 
 -- The call has the operator at the start of the rest visited, where this frame is the innermost, or none is open.
 abbrev pub DecodesIn : {V A : Type 0} → (V → Operator → A → V → Type 0) → Option FrameKind → Result A Error → Reader → Reader → V → V → Type 0
@@ -40,17 +40,17 @@ DecodesIn visits frame result old new v w =
     Decodes visits (EncodesIn (EncodesAllowed old.features) frame) (FaultIn (OperatorFault old.features) frame) result old new v w
 
 -- The same of a visitor that takes no vector operator.
-abbrev pub DecodesPlainIn : {V A : Type 0} → (V → Operator → A → V → Type 0) → Option FrameKind → Result A Error → Reader → Reader → V → V → Type 0
-DecodesPlainIn visits frame result old new v w =
-    Decodes visits (EncodesIn (EncodesPlain old.features) frame) (FaultIn (PlainOperatorFault old.features) frame) result old new v w
+abbrev pub DecodesScalarIn : {V A : Type 0} → (V → Operator → A → V → Type 0) → Option FrameKind → Result A Error → Reader → Reader → V → V → Type 0
+DecodesScalarIn visits frame result old new v w =
+    Decodes visits (EncodesIn (EncodesScalar old.features) frame) (FaultIn (ScalarOperatorFault old.features) frame) result old new v w
 
 -- What began at the position `start` is refused, and the reader goes back there.
 abbrev pub RefusesAt : FrameKind → ℕ → Error → Reader → Reader → Type 0
 RefusesAt frame start e old new = RefusesOperator (EncodesAllowed old.features frame) (OperatorFault old.features frame) e (at_position old start) new
 
 -- The same where no vector operator is taken.
-abbrev pub RefusesPlainAt : FrameKind → ℕ → Error → Reader → Reader → Type 0
-RefusesPlainAt frame start e old new = RefusesOperator (EncodesPlain old.features frame) (PlainOperatorFault old.features frame) e (at_position old start) new
+abbrev pub RefusesScalarAt : FrameKind → ℕ → Error → Reader → Reader → Type 0
+RefusesScalarAt frame start e old new = RefusesOperator (EncodesScalar old.features frame) (ScalarOperatorFault old.features frame) e (at_position old start) new
 
 -- The reader stands behind this opcode, or behind this prefix byte and subopcode, which were read from the position `start` on.
 pub record StandsBehind (start : ℕ) (prefix : Option ℕ) (code : ℕ) (r : Reader) : Type 0 where

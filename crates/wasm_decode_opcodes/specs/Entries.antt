@@ -1,7 +1,7 @@
 -- Written by tools/lists.py from tools/operators.tsv.
 -- What stands behind each opcode and each subopcode.
 -- WebAssembly Core Specification 3.0: Binary Format, Instructions; Appendix, Index of Instructions.
-use Rattle.std.specs.Prelude.{ℕ, cond, eqb, List, [], ◌∷◌, get_or, Option, Some, None}
+use Rattle.std.specs.Prelude.{ℕ, ◌==◌, if◌then◌else◌, List, [], ◌∷◌, slice_index_or, Option, Some, None}
 use Rattle.wasm_instr.specs.imm.declared.memory_argument.MemArgKind.TheVariants as kind
 use Rattle.wasm_instr.specs.Immediate.{is_unsigned_32, is_signed_32, is_signed_64, is_float_32, is_float_64, is_one_lane, is_sixteen_lanes, is_vector, is_memory_index, is_table_index, is_order, is_fence_order, is_heap_type, is_cast, is_block_type, is_branch_table, is_select_types, is_try_clauses, is_resume_clauses, is_memory_argument}
 use Rattle.wasm_decode_opcodes.specs.declared.guard.Guard.TheVariants as guard
@@ -743,16 +743,16 @@ atomic_entries =
 -- The entries behind a prefix byte.
 abbrev pub entries_behind : ℕ → List Entry
 entries_behind prefix =
-    cond (eqb prefix 0xfb) gc_entries (
-    cond (eqb prefix 0xfc) misc_entries (
-    cond (eqb prefix 0xfd) simd_entries (
-    cond (eqb prefix 0xfe) atomic_entries (
+    if prefix == 0xfb then gc_entries else (
+    if prefix == 0xfc then misc_entries else (
+    if prefix == 0xfd then simd_entries else (
+    if prefix == 0xfe then atomic_entries else (
     []))))
 
 -- What stands behind an opcode, or behind a prefix byte and a subopcode.
 abbrev pub entry_at : Option ℕ → ℕ → Entry
-entry_at None code = get_or opcode_entries code unknown
-entry_at (Some prefix) code = get_or (entries_behind prefix) code unknown
+entry_at None code = slice_index_or opcode_entries code unknown
+entry_at (Some prefix) code = slice_index_or (entries_behind prefix) code unknown
 
 -- The exponent of the alignment of the operator that has it, where that has a memory argument.
 abbrev pub align_at : Option ℕ → ℕ → ℕ

@@ -6,10 +6,8 @@ use Rattle.wasm_instr.specs.below.bytes.message.Message.{Message}
 use Rattle.wasm_instr.specs.below.bytes.message.Message.TheVariants as message
 use Rattle.wasm_instr.specs.below.Fault.{ThenFault}
 use Rattle.wasm_instr.specs.below.Features.{HasFeature, legacy_exceptions}
-use Rattle.wasm_instr.specs.below.FromReader.{EndsWithin}
 use Rattle.wasm_instr.specs.below.Number.{EncodesUnsigned}
-use Rattle.wasm_instr.specs.below.PartFaults.{EndFault}
-use Rattle.wasm_instr.specs.below.Source.{Reader, rest, offset_of, BeginsWith, IsByte, U32Fault, I32Fault, I64Fault}
+use Rattle.wasm_instr.specs.below.Source.{Reader, rest, offset_of, BeginsWith, IsByte, U32Fault, I32Fault, I64Fault, EndFault, EndsWithin}
 use Rattle.wasm_instr.specs.below.TypeEncoding.{HeapTypeFault}
 use Rattle.wasm_instr.specs.grammar.declared.frame_kind.FrameKind.{FrameKind}
 use Rattle.wasm_instr.specs.grammar.Frames.{Allows}
@@ -93,8 +91,8 @@ abbrev pub OperatorFault : WasmFeatures → FrameKind → Message → Reader →
 OperatorFault f k m r offset = ThenFault IsByte EndFault (OpcodeFault f k (offset_of r)) m r offset
 
 -- Of an operator that is no vector operator: these are refused at their prefix byte, whatever stands behind it.
-abbrev pub PlainOperatorFault : WasmFeatures → FrameKind → Message → Reader → ℕ → Type 0
-PlainOperatorFault f k m r offset = CheckFault (BeginsWith 0xfd (rest r)) message.UnexpectedSimd (offset_of r) (OperatorFault f k) m r offset
+abbrev pub ScalarOperatorFault : WasmFeatures → FrameKind → Message → Reader → ℕ → Type 0
+ScalarOperatorFault f k m r offset = CheckFault (BeginsWith 0xfd (rest r)) message.UnexpectedSimd (offset_of r) (OperatorFault f k) m r offset
 
 -- Where a frame is open that is the innermost, or none is.
 abbrev pub FaultIn : (FrameKind → Message → Reader → ℕ → Type 0) → Option FrameKind → Message → Reader → ℕ → Type 0

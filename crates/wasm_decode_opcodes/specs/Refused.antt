@@ -11,7 +11,7 @@ abbrev pub LeadsList : ℕ → Type 0
 LeadsList byte = (byte ≡ 0x1c) ⊎ ((byte ≡ 0x1f) ⊎ ((byte ≡ 0xe3) ⊎ ((byte ≡ 0xe4) ⊎ (byte ≡ 0xe5))))
 
 -- The next byte is such an opcode, and no operator stands there that owns no list.
-pub record NeedsMemory (Encodes : List ℕ → Operator → Type 0) (old : Reader) : Type 0 where
+pub record MayAllocate (Encodes : List ℕ → Operator → Type 0) (old : Reader) : Type 0 where
   pub leads : (byte : ℕ) × LeadsList byte × BeginsWith byte (rest old)
   pub owns : NoPrefix (λ text op. Encodes text op × ¬ HoldsList op) (rest old)
 
@@ -19,4 +19,4 @@ pub record NeedsMemory (Encodes : List ℕ → Operator → Type 0) (old : Reade
 pub record IsRefusedOperator (Encodes : List ℕ → Operator → Type 0) (e : Error) (old : Reader) : Type 0 where
   pub refuses : Refuses Encodes (rest old) e.message
   pub ahead : IsAhead old e.offset
-  pub memory : e.message ≡ message.OutOfMemory → (e.offset ≡ offset_of old) × NeedsMemory Encodes old
+  pub memory : e.message ≡ message.OutOfMemory → (e.offset ≡ offset_of old) × MayAllocate Encodes old

@@ -5,7 +5,6 @@
 ghost use Rattle.std.specs.Prelude.{◌≡◌, ◌+◌, ◌≤◌, [], ◌∷◌, false, true, IfErr};
 ghost use Rattle.wasm_instr.specs.below.Source.{at_position, offset_of, end_of, rest, NoPrefix};
 ghost use Rattle.wasm_instr.specs.imm.HandlerTables.{EncodesOne};
-ghost use Rattle.wasm_instr.specs.imm.OutOfMemory.{IsBegunAt};
 ghost use Rattle.wasm_instr.specs.Immediate.{unsigned_32, signed_32, signed_64, float_32, float_64, vector, one_lane, sixteen_lanes, memory_argument, memory_index, table_index_32, order, fence_order, heap_type, cast, block_type, branch_table, select_types, try_clauses, resume_clauses, is_unsigned_32, is_signed_32, is_signed_64, is_float_32, is_float_64, is_vector, is_one_lane, is_sixteen_lanes, is_memory_argument, is_memory_index, is_table_index, is_order, is_fence_order, is_heap_type, is_cast, is_block_type, is_branch_table, is_select_types, is_try_clauses, is_resume_clauses};
 ghost use Rattle.wasm_decode_opcodes.specs.Decoding.{ReadsKinds};
 
@@ -14,7 +13,7 @@ use wasm_instr::below::{BinaryReader, Error, FromReader, HeapType, Message, Resu
 use wasm_instr::imm::{
     BlockType, BrTable, Cast, Ieee32, Ieee64, MemArg, MemArgKind, Ordering, ReadImmediates,
     ResumeTable, Select, TryTable, V128, read_lane, read_lanes, read_memory_index,
-    read_table_index,
+    read_table_index, refuse_from,
 };
 
 /// Goes back to where an operator began, with this refusal of what stands behind its opcode.
@@ -27,21 +26,6 @@ fn back(reader: &mut BinaryReader<'_>, start: usize, e: Error) -> Error
 {
     reader.rewind(start);
     e
-}
-
-/// The same, with allocation failure said there.
-#[cold]
-#[inline(never)]
-fn begun_at(reader: &mut BinaryReader<'_>, start: usize, e: Error) -> Error
-    requires { start ≤ reader.old.position }
-    ensures back { reader.new ≡ at_position reader.old start }
-    ensures begun { IsBegunAt (reader.old.start + start) e result }
-{
-    reader.rewind(start);
-    match e.message {
-        Message::OutOfMemory => Error::new(e.message, reader.original_position()),
-        _ => e,
-    }
 }
 
 /// An unsigned number of 32 bits: an index, mostly.
@@ -254,7 +238,7 @@ pub fn select(alloc: Global, reader: &mut BinaryReader<'_>, start: usize) -> Res
 {
     match Select::read(alloc, reader) {
         Ok(read) => Ok(read),
-        Err(e) => Err(begun_at(reader, start, e)),
+        Err(e) => Err(refuse_from(reader, start, e)),
     }
 }
 
@@ -267,7 +251,7 @@ pub fn try_table(alloc: Global, reader: &mut BinaryReader<'_>, start: usize) -> 
 {
     match TryTable::from_reader(alloc, reader) {
         Ok(read) => Ok(read),
-        Err(e) => Err(begun_at(reader, start, e)),
+        Err(e) => Err(refuse_from(reader, start, e)),
     }
 }
 
@@ -284,7 +268,7 @@ pub fn resume_table(
 {
     match ResumeTable::from_reader(alloc, reader) {
         Ok(read) => Ok(read),
-        Err(e) => Err(begun_at(reader, start, e)),
+        Err(e) => Err(refuse_from(reader, start, e)),
     }
 }
 

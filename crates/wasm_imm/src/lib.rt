@@ -24,5 +24,5 @@ pub use ordering::Ordering;
 pub use read_immediates::ReadImmediates;
 pub use wasm_imm_control::{
     BlockType, BrTable, BrTableTargets, Cast, Catch, Catches, Handle, Handles, Members,
-    ResumeTable, Select, SelectTypes, TryTable, below, laws as control_laws,
+    ResumeTable, Select, SelectTypes, TryTable, below, laws as control_laws, refuse_from,
 };

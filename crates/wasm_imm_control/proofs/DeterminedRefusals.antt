@@ -9,7 +9,7 @@ use Rattle.wasm_below.specs.bytes.message.SizeName.TheVariants as size_name
 use Rattle.wasm_below.specs.Fault.{ThenFault, ManyFault, DeterminesRefusal}
 use Rattle.wasm_below.specs.Number.{EncodesUnsigned, EncodesSigned, EncodesSize}
 use Rattle.wasm_below.specs.Sequence.{PrefixCode}
-use Rattle.wasm_below.specs.Source.{Reader, rest, offset_of, IsByte, U32Fault, S33Fault, CountFault}
+use Rattle.wasm_below.specs.Source.{Reader, rest, offset_of, IsByte, U32Fault, S33Fault, CountFault, EndFault}
 use Rattle.wasm_below.specs.TypeEncoding.{EncodesHeapType, EncodesValType, HeapTypeFault, ValTypeFault}
 use Rattle.wasm_below.proofs.PrefixCode.{signed_prefix_code, size_prefix_code, byte_prefix_code}
 use Rattle.wasm_below.proofs.DeterminedRefusals.{u32_determines, s33_determines, then_determines}
@@ -24,7 +24,6 @@ use Rattle.wasm_imm_control.specs.HandlerFaults.{IsLeading, LeadingFault, Indice
 use Rattle.wasm_imm_control.specs.Handlers.{EncodesCatch, EncodesHandle}
 use Rattle.wasm_imm_control.specs.HandlerTables.{max_catches, max_handlers, max_select_types}
 use Rattle.wasm_imm_control.specs.ListFaults.{ListFault, TryTableFault, ResumeTableFault, SelectFault}
-use Rattle.wasm_below.specs.PartFaults.{EndFault}
 use Rattle.wasm_imm_control.proofs.BlockTypes.{block_prefix_code}
 use Rattle.wasm_imm_control.proofs.HandlerLemmas.{catch_prefix_code, handle_prefix_code}
 use Rattle.wasm_below.proofs.Faults.{no_byte}

@@ -18,7 +18,7 @@ use Rattle.wasm_imm_control.specs.Lists.{EncodesEach}
 use Rattle.wasm_imm_control.specs.BlockTypeFaults.{LeadsValType, FunctionTypeFault, BlockTypeFault}
 use Rattle.wasm_imm_control.specs.Casts.{EncodesReference}
 use Rattle.wasm_imm_control.specs.HandlerFaults.{IsLeading, LeadingFault}
-use Rattle.wasm_imm_control.specs.OutOfMemory.{IsBegunAt}
+use Rattle.wasm_imm_control.specs.OutOfMemory.{IsRefusedFrom}
 use Rattle.wasm_below.proofs.Faults.{no_byte}
 
 ends_here : (m : Message) → m ≢ message.OutOfMemory → MayFollow m []
@@ -61,7 +61,7 @@ many_wider P F (suc n) m old offset (inl h) = inl h
 many_wider P F (suc n) m old offset (inr (x, new, r, b)) = inr (x, new, r, many_wider P F n m new offset b)
 
 -- a refusal that is not allocation failure stays as it was
-pub kept_fault : (F : Message → ℕ → Type 0) (e f : Error) (offset : ℕ) → IsBegunAt offset e f → (e.message ≢ message.OutOfMemory → F e.message e.offset) →
+pub kept_fault : (F : Message → ℕ → Type 0) (e f : Error) (offset : ℕ) → IsRefusedFrom offset e f → (e.message ≢ message.OutOfMemory → F e.message e.offset) →
     f.message ≢ message.OutOfMemory → F f.message f.offset
 kept_fault F e f offset (kept, inl s) h some = absurd (some s.0)
 kept_fault F e f offset (kept, inr s) h some = subst (λ o. F f.message o) (sym s.1) (subst (λ m. F m e.offset) (sym kept) (h s.0))

@@ -21,7 +21,7 @@ use Rattle.wasm_imm_control.specs.BlockTypes.{EncodesBlockType}
 use Rattle.wasm_imm_control.specs.Handlers.{EncodesCatch, EncodesHandle}
 use Rattle.wasm_imm_control.specs.HandlerTables.{max_catches, max_handlers, max_select_types, EncodesTryTable, EncodesResumeTable, EncodesSelect, EncodesOne}
 use Rattle.wasm_imm_control.specs.Lists.{EncodesEach, EncodesMany, EncodesList}
-use Rattle.wasm_imm_control.specs.OutOfMemory.{IsBegunAt}
+use Rattle.wasm_imm_control.specs.OutOfMemory.{IsRefusedFrom}
 use Rattle.wasm_imm_control.proofs.BlockTypes.{block_prefix_code, block_empty}
 use Rattle.wasm_imm_control.proofs.HandlerLemmas.{catch_prefix_code, handle_prefix_code}
 use Rattle.wasm_imm_control.proofs.ListLemmas.{list_prefix_code}
@@ -57,7 +57,7 @@ behind_type ty text t = EncodesList max_catches EncodesCatch text t.catches
 -- the catches are refused, and so is the table
 pub catches_refused : (e f : Error) (old mid mid2 new : Reader) (ty : BlockType) (position : ℕ) → Reads EncodesBlockType (Ok ty) old mid →
     (mid2 ≡ mid) × IsRefused (EncodesList max_catches EncodesCatch) true e mid → position ≡ old.position → new ≡ at_position mid2 position →
-    IsBegunAt (mid2.start + position) e f → (new ≡ old) × IsRefused EncodesTryTable true f old
+    IsRefusedFrom (mid2.start + position) e f → (new ≡ old) × IsRefused EncodesTryTable true f old
 catches_refused e f old mid mid2 new ty position r h at went begun =
     let s = begun_refused EncodesBlockType behind_type e f old mid mid2 new ty position block_prefix_code (λ text p. block_some text ty p) r (
       h.0,
@@ -90,7 +90,7 @@ select_prefix_code a b x y (select.Multi ts) (select.Multi us) p q e = let o =
 -- the types are refused, and so is the select
 pub types_refused : (e f : Error) (old mid mid2 new : Reader) (count position : ℕ) → Reads (EncodesSize max_select_types) (Ok count) old mid →
     (mid2 ≡ mid) × IsRefused (EncodesMany EncodesValType count) true e mid → position ≡ old.position → new ≡ at_position mid2 position →
-    IsBegunAt (mid2.start + position) e f → (new ≡ old) × IsRefused EncodesSelect true f old
+    IsRefusedFrom (mid2.start + position) e f → (new ≡ old) × IsRefused EncodesSelect true f old
 types_refused e f old mid mid2 new count position r h at went begun =
     let s = begun_refused (EncodesSize max_select_types) (EncodesMany EncodesValType) e f old mid mid2 new count position (size_prefix_code max_select_types)
     (λ text p. unsigned_some 32 text count p.0) r h at went begun in

@@ -9,7 +9,7 @@ use Rattle.wasm_below.specs.Source.{Reader, rest, offset_of, end_of, at_position
 use Rattle.wasm_below.proofs.TakesLemmas.{back, ahead_before}
 use Rattle.wasm_below.proofs.Sequences.{then_first}
 use Rattle.wasm_imm_control.specs.Lists.{EncodesMany}
-use Rattle.wasm_imm_control.specs.OutOfMemory.{IsOutOfMemoryAt, IsBegunAt}
+use Rattle.wasm_imm_control.specs.OutOfMemory.{IsOutOfMemoryAt, IsRefusedFrom}
 use Rattle.wasm_below.proofs.Steps.{began_within, no_second}
 use Rattle.wasm_imm_control.proofs.ListLemmas.{PrefixAlone, many_none}
 
@@ -31,7 +31,7 @@ first_refused P Q takes e old h = as_refused (Then P Q) takes e old (then_first 
 -- the second part is refused, the call went back, and allocation failure is said where it began
 pub begun_refused : {X Y : Type 0} (P : List ℕ → X → Type 0) (Q : X → List ℕ → Y → Type 0) (e f : Error) (old mid mid2 new : Reader) (x : X) (position : ℕ) →
     PrefixCode P → ((text : List ℕ) → P text x → 0 < length text) → Reads P (Ok x) old mid → (mid2 ≡ mid) × IsRefused (Q x) true e mid →
-    position ≡ old.position → new ≡ at_position mid2 position → IsBegunAt (mid2.start + position) e f → (new ≡ old) × IsRefused (Then P Q) true f old
+    position ≡ old.position → new ≡ at_position mid2 position → IsRefusedFrom (mid2.start + position) e f → (new ≡ old) × IsRefused (Then P Q) true f old
 begun_refused P Q e f old mid mid2 new x position prefix_code some (text, p, t) (same, h) at went (kept, place) =
     let starts : mid2.start ≡ old.start = ap (λ (r : Reader). r.start) same ∙ ap (λ (r : Reader). r.start) t.moved in
     let here : mid2.start + position ≡ offset_of old = omega arith in

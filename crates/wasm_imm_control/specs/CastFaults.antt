@@ -4,9 +4,8 @@ use Rattle.wasm_below.specs.bytes.message.Message.{Message}
 use Rattle.wasm_below.specs.bytes.message.Message.TheVariants as message
 use Rattle.wasm_below.specs.Fault.{ThenFault}
 use Rattle.wasm_below.specs.Number.{EncodesUnsigned}
-use Rattle.wasm_below.specs.Source.{Reader, offset_of, IsByte, U32Fault}
+use Rattle.wasm_below.specs.Source.{Reader, offset_of, IsByte, U32Fault, EndFault}
 use Rattle.wasm_below.specs.TypeEncoding.{EncodesHeapType, HeapTypeFault}
-use Rattle.wasm_below.specs.PartFaults.{EndFault}
 
 -- Behind the label: the flags, which stood at this offset, are above 3; or one of the two heap types is refused.
 abbrev pub CastTypesFault : ℕ → ℕ → Message → Reader → ℕ → Type 0

@@ -6,8 +6,7 @@ use Rattle.wasm_below.specs.bytes.message.LeadingByteName.{LeadingByteName}
 use Rattle.wasm_below.specs.bytes.message.LeadingByteName.TheVariants as leading_name
 use Rattle.wasm_below.specs.Fault.{ThenFault}
 use Rattle.wasm_below.specs.Number.{EncodesUnsigned}
-use Rattle.wasm_below.specs.Source.{Reader, rest, offset_of, BeginsWith, IsByte, U32Fault}
-use Rattle.wasm_below.specs.PartFaults.{EndFault}
+use Rattle.wasm_below.specs.Source.{Reader, rest, offset_of, BeginsWith, IsByte, U32Fault, EndFault}
 
 -- A leading byte is at most `highest`.
 abbrev pub IsLeading : ℕ → List ℕ → ℕ → Type 0

@@ -8,5 +8,5 @@ abbrev pub IsOutOfMemoryAt : ℕ → Error → Type 0
 IsOutOfMemoryAt offset e = (e.message ≡ message.OutOfMemory) × (e.offset ≡ offset)
 
 -- The same refusal, of a call that began at this offset: allocation failure is said there, and any other refusal where it was.
-abbrev pub IsBegunAt : ℕ → Error → Error → Type 0
-IsBegunAt offset e f = (f.message ≡ e.message) × ((IsOutOfMemoryAt offset f) ⊎ ((e.message ≢ message.OutOfMemory) × (f.offset ≡ e.offset)))
+abbrev pub IsRefusedFrom : ℕ → Error → Error → Type 0
+IsRefusedFrom offset e f = (f.message ≡ e.message) × ((IsOutOfMemoryAt offset f) ⊎ ((e.message ≢ message.OutOfMemory) × (f.offset ≡ e.offset)))

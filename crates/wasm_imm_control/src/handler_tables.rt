@@ -6,7 +6,7 @@ ghost use Rattle.wasm_imm_control.specs.OutOfMemory.{IsOutOfMemoryAt};
 
 use crate::block_type::BlockType;
 use crate::handlers::{Catch, Handle};
-use crate::lists::{begun_at, read_list};
+use crate::lists::{read_list, refuse_from};
 use crate::members::{Catches, Handles};
 use std::alloc::Global;
 use wasm_below::{BinaryReader, FromReader, May, MemoryUse, Result, SizeName, UsesMemory};
@@ -66,7 +66,7 @@ impl<'a> FromReader<'a> for TryTable {
         };
         match read_list::<Catch>(alloc, reader, MAX_CATCHES, SizeName::Catches) {
             Ok(catches) => Ok(TryTable { ty, catches }),
-            Err(e) => Err(begun_at(reader, start, e)),
+            Err(e) => Err(refuse_from(reader, start, e)),
         }
     }
 

@@ -17,6 +17,7 @@ pub use branch_table::{BrTable, BrTableTargets};
 pub use cast::Cast;
 pub use handler_tables::{ResumeTable, TryTable};
 pub use handlers::{Catch, Handle};
+pub use lists::refuse_from;
 pub use members::{Catches, Handles, Members, SelectTypes};
 pub use select::Select;
 pub use wasm_below as below;

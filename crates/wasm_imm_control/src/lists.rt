@@ -5,7 +5,7 @@ ghost use Rattle.wasm_below.specs.FromReader.{ReadsValue};
 ghost use Rattle.wasm_below.specs.Source.{at_position, offset_of, end_of};
 ghost use Rattle.wasm_imm_control.specs.ListFaults.{ListFault};
 ghost use Rattle.wasm_imm_control.specs.Lists.{EncodesMany, EncodesList};
-ghost use Rattle.wasm_imm_control.specs.OutOfMemory.{IsBegunAt};
+ghost use Rattle.wasm_imm_control.specs.OutOfMemory.{IsRefusedFrom};
 
 use crate::members::Members;
 use std::alloc::Global;
@@ -34,7 +34,7 @@ pub fn read_list<'a, T: FromReader<'a>>(
     };
     match read_members::<T>(alloc, reader, count) {
         Ok(members) => Ok(members),
-        Err(e) => Err(begun_at(reader, start, e)),
+        Err(e) => Err(refuse_from(reader, start, e)),
     }
 }
 
@@ -71,14 +71,14 @@ pub fn read_members<'a, T: FromReader<'a>>(
     Ok(Members::from_vec(items))
 }
 
-/// Goes back to where this many bytes were read, and says there that memory was refused. Any other
+/// Goes back to the position where a call began, and says there that memory was refused. Any other
 /// refusal stays as it was.
 #[cold]
 #[inline(never)]
-pub fn begun_at(reader: &mut BinaryReader<'_>, position: usize, e: Error) -> Error
+pub fn refuse_from(reader: &mut BinaryReader<'_>, position: usize, e: Error) -> Error
     requires { position ≤ reader.old.position }
-    ensures rewound { reader.new ≡ at_position reader.old position }
-    ensures begun { IsBegunAt (reader.old.start + position) e result }
+    ensures back { reader.new ≡ at_position reader.old position }
+    ensures told { IsRefusedFrom (reader.old.start + position) e result }
 {
     reader.rewind(position);
     match e.message {

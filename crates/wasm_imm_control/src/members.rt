@@ -1,10 +1,13 @@
 //! Lists that own their memory.
-ghost use Rattle.std.specs.Prelude.{◌≡◌, ◌↔◌, [], length, IsTrue, IfOk, IfErr, Ok};
+ghost use Rattle.std.specs.Prelude.{◌≡◌, ◌↔◌, [], length, IsTrue, IfOk, IfErr, Ok, option_copied, slice_get};
+ghost use Rattle.std.specs.Slice.Iter.{iter_rest};
+ghost use Rattle.std.specs.Iterator.Adapters.{IterYieldsInOrder};
 ghost use Rattle.wasm_imm_control.specs.OutOfMemory.{IsOutOfMemoryAt};
 
 use crate::handlers::{Catch, Handle};
 use std::alloc::Global;
 use std::marker::Model;
+use std::slice::Iter;
 use wasm_below::{Error, Message, Result, ValType};
 
 /// A list that owns its memory. Contracts see the list alone.
@@ -58,6 +61,21 @@ impl<T> Members<T> {
         ensures { result ≡ length self.now }
     {
         self.items.len()
+    }
+
+    /// The member at an index, counted from 0.
+    pub fn get(&self, index: usize) -> Option<&T>
+        ensures { option_copied result ≡ slice_get self.now index }
+    {
+        self.items.as_slice().get(index)
+    }
+
+    /// The members, one after another.
+    pub fn iter(&self) -> Iter<'_, T>
+        ensures rest { iter_rest result ≡ self.now }
+        ensures runs { IterYieldsInOrder T }
+    {
+        self.items.as_slice().iter()
     }
 
     /// Whether there is none.

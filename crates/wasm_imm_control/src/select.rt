@@ -6,7 +6,7 @@ ghost use Rattle.wasm_below.specs.Source.{NoPrefix, rest};
 ghost use Rattle.wasm_imm_control.specs.HandlerTables.{EncodesSelect, EncodesOne};
 ghost use Rattle.wasm_imm_control.specs.ListFaults.{SelectFault};
 
-use crate::lists::{begun_at, read_members};
+use crate::lists::{read_members, refuse_from};
 use crate::members::SelectTypes;
 use std::alloc::Global;
 use wasm_below::{BinaryReader, Message, Result, SizeName, ValType};
@@ -52,7 +52,7 @@ impl Select {
         }
         match read_members::<ValType>(alloc, reader, count) {
             Ok(tys) => Ok(Select::Multi { tys }),
-            Err(e) => Err(begun_at(reader, start, e)),
+            Err(e) => Err(refuse_from(reader, start, e)),
         }
     }
 }

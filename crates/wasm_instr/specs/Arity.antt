@@ -1,7 +1,7 @@
 -- How many operands an operator takes and how many values it leaves.
 -- WebAssembly Core Specification 3.0: Validation, Instructions; Appendix, Validation Algorithm. Proposals legacy exception handling, stack switching and custom descriptors.
 -- An operator that opens a construct takes its parameters and leaves them to its body, an `end` takes the results and leaves them, and what does not go on leaves nothing.
-use Rattle.std.specs.Prelude.{ℕ, ◌+◌, ◌-◌, ◌*◌, ◌^◌, cond, ltb, eqb, Option, Some, None, length}
+use Rattle.std.specs.Prelude.{ℕ, ◌+◌, ◌-◌, ◌*◌, ◌^◌, ◌==◌, nat_lt, if◌then◌else◌, Option, Some, None, length}
 use Rattle.std.specs.Option.{option_map, option_and_then}
 use Rattle.wasm_grammar.specs.declared.frame_kind.FrameKind.{FrameKind}
 use Rattle.wasm_grammar.specs.declared.frame_kind.FrameKind.TheVariants as frame
@@ -20,7 +20,7 @@ Arity = Option (ℕ × ℕ)
 
 -- The sum, where 32 bits hold it.
 abbrev pub sum_within : ℕ → ℕ → Option ℕ
-sum_within n by = cond (ltb (n + by) (2 ^ 32)) (Some (n + by)) None
+sum_within n by = if nat_lt (n + by) (2 ^ 32) then Some (n + by) else None
 
 -- So many more are taken.
 abbrev pub taking_more : ℕ → ℕ × ℕ → Arity
@@ -73,7 +73,7 @@ arity_of_end m = option_map (λ a. (a.1, a.1)) (arity_of_frame m 0)
 
 -- The results of the outermost frame, where one is open.
 abbrev pub arity_of_return : Answers → Arity
-arity_of_return m = cond (eqb m.control_stack_height 0) None (option_map (λ a. (a.1, 0)) (arity_of_frame m (m.control_stack_height - 1)))
+arity_of_return m = if m.control_stack_height == 0 then None else option_map (λ a. (a.1, 0)) (arity_of_frame m (m.control_stack_height - 1))
 
 -- What leaves the operator's own block, and takes what is given.
 abbrev pub leaving : Arity → Arity
@@ -90,7 +90,7 @@ abbrev pub arity_of_branch_on_null : Answers → ℕ → Arity
 arity_of_branch_on_null m depth = option_and_then (λ n. option_map (λ one_more. (one_more, one_more)) (sum_within n 1)) (arity_of_label m depth)
 
 abbrev pub less_one : ℕ → Arity
-less_one n = cond (eqb n 0) None (Some (n, n - 1))
+less_one n = if n == 0 then None else Some (n, n - 1)
 
 abbrev pub arity_of_branch_on_non_null : Answers → ℕ → Arity
 arity_of_branch_on_non_null m depth = option_and_then less_one (arity_of_label m depth)
@@ -101,11 +101,11 @@ arity_of_type_call m i = option_and_then (taking_more 1) (m.func_type_arity i)
 
 -- Two of each of so many types, and the condition.
 abbrev pub arity_of_select : ℕ → Arity
-arity_of_select n = cond (ltb (2 * n + 1) (2 ^ 32)) (Some (2 * n + 1, n)) None
+arity_of_select n = if nat_lt (2 * n + 1) (2 ^ 32) then Some (2 * n + 1, n) else None
 
 -- The parameters that the first type of a continuation has before those of the second, and the continuation.
 abbrev pub bound_within : ℕ → ℕ → Arity
-bound_within p q = cond (ltb p q) None (option_map (λ takes. (takes, 1)) (sum_within (p - q) 1))
+bound_within p q = if nat_lt p q then None else option_map (λ takes. (takes, 1)) (sum_within (p - q) 1)
 
 abbrev pub arity_of_bind : Answers → ℕ → ℕ → Arity
 arity_of_bind m from to = option_and_then (λ a. option_and_then (λ b. bound_within a.0 b.0) (arity_of_continuation m to)) (arity_of_continuation m from)

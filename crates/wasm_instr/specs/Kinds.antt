@@ -13,12 +13,6 @@ abbrev pub IsVector : Operator → Type 0
 IsVector (operator.Simd _) = Unit {0}
 IsVector _ = ⊥
 
--- Neither a vector operator nor a branch table.
-abbrev pub IsFixed : Operator → Type 0
-IsFixed (operator.Simd _) = ⊥
-IsFixed (operator.BrTable _) = ⊥
-IsFixed _ = Unit {0}
-
 -- One that owns a list.
 abbrev pub HoldsList : Operator → Type 0
 HoldsList (operator.TypedSelectMulti _) = Unit {0}

@@ -13,13 +13,13 @@ use Rattle.wasm_operators.specs.opcodes.OperatorFaults.{OperatorFault}
 use Rattle.wasm_operators.specs.readers.Expression.{Placed, IsAny, LaidOut}
 use Rattle.wasm_operators.specs.readers.Visiting.{VisitRun, Visited}
 use Rattle.wasm_operators.proofs.of_readers.LayoutLemmas.{encoded_some}
-use Rattle.wasm_operators.specs.readers.Reading.{Needing, State}
+use Rattle.wasm_operators.specs.readers.Reading.{Allocating, State}
 use Rattle.wasm_operators.specs.readers.Headline.{ReadsRest}
 use Rattle.wasm_operators.specs.Locals.{Declaration, RefusesLocals}
 use Rattle.wasm_operators.specs.Body.{OpensBody, StopsBody}
 use Rattle.wasm_operators.proofs.Bodies.{body_tree, body_beginning}
 use Rattle.wasm_listing.specs.declared.fault.DumpFault.TheVariants as fault
-use Rattle.wasm_listing.specs.Census.{proposals, count_of, counts_of, one_more, counted, CountsVisit, CountsBody, Counts}
+use Rattle.wasm_listing.specs.Census.{proposals, count_of, counts_of, one_more, one_more_of, CountsVisit, CountsBody, Counts}
 use Rattle.wasm_listing.specs.Dump.{IsBody}
 
 -- A list that is laid out has at most as many operators as bytes.
@@ -59,13 +59,13 @@ one_within : (b : Bool) (n most : ℕ) → n ≤ most → cond b (one_more n) n 
 one_within true n most h = omega (arith, h)
 one_within false n most h = omega (arith, h)
 
-counted_within : (proposal : List ℕ) (ps : List (List ℕ)) (ns : List ℕ) (most : ℕ) → AreWithin most ns → AreWithin (most + 1) (counted proposal ps ns)
+counted_within : (proposal : List ℕ) (ps : List (List ℕ)) (ns : List ℕ) (most : ℕ) → AreWithin most ns → AreWithin (most + 1) (one_more_of proposal ps ns)
 counted_within proposal [] ns most h = tt
 counted_within proposal (p ∷ ps) [] most h = tt
 counted_within proposal (p ∷ ps) (n ∷ ns) most h =
     (one_within (pointwise nat_eq p proposal) n most h.0, counted_within proposal ps ns most h.1)
 
-counted_length : (proposal : List ℕ) (ps : List (List ℕ)) (ns : List ℕ) → length ps ≡ length ns → length ps ≡ length (counted proposal ps ns)
+counted_length : (proposal : List ℕ) (ps : List (List ℕ)) (ns : List ℕ) → length ps ≡ length ns → length ps ≡ length (one_more_of proposal ps ns)
 counted_length proposal [] ns e = refl
 counted_length proposal (p ∷ ps) [] e = absurd (omega (arith, e))
 counted_length proposal (p ∷ ps) (n ∷ ns) e = let others = counted_length proposal ps ns (omega (arith, e)) in omega (arith, others)
@@ -75,12 +75,12 @@ one_added true n k most h below = omega (arith, h, below)
 one_added false n k most h below = omega arith
 
 counted_adds : (ps : List (List ℕ)) (ns : List ℕ) (p : Operator × ℕ) (placed : Placed) (most : ℕ) → AreWithin most ns → most + 1 ≤ 2 ^ 64 - 1 →
-    added ps (counted (proposal_of p.0) ps ns) placed ≡ added ps ns (p ∷ placed)
+    added ps (one_more_of (proposal_of p.0) ps ns) placed ≡ added ps ns (p ∷ placed)
 counted_adds [] ns p placed most h below = refl
 counted_adds (q ∷ qs) [] p placed most h below = refl
 counted_adds (q ∷ qs) (n ∷ ns) p placed most h below =
     let b = pointwise nat_eq q (proposal_of p.0) in
-    ap (λ m. m ∷ added qs (counted (proposal_of p.0) qs ns) placed) (one_added b n (count_of q placed) most h.0 below) ∙
+    ap (λ m. m ∷ added qs (one_more_of (proposal_of p.0) qs ns) placed) (one_added b n (count_of q placed) most h.0 below) ∙
     ap (λ others. (n + (cond b 1 0 + count_of q placed)) ∷ others) (counted_adds qs ns p placed most h.1 below)
 
 -- Behind visits of a list each count has what the list adds, where that is not too much.
@@ -119,15 +119,15 @@ pub refused_counts : (X : Type 0) (e : Error) (body : Reader) (before : List ℕ
 refused_counts X e body before h = λ other. ([], inl (record { refused = h; nothing = refl }))
 
 -- Counting the operators of a body whose locals were read.
-pub opened_counts : {X : Type 0} (Needs : Needing) (r : Result X Error) (body : Reader) (opened new : State) (before after : List ℕ) →
+pub opened_counts : {X : Type 0} (Allocates : Allocating) (r : Result X Error) (body : Reader) (opened new : State) (before after : List ℕ) →
     OpensBody (Ok opened) body →
-    ReadsRest (Visited {A = Unit {0}} (λ s op a t. CountsVisit s op t) before after) IsAny EncodesAllowed OperatorFault Needs [] r opened new →
+    ReadsRest (Visited {A = Unit {0}} (λ s op a t. CountsVisit s op t) before after) IsAny EncodesAllowed OperatorFault Allocates [] r opened new →
     CountsBody r body before after
-opened_counts Needs (Ok x) body opened new before after opens h =
+opened_counts Allocates (Ok x) body opened new before after opens h =
     let whole = body_tree body opened new h.tree.0 opens h.tree.2 in
     (whole.0, h.tree.0, whole.1, h.tree.1)
-opened_counts Needs (Err e) body opened new before after opens h =
-    λ other. (h.beginning.0, inr (body_beginning Needs e body opened new h.beginning.0 opens h.beginning.2))
+opened_counts Allocates (Err e) body opened new before after opens h =
+    λ other. (h.beginning.0, inr (body_beginning Allocates e body opened new h.beginning.0 opens h.beginning.2))
 
 -- The counts of a whole body.
 pub whole_counts : (r : Result (Unit {0}) Error) (x : Unit {0}) (input : Reader) (before after : List ℕ) → r ≡ Ok x → CountsBody r input before after →

@@ -1,7 +1,7 @@
 -- Counting one operator more, proposal by proposal.
 use Rattle.std.proofs.Common.{◌≡◌, ℕ, zero, suc, ◌<◌, List, [], ◌∷◌, length, refl, sym, ap, arith, get_or, set, cond, true, false, nat_eq}
 use Rattle.std.specs.Cmp.Lexicographic.{pointwise}
-use Rattle.wasm_listing.specs.Census.{counted, one_more}
+use Rattle.wasm_listing.specs.Census.{one_more_of, one_more}
 
 -- the counts where those of the first so many proposals were done
 abbrev pub counted_first : ℕ → List ℕ → List (List ℕ) → List ℕ → List ℕ
@@ -11,7 +11,7 @@ counted_first (suc i) proposal _ ns = ns
 
 -- all were done
 pub first_all : (i : ℕ) (proposal : List ℕ) (ps : List (List ℕ)) (ns : List ℕ) → length ps ≡ length ns → i ≡ length ns →
-    counted_first i proposal ps ns ≡ counted proposal ps ns
+    counted_first i proposal ps ns ≡ one_more_of proposal ps ns
 first_all zero proposal [] [] e h = refl
 first_all (suc i) proposal [] [] e h = absurd (omega (arith, h))
 first_all i proposal (p ∷ ps) [] e h = absurd (omega (arith, e))

@@ -52,13 +52,13 @@ abbrev pub one_more : ℕ → ℕ
 one_more n = min (n + 1) (2 ^ 64 - 1)
 
 -- The counts of some proposals after one operator more of this one.
-abbrev pub counted : List ℕ → List (List ℕ) → List ℕ → List ℕ
-counted proposal (p ∷ ps) (n ∷ ns) = (if pointwise nat_eq p proposal then one_more n else n) ∷ counted proposal ps ns
-counted proposal _ _ = []
+abbrev pub one_more_of : List ℕ → List (List ℕ) → List ℕ → List ℕ
+one_more_of proposal (p ∷ ps) (n ∷ ns) = (if pointwise nat_eq p proposal then one_more n else n) ∷ one_more_of proposal ps ns
+one_more_of proposal _ _ = []
 
 -- A visit counts the operator at its proposal.
 abbrev pub CountsVisit : List ℕ → Operator → List ℕ → Type 0
-CountsVisit before op after = after ≡ counted (proposal_of op) proposals before
+CountsVisit before op after = after ≡ one_more_of (proposal_of op) proposals before
 
 -- Counting the operators of a body to its end, allocation failure aside.
 abbrev pub CountsBody : {X : Type 0} → Result X Error → Reader → List ℕ → List ℕ → Type 0

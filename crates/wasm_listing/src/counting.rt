@@ -1,9 +1,9 @@
 //! The visitor that counts the operators of each proposal.
 ghost use Rattle.std.specs.Prelude.{◌≡◌, ◌<◌, [], replicate, slice_index_or};
-ghost use Rattle.wasm_listing.specs.Census.{proposals, counted, CountsVisit};
+ghost use Rattle.wasm_listing.specs.Census.{proposals, one_more_of, CountsVisit};
 
 use std::marker::Model;
-use wasm_operators::{BrTable, Operator, VisitFixed, VisitOperator, VisitSimdOperator, Visitor};
+use wasm_operators::{BrTable, Operator, VisitGroups, VisitOperator, VisitSimdOperator, Visitor};
 
 /// The proposals, in the order of the counts.
 static PROPOSALS: [&str; 19] = [
@@ -70,7 +70,7 @@ impl Census {
 
     /// Counts one more of a proposal.
     fn count(&mut self, proposal: &str)
-        ensures { self.new ≡ counted proposal.now proposals self.old }
+        ensures { self.new ≡ one_more_of proposal.now proposals self.old }
     {
         'places: for place in 0..19 {
             if proposal_at(place) == proposal {
@@ -91,7 +91,7 @@ impl Visitor for Census {
     }
 }
 
-impl VisitFixed for Census {}
+impl VisitGroups for Census {}
 
 impl<'a> VisitOperator<'a> for Census {
     fn visit_br_table(&mut self, targets: BrTable<'a>) {

@@ -18,7 +18,7 @@ pub fn features_of(word: Option<&str>) -> Option<WasmFeatures>
         return Some(WasmFeatures::all());
     }
     if text == "none" {
-        return Some(WasmFeatures::empty());
+        return Some(WasmFeatures::none());
     }
     from_str_strict(text).ok()
 }

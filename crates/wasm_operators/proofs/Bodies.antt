@@ -9,7 +9,7 @@ use Rattle.wasm_operators_readers.proofs.of_below.TakesLemmas.{same_rest}
 use Rattle.wasm_operators_readers.specs.opcodes.Allowed.{EncodesAllowed}
 use Rattle.wasm_operators_readers.specs.opcodes.OperatorFaults.{OperatorFault}
 use Rattle.wasm_operators_readers.specs.Expression.{Placed, IsAny, EncodesExpression}
-use Rattle.wasm_operators_readers.specs.Reading.{Needing, State, StopsRun, Anywhere, Adds}
+use Rattle.wasm_operators_readers.specs.Reading.{Allocating, State, StopsRun, Anywhere, Adds}
 use Rattle.wasm_operators_readers.specs.Headline.{ReadsTree, ReadsBeginning, ReadsRest}
 use Rattle.wasm_operators.specs.Locals.{Declaration, EncodesLocals, RefusesLocals}
 use Rattle.wasm_operators.specs.Body.{source_behind, EncodesBody, OpensBody, NoExpression, ReadsBody}
@@ -41,21 +41,21 @@ body_tree body opened new placed ((declarations, (text, encodes, takes)), fresh)
 )
 
 -- Where memory may be refused is not kept.
-anywhere : (Needs : Needing) (e : Error) (s : State) → StopsRun EncodesAllowed OperatorFault Needs e s → StopsRun EncodesAllowed OperatorFault Anywhere e s
-anywhere Needs e s (inl left) = inl left
-anywhere Needs e s (inr (some, inl none)) = inr (some, inl none)
-anywhere Needs e s (inr (some, inr (inl there))) = inr (some, inr (inl there))
-anywhere Needs e s (inr (some, inr (inr memory))) = inr (some, inr (inr (memory.0, memory.1, tt)))
+anywhere : (Allocates : Allocating) (e : Error) (s : State) → StopsRun EncodesAllowed OperatorFault Allocates e s → StopsRun EncodesAllowed OperatorFault Anywhere e s
+anywhere Allocates e s (inl left) = inl left
+anywhere Allocates e s (inr (some, inl none)) = inr (some, inl none)
+anywhere Allocates e s (inr (some, inr (inl there))) = inr (some, inr (inl there))
+anywhere Allocates e s (inr (some, inr (inr memory))) = inr (some, inr (inr (memory.0, memory.1, tt)))
 
 -- The locals, and the longest beginning of an expression behind them.
-pub body_beginning : (Needs : Needing) (e : Error) (body : Reader) (opened new : State) (placed : Placed) → OpensBody (Ok opened) body →
-    ReadsBeginning IsAny EncodesAllowed OperatorFault Needs [] e opened new placed → NoExpression e body placed
-body_beginning Needs e body opened new placed opens h =
+pub body_beginning : (Allocates : Allocating) (e : Error) (body : Reader) (opened new : State) (placed : Placed) → OpensBody (Ok opened) body →
+    ReadsBeginning IsAny EncodesAllowed OperatorFault Allocates [] e opened new placed → NoExpression e body placed
+body_beginning Allocates e body opened new placed opens h =
     record {
       opened = opened;
       opens = opens;
       stopped = new;
-      reads = record { at = h.at; text = h.text; takes = h.takes; laid = h.laid; stood = h.stood; stops = anywhere Needs e new h.stops };
+      reads = record { at = h.at; text = h.text; takes = h.takes; laid = h.laid; stood = h.stood; stops = anywhere Allocates e new h.stops };
     }
 
 -- Where the locals are refused there is no body.
@@ -81,11 +81,11 @@ pub refused_body : (X : Type 0) (e : Error) (body : Reader) (out : Placed) → R
 refused_body X e body out h = λ other. ([], sym (append-nil out), inl (record { refused = h; nothing = refl }))
 
 -- Reading the operators of a body whose locals were read.
-pub opened_body : {X : Type 0} (Needs : Needing) (r : Result X Error) (body : Reader) (opened new : State) (out_old out_new : Placed) →
-    OpensBody (Ok opened) body → ReadsRest (Adds out_old out_new) IsAny EncodesAllowed OperatorFault Needs [] r opened new →
+pub opened_body : {X : Type 0} (Allocates : Allocating) (r : Result X Error) (body : Reader) (opened new : State) (out_old out_new : Placed) →
+    OpensBody (Ok opened) body → ReadsRest (Adds out_old out_new) IsAny EncodesAllowed OperatorFault Allocates [] r opened new →
     ReadsBody r body out_old out_new
-opened_body Needs (Ok x) body opened new out_old out_new opens h =
+opened_body Allocates (Ok x) body opened new out_old out_new opens h =
     let whole = body_tree body opened new h.tree.0 opens h.tree.2 in
     (whole.0, h.tree.0, h.tree.1, whole.1)
-opened_body Needs (Err e) body opened new out_old out_new opens h =
-    λ other. (h.beginning.0, h.beginning.1, inr (body_beginning Needs e body opened new h.beginning.0 opens h.beginning.2))
+opened_body Allocates (Err e) body opened new out_old out_new opens h =
+    λ other. (h.beginning.0, h.beginning.1, inr (body_beginning Allocates e body opened new h.beginning.0 opens h.beginning.2))

@@ -16,27 +16,27 @@ use Rattle.wasm_operators_readers.specs.opcodes.Allowed.{EncodesAllowed}
 use Rattle.wasm_operators_readers.proofs.DecoderPremises.{sound}
 use Rattle.wasm_operators_readers.specs.Expression.{Placed, operators}
 use Rattle.wasm_operators_readers.proofs.LayoutLemmas.{laid_goes_on, laid_beginning, laid_same, next_allowed}
-use Rattle.wasm_operators_readers.specs.Reading.{State, IsFresh, Ran, TakesOperator}
+use Rattle.wasm_operators_readers.specs.Reading.{State, IsFresh, TakesOperators, TakesOperator}
 use Rattle.wasm_operators_readers.proofs.Runs.{features_stay, ran_push}
 use Rattle.wasm_operators.specs.Constant.{HasNoEnd, EncodesConstantReader}
 use Rattle.wasm_operators.specs.ConstantFaults.{PassesOperators, ConstantFault}
 use Rattle.wasm_operators.proofs.OneEnd.{not_beginning, not_longer, constant_at, passed_end, end_byte}
 
 -- From the frame of the expression on.
-pub from_block : (s t : State) (placed : Placed) → IsFresh s → Ran s t placed → frames_along (frame.Block ∷ []) (roles_of (operators placed)) ≡ Some t.frames
+pub from_block : (s t : State) (placed : Placed) → IsFresh s → TakesOperators s t placed → frames_along (frame.Block ∷ []) (roles_of (operators placed)) ≡ Some t.frames
 from_block s t placed fresh r = subst (λ frames. frames_along frames (roles_of (operators placed)) ≡ Some t.frames) fresh r.frames
 
-pub passes : (s t : State) (placed : Placed) → IsFresh s → Ran s t placed → HasNoEnd (operators placed) → PassesOperators s.reader t.reader t.frames
+pub passes : (s t : State) (placed : Placed) → IsFresh s → TakesOperators s t placed → HasNoEnd (operators placed) → PassesOperators s.reader t.reader t.frames
 passes s t placed fresh r no_end =
     record { placed = placed; no_end = no_end; text = r.text; takes = r.takes; laid = r.laid; along = from_block s t placed fresh r }
 
 -- What was passed, and what is left with more behind it.
-parts_of : (s t : State) (placed : Placed) (r : Ran s t placed) (more text left : List ℕ) → rest s.reader ++ more ≡ text ++ left →
+parts_of : (s t : State) (placed : Placed) (r : TakesOperators s t placed) (more text left : List ℕ) → rest s.reader ++ more ≡ text ++ left →
     r.text ++ (rest t.reader ++ more) ≡ text ++ left
 parts_of s t placed r more text left e = sym (append_assoc r.text (rest t.reader) more) ∙ ap (λ z. z ++ more) (sym r.takes.parts) ∙ e
 
 -- Where no operator may follow those that were passed, no constant expression stands there.
-pub none_follows : (s t : State) (placed : Placed) (more : List ℕ) → IsFresh s → Ran s t placed → HasNoEnd (operators placed) →
+pub none_follows : (s t : State) (placed : Placed) (more : List ℕ) → IsFresh s → TakesOperators s t placed → HasNoEnd (operators placed) →
     ((text behind : List ℕ) (op : Operator) → EncodesOperator t.reader.features op text → rest t.reader ++ more ≡ text ++ behind →
     frames_after t.frames (role_of op) ≡ None) → NoPrefix (EncodesConstantReader s.reader.features) (rest s.reader ++ more)
 none_follows s t placed more fresh r no_end stuck text left x encodes eq =
@@ -78,7 +78,7 @@ offset_behind t u k =
     omega (arith, at, one)
 
 -- Where it leaves a frame open, no constant expression stands there.
-pub none_inside : (s t u : State) (placed : Placed) (more : List ℕ) → IsFresh s → Ran s t placed → HasNoEnd (operators placed) →
+pub none_inside : (s t u : State) (placed : Placed) (more : List ℕ) → IsFresh s → TakesOperators s t placed → HasNoEnd (operators placed) →
     TakesOperator EncodesAllowed operator.End t u → (u.frames ≡ [] → ⊥) → NoPrefix (EncodesConstantReader s.reader.features) (rest s.reader ++ more)
 none_inside s t u placed more fresh r no_end k stays text left x encodes eq =
     let f = s.reader.features in
@@ -109,7 +109,7 @@ none_inside s t u placed more fresh r no_end k stays text left x encodes eq =
     ]
 
 -- The fault that it has.
-pub inside_fault : (s t u : State) (placed : Placed) (offset : ℕ) → IsFresh s → Ran s t placed → HasNoEnd (operators placed) →
+pub inside_fault : (s t u : State) (placed : Placed) (offset : ℕ) → IsFresh s → TakesOperators s t placed → HasNoEnd (operators placed) →
     TakesOperator EncodesAllowed operator.End t u → (u.frames ≡ [] → ⊥) → offset ≡ offset_of u.reader → ConstantFault message.FramesRemainConst s.reader offset
 inside_fault s t u placed offset fresh r no_end k stays at = (
   t.reader,
@@ -132,7 +132,7 @@ before old new text t =
     (omega (arith, at), ap end_of t.moved)
 
 -- The offset behind the first `end` lies where the expression began, or behind it.
-pub ahead_behind : (s t u : State) (placed : Placed) → Ran s t placed → TakesOperator EncodesAllowed operator.End t u → IsAhead s.reader (offset_of u.reader)
+pub ahead_behind : (s t u : State) (placed : Placed) → TakesOperators s t placed → TakesOperator EncodesAllowed operator.End t u → IsAhead s.reader (offset_of u.reader)
 ahead_behind s t u placed r k =
     let b = begins_end t u k in
     let inside = within_data t.reader 0x0b b.0 b.1 in

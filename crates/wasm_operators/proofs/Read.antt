@@ -9,7 +9,7 @@ use Rattle.wasm_operators_readers.specs.instr.Roles.{roles_of}
 use Rattle.wasm_operators_readers.specs.opcodes.Allowed.{EncodesAllowed}
 use Rattle.wasm_operators_readers.proofs.DecoderPremises.{sound}
 use Rattle.wasm_operators_readers.specs.Expression.{Placed, operators, LaidOut, AreWalk}
-use Rattle.wasm_operators_readers.specs.Reading.{State, IsFresh, Ran, TakesOperator}
+use Rattle.wasm_operators_readers.specs.Reading.{State, IsFresh, TakesOperators, TakesOperator}
 use Rattle.wasm_operators_readers.proofs.Runs.{ran_push, fresh_before, stood_on}
 use Rattle.wasm_operators.specs.Constant.{HasNoEnd, EncodesConstantReader}
 use Rattle.wasm_operators.specs.Passing.{PassesEnd}
@@ -24,13 +24,13 @@ err_more (Ok x) f h = tt
 err_more (Err e) f h = f e h
 
 -- The first `end` was taken.
-pub end_passed : (s t u : State) (placed : Placed) (op : Operator) → Ran s t placed → HasNoEnd (operators placed) → TakesOperator EncodesAllowed op t u →
+pub end_passed : (s t u : State) (placed : Placed) (op : Operator) → TakesOperators s t placed → HasNoEnd (operators placed) → TakesOperator EncodesAllowed op t u →
     op ≡ operator.End → PassesEnd s u
 end_passed s t u placed op r no_end k is =
     (placed ++ (op, offset_of t.reader) ∷ [], ran_push EncodesAllowed sound s t u placed op r k, passed_end placed op (offset_of t.reader) no_end is)
 
 -- The walk of an expression was passed, where no frame is open behind it.
-walk_passed : (s t : State) (placed : Placed) → IsFresh s → Ran s t placed → t.frames ≡ [] → AreWalk (operators placed)
+walk_passed : (s t : State) (placed : Placed) → IsFresh s → TakesOperators s t placed → t.frames ≡ [] → AreWalk (operators placed)
 walk_passed s t placed fresh r closed = subst (OpenPath (roles_of (operators placed))) closed (stood_on [] s t placed (fresh_before s fresh) r).path
 
 take_first : (xs ys : List ℕ) (n : ℕ) → n ≡ length xs → take n (xs ++ ys) ≡ xs

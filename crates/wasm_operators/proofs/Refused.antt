@@ -14,10 +14,10 @@ use Rattle.wasm_operators_readers.specs.instr.Encoding.{EncodesOperator}
 use Rattle.wasm_operators_readers.specs.instr.Roles.{role_of}
 use Rattle.wasm_operators_readers.specs.opcodes.Allowed.{EncodesAllowed}
 use Rattle.wasm_operators_readers.specs.opcodes.OperatorFaults.{OperatorFault}
-use Rattle.wasm_operators_readers.specs.Next.{NeedsNext}
+use Rattle.wasm_operators_readers.specs.Next.{NextMayAllocate}
 use Rattle.wasm_operators_readers.proofs.DecoderPremises.{takes_all}
 use Rattle.wasm_operators_readers.specs.Expression.{Placed, operators}
-use Rattle.wasm_operators_readers.specs.Reading.{State, IsFresh, IsUnchanged, Ran, TakesOperator, StopsRead}
+use Rattle.wasm_operators_readers.specs.Reading.{State, IsFresh, IsUnchanged, TakesOperators, TakesOperator, StopsRead}
 use Rattle.wasm_operators_readers.proofs.OneRead.{is_memory, may_end, refused_none}
 use Rattle.wasm_operators_readers.proofs.Runs.{ran_unchanged}
 use Rattle.wasm_operators.specs.Constant.{HasNoEnd, EncodesConstantReader}
@@ -27,7 +27,7 @@ use Rattle.wasm_operators.proofs.Passed.{from_block, passes, none_follows, none_
 
 -- Why one operator was not passed.
 abbrev pub Stops : Error → State → Type 0
-Stops e t = StopsRead EncodesAllowed OperatorFault (NeedsNext EncodesAllowed) e t
+Stops e t = StopsRead EncodesAllowed OperatorFault (NextMayAllocate EncodesAllowed) e t
 
 -- No operator may follow.
 stuck : (e : Error) (t : State) (more : List ℕ) → Stops e t → MayFollow e.message more → (text behind : List ℕ) (op : Operator) →
@@ -39,11 +39,11 @@ stuck e t more (inr (inl there)) follow text behind op encodes eq =
 stuck e t more (inr (inr memory)) follow text behind op encodes eq = absurd (subst (λ m. MayFollow m more) memory.0 follow)
 
 -- Where the next operator wants memory, a byte stands there.
-some_byte : (t : State) → NeedsNext EncodesAllowed t → (byte : ℕ) × BeginsWith byte (rest t.reader)
+some_byte : (t : State) → NextMayAllocate EncodesAllowed t → (byte : ℕ) × BeginsWith byte (rest t.reader)
 some_byte t (inl room) = (room.2, room.3)
 some_byte t (inr list) = (list.2.leads.0, list.2.leads.2)
 
-there_fault : (e : Error) (s t : State) (placed : Placed) → IsFresh s → Ran s t placed → HasNoEnd (operators placed) → Stops e t →
+there_fault : (e : Error) (s t : State) (placed : Placed) → IsFresh s → TakesOperators s t placed → HasNoEnd (operators placed) → Stops e t →
     (e.message ≡ message.OutOfMemory → ⊥) → ConstantFault e.message s.reader e.offset
 there_fault e s t placed fresh r no_end (inl none) other = absurd (stays_open (operators placed) t.frames no_end (from_block s t placed fresh r) none.0)
 there_fault e s t placed fresh r no_end (inr (inl there)) other =
@@ -52,7 +52,7 @@ there_fault e s t placed fresh r no_end (inr (inl there)) other =
     (t.reader, t.frames, passes s t placed fresh r no_end, inl (there.kind, there.open_frame, none, there.fault))
 there_fault e s t placed fresh r no_end (inr (inr memory)) other = absurd (other memory.0)
 
-there_ahead : (e : Error) (offset : ℕ) (s t : State) (placed : Placed) → IsFresh s → Ran s t placed → HasNoEnd (operators placed) → Stops e t →
+there_ahead : (e : Error) (offset : ℕ) (s t : State) (placed : Placed) → IsFresh s → TakesOperators s t placed → HasNoEnd (operators placed) → Stops e t →
     (e.message ≡ message.OutOfMemory → offset ≡ offset_of s.reader) → ((e.message ≡ message.OutOfMemory → ⊥) → offset ≡ e.offset) → IsAhead s.reader offset
 there_ahead e offset s t placed fresh r no_end stops memory other = elim (is_memory e.message) [
   | inl is ↦ at_start is stops
@@ -78,7 +78,7 @@ there_ahead e offset s t placed fresh r no_end stops memory other = elim (is_mem
     at_operator not (inr (inr needs)) = absurd (not needs.0)
 
 -- An operator was refused: so is the expression, by the same message, where allocation failure is said at its start.
-pub refused_there : (e d : Error) (s mid t : State) (placed : Placed) → IsFresh s → Ran s mid placed → HasNoEnd (operators placed) →
+pub refused_there : (e d : Error) (s mid t : State) (placed : Placed) → IsFresh s → TakesOperators s mid placed → HasNoEnd (operators placed) →
     IsUnchanged mid t → Stops e t →
     d.message ≡ e.message → (e.message ≡ message.OutOfMemory → d.offset ≡ offset_of s.reader) → ((e.message ≡ message.OutOfMemory → ⊥) → d.offset ≡ e.offset) →
     IsRefused (EncodesConstantReader s.reader.features) true d s.reader
@@ -90,7 +90,7 @@ refused_there e d s mid t placed fresh r no_end same stops is memory other =
       memory = λ m. (refl, memory (sym is ∙ m));
     }
 
-pub refused_fault : (e d : Error) (s mid t : State) (placed : Placed) → IsFresh s → Ran s mid placed → HasNoEnd (operators placed) →
+pub refused_fault : (e d : Error) (s mid t : State) (placed : Placed) → IsFresh s → TakesOperators s mid placed → HasNoEnd (operators placed) →
     IsUnchanged mid t → Stops e t →
     d.message ≡ e.message → ((e.message ≡ message.OutOfMemory → ⊥) → d.offset ≡ e.offset) → HasFault ConstantFault d s.reader
 refused_fault e d s mid t placed fresh r no_end same stops is other not =
@@ -100,7 +100,7 @@ refused_fault e d s mid t placed fresh r no_end same stops is other not =
     subst (λ m. ConstantFault m s.reader d.offset) (sym is) (subst (ConstantFault e.message s.reader) (sym (other not_memory)) at)
 
 -- The first `end` leaves a frame open.
-pub refused_inside : (d : Error) (s t u : State) (placed : Placed) → IsFresh s → Ran s t placed → HasNoEnd (operators placed) →
+pub refused_inside : (d : Error) (s t u : State) (placed : Placed) → IsFresh s → TakesOperators s t placed → HasNoEnd (operators placed) →
     TakesOperator EncodesAllowed operator.End t u → (u.frames ≡ [] → ⊥) → d.message ≡ message.FramesRemainConst → d.offset ≡ offset_of u.reader →
     IsRefused (EncodesConstantReader s.reader.features) true d s.reader
 refused_inside d s t u placed fresh r no_end k stays is at =
@@ -110,7 +110,7 @@ refused_inside d s t u placed fresh r no_end k stays is at =
       memory = λ m. absurd (cc (sym is ∙ m));
     }
 
-pub inside_has_fault : (d : Error) (s t u : State) (placed : Placed) → IsFresh s → Ran s t placed → HasNoEnd (operators placed) →
+pub inside_has_fault : (d : Error) (s t u : State) (placed : Placed) → IsFresh s → TakesOperators s t placed → HasNoEnd (operators placed) →
     TakesOperator EncodesAllowed operator.End t u → (u.frames ≡ [] → ⊥) → d.message ≡ message.FramesRemainConst → d.offset ≡ offset_of u.reader →
     HasFault ConstantFault d s.reader
 inside_has_fault d s t u placed fresh r no_end k stays is at not =

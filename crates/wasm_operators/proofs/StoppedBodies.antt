@@ -11,7 +11,7 @@ use Rattle.wasm_operators_readers.specs.instr.Roles.{roles_of}
 use Rattle.wasm_operators_readers.specs.opcodes.Allowed.{EncodesAllowed}
 use Rattle.wasm_operators_readers.specs.opcodes.OperatorFaults.{OperatorFault}
 use Rattle.wasm_operators_readers.specs.Expression.{Placed, IsAny, operators}
-use Rattle.wasm_operators_readers.specs.Reading.{State, StopsRun, Ran, Anywhere}
+use Rattle.wasm_operators_readers.specs.Reading.{State, StopsRun, TakesOperators, Anywhere}
 use Rattle.wasm_operators_readers.proofs.Ends.{run_determined}
 use Rattle.wasm_operators_readers.proofs.Premises.{Everything}
 use Rattle.wasm_operators_readers.proofs.Runs.{run_only, fresh_before}
@@ -44,7 +44,7 @@ stops_roomless e s (inr (some, inr (inl there))) =
 stops_roomless e s (inr (some, inr (inr memory))) = inr (some, inr (inr memory))
 
 -- the reads behind the locals
-ran_behind : (e : Error) (body : Reader) (placed : Placed) (h : NoExpression e body placed) → Ran (roomless h.opened) (roomless h.stopped) placed
+ran_behind : (e : Error) (body : Reader) (placed : Placed) (h : NoExpression e body placed) → TakesOperators (roomless h.opened) (roomless h.stopped) placed
 ran_behind e body placed h =
     record {
       text = h.reads.text;

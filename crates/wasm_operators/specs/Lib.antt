@@ -17,6 +17,8 @@ pub mod Passing
 pub mod Section
 pub mod Single
 pub use Rattle.wasm_operators_readers.specs.below as below
+pub use Rattle.wasm_operators_readers.specs.imm as imm
+pub use Rattle.wasm_operators_readers.specs.grammar as grammar
 pub use Rattle.wasm_operators_readers.specs.instr as instr
 pub use Rattle.wasm_operators_readers.specs.opcodes as opcodes
 pub use Rattle.wasm_operators_readers.specs as readers

@@ -5,16 +5,16 @@ use Rattle.wasm_operators_readers.specs.instr.declared.operator.Operator.{Operat
 use Rattle.wasm_operators_readers.specs.instr.declared.operator.Operator.TheVariants as operator
 use Rattle.wasm_operators_readers.specs.opcodes.Allowed.{EncodesAllowed}
 use Rattle.wasm_operators_readers.specs.opcodes.OperatorFaults.{OperatorFault}
-use Rattle.wasm_operators_readers.specs.Next.{NeedsNext}
+use Rattle.wasm_operators_readers.specs.Next.{NextMayAllocate}
 use Rattle.wasm_operators_readers.specs.Expression.{Placed, operators}
-use Rattle.wasm_operators_readers.specs.Reading.{State, IsUnchanged, TakesOperator, StopsRead, Ran}
+use Rattle.wasm_operators_readers.specs.Reading.{State, IsUnchanged, TakesOperator, StopsRead, TakesOperators}
 use Rattle.wasm_operators.specs.Constant.{EndsOnce}
 
 -- An operator was taken, and the answer is whether it is `end`; or it is refused.
 abbrev pub PassesOne : Result Bool Error → State → State → Type 0
 PassesOne (Ok answer) old new = (op : Operator) × TakesOperator EncodesAllowed op old new × (IsTrue answer ↔ (op ≡ operator.End))
-PassesOne (Err e) old new = IsUnchanged old new × StopsRead EncodesAllowed OperatorFault (NeedsNext EncodesAllowed) e new
+PassesOne (Err e) old new = IsUnchanged old new × StopsRead EncodesAllowed OperatorFault (NextMayAllocate EncodesAllowed) e new
 
 -- Operators up to the first `end` were taken.
 abbrev pub PassesEnd : State → State → Type 0
-PassesEnd old new = (placed : Placed) × Ran old new placed × EndsOnce (operators placed)
+PassesEnd old new = (placed : Placed) × TakesOperators old new placed × EndsOnce (operators placed)

@@ -118,6 +118,13 @@ impl<'a> FunctionBody<'a> {
     /// A reader of the body's operators, behind its locals. It takes no memory.
     ///
     /// Refused as `get_binary_reader_for_operators`.
+    ///
+    /// # Examples
+    ///
+    /// ```
+    /// let body = FunctionBody::new(BinaryReader::new_features(bytes, 0, features));
+    /// body.get_operators_reader(alloc)?.visit_all_simd(&mut found)?;
+    /// ```
     pub fn get_operators_reader(&self, alloc: Global) -> Result<OperatorsReader<'a>>
         ensures opens { OpensBody result self.now }
         ensures stood { IfOk result (λ operators. StoodBefore [] operators) }

@@ -46,6 +46,14 @@ impl<'a> ConstExpr<'a> {
     ///
     /// `FramesRemainConst` behind that `end` where a frame is open then; else as the first operator
     /// that is refused. `OutOfMemory` where the expression begins.
+    ///
+    /// # Examples
+    ///
+    /// ```
+    /// let constant = ConstExpr::read(alloc, &mut reader)?;
+    /// let mut list = Vec::new(alloc);
+    /// constant.get_operators_reader(alloc).read_all(&mut list)?;
+    /// ```
     pub fn read(alloc: Global, reader: &mut BinaryReader<'a>) -> Result<ConstExpr<'a>>
         ensures reads { ReadsValue (EncodesConstantReader reader.old.features) true result reader.old reader.new }
         ensures fault { IfErr result (λ e. HasFault ConstantFault e reader.old) }

@@ -35,6 +35,15 @@ impl<'a> LocalsReader<'a> {
     /// The locals that begin where this reader stands: it reads the count of the declarations.
     ///
     /// Refused as `read_var_u32`.
+    ///
+    /// # Examples
+    ///
+    /// ```
+    /// let mut items = LocalsReader::new(reader)?.into_iter();
+    /// while let Some(item) = items.next() {
+    ///     let (count, ty) = item?;
+    /// }
+    /// ```
     pub fn new(mut reader: BinaryReader<'a>) -> Result<LocalsReader<'a>>
         ensures { OpensLocals result reader.entry }
     {

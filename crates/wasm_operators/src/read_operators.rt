@@ -1,6 +1,6 @@
 //! The calls that read or visit one operator under frames that another keeps.
 ghost use Rattle.wasm_operators_readers.specs.below.Source.{Reader};
-ghost use Rattle.wasm_operators_readers.specs.opcodes.Decoding.{DecodesIn, DecodesPlainIn};
+ghost use Rattle.wasm_operators_readers.specs.opcodes.Decoding.{DecodesIn, DecodesScalarIn};
 ghost use Rattle.wasm_operators.specs.Single.{PeeksOperator, FinishesExpression};
 
 use std::alloc::Global;
@@ -66,7 +66,7 @@ pub trait ReadVisits<'a, V: VisitOperator<'a> + FrameStack> {
     /// `OutOfMemory` where the operator begins, and only of one that owns a list. Reader and visitor
     /// are unchanged then.
     fn visit_operator(&mut self, alloc: Global, v: &mut V) -> Result<V::Output>
-        ensures { DecodesPlainIn V.visits (V.frame v.old) result (reader self.old) (reader self.new) v.old v.new };
+        ensures { DecodesScalarIn V.visits (V.frame v.old) result (reader self.old) (reader self.new) v.old v.new };
 }
 
 impl<'a, V: VisitOperator<'a> + FrameStack> ReadVisits<'a, V> for BinaryReader<'a> {

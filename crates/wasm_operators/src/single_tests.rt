@@ -2,9 +2,11 @@
 ghost use Rattle.std.specs.Prelude.{◌≡◌};
 
 use crate::{ReadOperators, ReadSimdVisits, ReadVisits};
-use wasm_operators_readers::below::{BinaryReader, Result};
+use std::alloc::Global;
+use wasm_operators_readers::below::{BinaryReader, Result, ValType};
+use wasm_operators_readers::imm::SelectTypes;
 use wasm_operators_readers::instr::{BrTable, FrameKind, FrameStack, Operator, SimdOperator};
-use wasm_operators_readers::visitors::{VisitFixed, VisitOperator, VisitSimdOperator, Visitor};
+use wasm_operators_readers::visitors::{VisitGroups, VisitOperator, VisitSimdOperator, Visitor};
 
 /// What was seen: some operators by name, and a refusal by its number and offset.
 #[derive(Clone, Copy, Debug, PartialEq, Eq)]
@@ -14,8 +16,14 @@ enum Seen {
     End,
     Catch(u32),
     Swizzle,
+    I32AndI64,
     Other,
     Refused(u8, u64),
+}
+
+/// Whether the types of a select are those two.
+fn is_pair(types: &SelectTypes) -> bool {
+    types.as_slice() == [ValType::I32, ValType::I64].as_slice()
 }
 
 fn told(op: &Operator<'_>) -> Seen {
@@ -25,6 +33,7 @@ fn told(op: &Operator<'_>) -> Seen {
         Operator::End => Seen::End,
         Operator::Catch { tag_index } => Seen::Catch(*tag_index),
         Operator::Simd(SimdOperator::I8x16Swizzle) => Seen::Swizzle,
+        Operator::TypedSelectMulti { tys } if is_pair(tys) => Seen::I32AndI64,
         _ => Seen::Other,
     }
 }
@@ -51,7 +60,7 @@ impl Visitor for Under {
     }
 }
 
-impl VisitFixed for Under {}
+impl VisitGroups for Under {}
 
 impl<'a> VisitOperator<'a> for Under {
     fn visit_br_table(&mut self, _targets: BrTable<'a>) -> Seen {
@@ -68,6 +77,14 @@ fn answer(visit: Result<Seen>) -> Seen {
     }
 }
 
+/// What stands at the start under this frame.
+fn peek(alloc: Global, reader: &BinaryReader<'_>, frame: Option<FrameKind>) -> Seen {
+    match reader.peek_operator(alloc, &Under(frame)) {
+        Ok(op) => told(&op),
+        Err(e) => answer(Err(e)),
+    }
+}
+
 #[test]
 fn peeks(rt: HostRuntime) {
     let turn: &[u8] = &[0x05];
@@ -81,11 +98,7 @@ fn peeks(rt: HostRuntime) {
     ];
     for (bytes, frame, want) in rows {
         let reader = BinaryReader::new(bytes, 0);
-        let peeked = match reader.peek_operator(rt.alloc(), &Under(frame)) {
-            Ok(op) => Ok(told(&op)),
-            Err(e) => Err(e),
-        };
-        assert_eq!(&rt; answer(peeked), want);
+        assert_eq!(&rt; peek(rt.alloc(), &reader, frame), want);
         assert_eq!(&rt; reader.current_position(), 0);
     }
 }
@@ -99,8 +112,8 @@ fn visits(rt: HostRuntime) {
     let second = reader.visit_operator(rt.alloc(), &mut block);
     assert_eq!(&rt; answer(second), Seen::Nop);
     let mut vector = BinaryReader::new(&[0xfd, 0x0e], 0);
-    let plain = vector.visit_operator(rt.alloc(), &mut block);
-    assert_eq!(&rt; answer(plain), Seen::Refused(14, 0));
+    let scalar = vector.visit_operator(rt.alloc(), &mut block);
+    assert_eq!(&rt; answer(scalar), Seen::Refused(14, 0));
     let rows = [
         (Some(FrameKind::LegacyCatch), Seen::Catch(0)),
         (Some(FrameKind::LegacyCatchAll), Seen::Refused(7, 1)),
@@ -131,4 +144,36 @@ fn finishes(rt: HostRuntime) {
         };
         assert_eq!(&rt; refused, want);
     }
+}
+
+/// The types of a select are a list. Where memory is refused, nothing was taken, and the same call
+/// again is not refused.
+#[test]
+fn memory_of_a_list(rt: HostRuntime) {
+    let list: &[u8] = &[0x1c, 0x02, 0x7f, 0x7e];
+    let refused = Seen::Refused(3, 9);
+    let block = Some(FrameKind::Block);
+    let reader = BinaryReader::new(list, 9);
+    let mut peeked = peek(rt.alloc(), &reader, block);
+    if peeked == refused {
+        peeked = peek(rt.alloc(), &reader, block);
+    }
+    assert_eq!(&rt; peeked, Seen::I32AndI64);
+    assert_eq!(&rt; reader.current_position(), 0);
+    let mut reader = BinaryReader::new(list, 9);
+    let mut visited = answer(reader.visit_operator(rt.alloc(), &mut Under(block)));
+    if visited == refused {
+        assert_eq!(&rt; reader.current_position(), 0);
+        visited = answer(reader.visit_operator(rt.alloc(), &mut Under(block)));
+    }
+    assert_eq!(&rt; visited, Seen::I32AndI64);
+    assert!(&rt; reader.eof());
+    let mut reader = BinaryReader::new(list, 9);
+    let mut visited = answer(reader.visit_operator_simd(rt.alloc(), &mut Under(block)));
+    if visited == refused {
+        assert_eq!(&rt; reader.current_position(), 0);
+        visited = answer(reader.visit_operator_simd(rt.alloc(), &mut Under(block)));
+    }
+    assert_eq!(&rt; visited, Seen::I32AndI64);
+    assert!(&rt; reader.eof());
 }

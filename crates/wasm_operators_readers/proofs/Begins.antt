@@ -12,9 +12,9 @@ use Rattle.wasm_decode.proofs.of_below.TakesLemmas.{first_byte_read, rewound}
 use Rattle.wasm_decode.specs.grammar.declared.frame_kind.FrameKind.{FrameKind}
 use Rattle.wasm_decode.specs.grammar.Frames.{innermost}
 use Rattle.wasm_decode.proofs.of_grammar.Innermost.{empty_of_innermost}
-use Rattle.wasm_decode.specs.opcodes.Allowed.{EncodesAllowed, EncodesPlain}
+use Rattle.wasm_decode.specs.opcodes.Allowed.{EncodesAllowed, EncodesScalar}
 use Rattle.wasm_decode.specs.opcodes.Decoding.{RefusesOperator, StandsBehind}
-use Rattle.wasm_decode.specs.opcodes.OperatorFaults.{OperatorFault, PlainOperatorFault}
+use Rattle.wasm_decode.specs.opcodes.OperatorFaults.{OperatorFault, ScalarOperatorFault}
 use Rattle.wasm_operators_readers.specs.declared.step.FrameStep.{FrameStep}
 use Rattle.wasm_operators_readers.specs.Stack.{OpenFrames, HasRoom}
 use Rattle.wasm_operators_readers.specs.Step.{step_at, Opens}
@@ -22,7 +22,7 @@ use Rattle.wasm_operators_readers.proofs.LayoutLemmas.{not_empty}
 use Rattle.wasm_operators_readers.proofs.Premises.{IsSound}
 use Rattle.wasm_operators_readers.specs.Reading.{Taking, Refusing}
 use Rattle.wasm_operators_readers.specs.Next.{BeginsOperator, StopsNext, state_of}
-use Rattle.wasm_operators_readers.proofs.DecoderPremises.{sound, plain_sound}
+use Rattle.wasm_operators_readers.proofs.DecoderPremises.{sound, scalar_sound}
 use Rattle.wasm_operators_readers.proofs.Taken.{refused_unchanged, room_refused, none_open}
 
 -- ---- the opcode
@@ -67,8 +67,8 @@ end_fault k e old h end = λ some. inl (refused_now IsByte e old h, end)
 no_first : (bytes more : List ℕ) → bytes ≡ [] → bytes ≡ 0xfd ∷ more → ⊥
 no_first bytes more none first = let both : [] ≡ 0xfd ∷ more = sym none ∙ first in cc both
 
-plain_end_fault : (k : FrameKind) (e : Error) (old : Reader) → IsRefusal IsByte e old → IsEndHere e old → HasFault (PlainOperatorFault old.features k) e old
-plain_end_fault k e old h end = λ some. inr ((λ b. no_first (rest old) b.0 (none_here old end.2) b.1), inl (refused_now IsByte e old h, end))
+scalar_end_fault : (k : FrameKind) (e : Error) (old : Reader) → IsRefusal IsByte e old → IsEndHere e old → HasFault (ScalarOperatorFault old.features k) e old
+scalar_end_fault k e old h end = λ some. inr ((λ b. no_first (rest old) b.0 (none_here old end.2) b.1), inl (refused_now IsByte e old h, end))
 
 -- ---- the call
 
@@ -109,7 +109,7 @@ pub begun_at_end : (old new : Reader) (s : OpenFrames) (kind : FrameKind) (e : E
 begun_at_end old new s kind e open_frame r end =
     refused_unchanged EncodesAllowed OperatorFault (state_of old s) (state_of new s) kind e open_frame (ends EncodesAllowed OperatorFault sound kind e old new r end (end_fault kind e old r.1 end)) refl (omega arith)
 
-pub begun_at_end_plain : (old new : Reader) (s : OpenFrames) (kind : FrameKind) (e : Error) → innermost s.frames ≡ Some kind → (new ≡ old) × IsRefusal IsByte e old → IsEndHere e old →
-    StopsNext EncodesPlain PlainOperatorFault e (state_of old s) (state_of new s)
-begun_at_end_plain old new s kind e open_frame r end =
-    refused_unchanged EncodesPlain PlainOperatorFault (state_of old s) (state_of new s) kind e open_frame (ends EncodesPlain PlainOperatorFault plain_sound kind e old new r end (plain_end_fault kind e old r.1 end)) refl (omega arith)
+pub begun_at_end_scalar : (old new : Reader) (s : OpenFrames) (kind : FrameKind) (e : Error) → innermost s.frames ≡ Some kind → (new ≡ old) × IsRefusal IsByte e old → IsEndHere e old →
+    StopsNext EncodesScalar ScalarOperatorFault e (state_of old s) (state_of new s)
+begun_at_end_scalar old new s kind e open_frame r end =
+    refused_unchanged EncodesScalar ScalarOperatorFault (state_of old s) (state_of new s) kind e open_frame (ends EncodesScalar ScalarOperatorFault scalar_sound kind e old new r end (scalar_end_fault kind e old r.1 end)) refl (omega arith)

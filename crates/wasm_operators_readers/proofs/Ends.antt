@@ -22,7 +22,7 @@ use Rattle.wasm_decode.specs.instr.Encoding.{EncodesOperator}
 use Rattle.wasm_decode.specs.instr.Roles.{role_of, roles_of}
 use Rattle.wasm_operators_readers.specs.Expression.{Placed, OfPlaced, operators, LaidOut, IsLongestOf}
 use Rattle.wasm_operators_readers.specs.Flat.{IsFlatOf}
-use Rattle.wasm_operators_readers.specs.Reading.{Taking, Refusing, Needing, State, Ran, StopsRun, EndsRun, ReadsOperator}
+use Rattle.wasm_operators_readers.specs.Reading.{Taking, Refusing, Allocating, State, TakesOperators, StopsRun, EndsRun, ReadsOperator}
 use Rattle.wasm_operators_readers.specs.Headline.{StoodBefore, BeginningAt, ReadsBeginning, IsNotOutOfMemory, ClosesFrom, IsCut, CutFault, IsCompletedByEnds}
 use Rattle.wasm_operators_readers.proofs.LayoutLemmas.{roles_of-append, operators-append, roles_of-ends, laid_append, laid_goes_on, laid_no_longer, laid_same, one_longest, GoesOn, next_allowed, goes_allowed}
 use Rattle.wasm_operators_readers.proofs.OneRead.{refused_none, refused_not_taken, one_refusal, closed_read, read_closed}
@@ -42,14 +42,14 @@ one_flat Kept frames s first second p q =
     (sym p.beginning.parts ∙ q.beginning.parts) (omega arith)).0
 
 -- A run that ends with nothing left closes every frame, and the other way round.
-pub run_closes : (old new : State) (placed : Placed) → Ran old new placed → new.frames ≡ [] → rest new.reader ≡ [] →
+pub run_closes : (old new : State) (placed : Placed) → TakesOperators old new placed → new.frames ≡ [] → rest new.reader ≡ [] →
     ClosesFrom old.frames (source_of old.reader) placed
 run_closes old new placed r closed all = (
   subst (LaidOut old.reader.features (offset_of old.reader) placed) (sym (r.takes.parts ∙ ap (λ x. r.text ++ x) all ∙ append-nil r.text)) r.laid,
   r.frames ∙ ap (λ (x : List FrameKind). Some x) closed,
 )
 
-pub closes_run : (old new : State) (placed : Placed) → Ran old new placed → ClosesFrom old.frames (source_of old.reader) placed →
+pub closes_run : (old new : State) (placed : Placed) → TakesOperators old new placed → ClosesFrom old.frames (source_of old.reader) placed →
     (new.frames ≡ []) × (rest new.reader ≡ [])
 closes_run old new placed r (laid, closes) =
     let both : r.text ++ rest new.reader ≡ rest old.reader ++ [] = sym r.takes.parts ∙ sym (append-nil (rest old.reader)) in (
@@ -57,24 +57,24 @@ closes_run old new placed r (laid, closes) =
       (laid_same old.reader.features (offset_of old.reader) placed placed r.text (rest old.reader) (rest new.reader) [] r.laid laid both refl).2,
     )
 
-closes_exactly : {X : Type 0} (Encodes : Taking) (Fault : Refusing) (Needs : Needing) (result : Result X Error) (old new : State) (placed : Placed) →
-    Ran old new placed → EndsRun Encodes Fault Needs result new → IsOk result ↔ ClosesFrom old.frames (source_of old.reader) placed
-closes_exactly Encodes Fault Needs (Ok x) old new placed r (closed, all) = (λ ok. run_closes old new placed r closed all, λ closes. refl)
-closes_exactly Encodes Fault Needs (Err e) old new placed r stops = (
+closes_exactly : {X : Type 0} (Encodes : Taking) (Fault : Refusing) (Allocates : Allocating) (result : Result X Error) (old new : State) (placed : Placed) →
+    TakesOperators old new placed → EndsRun Encodes Fault Allocates result new → IsOk result ↔ ClosesFrom old.frames (source_of old.reader) placed
+closes_exactly Encodes Fault Allocates (Ok x) old new placed r (closed, all) = (λ ok. run_closes old new placed r closed all, λ closes. refl)
+closes_exactly Encodes Fault Allocates (Err e) old new placed r stops = (
   λ ok. absurd (cc ok),
-  λ closes. let end = closes_run old new placed r closes in absurd (no_refusal Encodes Fault Needs e new stops end.0 end.1),
+  λ closes. let end = closes_run old new placed r closes in absurd (no_refusal Encodes Fault Allocates e new stops end.0 end.1),
 )
 
 -- What was read is the longest list by frames alone, memory aside, and the answer is Ok exactly where it closes every frame.
-pub flat_run : {X : Type 0} (Sort : Operator → Type 0) (Kept : OfPlaced) (Encodes : Taking) (Fault : Refusing) (Needs : Needing) →
-    Keeps Sort Kept Encodes → (result : Result X Error) (old new : State) (placed flat : Placed) → Ran old new placed → Kept placed →
-    EndsRun Encodes Fault Needs result new → IsFlatOf Kept old.frames (source_of old.reader) flat → IsNotOutOfMemory result →
+pub flat_run : {X : Type 0} (Sort : Operator → Type 0) (Kept : OfPlaced) (Encodes : Taking) (Fault : Refusing) (Allocates : Allocating) →
+    Keeps Sort Kept Encodes → (result : Result X Error) (old new : State) (placed flat : Placed) → TakesOperators old new placed → Kept placed →
+    EndsRun Encodes Fault Allocates result new → IsFlatOf Kept old.frames (source_of old.reader) flat → IsNotOutOfMemory result →
     (placed ≡ flat) × (IsOk result ↔ ClosesFrom old.frames (source_of old.reader) flat)
-flat_run Sort Kept Encodes Fault Needs keeps result old new placed flat r kept ended h other =
+flat_run Sort Kept Encodes Fault Allocates keeps result old new placed flat r kept ended h other =
     let same = one_flat Kept old.frames (source_of old.reader) placed flat
-    (run_flat Sort Kept keeps.each old new placed r kept (stuck Encodes Fault Needs Sort keeps.takes result new ended other)) h in (
+    (run_flat Sort Kept keeps.each old new placed r kept (stuck Encodes Fault Allocates Sort keeps.takes result new ended other)) h in (
       same,
-      subst (λ ps. IsOk result ↔ ClosesFrom old.frames (source_of old.reader) ps) same (closes_exactly Encodes Fault Needs result old new placed r ended),
+      subst (λ ps. IsOk result ↔ ClosesFrom old.frames (source_of old.reader) ps) same (closes_exactly Encodes Fault Allocates result old new placed r ended),
     )
 
 -- Of bytes that more would make the rest of an expression, those that are left begin with an operator that the frames allow.
@@ -87,14 +87,14 @@ record NextStands (Sort : Operator → Type 0) (s : State) (left : List ℕ) : T
   bytes : left ≡ text ++ after
   allowed : frames_after s.frames (role_of op) ≡ None → ⊥
 
-cut_stops : (Sort : Operator → Type 0) (Encodes : Taking) (Fault : Refusing) (Needs : Needing) → TakesEach Sort Encodes → (m : Message) (e : Error)
-    (s : State) (more : List ℕ) → e.message ≡ m → StopsRun Encodes Fault Needs e s → NextStands Sort s (rest s.reader ++ more) →
+cut_stops : (Sort : Operator → Type 0) (Encodes : Taking) (Fault : Refusing) (Allocates : Allocating) → TakesEach Sort Encodes → (m : Message) (e : Error)
+    (s : State) (more : List ℕ) → e.message ≡ m → StopsRun Encodes Fault Allocates e s → NextStands Sort s (rest s.reader ++ more) →
     CutFault m (rest s.reader)
-cut_stops Sort Encodes Fault Needs takes m e s more is (inl left) next = subst (λ m. CutFault m (rest s.reader)) (sym left.2 ∙ is) left.0
-cut_stops Sort Encodes Fault Needs takes m e s more is (inr (some, inl none)) next =
+cut_stops Sort Encodes Fault Allocates takes m e s more is (inl left) next = subst (λ m. CutFault m (rest s.reader)) (sym left.2 ∙ is) left.0
+cut_stops Sort Encodes Fault Allocates takes m e s more is (inr (some, inl none)) next =
     absurd (next.allowed (ap (λ frames. frames_after frames (role_of next.op)) none.0))
-cut_stops Sort Encodes Fault Needs takes m e s more is (inr (some, inr (inr memory))) next = subst (λ m. CutFault m (rest s.reader)) (sym memory.0 ∙ is) tt
-cut_stops Sort Encodes Fault Needs takes m e s more is (inr (some, inr (inl there))) next = by_message m is
+cut_stops Sort Encodes Fault Allocates takes m e s more is (inr (some, inr (inr memory))) next = subst (λ m. CutFault m (rest s.reader)) (sym memory.0 ∙ is) tt
+cut_stops Sort Encodes Fault Allocates takes m e s more is (inr (some, inr (inl there))) next = by_message m is
   where
     follows : MayFollow e.message more → ⊥
     follows follow =
@@ -111,11 +111,11 @@ right_none [] ys e = e
 right_none (x ∷ xs) ys e = absurd (cc e)
 
 -- Data that was cut is refused by its end, within an operator or between two.
-pub run_cut : (Sort : Operator → Type 0) (Kept : OfPlaced) (Encodes : Taking) (Fault : Refusing) (Needs : Needing) → Keeps Sort Kept Encodes → (e : Error)
-    (before : List Operator) (old new : State) (placed : Placed) → StoodBefore before old → Ran old new placed → StopsRun Encodes Fault Needs e new →
+pub run_cut : (Sort : Operator → Type 0) (Kept : OfPlaced) (Encodes : Taking) (Fault : Refusing) (Allocates : Allocating) → Keeps Sort Kept Encodes → (e : Error)
+    (before : List Operator) (old new : State) (placed : Placed) → StoodBefore before old → TakesOperators old new placed → StopsRun Encodes Fault Allocates e new →
     IsCut Kept before (source_of old.reader) → CutFault e.message (rest new.reader)
-run_cut Sort Kept Encodes Fault Needs keeps e before old new placed h r stops cut =
-    cut_stops Sort Encodes Fault Needs keeps.takes e.message e new cut.more refl stops next
+run_cut Sort Kept Encodes Fault Allocates keeps e before old new placed h r stops cut =
+    cut_stops Sort Encodes Fault Allocates keeps.takes e.message e new cut.more refl stops next
   where
     whole : rest old.reader ++ cut.more ≡ r.text ++ (rest new.reader ++ cut.more)
     whole = ap (λ z. z ++ cut.more) r.takes.parts ∙ append_assoc r.text (rest new.reader) cut.more
@@ -172,7 +172,7 @@ ends_operators offset zero = refl
 ends_operators offset (suc n) = ap (λ (ops : List Operator). operator.End ∷ ops) (ends_operators (offset + 1) n)
 
 -- Where all data is taken, as many bytes 0b as frames are open make it the rest of an expression.
-pub run_completed : (before : List Operator) (old new : State) (placed : Placed) → StoodBefore before old → Ran old new placed → rest new.reader ≡ [] →
+pub run_completed : (before : List Operator) (old new : State) (placed : Placed) → StoodBefore before old → TakesOperators old new placed → rest new.reader ≡ [] →
     IsCompletedByEnds before (source_of old.reader) (length new.frames)
 run_completed before old new placed h r all =
     let n = length new.frames in
@@ -202,33 +202,33 @@ SameAnswer (Err d) (Err e) = (d.message ≡ e.message) × (d.offset ≡ e.offset
 SameAnswer _ _ = ⊥
 
 -- A read that was refused is refused again, by the same message and offset, memory aside.
-pub refused_again : (Encodes : Taking) (Fault : Refusing) (Needs : Needing) → IsDetermined Fault → (d : Error) (result : Result Operator Error)
-    (old mid new : State) → ReadsOperator Encodes Fault Needs (Err d) old mid → (d.message ≡ message.OutOfMemory → ⊥) →
-    ReadsOperator Encodes Fault Needs result mid new → IsNotOutOfMemory result → SameAnswer {X = Operator} (Err d) result
-refused_again Encodes Fault Needs determined d (Ok op) old mid new (same, stops) other takes memory =
-    refused_not_taken Encodes Fault Needs d mid mid new op refl refl stops other takes
-refused_again Encodes Fault Needs determined d (Err e) old mid new (same, stops) other (again, others) memory =
-    one_refusal Encodes Fault Needs determined d e mid new again.0 again.1 stops others other memory
+pub refused_again : (Encodes : Taking) (Fault : Refusing) (Allocates : Allocating) → IsDetermined Fault → (d : Error) (result : Result Operator Error)
+    (old mid new : State) → ReadsOperator Encodes Fault Allocates (Err d) old mid → (d.message ≡ message.OutOfMemory → ⊥) →
+    ReadsOperator Encodes Fault Allocates result mid new → IsNotOutOfMemory result → SameAnswer {X = Operator} (Err d) result
+refused_again Encodes Fault Allocates determined d (Ok op) old mid new (same, stops) other takes memory =
+    refused_not_taken Encodes Fault Allocates d mid mid new op refl refl stops other takes
+refused_again Encodes Fault Allocates determined d (Err e) old mid new (same, stops) other (again, others) memory =
+    one_refusal Encodes Fault Allocates determined d e mid new again.0 again.1 stops others other memory
 
-same_stops : (Encodes : Taking) (Fault : Refusing) (Needs : Needing) → IsDetermined Fault → (d e : Error) (s t : State) → t.reader ≡ s.reader →
-    t.frames ≡ s.frames → StopsRun Encodes Fault Needs d s → StopsRun Encodes Fault Needs e t → (d.message ≡ message.OutOfMemory → ⊥) →
+same_stops : (Encodes : Taking) (Fault : Refusing) (Allocates : Allocating) → IsDetermined Fault → (d e : Error) (s t : State) → t.reader ≡ s.reader →
+    t.frames ≡ s.frames → StopsRun Encodes Fault Allocates d s → StopsRun Encodes Fault Allocates e t → (d.message ≡ message.OutOfMemory → ⊥) →
     (e.message ≡ message.OutOfMemory → ⊥) → (d.message ≡ e.message) × (d.offset ≡ e.offset)
-same_stops Encodes Fault Needs determined d e s t reader frames (inl a) (inl b) other others = (a.2 ∙ sym b.2, a.3 ∙ ap offset_of (sym reader) ∙ sym b.3)
-same_stops Encodes Fault Needs determined d e s t reader frames (inl a) (inr b) other others = absurd (b.0 (ap rest reader ∙ a.0))
-same_stops Encodes Fault Needs determined d e s t reader frames (inr a) (inl b) other others = absurd (a.0 (ap rest (sym reader) ∙ b.0))
-same_stops Encodes Fault Needs determined d e s t reader frames (inr a) (inr b) other others =
-    one_refusal Encodes Fault Needs determined d e s t reader frames a.1 b.1 other others
+same_stops Encodes Fault Allocates determined d e s t reader frames (inl a) (inl b) other others = (a.2 ∙ sym b.2, a.3 ∙ ap offset_of (sym reader) ∙ sym b.3)
+same_stops Encodes Fault Allocates determined d e s t reader frames (inl a) (inr b) other others = absurd (b.0 (ap rest reader ∙ a.0))
+same_stops Encodes Fault Allocates determined d e s t reader frames (inr a) (inl b) other others = absurd (a.0 (ap rest (sym reader) ∙ b.0))
+same_stops Encodes Fault Allocates determined d e s t reader frames (inr a) (inr b) other others =
+    one_refusal Encodes Fault Allocates determined d e s t reader frames a.1 b.1 other others
 
-same_ends : {X Y : Type 0} (Encodes : Taking) (Fault : Refusing) (Needs : Needing) → IsDetermined Fault → (first : Result X Error) (second : Result Y Error)
-    (s t : State) → t.reader ≡ s.reader → t.frames ≡ s.frames → EndsRun Encodes Fault Needs first s → EndsRun Encodes Fault Needs second t →
+same_ends : {X Y : Type 0} (Encodes : Taking) (Fault : Refusing) (Allocates : Allocating) → IsDetermined Fault → (first : Result X Error) (second : Result Y Error)
+    (s t : State) → t.reader ≡ s.reader → t.frames ≡ s.frames → EndsRun Encodes Fault Allocates first s → EndsRun Encodes Fault Allocates second t →
     IsNotOutOfMemory first → IsNotOutOfMemory second → SameAnswer first second
-same_ends Encodes Fault Needs determined (Ok x) (Ok y) s t reader frames a b other others = tt
-same_ends Encodes Fault Needs determined (Ok x) (Err e) s t reader frames a b other others =
-    no_refusal Encodes Fault Needs e t b (frames ∙ a.0) (ap rest reader ∙ a.1)
-same_ends Encodes Fault Needs determined (Err d) (Ok y) s t reader frames a b other others =
-    no_refusal Encodes Fault Needs d s a (sym frames ∙ b.0) (ap rest (sym reader) ∙ b.1)
-same_ends Encodes Fault Needs determined (Err d) (Err e) s t reader frames a b other others =
-    same_stops Encodes Fault Needs determined d e s t reader frames a b other others
+same_ends Encodes Fault Allocates determined (Ok x) (Ok y) s t reader frames a b other others = tt
+same_ends Encodes Fault Allocates determined (Ok x) (Err e) s t reader frames a b other others =
+    no_refusal Encodes Fault Allocates e t b (frames ∙ a.0) (ap rest reader ∙ a.1)
+same_ends Encodes Fault Allocates determined (Err d) (Ok y) s t reader frames a b other others =
+    no_refusal Encodes Fault Allocates d s a (sym frames ∙ b.0) (ap rest (sym reader) ∙ b.1)
+same_ends Encodes Fault Allocates determined (Err d) (Err e) s t reader frames a b other others =
+    same_stops Encodes Fault Allocates determined d e s t reader frames a b other others
 
 -- a run, without the room
 record RanOver (reader : Reader) (frames : List FrameKind) (new : State) (placed : Placed) : Type 0 where
@@ -237,7 +237,7 @@ record RanOver (reader : Reader) (frames : List FrameKind) (new : State) (placed
   laid : LaidOut reader.features (offset_of reader) placed text
   along : frames_along frames (roles_of (operators placed)) ≡ Some new.frames
 
-ran_over : (old new : State) (placed : Placed) → Ran old new placed → RanOver old.reader old.frames new placed
+ran_over : (old new : State) (placed : Placed) → TakesOperators old new placed → RanOver old.reader old.frames new placed
 ran_over old new placed r = record { text = r.text; takes = r.takes; laid = r.laid; along = r.frames }
 
 -- Of two runs from one place, one behind which no operator of this sort may follow is not the shorter.
@@ -257,47 +257,47 @@ not_shorter Kept reader frames new end placed others r q each none =
         (none g.text g.more g.next.0 encodes (each placed g.others g.next g.parts) g.bytes)
 
 -- Of two runs over the same bytes, from the same frames on, all is the same, memory aside.
-pub run_determined : {X Y : Type 0} (Encodes : Taking) (Fault : Refusing) (Needs : Needing) (Kept : Operator → Type 0) → TakesEach Kept Encodes →
+pub run_determined : {X Y : Type 0} (Encodes : Taking) (Fault : Refusing) (Allocates : Allocating) (Kept : Operator → Type 0) → TakesEach Kept Encodes →
     IsDetermined Fault → (first : Result X Error) (second : Result Y Error) (old new other end : State) (placed others : Placed) → other.reader ≡ old.reader →
-    other.frames ≡ old.frames → Ran old new placed → Ran other end others → AreEach Kept placed → AreEach Kept others →
-    EndsRun Encodes Fault Needs first new → EndsRun Encodes Fault Needs second end → IsNotOutOfMemory first → IsNotOutOfMemory second →
+    other.frames ≡ old.frames → TakesOperators old new placed → TakesOperators other end others → AreEach Kept placed → AreEach Kept others →
+    EndsRun Encodes Fault Allocates first new → EndsRun Encodes Fault Allocates second end → IsNotOutOfMemory first → IsNotOutOfMemory second →
     (placed ≡ others) × (end.reader ≡ new.reader) × (end.frames ≡ new.frames) × SameAnswer first second
-run_determined Encodes Fault Needs Kept takes determined first second old new other end placed others reader frames r q each_placed each_others a b memory
+run_determined Encodes Fault Allocates Kept takes determined first second old new other end placed others reader frames r q each_placed each_others a b memory
     other_memory =
     let r1 = ran_over old new placed r in
     let q1 = subst (λ s. RanOver s old.frames end others) reader (subst (λ fs. RanOver other.reader fs end others) frames (ran_over other end others q)) in
-    let le = not_shorter Kept old.reader old.frames new end placed others r1 q1 each_others (stuck Encodes Fault Needs Kept takes first new a memory) in
-    let ge = not_shorter Kept old.reader old.frames end new others placed q1 r1 each_placed (stuck Encodes Fault Needs Kept takes second end b other_memory) in
+    let le = not_shorter Kept old.reader old.frames new end placed others r1 q1 each_others (stuck Encodes Fault Allocates Kept takes first new a memory) in
+    let ge = not_shorter Kept old.reader old.frames end new others placed q1 r1 each_placed (stuck Encodes Fault Allocates Kept takes second end b other_memory) in
     let same = laid_same old.reader.features (offset_of old.reader) placed others r1.text q1.text (rest new.reader) (rest end.reader) r1.laid q1.laid
     (sym r1.takes.parts ∙ q1.takes.parts) (omega arith) in
     let readers : end.reader ≡ new.reader = q1.takes.moved ∙ ap (λ z. at_position old.reader (old.reader.position + length z)) (sym same.1) ∙
     sym r1.takes.moved in
     let stacks : end.frames ≡ new.frames = some_is (sym q1.along ∙ ap (λ ps. frames_along old.frames (roles_of (operators ps))) (sym same.0) ∙ r1.along) in
-    (same.0, readers, stacks, same_ends Encodes Fault Needs determined first second new end readers stacks a b memory other_memory)
+    (same.0, readers, stacks, same_ends Encodes Fault Allocates determined first second new end readers stacks a b memory other_memory)
 
 -- The answer tells the frames: that none is open, and that one is at the end of the data.
-pub tells_closed : (Encodes : Taking) (Fault : Refusing) (Needs : Needing) → IsReading Fault → (e : Error) (s : State) → StopsRun Encodes Fault Needs e s →
+pub tells_closed : (Encodes : Taking) (Fault : Refusing) (Allocates : Allocating) → IsReading Fault → (e : Error) (s : State) → StopsRun Encodes Fault Allocates e s →
     (e.message ≡ message.OutOfMemory → ⊥) → (e.message ≡ message.OperatorsRemaining) ↔ (s.frames ≡ [])
-tells_closed Encodes Fault Needs reading e s (inl left) other = (λ is. absurd (cc (is, left.2)), λ closed. absurd (left.1 closed))
-tells_closed Encodes Fault Needs reading e s (inr (some, stops)) other =
-    (closed_read Encodes Fault Needs reading e s stops, read_closed Encodes Fault Needs e s stops other)
+tells_closed Encodes Fault Allocates reading e s (inl left) other = (λ is. absurd (cc (is, left.2)), λ closed. absurd (left.1 closed))
+tells_closed Encodes Fault Allocates reading e s (inr (some, stops)) other =
+    (closed_read Encodes Fault Allocates reading e s stops, read_closed Encodes Fault Allocates e s stops other)
 
-pub tells_left : (Encodes : Taking) (Fault : Refusing) (Needs : Needing) → IsReading Fault → (e : Error) (s : State) → StopsRun Encodes Fault Needs e s →
+pub tells_left : (Encodes : Taking) (Fault : Refusing) (Allocates : Allocating) → IsReading Fault → (e : Error) (s : State) → StopsRun Encodes Fault Allocates e s →
     (e.message ≡ message.FramesRemain) ↔ ((rest s.reader ≡ []) × (s.frames ≡ [] → ⊥))
-tells_left Encodes Fault Needs reading e s (inl left) = (λ is. (left.0, left.1), λ h. left.2)
-tells_left Encodes Fault Needs reading e s (inr (some, inl none)) = (λ is. absurd (cc (is, none.1)), λ h. absurd (some h.0))
-tells_left Encodes Fault Needs reading e s (inr (some, inr (inl there))) = (
+tells_left Encodes Fault Allocates reading e s (inl left) = (λ is. (left.0, left.1), λ h. left.2)
+tells_left Encodes Fault Allocates reading e s (inr (some, inl none)) = (λ is. absurd (cc (is, none.1)), λ h. absurd (some h.0))
+tells_left Encodes Fault Allocates reading e s (inr (some, inr (inl there))) = (
   λ is. absurd (subst IsReadFault is (reading s.reader.features there.kind e.message s.reader e.offset there.fault)),
   λ h. absurd (some h.0),
 )
-tells_left Encodes Fault Needs reading e s (inr (some, inr (inr memory))) = (λ is. absurd (cc (is, memory.0)), λ h. absurd (some h.0))
+tells_left Encodes Fault Allocates reading e s (inr (some, inr (inr memory))) = (λ is. absurd (cc (is, memory.0)), λ h. absurd (some h.0))
 
 -- Where frames are left at the end of the data, as many bytes 0b complete it.
-pub run_left : (Encodes : Taking) (Fault : Refusing) (Needs : Needing) → IsReading Fault → (e : Error) (before : List Operator) (old new : State)
-    (placed : Placed) → StoodBefore before old → Ran old new placed → StopsRun Encodes Fault Needs e new → e.message ≡ message.FramesRemain →
+pub run_left : (Encodes : Taking) (Fault : Refusing) (Allocates : Allocating) → IsReading Fault → (e : Error) (before : List Operator) (old new : State)
+    (placed : Placed) → StoodBefore before old → TakesOperators old new placed → StopsRun Encodes Fault Allocates e new → e.message ≡ message.FramesRemain →
     IsCompletedByEnds before (source_of old.reader) (length new.frames)
-run_left Encodes Fault Needs reading e before old new placed h r stops is =
-    run_completed before old new placed h r ((tells_left Encodes Fault Needs reading e new stops).0 is).0
+run_left Encodes Fault Allocates reading e before old new placed h r stops is =
+    run_completed before old new placed h r ((tells_left Encodes Fault Allocates reading e new stops).0 is).0
 
 longest_at : (Kept : OfPlaced) (m : Message) (before : List Operator) (r : Reader) (placed : Placed) → BeginningAt Kept m before r placed →
     (m ≡ message.OutOfMemory → ⊥) → IsLongestOf Kept before (source_of r) placed
@@ -305,11 +305,11 @@ longest_at Kept message.OutOfMemory before r placed h other = absurd (other refl
 longest_at Kept _ before r placed h other = h
 
 -- Of two drivers from one place, behind the same operators, all is the same, memory aside.
-pub beginnings_same : (Kept : OfPlaced) (Encodes : Taking) (Fault : Refusing) (Needs : Needing) → IsDetermined Fault → (before : List Operator)
-    (d e : Error) (old new end : State) (placed others : Placed) → ReadsBeginning Kept Encodes Fault Needs before d old new placed →
-    ReadsBeginning Kept Encodes Fault Needs before e old end others → (d.message ≡ message.OutOfMemory → ⊥) → (e.message ≡ message.OutOfMemory → ⊥) →
+pub beginnings_same : (Kept : OfPlaced) (Encodes : Taking) (Fault : Refusing) (Allocates : Allocating) → IsDetermined Fault → (before : List Operator)
+    (d e : Error) (old new end : State) (placed others : Placed) → ReadsBeginning Kept Encodes Fault Allocates before d old new placed →
+    ReadsBeginning Kept Encodes Fault Allocates before e old end others → (d.message ≡ message.OutOfMemory → ⊥) → (e.message ≡ message.OutOfMemory → ⊥) →
     (placed ≡ others) × (end.reader ≡ new.reader) × (end.frames ≡ new.frames) × (d.message ≡ e.message) × (d.offset ≡ e.offset)
-beginnings_same Kept Encodes Fault Needs determined before d e old new end placed others a b other_d other_e =
+beginnings_same Kept Encodes Fault Allocates determined before d e old new end placed others a b other_d other_e =
     let same = one_longest Kept before (source_of old.reader) placed others (longest_at Kept d.message before old.reader placed a.at other_d)
     (longest_at Kept e.message before old.reader others b.at other_e) in
     let layout = laid_same old.reader.features (offset_of old.reader) placed others a.text b.text (rest new.reader) (rest end.reader) a.laid b.laid
@@ -319,5 +319,5 @@ beginnings_same Kept Encodes Fault Needs determined before d e old new end place
     let path : OpenPath (roles_of (before ++ operators placed)) end.frames =
     subst (λ (ps : Placed). OpenPath (roles_of (before ++ operators ps)) end.frames) (sym same) b.stood.path in
     let stacks : end.frames ≡ new.frames = same_frames end.frames new.frames (roles_of (before ++ operators placed)) path a.stood.path in
-    let both = same_stops Encodes Fault Needs determined d e new end readers stacks a.stops b.stops other_d other_e in
+    let both = same_stops Encodes Fault Allocates determined d e new end readers stacks a.stops b.stops other_d other_e in
     (same, readers, stacks, both.0, both.1)

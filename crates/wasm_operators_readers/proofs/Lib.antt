@@ -10,7 +10,7 @@ pub mod Premises
 pub mod OneRead
 pub mod Runs
 pub mod Ends
-pub mod Plain
+pub mod Scalar
 pub mod Clauses
 pub mod StepLemmas
 pub mod Messages

@@ -3,13 +3,13 @@ use Rattle.std.proofs.Common.{◌≡◌, inl, inr, subst}
 use Rattle.wasm_decode.specs.below.bytes.error.Error.{Error}
 use Rattle.wasm_decode.specs.below.bytes.message.Message.TheVariants as message
 use Rattle.wasm_decode.specs.below.Refusal.{IsReadFault}
-use Rattle.wasm_operators_readers.specs.Reading.{Taking, Refusing, Needing, State, StopsRead}
+use Rattle.wasm_operators_readers.specs.Reading.{Taking, Refusing, Allocating, State, StopsRead}
 use Rattle.wasm_operators_readers.proofs.Premises.{IsReading}
 
 -- A read that is refused by memory stands where it may be.
-pub memory_needs : (Encodes : Taking) (Fault : Refusing) (Needs : Needing) → IsReading Fault → (e : Error) (s : State) → StopsRead Encodes Fault Needs e s →
-    e.message ≡ message.OutOfMemory → Needs s
-memory_needs Encodes Fault Needs reading e s (inl none) is = absurd (cc (is, none.1))
-memory_needs Encodes Fault Needs reading e s (inr (inl there)) is =
+pub memory_needs : (Encodes : Taking) (Fault : Refusing) (Allocates : Allocating) → IsReading Fault → (e : Error) (s : State) → StopsRead Encodes Fault Allocates e s →
+    e.message ≡ message.OutOfMemory → Allocates s
+memory_needs Encodes Fault Allocates reading e s (inl none) is = absurd (cc (is, none.1))
+memory_needs Encodes Fault Allocates reading e s (inr (inl there)) is =
     absurd (subst IsReadFault is (reading s.reader.features there.kind e.message s.reader e.offset there.fault))
-memory_needs Encodes Fault Needs reading e s (inr (inr memory)) is = memory.2
+memory_needs Encodes Fault Allocates reading e s (inr (inr memory)) is = memory.2

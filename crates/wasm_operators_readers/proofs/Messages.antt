@@ -12,9 +12,9 @@ use Rattle.wasm_decode.specs.below.bytes.message.TypeName.TheVariants as type_na
 use Rattle.wasm_decode.specs.below.Fault.{ThenFault, ManyFault}
 use Rattle.wasm_decode.specs.below.Features.{multi_memory, call_indirect_overlong}
 use Rattle.wasm_decode.specs.below.Number.{EncodesUnsigned, EncodesSigned, EncodesSize}
-use Rattle.wasm_decode.specs.below.PartFaults.{EndFault, CheckedByteFault}
+use Rattle.wasm_decode.specs.below.PartFaults.{CheckedByteFault}
 use Rattle.wasm_decode.specs.below.Refusal.{IsReadFault}
-use Rattle.wasm_decode.specs.below.Source.{Reader, rest, offset_of, BeginsWith, IsByte, NumberFault, U32Fault, U64Fault, S33Fault, CountFault}
+use Rattle.wasm_decode.specs.below.Source.{Reader, rest, offset_of, BeginsWith, IsByte, NumberFault, U32Fault, U64Fault, S33Fault, CountFault, EndFault}
 use Rattle.wasm_decode.specs.below.TypeEncoding.{behind_byte, EncodesHeapType, EncodesValType, ShortFault, ByteFault, NoIndex, HeapTypeFault, RefTypeFault, ValTypeFault}
 use Rattle.wasm_decode.specs.grammar.declared.frame_kind.FrameKind.{FrameKind}
 use Rattle.wasm_decode.specs.grammar.Frames.{Allows}
@@ -37,7 +37,7 @@ use Rattle.wasm_decode.specs.opcodes.declared.guard.Guard.{Guard}
 use Rattle.wasm_decode.specs.opcodes.Entry.{Entry, unknown, prefixes, free, guarded, role_behind, instruction_behind, frame_behind}
 use Rattle.wasm_decode.specs.opcodes.Entries.{entry_at}
 use Rattle.wasm_decode.specs.opcodes.Kinds.{EncodesKind}
-use Rattle.wasm_decode.specs.opcodes.OperatorFaults.{KindFault, KindsFault, FreeFault, SubopcodeFault, unknown_message, LacksFeature, GuardFault, EntryFault, OpcodeFault, OperatorFault, PlainOperatorFault}
+use Rattle.wasm_decode.specs.opcodes.OperatorFaults.{KindFault, KindsFault, FreeFault, SubopcodeFault, unknown_message, LacksFeature, GuardFault, EntryFault, OpcodeFault, OperatorFault, ScalarOperatorFault}
 
 -- Each refusal of this fault is of that kind.
 abbrev pub Told : (Message → Reader → ℕ → Type 0) → Type 0
@@ -261,5 +261,5 @@ pub operator_told : (f : WasmFeatures) (k : FrameKind) → Told (OperatorFault f
 operator_told f k m r offset h =
     then_told IsByte EndFault (OpcodeFault f k (offset_of r)) end_told (λ code. entry_told f k (offset_of r) code (entry_at None code)) m r offset h
 
-pub plain_told : (f : WasmFeatures) (k : FrameKind) → Told (PlainOperatorFault f k)
-plain_told f k m r offset h = check_told (BeginsWith 0xfd (rest r)) message.UnexpectedSimd (offset_of r) (OperatorFault f k) tt (operator_told f k) m r offset h
+pub scalar_told : (f : WasmFeatures) (k : FrameKind) → Told (ScalarOperatorFault f k)
+scalar_told f k m r offset h = check_told (BeginsWith 0xfd (rest r)) message.UnexpectedSimd (offset_of r) (OperatorFault f k) tt (operator_told f k) m r offset h

@@ -15,7 +15,7 @@ use Rattle.wasm_decode.proofs.of_grammar.Runs.{IsSome_of}
 use Rattle.wasm_decode.proofs.of_grammar.Steps.{path_step}
 use Rattle.wasm_decode.specs.instr.declared.operator.Operator.{Operator}
 use Rattle.wasm_decode.specs.instr.Roles.{role_of, roles_of}
-use Rattle.wasm_operators_readers.specs.Reading.{Taking, Refusing, Needing, State, TakesOperator, IsRefusedThere, StopsRead}
+use Rattle.wasm_operators_readers.specs.Reading.{Taking, Refusing, Allocating, State, TakesOperator, IsRefusedThere, StopsRead}
 use Rattle.wasm_operators_readers.proofs.LayoutLemmas.{roles_of-append, encoded_some}
 use Rattle.wasm_operators_readers.proofs.OpeningLemmas.{twice_opened, after_length}
 use Rattle.wasm_operators_readers.proofs.Premises.{IsSound, IsReading, IsDetermined}
@@ -31,11 +31,11 @@ may_end message.OutOfMemory other = absurd (other refl)
 may_end _ other = tt
 
 -- A refusal of what stands at the start stops a read, which leaves the reader and the frames as they were.
-pub stops_read : (Encodes : Taking) (Fault : Refusing) (Needs : Needing) (e : Error) (old new : State) (kind : FrameKind) → new.reader ≡ old.reader →
+pub stops_read : (Encodes : Taking) (Fault : Refusing) (Allocates : Allocating) (e : Error) (old new : State) (kind : FrameKind) → new.reader ≡ old.reader →
     new.frames ≡ old.frames → innermost old.frames ≡ Some kind → Refuses (Encodes old.reader.features kind) (rest old.reader) e.message →
     IsAhead old.reader e.offset → HasFault (Fault old.reader.features kind) e old.reader →
-    (e.message ≡ message.OutOfMemory → (e.offset ≡ offset_of old.reader) × Needs new) → StopsRead Encodes Fault Needs e new
-stops_read Encodes Fault Needs e old new kind reader frames open_frame refuses ahead fault memory =
+    (e.message ≡ message.OutOfMemory → (e.offset ≡ offset_of old.reader) × Allocates new) → StopsRead Encodes Fault Allocates e new
+stops_read Encodes Fault Allocates e old new kind reader frames open_frame refuses ahead fault memory =
     elim (is_memory e.message) [
       | inl is ↦ inr (inr (is, (memory is).0 ∙ ap offset_of (sym reader), (memory is).1))
       | inr other ↦ inr (inl (record {
@@ -48,11 +48,11 @@ stops_read Encodes Fault Needs e old new kind reader frames open_frame refuses a
     ]
 
 -- Where memory may be refused, it may be where more is allowed.
-pub needs_more : (Encodes : Taking) (Fault : Refusing) (Needs Others : Needing) → ((s : State) → Needs s → Others s) → (e : Error) (s : State) →
-    StopsRead Encodes Fault Needs e s → StopsRead Encodes Fault Others e s
-needs_more Encodes Fault Needs Others more e s (inl none) = inl none
-needs_more Encodes Fault Needs Others more e s (inr (inl there)) = inr (inl there)
-needs_more Encodes Fault Needs Others more e s (inr (inr memory)) = inr (inr (memory.0, memory.1, more s memory.2))
+pub needs_more : (Encodes : Taking) (Fault : Refusing) (Allocates Others : Allocating) → ((s : State) → Allocates s → Others s) → (e : Error) (s : State) →
+    StopsRead Encodes Fault Allocates e s → StopsRead Encodes Fault Others e s
+needs_more Encodes Fault Allocates Others more e s (inl none) = inl none
+needs_more Encodes Fault Allocates Others more e s (inr (inl there)) = inr (inl there)
+needs_more Encodes Fault Allocates Others more e s (inr (inr memory)) = inr (inr (memory.0, memory.1, more s memory.2))
 
 -- What a refusal says of the bytes as they are, with these behind them: an operator that would be taken does not stand there.
 pub refused_none : (Encodes : Taking) (Fault : Refusing) (e : Error) (s : State) (h : IsRefusedThere Encodes Fault e s) (behind : List ℕ) →
@@ -87,50 +87,50 @@ read_depth Encodes sound op old new t =
     omega (arith, a, b)
 
 -- It is refused by the message that no frame is open only where none is,
-pub closed_read : (Encodes : Taking) (Fault : Refusing) (Needs : Needing) → IsReading Fault → (e : Error) (s : State) → StopsRead Encodes Fault Needs e s →
+pub closed_read : (Encodes : Taking) (Fault : Refusing) (Allocates : Allocating) → IsReading Fault → (e : Error) (s : State) → StopsRead Encodes Fault Allocates e s →
     e.message ≡ message.OperatorsRemaining → s.frames ≡ []
-closed_read Encodes Fault Needs reading e s (inl none) is = none.0
-closed_read Encodes Fault Needs reading e s (inr (inl there)) is =
+closed_read Encodes Fault Allocates reading e s (inl none) is = none.0
+closed_read Encodes Fault Allocates reading e s (inr (inl there)) is =
     absurd (subst IsReadFault is (reading s.reader.features there.kind e.message s.reader e.offset there.fault))
-closed_read Encodes Fault Needs reading e s (inr (inr memory)) is = absurd (cc (is, memory.0))
+closed_read Encodes Fault Allocates reading e s (inr (inr memory)) is = absurd (cc (is, memory.0))
 
 -- and there by no other, memory aside.
-pub read_closed : (Encodes : Taking) (Fault : Refusing) (Needs : Needing) (e : Error) (s : State) → StopsRead Encodes Fault Needs e s →
+pub read_closed : (Encodes : Taking) (Fault : Refusing) (Allocates : Allocating) (e : Error) (s : State) → StopsRead Encodes Fault Allocates e s →
     (e.message ≡ message.OutOfMemory → ⊥) → s.frames ≡ [] → e.message ≡ message.OperatorsRemaining
-read_closed Encodes Fault Needs e s (inl none) other closed = none.1
-read_closed Encodes Fault Needs e s (inr (inl there)) other closed = absurd (innermost_not_empty s.frames there.kind there.open_frame closed)
-read_closed Encodes Fault Needs e s (inr (inr memory)) other closed = absurd (other memory.0)
+read_closed Encodes Fault Allocates e s (inl none) other closed = none.1
+read_closed Encodes Fault Allocates e s (inr (inl there)) other closed = absurd (innermost_not_empty s.frames there.kind there.open_frame closed)
+read_closed Encodes Fault Allocates e s (inr (inr memory)) other closed = absurd (other memory.0)
 
 some_is : {X : Type 0} {x y : X} → Some x ≡ Some y → x ≡ y
 some_is e = cc e
 
 -- Where a read is refused, memory aside, another of the same bytes and frames takes no operator.
-pub refused_not_taken : (Encodes : Taking) (Fault : Refusing) (Needs : Needing) (e : Error) (s t new : State) (op : Operator) → t.reader ≡ s.reader →
-    t.frames ≡ s.frames → StopsRead Encodes Fault Needs e s → (e.message ≡ message.OutOfMemory → ⊥) → TakesOperator Encodes op t new → ⊥
-refused_not_taken Encodes Fault Needs e s t new op same_reader same_frames (inl none) other takes =
+pub refused_not_taken : (Encodes : Taking) (Fault : Refusing) (Allocates : Allocating) (e : Error) (s t new : State) (op : Operator) → t.reader ≡ s.reader →
+    t.frames ≡ s.frames → StopsRead Encodes Fault Allocates e s → (e.message ≡ message.OutOfMemory → ⊥) → TakesOperator Encodes op t new → ⊥
+refused_not_taken Encodes Fault Allocates e s t new op same_reader same_frames (inl none) other takes =
     innermost_not_empty t.frames takes.kind takes.open_frame (same_frames ∙ none.0)
-refused_not_taken Encodes Fault Needs e s t new op same_reader same_frames (inr (inl there)) other takes =
+refused_not_taken Encodes Fault Allocates e s t new op same_reader same_frames (inr (inl there)) other takes =
     let kinds : takes.kind ≡ there.kind = some_is (sym takes.open_frame ∙ ap innermost same_frames ∙ there.open_frame) in
     let features : t.reader.features ≡ s.reader.features = ap (λ (r : Reader). r.features) same_reader in
     let encodes : Encodes s.reader.features there.kind takes.text op =
     subst (λ f. Encodes f there.kind takes.text op) features (subst (λ k. Encodes t.reader.features k takes.text op) kinds takes.encodes) in
     there.refuses [] (may_end e.message other) takes.text (rest new.reader) op encodes
     (append-nil (rest s.reader) ∙ ap rest (sym same_reader) ∙ takes.takes.parts)
-refused_not_taken Encodes Fault Needs e s t new op same_reader same_frames (inr (inr memory)) other takes = other memory.0
+refused_not_taken Encodes Fault Allocates e s t new op same_reader same_frames (inr (inr memory)) other takes = other memory.0
 
 -- Two refusals of the same bytes and frames are the same, memory aside.
-pub one_refusal : (Encodes : Taking) (Fault : Refusing) (Needs : Needing) → IsDetermined Fault → (d e : Error) (s t : State) → t.reader ≡ s.reader →
-    t.frames ≡ s.frames → StopsRead Encodes Fault Needs d s → StopsRead Encodes Fault Needs e t → (d.message ≡ message.OutOfMemory → ⊥) →
+pub one_refusal : (Encodes : Taking) (Fault : Refusing) (Allocates : Allocating) → IsDetermined Fault → (d e : Error) (s t : State) → t.reader ≡ s.reader →
+    t.frames ≡ s.frames → StopsRead Encodes Fault Allocates d s → StopsRead Encodes Fault Allocates e t → (d.message ≡ message.OutOfMemory → ⊥) →
     (e.message ≡ message.OutOfMemory → ⊥) → (d.message ≡ e.message) × (d.offset ≡ e.offset)
-one_refusal Encodes Fault Needs determined d e s t reader frames (inr (inr memory)) b other others = absurd (other memory.0)
-one_refusal Encodes Fault Needs determined d e s t reader frames a (inr (inr memory)) other others = absurd (others memory.0)
-one_refusal Encodes Fault Needs determined d e s t reader frames (inl a) (inl b) other others =
+one_refusal Encodes Fault Allocates determined d e s t reader frames (inr (inr memory)) b other others = absurd (other memory.0)
+one_refusal Encodes Fault Allocates determined d e s t reader frames a (inr (inr memory)) other others = absurd (others memory.0)
+one_refusal Encodes Fault Allocates determined d e s t reader frames (inl a) (inl b) other others =
     (a.1 ∙ sym b.1, a.2 ∙ ap offset_of (sym reader) ∙ sym b.2)
-one_refusal Encodes Fault Needs determined d e s t reader frames (inl a) (inr (inl b)) other others =
+one_refusal Encodes Fault Allocates determined d e s t reader frames (inl a) (inr (inl b)) other others =
     absurd (innermost_not_empty t.frames b.kind b.open_frame (frames ∙ a.0))
-one_refusal Encodes Fault Needs determined d e s t reader frames (inr (inl a)) (inl b) other others =
+one_refusal Encodes Fault Allocates determined d e s t reader frames (inr (inl a)) (inl b) other others =
     absurd (innermost_not_empty s.frames a.kind a.open_frame (sym frames ∙ b.0))
-one_refusal Encodes Fault Needs determined d e s t reader frames (inr (inl a)) (inr (inl b)) other others =
+one_refusal Encodes Fault Allocates determined d e s t reader frames (inr (inl a)) (inr (inl b)) other others =
     let kinds : b.kind ≡ a.kind = some_is (sym b.open_frame ∙ ap innermost frames ∙ a.open_frame) in
     let features : t.reader.features ≡ s.reader.features = ap (λ (r : Reader). r.features) reader in
     let one : Fault t.reader.features a.kind e.message t.reader e.offset = subst (λ k. Fault t.reader.features k e.message t.reader e.offset) kinds b.fault in

@@ -22,7 +22,7 @@ use Rattle.wasm_decode.specs.instr.Roles.{role_of, roles_of}
 use Rattle.wasm_operators_readers.specs.Expression.{Placed, OfPlaced, operators, LaidOut, AreEncoded, EncodesRest, IsBeginningBehind, IsLongestOf}
 use Rattle.wasm_operators_readers.specs.Flat.{IsAllowedFrom, IsFlatOf}
 use Rattle.wasm_operators_readers.specs.Openings.{opened_by, opened_along}
-use Rattle.wasm_operators_readers.specs.Reading.{Taking, Refusing, Needing, State, StopsRead, IsFresh, IsUnchanged, TakesOperator, Ran, StopsRun, Finishes, StopsFinish, EndsRun}
+use Rattle.wasm_operators_readers.specs.Reading.{Taking, Refusing, Allocating, State, StopsRead, IsFresh, IsUnchanged, TakesOperator, TakesOperators, StopsRun, Finishes, StopsFinish, EndsRun}
 use Rattle.wasm_operators_readers.specs.Headline.{StoodBefore, ReadsTree, BeginningAt, ReadsBeginning, IsWithinDepth, IsNotOutOfMemory}
 use Rattle.wasm_operators_readers.proofs.FlatLemmas.{allowed_begins, flat_longest}
 use Rattle.wasm_operators_readers.proofs.LayoutLemmas.{roles_of-append, operators-append, laid_push, laid_encoded, both_encoded, path_begins, not_empty, laid_goes_on, laid_no_longer, laid_same, one_longest, GoesOn, next_allowed}
@@ -30,14 +30,14 @@ use Rattle.wasm_operators_readers.proofs.OneRead.{may_end, refused_none, is_memo
 use Rattle.wasm_operators_readers.proofs.OpeningLemmas.{twice_opened_along, along_length, opened_along-append}
 use Rattle.wasm_operators_readers.proofs.Premises.{AreEach, IsSound, Keeps, TakesEach}
 
-pub ran_start : (s : State) → Ran s s []
+pub ran_start : (s : State) → TakesOperators s s []
 ran_start s = record { text = []; takes = takes_none s.reader; laid = refl; frames = refl; room = omega arith }
 
 pub features_stay : (old new : Reader) (text : List ℕ) → Takes old new text → new.features ≡ old.features
 features_stay old new text t = ap (λ (r : Reader). r.features) t.moved
 
-pub ran_push : (Encodes : Taking) → IsSound Encodes → (old mid new : State) (placed : Placed) (op : Operator) → Ran old mid placed →
-    TakesOperator Encodes op mid new → Ran old new (placed ++ (op, offset_of mid.reader) ∷ [])
+pub ran_push : (Encodes : Taking) → IsSound Encodes → (old mid new : State) (placed : Placed) (op : Operator) → TakesOperators old mid placed →
+    TakesOperator Encodes op mid new → TakesOperators old new (placed ++ (op, offset_of mid.reader) ∷ [])
 ran_push Encodes sound old mid new placed op r t =
     let at : Operator × ℕ = (op, offset_of mid.reader) in
     let encodes : EncodesOperator old.reader.features op t.text =
@@ -60,7 +60,7 @@ ran_push Encodes sound old mid new placed op r t =
     pushed_room a b c m n k p q e = omega (arith, p, q, e)
 
 -- A read that is refused adds nothing.
-pub ran_unchanged : (old mid new : State) (placed : Placed) → Ran old mid placed → IsUnchanged mid new → Ran old new placed
+pub ran_unchanged : (old mid new : State) (placed : Placed) → TakesOperators old mid placed → IsUnchanged mid new → TakesOperators old new placed
 ran_unchanged old mid new placed r (reader, frames, room) =
     record {
       text = r.text;
@@ -71,16 +71,16 @@ ran_unchanged old mid new placed r (reader, frames, room) =
     }
 
 -- It ends the run, where data was left.
-pub run_stops : (Encodes : Taking) (Fault : Refusing) (Needs : Needing) (e : Error) (mid new : State) → (rest mid.reader ≡ [] → ⊥) → IsUnchanged mid new →
-    StopsRead Encodes Fault Needs e new → StopsRun Encodes Fault Needs e new
-run_stops Encodes Fault Needs e mid new left same stops = inr (λ none. left (ap rest (sym same.0) ∙ none), stops)
+pub run_stops : (Encodes : Taking) (Fault : Refusing) (Allocates : Allocating) (e : Error) (mid new : State) → (rest mid.reader ≡ [] → ⊥) → IsUnchanged mid new →
+    StopsRead Encodes Fault Allocates e new → StopsRun Encodes Fault Allocates e new
+run_stops Encodes Fault Allocates e mid new left same stops = inr (λ none. left (ap rest (sym same.0) ∙ none), stops)
 
 -- before a fresh reader no operator stood
 pub fresh_before : (s : State) → IsFresh s → StoodBefore [] s
 fresh_before s fresh = record { encodes = tt; path = subst (OpenPath []) (sym fresh) path_start }
 
 -- the list goes on with what was read
-pub stood_on : (before : List Operator) (old new : State) (placed : Placed) → StoodBefore before old → Ran old new placed →
+pub stood_on : (before : List Operator) (old new : State) (placed : Placed) → StoodBefore before old → TakesOperators old new placed →
     StoodBefore (before ++ operators placed) new
 stood_on before old new placed h r =
     let path : OpenPath (roles_of before ++ roles_of (operators placed)) new.frames =
@@ -119,7 +119,7 @@ taken_depth Encodes sound op old new t =
     omega (arith, few, position)
 
 -- Twice the frames that were added is at most the bytes that were taken.
-pub run_depth : (old new : State) (placed : Placed) → Ran old new placed → IsWithinDepth old new
+pub run_depth : (old new : State) (placed : Placed) → TakesOperators old new placed → IsWithinDepth old new
 run_depth old new placed r =
     let a = twice_opened_along old.reader.features (offset_of old.reader) placed r.text r.laid in
     let b = along_length placed old.frames new.frames r.frames in
@@ -127,10 +127,10 @@ run_depth old new placed r =
     omega (arith, a, b, position)
 
 -- all that was left, where nothing is
-all_taken : (old new : State) (placed : Placed) (r : Ran old new placed) → rest new.reader ≡ [] → r.text ≡ rest old.reader
+all_taken : (old new : State) (placed : Placed) (r : TakesOperators old new placed) → rest new.reader ≡ [] → r.text ≡ rest old.reader
 all_taken old new placed r all = sym (r.takes.parts ∙ ap (λ x. r.text ++ x) all ∙ append-nil r.text)
 
-pub run_tree : (before : List Operator) (old new : State) (placed : Placed) → StoodBefore before old → Ran old new placed → new.frames ≡ [] →
+pub run_tree : (before : List Operator) (old new : State) (placed : Placed) → StoodBefore before old → TakesOperators old new placed → new.frames ≡ [] →
     rest new.reader ≡ [] → ReadsTree before old new placed
 run_tree before old new placed h r closed all =
     let whole = all_taken old new placed r all in
@@ -150,26 +150,26 @@ abbrev pub IsStuckFor : (Operator → Type 0) → State → Type 0
 IsStuckFor Kept s = (text more : List ℕ) (op : Operator) → EncodesOperator s.reader.features op text → Kept op → rest s.reader ≡ text ++ more →
     frames_after s.frames (role_of op) ≡ None
 
-pub stuck_run : (Encodes : Taking) (Fault : Refusing) (Needs : Needing) (Kept : Operator → Type 0) → TakesEach Kept Encodes → (e : Error) (s : State) →
-    StopsRun Encodes Fault Needs e s → (e.message ≡ message.OutOfMemory → ⊥) → IsStuckFor Kept s
-stuck_run Encodes Fault Needs Kept takes e s (inl left) other text more op encodes kept eb =
+pub stuck_run : (Encodes : Taking) (Fault : Refusing) (Allocates : Allocating) (Kept : Operator → Type 0) → TakesEach Kept Encodes → (e : Error) (s : State) →
+    StopsRun Encodes Fault Allocates e s → (e.message ≡ message.OutOfMemory → ⊥) → IsStuckFor Kept s
+stuck_run Encodes Fault Allocates Kept takes e s (inl left) other text more op encodes kept eb =
     absurd (not_empty s.reader.features op text more encodes (sym left.0 ∙ eb))
-stuck_run Encodes Fault Needs Kept takes e s (inr (some, inl none)) other text more op encodes kept eb =
+stuck_run Encodes Fault Allocates Kept takes e s (inr (some, inl none)) other text more op encodes kept eb =
     ap (λ frames. frames_after frames (role_of op)) none.0
-stuck_run Encodes Fault Needs Kept takes e s (inr (some, inr (inl there))) other text more op encodes kept eb =
+stuck_run Encodes Fault Allocates Kept takes e s (inr (some, inr (inl there))) other text more op encodes kept eb =
     refused_none Encodes Fault e s there [] (may_end e.message other) text more op
     (λ allows. takes s.reader.features there.kind text op encodes allows kept) (append-nil (rest s.reader) ∙ eb)
-stuck_run Encodes Fault Needs Kept takes e s (inr (some, inr (inr memory))) other text more op encodes kept eb = absurd (other memory.0)
+stuck_run Encodes Fault Allocates Kept takes e s (inr (some, inr (inr memory))) other text more op encodes kept eb = absurd (other memory.0)
 
-pub stuck : {X : Type 0} (Encodes : Taking) (Fault : Refusing) (Needs : Needing) (Kept : Operator → Type 0) → TakesEach Kept Encodes →
-    (result : Result X Error) (s : State) → EndsRun Encodes Fault Needs result s → IsNotOutOfMemory result → IsStuckFor Kept s
-stuck Encodes Fault Needs Kept takes (Ok x) s (closed, taken) other text more op encodes kept eb =
+pub stuck : {X : Type 0} (Encodes : Taking) (Fault : Refusing) (Allocates : Allocating) (Kept : Operator → Type 0) → TakesEach Kept Encodes →
+    (result : Result X Error) (s : State) → EndsRun Encodes Fault Allocates result s → IsNotOutOfMemory result → IsStuckFor Kept s
+stuck Encodes Fault Allocates Kept takes (Ok x) s (closed, taken) other text more op encodes kept eb =
     absurd (not_empty s.reader.features op text more encodes (sym taken ∙ eb))
-stuck Encodes Fault Needs Kept takes (Err e) s stops other text more op encodes kept eb =
-    stuck_run Encodes Fault Needs Kept takes e s stops other text more op encodes kept eb
+stuck Encodes Fault Allocates Kept takes (Err e) s stops other text more op encodes kept eb =
+    stuck_run Encodes Fault Allocates Kept takes e s stops other text more op encodes kept eb
 
 -- What was read, by frames alone.
-pub ran_allowed : (old new : State) (placed : Placed) → Ran old new placed → IsAllowedFrom old.frames (source_of old.reader) placed
+pub ran_allowed : (old new : State) (placed : Placed) → TakesOperators old new placed → IsAllowedFrom old.frames (source_of old.reader) placed
 ran_allowed old new placed r =
     record {
       beginning = r.text;
@@ -181,7 +181,7 @@ ran_allowed old new placed r =
 
 -- Where no operator of this sort may follow it is the longest list of those that are kept.
 pub run_flat : (Sort : Operator → Type 0) (Kept : OfPlaced) → ((ps : Placed) → Kept ps → AreEach Sort ps) → (old new : State) (placed : Placed) →
-    Ran old new placed → Kept placed → IsStuckFor Sort new → IsFlatOf Kept old.frames (source_of old.reader) placed
+    TakesOperators old new placed → Kept placed → IsStuckFor Sort new → IsFlatOf Kept old.frames (source_of old.reader) placed
 run_flat Sort Kept each old new placed r kept none = record { beginning = ran_allowed old new placed r; kept = kept; longest = not_longer }
   where
     goes_on : (others : Placed) → IsAllowedFrom old.frames (source_of old.reader) others → Kept others →
@@ -200,7 +200,7 @@ run_flat Sort Kept each old new placed r kept none = record { beginning = ran_al
           | inr le ↦ le
         ]
 
-pub beginning_of_run : (before : List Operator) (old new : State) (placed : Placed) → StoodBefore before old → Ran old new placed →
+pub beginning_of_run : (before : List Operator) (old new : State) (placed : Placed) → StoodBefore before old → TakesOperators old new placed →
     IsBeginningBehind before (source_of old.reader) placed
 beginning_of_run before old new placed h r =
     allowed_begins before old.frames (source_of old.reader) placed h.encodes h.path (ran_allowed old new placed r)
@@ -224,7 +224,7 @@ encoded_longest Kept before s whole encodes (laid, walked) kept =
     }
 
 -- Where it is what was read, all is taken and no frame is open.
-pub whole_run : (before : List Operator) (old new : State) (placed whole : Placed) → StoodBefore before old → Ran old new placed →
+pub whole_run : (before : List Operator) (old new : State) (placed whole : Placed) → StoodBefore before old → TakesOperators old new placed →
     EncodesRest before (source_of old.reader) whole → placed ≡ whole → (new.frames ≡ []) × (rest new.reader ≡ [])
 whole_run before old new placed whole h r (laid, walked) same =
     let f = old.reader.features in
@@ -236,26 +236,26 @@ whole_run before old new placed whole h r (laid, walked) same =
     )
 
 -- no refusal comes where all is closed and taken
-pub no_refusal : (Encodes : Taking) (Fault : Refusing) (Needs : Needing) (e : Error) (s : State) → StopsRun Encodes Fault Needs e s → s.frames ≡ [] →
+pub no_refusal : (Encodes : Taking) (Fault : Refusing) (Allocates : Allocating) (e : Error) (s : State) → StopsRun Encodes Fault Allocates e s → s.frames ≡ [] →
     rest s.reader ≡ [] → ⊥
-no_refusal Encodes Fault Needs e s (inl left) closed all = left.1 closed
-no_refusal Encodes Fault Needs e s (inr (left, stops)) closed all = left all
+no_refusal Encodes Fault Allocates e s (inl left) closed all = left.1 closed
+no_refusal Encodes Fault Allocates e s (inr (left, stops)) closed all = left all
 
-module _ (Sort : Operator → Type 0) (Kept : OfPlaced) (Encodes : Taking) (Fault : Refusing) (Needs : Needing) (keeps : Keeps Sort Kept Encodes) where
+module _ (Sort : Operator → Type 0) (Kept : OfPlaced) (Encodes : Taking) (Fault : Refusing) (Allocates : Allocating) (keeps : Keeps Sort Kept Encodes) where
   -- What was read is the longest list of those that are kept, memory aside.
-  pub run_longest : (before : List Operator) (e : Error) (old new : State) (placed : Placed) → StoodBefore before old → Ran old new placed → Kept placed →
-      StopsRun Encodes Fault Needs e new → (e.message ≡ message.OutOfMemory → ⊥) → IsLongestOf Kept before (source_of old.reader) placed
+  pub run_longest : (before : List Operator) (e : Error) (old new : State) (placed : Placed) → StoodBefore before old → TakesOperators old new placed → Kept placed →
+      StopsRun Encodes Fault Allocates e new → (e.message ≡ message.OutOfMemory → ⊥) → IsLongestOf Kept before (source_of old.reader) placed
   run_longest before e old new placed h r kept stops other =
       flat_longest Kept before old.frames (source_of old.reader) placed h.encodes h.path
-      (run_flat Sort Kept keeps.each old new placed r kept (stuck_run Encodes Fault Needs Sort keeps.takes e new stops other))
+      (run_flat Sort Kept keeps.each old new placed r kept (stuck_run Encodes Fault Allocates Sort keeps.takes e new stops other))
 
-  beginning_at : (m : Message) (before : List Operator) (old new : State) (placed : Placed) → StoodBefore before old → Ran old new placed →
+  beginning_at : (m : Message) (before : List Operator) (old new : State) (placed : Placed) → StoodBefore before old → TakesOperators old new placed →
       ((m ≡ message.OutOfMemory → ⊥) → IsLongestOf Kept before (source_of old.reader) placed) → BeginningAt Kept m before old.reader placed
   beginning_at message.OutOfMemory before old new placed h r longest = beginning_of_run before old new placed h r
   beginning_at _ before old new placed h r longest = longest (λ is. absurd (cc is))
 
-  pub run_beginning : (before : List Operator) (e : Error) (old new : State) (placed : Placed) → StoodBefore before old → Ran old new placed →
-      Kept placed → StopsRun Encodes Fault Needs e new → ReadsBeginning Kept Encodes Fault Needs before e old new placed
+  pub run_beginning : (before : List Operator) (e : Error) (old new : State) (placed : Placed) → StoodBefore before old → TakesOperators old new placed →
+      Kept placed → StopsRun Encodes Fault Allocates e new → ReadsBeginning Kept Encodes Fault Allocates before e old new placed
   run_beginning before e old new placed h r kept stops =
       record {
         at = beginning_at e.message before old new placed h r (run_longest before e old new placed h r kept stops);
@@ -267,8 +267,8 @@ module _ (Sort : Operator → Type 0) (Kept : OfPlaced) (Encodes : Taking) (Faul
       }
 
   -- Where the bytes encode the rest of an expression that is kept, memory alone is refused.
-  pub run_only : (before : List Operator) (e : Error) (old new : State) (placed whole : Placed) → StoodBefore before old → Ran old new placed →
-      Kept placed → StopsRun Encodes Fault Needs e new → EncodesRest before (source_of old.reader) whole → Kept whole → e.message ≡ message.OutOfMemory
+  pub run_only : (before : List Operator) (e : Error) (old new : State) (placed whole : Placed) → StoodBefore before old → TakesOperators old new placed →
+      Kept placed → StopsRun Encodes Fault Allocates e new → EncodesRest before (source_of old.reader) whole → Kept whole → e.message ≡ message.OutOfMemory
   run_only before e old new placed whole h r kept stops encodes too =
       elim (is_memory e.message) [
         | inl is ↦ is
@@ -277,21 +277,21 @@ module _ (Sort : Operator → Type 0) (Kept : OfPlaced) (Encodes : Taking) (Faul
             let same = one_longest Kept before (source_of old.reader) placed whole longest
             (encoded_longest Kept before (source_of old.reader) whole h.encodes encodes too) in
             let end = whole_run before old new placed whole h r encodes same in
-            absurd (no_refusal Encodes Fault Needs e new stops end.0 end.1)
+            absurd (no_refusal Encodes Fault Allocates e new stops end.0 end.1)
             )
       ]
 
 -- The reader's answer, by what it finds at the end of the data.
-finish_stops : (Encodes : Taking) (Fault : Refusing) (Needs : Needing) (m : Message) (e : Error) (s : State) → e.message ≡ m → rest s.reader ≡ [] →
-    e.offset ≡ offset_of s.reader → StopsFinish m s → StopsRun Encodes Fault Needs e s
-finish_stops Encodes Fault Needs message.FramesRemain e s is all at h = inl (all, h, is, at)
-finish_stops Encodes Fault Needs message.UnexpectedData e s is all at h = absurd (h.1 all)
-finish_stops Encodes Fault Needs _ e s is all at h = absurd h
+finish_stops : (Encodes : Taking) (Fault : Refusing) (Allocates : Allocating) (m : Message) (e : Error) (s : State) → e.message ≡ m → rest s.reader ≡ [] →
+    e.offset ≡ offset_of s.reader → StopsFinish m (s.frames ≡ []) s.reader → StopsRun Encodes Fault Allocates e s
+finish_stops Encodes Fault Allocates message.FramesRemain e s is all at h = inl (all, h, is, at)
+finish_stops Encodes Fault Allocates message.UnexpectedData e s is all at h = absurd (h.1 all)
+finish_stops Encodes Fault Allocates _ e s is all at h = absurd h
 
-pub finish_ends : {X : Type 0} (Encodes : Taking) (Fault : Refusing) (Needs : Needing) (result : Result X Error) (s : State) → rest s.reader ≡ [] →
-    Finishes result s → EndsRun Encodes Fault Needs result s
-finish_ends Encodes Fault Needs (Ok x) s all h = h
-finish_ends Encodes Fault Needs (Err e) s all (at, h) = finish_stops Encodes Fault Needs e.message e s refl all at h
+pub finish_ends : {X : Type 0} (Encodes : Taking) (Fault : Refusing) (Allocates : Allocating) (result : Result X Error) (s : State) → rest s.reader ≡ [] →
+    Finishes result s → EndsRun Encodes Fault Allocates result s
+finish_ends Encodes Fault Allocates (Ok x) s all h = h
+finish_ends Encodes Fault Allocates (Err e) s all (at, h) = finish_stops Encodes Fault Allocates e.message e s refl all at h
 
 -- one operator more at the end
 pub pushed : (b : Bool) (new now old placed : Placed) (p q : Operator × ℕ) → new ≡ cond b (now ++ p ∷ []) now → b ≡ true → now ≡ old ++ placed → p ≡ q →

@@ -11,14 +11,14 @@ use Rattle.wasm_decode.specs.instr.declared.operator.Operator.{Operator}
 use Rattle.wasm_decode.specs.instr.Encoding.{EncodesOpcode}
 use Rattle.wasm_decode.specs.instr.Roles.{role_of}
 use Rattle.wasm_decode.specs.opcodes.Decoding.{RefusesOperator, StandsBehind}
-use Rattle.wasm_decode.specs.opcodes.Refused.{NeedsMemory}
+use Rattle.wasm_decode.specs.opcodes.Refused.{MayAllocate}
 use Rattle.wasm_operators_readers.specs.declared.step.FrameStep.{FrameStep}
 use Rattle.wasm_operators_readers.specs.Step.{step_of, role_of_step, step_at, Opens}
 use Rattle.wasm_operators_readers.specs.Reading.{Taking, Refusing, State, IsUnchanged, TakesOperator, StopsRead}
 use Rattle.wasm_operators_readers.proofs.OneRead.{stops_read}
 use Rattle.wasm_operators_readers.proofs.Premises.{IsSound}
 use Rattle.wasm_operators_readers.proofs.StepLemmas.{step_allowed, step_there, took_operator, opens_leads}
-use Rattle.wasm_operators_readers.specs.Next.{NeedsNext, BeginsOperator}
+use Rattle.wasm_operators_readers.specs.Next.{NextMayAllocate, BeginsOperator}
 
 -- The step of the opcode is that of the operator that stands there.
 step_is : (Encodes : Taking) → IsSound Encodes → (f : WasmFeatures) (kind : FrameKind) (op : Operator) (text : List ℕ) (code start : ℕ) (mid new : Reader) →
@@ -54,19 +54,19 @@ begun_took Encodes sound old mid new kind code start s op text b encodes takes f
 -- What stands at the reader was refused.
 pub refused_unchanged : (Encodes : Taking) (Fault : Refusing) (old new : State) (kind : FrameKind) (e : Error) → innermost old.frames ≡ Some kind →
     RefusesOperator (Encodes old.reader.features kind) (Fault old.reader.features kind) e old.reader new.reader → new.frames ≡ old.frames → old.room ≤ new.room →
-    IsUnchanged old new × StopsRead Encodes Fault (NeedsNext Encodes) e new
+    IsUnchanged old new × StopsRead Encodes Fault (NextMayAllocate Encodes) e new
 refused_unchanged Encodes Fault old new kind e open_frame (same, refused, fault) frames room =
-    let list : NeedsMemory (Encodes old.reader.features kind) old.reader → NeedsMemory (Encodes new.reader.features kind) new.reader =
-    λ h. subst (λ (r : Reader). NeedsMemory (Encodes r.features kind) r) (sym same) h in (
+    let list : MayAllocate (Encodes old.reader.features kind) old.reader → MayAllocate (Encodes new.reader.features kind) new.reader =
+    λ h. subst (λ (r : Reader). MayAllocate (Encodes r.features kind) r) (sym same) h in (
       (same, frames, room),
-      stops_read Encodes Fault (NeedsNext Encodes) e old new kind same frames open_frame refused.refuses refused.ahead fault
+      stops_read Encodes Fault (NextMayAllocate Encodes) e old new kind same frames open_frame refused.refuses refused.ahead fault
           (λ m. let h = refused.memory m in (h.0, inr (kind, ap innermost frames ∙ open_frame, list h.1))),
     )
 
 -- What stands behind the opcode was refused.
 pub begun_stopped : (Encodes : Taking) (Fault : Refusing) (old mid new : State) (kind : FrameKind) (code start : ℕ) (s : FrameStep) (e : Error) →
     BeginsOperator old mid kind start code s → RefusesOperator (Encodes mid.reader.features kind) (Fault mid.reader.features kind) e (at_position mid.reader start) new.reader →
-    new.frames ≡ mid.frames → new.room ≡ mid.room → IsUnchanged old new × StopsRead Encodes Fault (NeedsNext Encodes) e new
+    new.frames ≡ mid.frames → new.room ≡ mid.room → IsUnchanged old new × StopsRead Encodes Fault (NextMayAllocate Encodes) e new
 begun_stopped Encodes Fault old mid new kind code start s e b refused frames room =
     let features : mid.reader.features ≡ old.reader.features = ap (λ (r : Reader). r.features) b.back in
     refused_unchanged Encodes Fault old new kind e b.open_frame
@@ -77,7 +77,7 @@ begun_stopped Encodes Fault old mid new kind code start s e b refused frames roo
 -- No room was made for the frame that the next operator opens.
 pub room_refused : (Encodes : Taking) (Fault : Refusing) (old new : State) (kind : FrameKind) (code : ℕ) (e : Error) → innermost old.frames ≡ Some kind →
     new.reader ≡ old.reader → new.frames ≡ old.frames → old.room ≤ new.room → BeginsWith code (rest old.reader) → Opens (step_at code) → new.room ≡ 0 → e.message ≡ message.OutOfMemory → e.offset ≡ offset_of old.reader →
-    IsUnchanged old new × StopsRead Encodes Fault (NeedsNext Encodes) e new
+    IsUnchanged old new × StopsRead Encodes Fault (NextMayAllocate Encodes) e new
 room_refused Encodes Fault old new kind code e open_frame same frames room begins opens none is at = (
   (same, frames, room),
   inr (inr (
@@ -89,5 +89,5 @@ room_refused Encodes Fault old new kind code e open_frame same frames room begin
 
 -- No frame is open.
 pub none_open : (Encodes : Taking) (Fault : Refusing) (s : State) (e : Error) → s.frames ≡ [] → e.message ≡ message.OperatorsRemaining →
-    e.offset ≡ offset_of s.reader → IsUnchanged s s × StopsRead Encodes Fault (NeedsNext Encodes) e s
+    e.offset ≡ offset_of s.reader → IsUnchanged s s × StopsRead Encodes Fault (NextMayAllocate Encodes) e s
 none_open Encodes Fault s e closed is at = ((refl, refl, omega arith), inl (closed, is, at))

@@ -4,7 +4,7 @@ use Rattle.wasm_decode.specs.instr.declared.operator.Operator.{Operator}
 use Rattle.wasm_decode.specs.instr.declared.operator.Operator.TheVariants as operator
 use Rattle.wasm_decode.specs.instr.Kinds.{IsVector}
 use Rattle.wasm_operators_readers.specs.Expression.{Placed, IsBeginningOf}
-use Rattle.wasm_operators_readers.specs.Visiting.{VisitRun, Visited, is_vector, plain_beginning, IsPlain}
+use Rattle.wasm_operators_readers.specs.Visiting.{VisitRun, Visited, is_vector, scalar_beginning, IsScalar}
 
 pub visit_run_append : {V A : Type 0} (visits : V → Operator → A → V → Type 0) (ps qs : Placed) (xs ys : List A) (before between after : V) →
     VisitRun visits before ps xs between → VisitRun visits between qs ys after → VisitRun visits before (ps ++ qs) (xs ++ ys) after
@@ -36,16 +36,16 @@ pub visited_push : {V A : Type 0} (visits : V → Operator → A → V → Type 
 visited_push visits ps op at answer before between after run visit =
     visited_append visits ps ((op, at) ∷ []) before between after run (answer ∷ [], (answer, [], after, refl, visit, (refl, refl)))
 
-plain_first : (b : Bool) (p : Operator × ℕ) (xs ps : Placed) → cond b [] (p ∷ xs) ≡ p ∷ ps → (b ≡ false) × (xs ≡ ps)
-plain_first true p xs ps e = absurd (cc e)
-plain_first false p xs ps e = (refl, cc e)
+scalar_first : (b : Bool) (p : Operator × ℕ) (xs ps : Placed) → cond b [] (p ∷ xs) ≡ p ∷ ps → (b ≡ false) × (xs ≡ ps)
+scalar_first true p xs ps e = absurd (cc e)
+scalar_first false p xs ps e = (refl, cc e)
 
 -- Behind a list without vector operators the longest beginning goes on.
-pub plain_append : (ps qs : Placed) → IsPlain ps → plain_beginning (ps ++ qs) ≡ ps ++ plain_beginning qs
-plain_append [] qs h = refl
-plain_append (p ∷ ps) qs h =
-    let first = plain_first (is_vector p.0) p (plain_beginning ps) ps h in
-    ap (λ b. cond b [] (p ∷ plain_beginning (ps ++ qs))) first.0 ∙ ap (λ (x : Placed). p ∷ x) (plain_append ps qs first.1)
+pub scalar_append : (ps qs : Placed) → IsScalar ps → scalar_beginning (ps ++ qs) ≡ ps ++ scalar_beginning qs
+scalar_append [] qs h = refl
+scalar_append (p ∷ ps) qs h =
+    let first = scalar_first (is_vector p.0) p (scalar_beginning ps) ps h in
+    ap (λ b. cond b [] (p ∷ scalar_beginning (ps ++ qs))) first.0 ∙ ap (λ (x : Placed). p ∷ x) (scalar_append ps qs first.1)
 
 pub not_vector : (op : Operator) → (IsVector op → ⊥) → is_vector op ≡ false
 not_vector (operator.Simd op) none = absurd (none tt)
@@ -60,14 +60,14 @@ no_vector_of (operator.Simd op) e is = cc e
 no_vector_of _ e is = is
 
 -- One operator more that is no vector operator.
-pub plain_push : (ps : Placed) (op : Operator) (at : ℕ) → IsPlain ps → (IsVector op → ⊥) → IsPlain (ps ++ (op, at) ∷ [])
-plain_push ps op at h none =
-    plain_append ps ((op, at) ∷ []) h ∙ ap (λ b. ps ++ cond b [] ((op, at) ∷ [])) (not_vector op none)
+pub scalar_push : (ps : Placed) (op : Operator) (at : ℕ) → IsScalar ps → (IsVector op → ⊥) → IsScalar (ps ++ (op, at) ∷ [])
+scalar_push ps op at h none =
+    scalar_append ps ((op, at) ∷ []) h ∙ ap (λ b. ps ++ cond b [] ((op, at) ∷ [])) (not_vector op none)
 
 -- At a vector operator it ends.
-pub plain_stops : (ps qs : Placed) (p : Operator × ℕ) → IsPlain ps → is_vector p.0 ≡ true → plain_beginning (ps ++ p ∷ qs) ≡ ps
-plain_stops ps qs p h is =
-    plain_append ps (p ∷ qs) h ∙ ap (λ b. ps ++ cond b [] (p ∷ plain_beginning qs)) is ∙ append_nil ps
+pub scalar_stops : (ps qs : Placed) (p : Operator × ℕ) → IsScalar ps → is_vector p.0 ≡ true → scalar_beginning (ps ++ p ∷ qs) ≡ ps
+scalar_stops ps qs p h is =
+    scalar_append ps (p ∷ qs) h ∙ ap (λ b. ps ++ cond b [] (p ∷ scalar_beginning qs)) is ∙ append_nil ps
   where
     append_nil : (xs : Placed) → xs ++ [] ≡ xs
     append_nil [] = refl
@@ -78,9 +78,9 @@ begin_first true p xs ps h = (p ∷ ps, refl)
 begin_first false p xs ps h = (h.0, ap (λ (x : Placed). p ∷ x) h.1)
 
 -- It is a beginning,
-pub plain_begins : (ps : Placed) → IsBeginningOf (plain_beginning ps) ps
-plain_begins [] = ([], refl)
-plain_begins (p ∷ ps) = begin_first (is_vector p.0) p (plain_beginning ps) ps (plain_begins ps)
+pub scalar_begins : (ps : Placed) → IsBeginningOf (scalar_beginning ps) ps
+scalar_begins [] = ([], refl)
+scalar_begins (p ∷ ps) = begin_first (is_vector p.0) p (scalar_beginning ps) ps (scalar_begins ps)
 
 no_vector_in : (b : Bool) (p : Operator × ℕ) (xs before after : Placed) (q : Operator × ℕ) → is_vector p.0 ≡ b →
     ((before after : Placed) → xs ≡ before ++ q ∷ after → IsVector q.0 → ⊥) → cond b [] (p ∷ xs) ≡ before ++ q ∷ after → IsVector q.0 → ⊥
@@ -92,12 +92,12 @@ no_vector_in false p xs [] after q is rest e vector =
 no_vector_in false p xs (r ∷ before) after q is rest e vector = rest before after (cc e) vector
 
 -- has no vector operator,
-pub plain_none : (ps : Placed) (q : Operator × ℕ) (before after : Placed) → plain_beginning ps ≡ before ++ q ∷ after → IsVector q.0 → ⊥
-plain_none [] q [] after e vector = absurd (cc e)
-plain_none [] q (r ∷ before) after e vector = absurd (cc e)
-plain_none (p ∷ ps) q before after e vector =
-    no_vector_in (is_vector p.0) p (plain_beginning ps) before after q refl (λ b a. plain_none ps q b a) e vector
+pub scalar_none : (ps : Placed) (q : Operator × ℕ) (before after : Placed) → scalar_beginning ps ≡ before ++ q ∷ after → IsVector q.0 → ⊥
+scalar_none [] q [] after e vector = absurd (cc e)
+scalar_none [] q (r ∷ before) after e vector = absurd (cc e)
+scalar_none (p ∷ ps) q before after e vector =
+    no_vector_in (is_vector p.0) p (scalar_beginning ps) before after q refl (λ b a. scalar_none ps q b a) e vector
 
 -- and every other beginning without one is a beginning of it.
-pub plain_longest : (ps others : Placed) → IsBeginningOf others ps → IsPlain others → IsBeginningOf others (plain_beginning ps)
-plain_longest ps others (more, e) h = (plain_beginning more, ap plain_beginning e ∙ plain_append others more h)
+pub scalar_longest : (ps others : Placed) → IsBeginningOf others ps → IsScalar others → IsBeginningOf others (scalar_beginning ps)
+scalar_longest ps others (more, e) h = (scalar_beginning more, ap scalar_beginning e ∙ scalar_append others more h)

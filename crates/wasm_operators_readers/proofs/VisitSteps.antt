@@ -14,7 +14,7 @@ use Rattle.wasm_operators_readers.specs.Step.{role_of_step, step_at, Opens}
 use Rattle.wasm_operators_readers.proofs.Bytes.{stays_from_20}
 use Rattle.wasm_operators_readers.specs.Reading.{Taking, Refusing, State, VisitsOperator}
 use Rattle.wasm_operators_readers.proofs.Premises.{IsSound}
-use Rattle.wasm_operators_readers.specs.Next.{NeedsNext, BeginsOperator}
+use Rattle.wasm_operators_readers.specs.Next.{NextMayAllocate, BeginsOperator}
 use Rattle.wasm_operators_readers.proofs.Taken.{begun_allows, begun_took, begun_stopped}
 
 -- What is taken is allowed by the frame.
@@ -37,21 +37,21 @@ module _ {V A : Type 0} (visits : V → Operator → A → V → Type 0) (Encode
   pub visited_with_step : IsSound Encodes → (old mid new : State) (kind : FrameKind) (code start : ℕ) (a : A) (v w : V) →
       BeginsOperator old mid kind start code (step_at code) → Behind mid new kind start (Ok a) v w →
       frames_after mid.frames (role_of_step (step_at code)) ≡ Some new.frames → mid.room ≤ new.room + 1 → ((Opens (step_at code) → ⊥) → mid.room ≤ new.room) →
-      VisitsOperator visits Encodes Fault (NeedsNext Encodes) (Ok a) old new v w
+      VisitsOperator visits Encodes Fault (NextMayAllocate Encodes) (Ok a) old new v w
   visited_with_step sound old mid new kind code start a v w b (text, op, encodes, takes, visit) frames opened other =
       (op, begun_took Encodes sound old mid new kind code start (step_at code) op text b encodes takes frames opened other, visit)
 
   -- It was refused; the frames stayed.
   pub refused_behind : (old mid new : State) (kind : FrameKind) (code start : ℕ) (e : Error) (v w : V) → BeginsOperator old mid kind start code (step_at code) →
       Behind mid new kind start (Err e) v w → new.frames ≡ mid.frames → new.room ≡ mid.room →
-      VisitsOperator visits Encodes Fault (NeedsNext Encodes) (Err e) old new v w
+      VisitsOperator visits Encodes Fault (NextMayAllocate Encodes) (Err e) old new v w
   refused_behind old mid new kind code start e v w b (same, refused) frames room =
       let stops = begun_stopped Encodes Fault old mid new kind code start (step_at code) e b refused frames room in (stops.0, same, stops.1)
 
   -- The opcode is 20 or more: whatever came of it, the frames stayed.
   pub visited_from_20 : IsSound Encodes → TakesAllowed Encodes → (old mid new : State) (kind : FrameKind) (code start : ℕ) (result : Result A Error) (v w : V) →
       0x20 ≤ code → BeginsOperator old mid kind start code (step_at code) → Behind mid new kind start result v w → new.frames ≡ mid.frames → new.room ≡ mid.room →
-      VisitsOperator visits Encodes Fault (NeedsNext Encodes) result old new v w
+      VisitsOperator visits Encodes Fault (NextMayAllocate Encodes) result old new v w
   visited_from_20 sound allowed old mid new kind code start (Ok a) v w high b behind frames room =
       let allows = step_allowed_behind sound allowed old mid new kind code start a v w b behind in
       let stays : frames_after mid.frames (role_of_step (step_at code)) ≡ Some mid.frames =

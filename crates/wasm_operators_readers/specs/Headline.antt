@@ -13,7 +13,7 @@ use Rattle.wasm_decode.specs.instr.declared.operator.Operator.{Operator}
 use Rattle.wasm_decode.specs.instr.Roles.{roles_of}
 use Rattle.wasm_operators_readers.specs.Expression.{Placed, OfPlaced, operators, LaidOut, AreEncoded, EncodesRest, IsBeginningBehind, IsLongestOf, IsLongestBehind}
 use Rattle.wasm_operators_readers.specs.Flat.{IsFlatOf}
-use Rattle.wasm_operators_readers.specs.Reading.{State, Taking, Refusing, Needing, StopsRun}
+use Rattle.wasm_operators_readers.specs.Reading.{State, Taking, Refusing, Allocating, StopsRun}
 
 -- These operators stood before: they have encodings, and their open path leads to the frames of the reader. Before a fresh reader none stood.
 pub record StoodBefore (before : List Operator) (s : State) : Type 0 where
@@ -35,14 +35,14 @@ BeginningAt Kept message.OutOfMemory before r placed = IsBeginningBehind before 
 BeginningAt Kept _ before r placed = IsLongestOf Kept before (source_of r) placed
 
 -- What was read is the longest beginning of an expression of those that are kept, the reader stands behind it, and the refusal is of what stands there.
-pub record ReadsBeginning (Kept : OfPlaced) (Encodes : Taking) (Fault : Refusing) (Needs : Needing) (before : List Operator) (e : Error) (old new : State)
+pub record ReadsBeginning (Kept : OfPlaced) (Encodes : Taking) (Fault : Refusing) (Allocates : Allocating) (before : List Operator) (e : Error) (old new : State)
     (placed : Placed) : Type 0 where
   pub at : BeginningAt Kept e.message before old.reader placed
   pub text : List ℕ
   pub takes : Takes old.reader new.reader text
   pub laid : LaidOut old.reader.features (offset_of old.reader) placed text
   pub stood : StoodBefore (before ++ operators placed) new
-  pub stops : StopsRun Encodes Fault Needs e new
+  pub stops : StopsRun Encodes Fault Allocates e new
 
 -- Some list of operators came, to which the first happened and of which the second is so.
 abbrev pub SomeCame : OfPlaced → OfPlaced → Type 0
@@ -97,14 +97,14 @@ IsCompletedIfCut before result old new =
 
 -- What reading or visiting to the end does behind these operators. The first word says what happened to the list that came (it was added to another, or
 -- visited), and the second which lists are kept (all, or those without vector operators).
-pub record ReadsRest {X : Type 0} (Happened Kept : OfPlaced) (Encodes : Taking) (Fault : Refusing) (Needs : Needing) (before : List Operator)
+pub record ReadsRest {X : Type 0} (Happened Kept : OfPlaced) (Encodes : Taking) (Fault : Refusing) (Allocates : Allocating) (before : List Operator)
     (result : Result X Error) (old new : State) : Type 0 where
   -- On Ok what came is the rest of the one expression that the bytes encode: the walk of its tree.
   pub tree : OnOk result (SomeCame Happened (ReadsTree before old new))
   -- Where the bytes encode the rest of an expression that is kept, the answer is Ok, unless memory is refused.
   pub only : (whole : Placed) → EncodesRest before (source_of old.reader) whole → Kept whole → IfErr result (λ e. e.message ≡ message.OutOfMemory)
   -- On Err what came is the longest beginning of an expression of those that are kept, and the refusal is of what stands behind it.
-  pub beginning : IfErr result (λ e. SomeCame Happened (ReadsBeginning Kept Encodes Fault Needs before e old new))
+  pub beginning : IfErr result (λ e. SomeCame Happened (ReadsBeginning Kept Encodes Fault Allocates before e old new))
   -- Data that more bytes would make such an expression is refused by its end alone.
   pub cut : IsCut Kept before (source_of old.reader) → IfErr result (λ e. CutFault e.message (rest new.reader))
   -- Where all of it was taken and frames are open, as many bytes 0b complete it.

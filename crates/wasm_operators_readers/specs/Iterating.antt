@@ -1,5 +1,5 @@
 -- Reading operators one after another by iterators.
-use Rattle.std.specs.Prelude.{◌≡◌, ℕ, cond, Bool, true, false, [], length, Option, None, Some, Result, Ok, Err, is_err, ◌⊎◌}
+use Rattle.std.specs.Prelude.{◌≡◌, ℕ, if◌then◌else◌, Bool, true, false, [], length, Option, None, Some, Result, Ok, Err, is_err, ◌⊎◌}
 use Rattle.std.specs.Iterator.{Count, at_most}
 use Rattle.wasm_decode.specs.below.bytes.error.Error.{Error}
 use Rattle.wasm_decode.specs.below.Source.{rest, offset_of}
@@ -32,4 +32,4 @@ StepsBy Reads old (Some item) new = (HasEnded old → ⊥) × Reads item old.rea
 
 -- At most as many items come as bytes are left, and none behind a refusal.
 abbrev pub items_to_come : Iterating → Count
-items_to_come i = at_most (cond i.refused 0 (length (rest i.reader.reader)))
+items_to_come i = at_most (if i.refused then 0 else length (rest i.reader.reader))

@@ -5,34 +5,34 @@ use Rattle.wasm_decode.specs.grammar.declared.frame_kind.FrameKind.{FrameKind}
 use Rattle.wasm_decode.specs.grammar.Frames.{innermost}
 use Rattle.wasm_decode.specs.instr.declared.operator.Operator.{Operator}
 use Rattle.wasm_decode.specs.below.Source.{Reader, at_position}
-use Rattle.wasm_decode.specs.opcodes.Allowed.{EncodesAllowed, EncodesPlain}
+use Rattle.wasm_decode.specs.opcodes.Allowed.{EncodesAllowed, EncodesScalar}
 use Rattle.wasm_decode.specs.opcodes.Decoding.{StandsBehind}
-use Rattle.wasm_decode.specs.opcodes.OperatorFaults.{OperatorFault, PlainOperatorFault}
-use Rattle.wasm_decode.specs.opcodes.Refused.{NeedsMemory}
+use Rattle.wasm_decode.specs.opcodes.OperatorFaults.{OperatorFault, ScalarOperatorFault}
+use Rattle.wasm_decode.specs.opcodes.Refused.{MayAllocate}
 use Rattle.wasm_operators_readers.specs.declared.step.FrameStep.{FrameStep}
 use Rattle.wasm_operators_readers.specs.Stack.{OpenFrames}
 use Rattle.wasm_operators_readers.specs.Step.{step_at, Opens}
-use Rattle.wasm_operators_readers.specs.Reading.{Taking, Refusing, Needing, State, NeedsRoom, IsUnchanged, StopsRead, ReadsOperator, VisitsOperator}
+use Rattle.wasm_operators_readers.specs.Reading.{Taking, Refusing, Allocating, State, FrameMayAllocate, IsUnchanged, StopsRead, ReadsOperator, VisitsOperator}
 
 -- The next operator may own a list, which asks for memory.
-abbrev pub NeedsList : Taking → Needing
-NeedsList Encodes s = (kind : FrameKind) × (innermost s.frames ≡ Some kind) × NeedsMemory (Encodes s.reader.features kind) s.reader
+abbrev pub ListMayAllocate : Taking → Allocating
+ListMayAllocate Encodes s = (kind : FrameKind) × (innermost s.frames ≡ Some kind) × MayAllocate (Encodes s.reader.features kind) s.reader
 
 -- Memory may be refused to the frame that the next operator opens, where no room is left, or to the list that it owns.
-abbrev pub NeedsNext : Taking → Needing
-NeedsNext Encodes s = NeedsRoom s ⊎ NeedsList Encodes s
+abbrev pub NextMayAllocate : Taking → Allocating
+NextMayAllocate Encodes s = FrameMayAllocate s ⊎ ListMayAllocate Encodes s
 
 -- One read.
 abbrev pub ReadsNext : Result Operator Error → State → State → Type 0
-ReadsNext = ReadsOperator EncodesAllowed OperatorFault (NeedsNext EncodesAllowed)
+ReadsNext = ReadsOperator EncodesAllowed OperatorFault (NextMayAllocate EncodesAllowed)
 
 -- One visit, of a visitor that takes every operator.
 abbrev pub VisitsNext : {V A : Type 0} → (V → Operator → A → V → Type 0) → Result A Error → State → State → V → V → Type 0
-VisitsNext visits = VisitsOperator visits EncodesAllowed OperatorFault (NeedsNext EncodesAllowed)
+VisitsNext visits = VisitsOperator visits EncodesAllowed OperatorFault (NextMayAllocate EncodesAllowed)
 
 -- One visit, of a visitor that takes no vector operator.
-abbrev pub VisitsNextPlain : {V A : Type 0} → (V → Operator → A → V → Type 0) → Result A Error → State → State → V → V → Type 0
-VisitsNextPlain visits = VisitsOperator visits EncodesPlain PlainOperatorFault (NeedsNext EncodesPlain)
+abbrev pub VisitsNextScalar : {V A : Type 0} → (V → Operator → A → V → Type 0) → Result A Error → State → State → V → V → Type 0
+VisitsNextScalar visits = VisitsOperator visits EncodesScalar ScalarOperatorFault (NextMayAllocate EncodesScalar)
 
 -- A reader and its stack of open frames.
 abbrev pub state_of : Reader → OpenFrames → State
@@ -40,7 +40,7 @@ state_of r s = record { reader = r; frames = s.frames; room = s.room }
 
 -- Nothing changed, but that there may be more room, and the error is that of what stands there.
 abbrev pub StopsNext : Taking → Refusing → Error → State → State → Type 0
-StopsNext Encodes Fault e old new = IsUnchanged old new × StopsRead Encodes Fault (NeedsNext Encodes) e new
+StopsNext Encodes Fault e old new = IsUnchanged old new × StopsRead Encodes Fault (NextMayAllocate Encodes) e new
 
 -- The opcode of the next operator was read, from the position `start` on, and room was made for its step; nothing else changed.
 pub record BeginsOperator (old new : State) (kind : FrameKind) (start code : ℕ) (s : FrameStep) : Type 0 where

@@ -30,8 +30,8 @@ pub record State : Type 0 where
   pub room : ℕ
 
 -- Where memory may be refused.
-abbrev pub Needing : Type 1
-Needing = State → Type 0
+abbrev pub Allocating : Type 1
+Allocating = State → Type 0
 
 -- A reader that has read nothing: the frame of the expression is open.
 abbrev pub IsFresh : State → Type 0
@@ -64,33 +64,33 @@ pub record IsRefusedThere (Encodes : Taking) (Fault : Refusing) (e : Error) (s :
   pub fault : Fault s.reader.features kind e.message s.reader e.offset
 
 -- Memory was refused, which is possible there.
-abbrev pub NoMemory : Needing → Error → State → Type 0
-NoMemory Needs e s = (e.message ≡ message.OutOfMemory) × (e.offset ≡ offset_of s.reader) × Needs s
+abbrev pub NoMemory : Allocating → Error → State → Type 0
+NoMemory Allocates e s = (e.message ≡ message.OutOfMemory) × (e.offset ≡ offset_of s.reader) × Allocates s
 
 -- Memory may be refused anywhere.
-abbrev pub Anywhere : Needing
+abbrev pub Anywhere : Allocating
 Anywhere s = Unit {0}
 
 -- Memory may be refused to the frame that the next operator opens inside the open ones: no room is left.
-abbrev pub NeedsRoom : Needing
-NeedsRoom s = (kind : FrameKind) × (innermost s.frames ≡ Some kind) × (byte : ℕ) × BeginsWith byte (rest s.reader) × LeadsFrame byte × (s.room ≡ 0)
+abbrev pub FrameMayAllocate : Allocating
+FrameMayAllocate s = (kind : FrameKind) × (innermost s.frames ≡ Some kind) × (byte : ℕ) × BeginsWith byte (rest s.reader) × LeadsFrame byte × (s.room ≡ 0)
 
 -- What is so where a read answers this error.
-abbrev pub StopsRead : Taking → Refusing → Needing → Error → State → Type 0
-StopsRead Encodes Fault Needs e s = NoFrameOpen e s ⊎ (IsRefusedThere Encodes Fault e s ⊎ NoMemory Needs e s)
+abbrev pub StopsRead : Taking → Refusing → Allocating → Error → State → Type 0
+StopsRead Encodes Fault Allocates e s = NoFrameOpen e s ⊎ (IsRefusedThere Encodes Fault e s ⊎ NoMemory Allocates e s)
 
 -- One read. Where it is refused, what is said of the refusal holds of the reader as it stands then.
-abbrev pub ReadsOperator : Taking → Refusing → Needing → Result Operator Error → State → State → Type 0
-ReadsOperator Encodes Fault Needs (Ok op) old new = TakesOperator Encodes op old new
-ReadsOperator Encodes Fault Needs (Err e) old new = IsUnchanged old new × StopsRead Encodes Fault Needs e new
+abbrev pub ReadsOperator : Taking → Refusing → Allocating → Result Operator Error → State → State → Type 0
+ReadsOperator Encodes Fault Allocates (Ok op) old new = TakesOperator Encodes op old new
+ReadsOperator Encodes Fault Allocates (Err e) old new = IsUnchanged old new × StopsRead Encodes Fault Allocates e new
 
 -- One visit, with the visitor before and after it. None is made of an operator that is refused.
-abbrev pub VisitsOperator : {V A : Type 0} → (V → Operator → A → V → Type 0) → Taking → Refusing → Needing → Result A Error → State → State → V → V → Type 0
-VisitsOperator visits Encodes Fault Needs (Ok a) old new before after = (op : Operator) × TakesOperator Encodes op old new × visits before op a after
-VisitsOperator visits Encodes Fault Needs (Err e) old new before after = IsUnchanged old new × (after ≡ before) × StopsRead Encodes Fault Needs e new
+abbrev pub VisitsOperator : {V A : Type 0} → (V → Operator → A → V → Type 0) → Taking → Refusing → Allocating → Result A Error → State → State → V → V → Type 0
+VisitsOperator visits Encodes Fault Allocates (Ok a) old new before after = (op : Operator) × TakesOperator Encodes op old new × visits before op a after
+VisitsOperator visits Encodes Fault Allocates (Err e) old new before after = IsUnchanged old new × (after ≡ before) × StopsRead Encodes Fault Allocates e new
 
 -- Reads of these operators, one after another.
-pub record Ran (old new : State) (placed : Placed) : Type 0 where
+pub record TakesOperators (old new : State) (placed : Placed) : Type 0 where
   pub text : List ℕ
   pub takes : Takes old.reader new.reader text
   pub laid : LaidOut old.reader.features (offset_of old.reader) placed text
@@ -98,15 +98,19 @@ pub record Ran (old new : State) (placed : Placed) : Type 0 where
   pub room : old.room ≤ new.room + opened_along placed
 
 -- What is so where finishing answers this refusal, at the position.
-abbrev pub StopsFinish : Message → State → Type 0
-StopsFinish message.FramesRemain s = s.frames ≡ [] → ⊥
-StopsFinish message.UnexpectedData s = (s.frames ≡ []) × (rest s.reader ≡ [] → ⊥)
-StopsFinish _ s = ⊥
+abbrev pub StopsFinish : Message → Type 0 → Reader → Type 0
+StopsFinish message.FramesRemain Closed r = Closed → ⊥
+StopsFinish message.UnexpectedData Closed r = Closed × (rest r ≡ [] → ⊥)
+StopsFinish _ Closed r = ⊥
 
--- Finishing succeeds exactly where no frame is open and all data is taken.
+-- An expression ends here: Ok exactly where its frames are closed, as the second word says, and all data is taken.
+abbrev pub EndsExpression : {X : Type 0} → Result X Error → Type 0 → Reader → Type 0
+EndsExpression (Ok x) Closed r = Closed × (rest r ≡ [])
+EndsExpression (Err e) Closed r = (e.offset ≡ offset_of r) × StopsFinish e.message Closed r
+
+-- The same of a reader that keeps the open frames.
 abbrev pub Finishes : {X : Type 0} → Result X Error → State → Type 0
-Finishes (Ok x) s = (s.frames ≡ []) × (rest s.reader ≡ [])
-Finishes (Err e) s = (e.offset ≡ offset_of s.reader) × StopsFinish e.message s
+Finishes result s = EndsExpression result (s.frames ≡ []) s.reader
 
 -- All data is taken, and a frame is open.
 abbrev pub FramesLeft : Error → State → Type 0
@@ -114,18 +118,18 @@ FramesLeft e s = (rest s.reader ≡ []) × (s.frames ≡ [] → ⊥) × (e.messa
 
 -- What is so where reading to the end answers this error: frames are left at the end of the data; or data is left, and what stands there is refused, or
 -- memory is.
-abbrev pub StopsRun : Taking → Refusing → Needing → Error → State → Type 0
-StopsRun Encodes Fault Needs e s = FramesLeft e s ⊎ ((rest s.reader ≡ [] → ⊥) × StopsRead Encodes Fault Needs e s)
+abbrev pub StopsRun : Taking → Refusing → Allocating → Error → State → Type 0
+StopsRun Encodes Fault Allocates e s = FramesLeft e s ⊎ ((rest s.reader ≡ [] → ⊥) × StopsRead Encodes Fault Allocates e s)
 
-abbrev pub EndsRun : {X : Type 0} → Taking → Refusing → Needing → Result X Error → State → Type 0
-EndsRun Encodes Fault Needs (Ok x) s = (s.frames ≡ []) × (rest s.reader ≡ [])
-EndsRun Encodes Fault Needs (Err e) s = StopsRun Encodes Fault Needs e s
+abbrev pub EndsRun : {X : Type 0} → Taking → Refusing → Allocating → Result X Error → State → Type 0
+EndsRun Encodes Fault Allocates (Ok x) s = (s.frames ≡ []) × (rest s.reader ≡ [])
+EndsRun Encodes Fault Allocates (Err e) s = StopsRun Encodes Fault Allocates e s
 
 -- The list was added to another.
 abbrev pub Adds : Placed → Placed → Placed → Type 0
 Adds out_old out_new placed = out_new ≡ out_old ++ placed
 
 -- Reading or visiting to the end: which operators came, what happened to them, and why no more.
-abbrev pub RunsToEnd : {X : Type 0} → OfPlaced → Taking → Refusing → Needing → Result X Error → State → State → Type 0
-RunsToEnd Happened Encodes Fault Needs result old new =
-    (placed : Placed) × Happened placed × Ran old new placed × EndsRun Encodes Fault Needs result new
+abbrev pub RunsToEnd : {X : Type 0} → OfPlaced → Taking → Refusing → Allocating → Result X Error → State → State → Type 0
+RunsToEnd Happened Encodes Fault Allocates result old new =
+    (placed : Placed) × Happened placed × TakesOperators old new placed × EndsRun Encodes Fault Allocates result new

@@ -1,8 +1,6 @@
 -- Open frames, and the room for more of them.
 -- WebAssembly Core Specification 3.0: Appendix, Validation Algorithm, control frames.
 use Rattle.std.specs.Prelude.{◌≡◌, ℕ, ◌<◌, List, [], ◌⊎◌}
-use Rattle.wasm_decode.specs.below.bytes.error.Error.{Error}
-use Rattle.wasm_decode.specs.below.bytes.message.Message.TheVariants as message
 use Rattle.wasm_decode.specs.grammar.declared.frame_kind.FrameKind.{FrameKind}
 
 -- The open frames, from the outermost to the innermost, and how many more can be opened without asking for memory.
@@ -13,7 +11,3 @@ pub record OpenFrames : Type 0 where
 -- One frame more can be opened without asking for memory: none is open, or there is room.
 abbrev pub HasRoom : OpenFrames → Type 0
 HasRoom s = (s.frames ≡ []) ⊎ (0 < s.room)
-
--- Memory was refused to a call that reads nothing.
-abbrev pub IsOutOfMemory : Error → Type 0
-IsOutOfMemory e = (e.message ≡ message.OutOfMemory) × (e.offset ≡ 0)

@@ -3,7 +3,7 @@
 -- control frames.
 -- The opcodes of step_at: Binary Format, Instructions, Control Instructions and Expressions.
 -- The legacy exception handling proposal: try, catch, catch_all and delegate.
-use Rattle.std.specs.Prelude.{ℕ, cond, eqb}
+use Rattle.std.specs.Prelude.{ℕ, ◌==◌, if◌then◌else◌}
 use Rattle.wasm_decode.specs.grammar.Role.{Role, block, loop, try_table, plain, opens, opens_if, opens_try, turns_else, turns_catch, turns_catch_all, delegates, ends}
 use Rattle.wasm_operators_readers.specs.declared.step.FrameStep.{FrameStep}
 use Rattle.wasm_operators_readers.specs.declared.step.FrameStep.TheVariants as step
@@ -48,14 +48,14 @@ Opens _ = ⊥
 -- The step of the operators that begin with this byte.
 abbrev pub step_at : ℕ → FrameStep
 step_at byte =
-    cond (eqb byte 0x02) step.OpensBlock
-    (cond (eqb byte 0x03) step.OpensLoop
-    (cond (eqb byte 0x04) step.OpensIf
-    (cond (eqb byte 0x05) step.TurnsElse
-    (cond (eqb byte 0x06) step.OpensTry
-    (cond (eqb byte 0x07) step.TurnsCatch
-    (cond (eqb byte 0x0b) step.Ends
-    (cond (eqb byte 0x18) step.Delegates
-    (cond (eqb byte 0x19) step.TurnsCatchAll
-    (cond (eqb byte 0x1f) step.OpensTryTable
-    step.Stays)))))))))
+    if byte == 0x02 then step.OpensBlock else (
+    if byte == 0x03 then step.OpensLoop else (
+    if byte == 0x04 then step.OpensIf else (
+    if byte == 0x05 then step.TurnsElse else (
+    if byte == 0x06 then step.OpensTry else (
+    if byte == 0x07 then step.TurnsCatch else (
+    if byte == 0x0b then step.Ends else (
+    if byte == 0x18 then step.Delegates else (
+    if byte == 0x19 then step.TurnsCatchAll else (
+    if byte == 0x1f then step.OpensTryTable else (
+    step.Stays))))))))))

@@ -1,6 +1,6 @@
 -- Visitors along lists of operators, and lists without vector operators.
 -- WebAssembly Core Specification 3.0: Binary Format, Instructions, Vector Instructions.
-use Rattle.std.specs.Prelude.{◌≡◌, Bool, true, false, cond, List, [], ◌∷◌}
+use Rattle.std.specs.Prelude.{◌≡◌, Bool, true, false, if◌then◌else◌, List, [], ◌∷◌}
 use Rattle.wasm_decode.specs.instr.declared.operator.Operator.{Operator}
 use Rattle.wasm_decode.specs.instr.declared.operator.Operator.TheVariants as operator
 use Rattle.wasm_operators_readers.specs.Expression.{Placed}
@@ -21,14 +21,14 @@ is_vector (operator.Simd _) = true
 is_vector _ = false
 
 -- The longest beginning of a list that has no vector operator.
-abbrev pub plain_beginning : Placed → Placed
-plain_beginning [] = []
-plain_beginning (p ∷ ps) = cond (is_vector p.0) [] (p ∷ plain_beginning ps)
+abbrev pub scalar_beginning : Placed → Placed
+scalar_beginning [] = []
+scalar_beginning (p ∷ ps) = if is_vector p.0 then [] else (p ∷ scalar_beginning ps)
 
 -- The list has no vector operator.
-abbrev pub IsPlain : Placed → Type 0
-IsPlain placed = plain_beginning placed ≡ placed
+abbrev pub IsScalar : Placed → Type 0
+IsScalar placed = scalar_beginning placed ≡ placed
 
 -- A list without vector operators was visited.
-abbrev pub VisitedPlain : {V A : Type 0} → (V → Operator → A → V → Type 0) → V → V → Placed → Type 0
-VisitedPlain visits before after placed = Visited visits before after placed × IsPlain placed
+abbrev pub VisitedScalar : {V A : Type 0} → (V → Operator → A → V → Type 0) → V → V → Placed → Type 0
+VisitedScalar visits before after placed = Visited visits before after placed × IsScalar placed

@@ -1,6 +1,6 @@
 //! Memory for frames that are not open yet.
 ghost use Rattle.std.specs.Prelude.{◌≡◌, ◌≤◌, [], IsOk, OnOk, IfErr, vec_capacity};
-ghost use Rattle.wasm_operators_readers.specs.Stack.{IsOutOfMemory};
+ghost use Rattle.wasm_decode.specs.imm.OutOfMemory.{IsOutOfMemoryAt};
 
 use std::alloc::Global;
 use std::marker::Model;
@@ -42,7 +42,7 @@ impl OperatorsReaderAllocations {
         ensures room { OnOk result (frames ≤ self.new) }
         ensures kept { self.old ≤ self.new }
         ensures enough { frames ≤ self.old → IsOk result }
-        ensures refused { IfErr result (λ e. IsOutOfMemory e × (self.new ≡ self.old)) }
+        ensures refused { IfErr result (λ e. IsOutOfMemoryAt 0 e × (self.new ≡ self.old)) }
     {
         if self.frames.reserve(frames).is_err() {
             return Err(Error::new(Message::OutOfMemory, 0));

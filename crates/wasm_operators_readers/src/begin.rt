@@ -2,8 +2,8 @@
 //! the step, behind them.
 ghost use Rattle.std.specs.Prelude.{◌≡◌, ◌+◌, ◌≤◌, Some, IsSome, IfOk, IfErr};
 ghost use Rattle.wasm_decode.specs.grammar.Frames.{frames_after};
-ghost use Rattle.wasm_decode.specs.opcodes.Allowed.{EncodesAllowed, EncodesPlain};
-ghost use Rattle.wasm_decode.specs.opcodes.OperatorFaults.{OperatorFault, PlainOperatorFault};
+ghost use Rattle.wasm_decode.specs.opcodes.Allowed.{EncodesAllowed, EncodesScalar};
+ghost use Rattle.wasm_decode.specs.opcodes.OperatorFaults.{OperatorFault, ScalarOperatorFault};
 ghost use Rattle.wasm_operators_readers.specs.Stack.{HasRoom};
 ghost use Rattle.wasm_operators_readers.specs.Step.{Opens, role_of_step, step_at};
 ghost use Rattle.wasm_operators_readers.specs.Next.{BeginsOperator, StopsNext, state_of};
@@ -35,8 +35,8 @@ pub fn begin(reader: &mut BinaryReader<'_>, control: &mut ControlStack) -> Resul
     ensures refused { IfErr result
         (λ e. StopsNext EncodesAllowed OperatorFault e (state_of reader.old control.old)
         (state_of reader.new control.new)) }
-    ensures plain { IfErr result
-        (λ e. StopsNext EncodesPlain PlainOperatorFault e (state_of reader.old control.old)
+    ensures scalar { IfErr result
+        (λ e. StopsNext EncodesScalar ScalarOperatorFault e (state_of reader.old control.old)
         (state_of reader.new control.new)) }
 {
     let Some(frame) = control.last() else {

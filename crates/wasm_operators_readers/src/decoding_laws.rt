@@ -3,9 +3,9 @@ ghost use Rattle.std.specs.Prelude.{◌≡◌, ◌↔◌, ℕ, []};
 ghost use Rattle.wasm_decode.specs.below.bytes.error.Error.{Error};
 ghost use Rattle.wasm_decode.specs.below.Refusal.{IsReadFault};
 ghost use Rattle.wasm_decode.specs.below.Source.{Reader, rest, BeginsWith};
-ghost use Rattle.wasm_decode.specs.opcodes.Allowed.{EncodesAllowed, EncodesPlain};
-ghost use Rattle.wasm_decode.specs.opcodes.OperatorFaults.{OperatorFault, PlainOperatorFault};
-ghost use Rattle.wasm_operators_readers.specs.Next.{NeedsNext};
+ghost use Rattle.wasm_decode.specs.opcodes.Allowed.{EncodesAllowed, EncodesScalar};
+ghost use Rattle.wasm_decode.specs.opcodes.OperatorFaults.{OperatorFault, ScalarOperatorFault};
+ghost use Rattle.wasm_operators_readers.specs.Next.{NextMayAllocate};
 ghost use Rattle.wasm_operators_readers.specs.Reading.{State, StopsRun, Anywhere};
 
 use wasm_decode::below::{Message, WasmFeatures};
@@ -15,13 +15,13 @@ use wasm_decode::grammar::FrameKind;
 /// the expression, or about memory.
 pub fn refusal_messages(features: WasmFeatures, frame: FrameKind)
     ensures any { (m : Message) (r : Reader) (offset : ℕ) → OperatorFault features frame m r offset → IsReadFault m }
-    ensures plain { (m : Message) (r : Reader) (offset : ℕ) → PlainOperatorFault features frame m r offset
+    ensures scalar { (m : Message) (r : Reader) (offset : ℕ) → ScalarOperatorFault features frame m r offset
         → IsReadFault m }
 {}
 
 /// The prefix byte of vector operators has a refusal of its own, where none is taken.
 pub fn vector_refusals(features: WasmFeatures, frame: FrameKind)
-    ensures { (m : Message) (r : Reader) (offset : ℕ) → PlainOperatorFault features frame m r offset
+    ensures { (m : Message) (r : Reader) (offset : ℕ) → ScalarOperatorFault features frame m r offset
         → BeginsWith 0xfd (rest r) → m ≡ Message.UnexpectedSimd }
 {}
 
@@ -33,12 +33,16 @@ pub fn run_messages()
         → (e.message ≡ Message.OutOfMemory → ⊥) → (e.message ≡ Message.OperatorsRemaining) ↔ (s.frames ≡ []) }
     ensures left { (e : Error) (s : State) → StopsRun EncodesAllowed OperatorFault Anywhere e s
         → (e.message ≡ Message.FramesRemain) ↔ ((rest s.reader ≡ []) × (s.frames ≡ [] → ⊥)) }
-    ensures visits_closed { (e : Error) (s : State) → StopsRun EncodesAllowed OperatorFault (NeedsNext EncodesAllowed) e s
+    ensures visits_closed { (e : Error) (s : State)
+        → StopsRun EncodesAllowed OperatorFault (NextMayAllocate EncodesAllowed) e s
         → (e.message ≡ Message.OutOfMemory → ⊥) → (e.message ≡ Message.OperatorsRemaining) ↔ (s.frames ≡ []) }
-    ensures visits_left { (e : Error) (s : State) → StopsRun EncodesAllowed OperatorFault (NeedsNext EncodesAllowed) e s
+    ensures visits_left { (e : Error) (s : State)
+        → StopsRun EncodesAllowed OperatorFault (NextMayAllocate EncodesAllowed) e s
         → (e.message ≡ Message.FramesRemain) ↔ ((rest s.reader ≡ []) × (s.frames ≡ [] → ⊥)) }
-    ensures plain_closed { (e : Error) (s : State) → StopsRun EncodesPlain PlainOperatorFault (NeedsNext EncodesPlain) e s
+    ensures scalar_closed { (e : Error) (s : State)
+        → StopsRun EncodesScalar ScalarOperatorFault (NextMayAllocate EncodesScalar) e s
         → (e.message ≡ Message.OutOfMemory → ⊥) → (e.message ≡ Message.OperatorsRemaining) ↔ (s.frames ≡ []) }
-    ensures plain_left { (e : Error) (s : State) → StopsRun EncodesPlain PlainOperatorFault (NeedsNext EncodesPlain) e s
+    ensures scalar_left { (e : Error) (s : State)
+        → StopsRun EncodesScalar ScalarOperatorFault (NextMayAllocate EncodesScalar) e s
         → (e.message ≡ Message.FramesRemain) ↔ ((rest s.reader ≡ []) × (s.frames ≡ [] → ⊥)) }
 {}

@@ -1,11 +1,11 @@
 //! Reading and visiting to the end of the data.
 ghost use Rattle.std.specs.Prelude.{◌≡◌, ◌+◌, ◌<◌, List, ◌⊎◌, IfErr, vec_capacity, vec_len};
 ghost use Rattle.wasm_decode.specs.instr.declared.operator.Operator.{Operator};
-ghost use Rattle.wasm_decode.specs.opcodes.Allowed.{EncodesAllowed, EncodesPlain};
-ghost use Rattle.wasm_decode.specs.opcodes.OperatorFaults.{OperatorFault, PlainOperatorFault};
-ghost use Rattle.wasm_operators_readers.specs.Next.{NeedsNext};
+ghost use Rattle.wasm_decode.specs.opcodes.Allowed.{EncodesAllowed, EncodesScalar};
+ghost use Rattle.wasm_decode.specs.opcodes.OperatorFaults.{OperatorFault, ScalarOperatorFault};
+ghost use Rattle.wasm_operators_readers.specs.Next.{NextMayAllocate};
 ghost use Rattle.wasm_operators_readers.specs.Expression.{IsAny};
-ghost use Rattle.wasm_operators_readers.specs.Visiting.{Visited, VisitedPlain, IsPlain};
+ghost use Rattle.wasm_operators_readers.specs.Visiting.{Visited, VisitedScalar, IsScalar};
 ghost use Rattle.wasm_operators_readers.specs.Reading.{RunsToEnd, Adds, Anywhere};
 ghost use Rattle.wasm_operators_readers.specs.Headline.{StoodBefore, ReadsRest, ReadsFlat, IsWithinDepth};
 
@@ -21,7 +21,7 @@ impl<'a> OperatorsReader<'a> {
             result self.old self.new }
         ensures memory { IfErr result
             (λ e. e.message ≡ Message.OutOfMemory
-            → NeedsNext EncodesAllowed self.new ⊎ (vec_capacity out.new < vec_len out.new + 1)) }
+            → NextMayAllocate EncodesAllowed self.new ⊎ (vec_capacity out.new < vec_len out.new + 1)) }
     {
         'operators: while !self.eof() {
             let offset = self.original_position();
@@ -69,7 +69,7 @@ impl<'a> OperatorsReader<'a> {
         // Memory is refused only where one read may ask for it, or where `out` is full.
         ensures memory { IfErr result
             (λ e. e.message ≡ Message.OutOfMemory
-            → NeedsNext EncodesAllowed self.new ⊎ (vec_capacity out.new < vec_len out.new + 1)) }
+            → NextMayAllocate EncodesAllowed self.new ⊎ (vec_capacity out.new < vec_len out.new + 1)) }
     {
         self.read_to_end(out)
     }
@@ -79,7 +79,7 @@ impl<'a> OperatorsReader<'a> {
     where
         V: VisitOperator<'a> + VisitSimdOperator,
         V::Output: Copy,
-        ensures { RunsToEnd (Visited V.visits v.old v.new) EncodesAllowed OperatorFault (NeedsNext EncodesAllowed)
+        ensures { RunsToEnd (Visited V.visits v.old v.new) EncodesAllowed OperatorFault (NextMayAllocate EncodesAllowed)
             result self.old self.new }
     {
         'visits: while !self.eof() {
@@ -97,6 +97,14 @@ impl<'a> OperatorsReader<'a> {
     /// Refusals are those of `visit_operator_simd` and `finish`. The reader then stands behind what
     /// was visited, and the call can be made again. The clauses are those of `read_all`, of what was
     /// visited.
+    ///
+    /// # Examples
+    ///
+    /// ```
+    /// let mut count = Count { operators: 0 };
+    /// let mut reader = OperatorsReader::new(alloc, BinaryReader::new_features(bytes, 0, features));
+    /// reader.visit_all_simd(&mut count)?;
+    /// ```
     pub fn visit_all_simd<V>(&mut self, v: &mut V) -> Result<()>
     where
         V: VisitOperator<'a> + VisitSimdOperator,
@@ -104,10 +112,12 @@ impl<'a> OperatorsReader<'a> {
         // On Ok the visitor went along the walk of the one tree that the bytes encode; else along the longest beginning
         // of one.
         ensures rest { (before : List Operator) → StoodBefore before self.old
-            → ReadsRest (Visited V.visits v.old v.new) IsAny EncodesAllowed OperatorFault (NeedsNext EncodesAllowed)
+            → ReadsRest (Visited V.visits v.old v.new) IsAny EncodesAllowed OperatorFault
+            (NextMayAllocate EncodesAllowed)
             before result self.old self.new }
         // Whatever was read before: which operators were visited, where the reader stands, and why no more came.
-        ensures runs { RunsToEnd (Visited V.visits v.old v.new) EncodesAllowed OperatorFault (NeedsNext EncodesAllowed)
+        ensures runs { RunsToEnd (Visited V.visits v.old v.new) EncodesAllowed OperatorFault
+            (NextMayAllocate EncodesAllowed)
             result self.old self.new }
         // The same without trees, by the frames alone.
         ensures flat { ReadsFlat (Visited V.visits v.old v.new) IsAny result self.old }
@@ -121,10 +131,11 @@ impl<'a> OperatorsReader<'a> {
     fn visit_to_end<V: VisitOperator<'a>>(&mut self, v: &mut V) -> Result<()>
     where
         V::Output: Copy,
-        ensures { RunsToEnd (VisitedPlain V.visits v.old v.new) EncodesPlain PlainOperatorFault (NeedsNext EncodesPlain)
+        ensures { RunsToEnd (VisitedScalar V.visits v.old v.new) EncodesScalar ScalarOperatorFault
+            (NextMayAllocate EncodesScalar)
             result self.old self.new }
     {
-        'plain_visits: while !self.eof() {
+        'scalar_visits: while !self.eof() {
             match self.visit_operator(v) {
                 Ok(_) => {}
                 Err(e) => return Err(e),
@@ -145,14 +156,14 @@ impl<'a> OperatorsReader<'a> {
         // On Ok the visitor went along the walk of the one tree that the bytes encode, which has no vector operator;
         // else along the longest beginning of one that has none, and a vector operator behind it is refused as such.
         ensures rest { (before : List Operator) → StoodBefore before self.old
-            → ReadsRest (VisitedPlain V.visits v.old v.new) IsPlain EncodesPlain PlainOperatorFault
-            (NeedsNext EncodesPlain) before result self.old self.new }
+            → ReadsRest (VisitedScalar V.visits v.old v.new) IsScalar EncodesScalar ScalarOperatorFault
+            (NextMayAllocate EncodesScalar) before result self.old self.new }
         // Whatever was read before: which operators were visited, none a vector operator, where the reader stands, and
         // why no more came.
-        ensures runs { RunsToEnd (VisitedPlain V.visits v.old v.new) EncodesPlain PlainOperatorFault
-            (NeedsNext EncodesPlain) result self.old self.new }
+        ensures runs { RunsToEnd (VisitedScalar V.visits v.old v.new) EncodesScalar ScalarOperatorFault
+            (NextMayAllocate EncodesScalar) result self.old self.new }
         // The same without trees, by the frames alone.
-        ensures flat { ReadsFlat (VisitedPlain V.visits v.old v.new) IsPlain result self.old }
+        ensures flat { ReadsFlat (VisitedScalar V.visits v.old v.new) IsScalar result self.old }
         // Few frames are opened.
         ensures depth { IsWithinDepth self.old self.new }
     {

@@ -10,7 +10,7 @@ ghost use Rattle.wasm_operators_readers.specs.Expression.{Placed, LaidOut, AreEn
 ghost use Rattle.wasm_operators_readers.specs.Flat.{IsFlatOf, IsFlatFrom, IsFlatBeginning};
 ghost use Rattle.wasm_operators_readers.specs.Headline.{ClosesFrom};
 ghost use Rattle.wasm_operators_readers.specs.Openings.{opened_by, LeadsFrame};
-ghost use Rattle.wasm_operators_readers.specs.Visiting.{plain_beginning, IsPlain};
+ghost use Rattle.wasm_operators_readers.specs.Visiting.{scalar_beginning, IsScalar};
 
 use wasm_decode::below::WasmFeatures;
 
@@ -54,27 +54,27 @@ pub fn flat_beginnings()
     ensures { (s : Source) (placed : Placed) → IsFlatBeginning s placed ↔ IsLongestBeginning s placed }
 {}
 
-/// The plain beginning of a list is the longest one that has no vector operator.
-pub fn plain_beginnings()
-    ensures beginning { (placed : Placed) → IsBeginningOf (plain_beginning placed) placed }
+/// The scalar beginning of a list is the longest one that has no vector operator.
+pub fn scalar_beginnings()
+    ensures beginning { (placed : Placed) → IsBeginningOf (scalar_beginning placed) placed }
     ensures none { (placed before after : Placed) (op : Operator) (at : ℕ)
-        → plain_beginning placed ≡ before ++ (op, at) ∷ after → ¬ IsVector op }
+        → scalar_beginning placed ≡ before ++ (op, at) ∷ after → ¬ IsVector op }
     ensures longest { (placed others : Placed)
-        → IsBeginningOf others placed → IsPlain others → IsBeginningOf others (plain_beginning placed) }
+        → IsBeginningOf others placed → IsScalar others → IsBeginningOf others (scalar_beginning placed) }
 {}
 
-/// The longest beginning without vector operators is the plain beginning of the longest one, and each
+/// The longest beginning without vector operators is the scalar beginning of the longest one, and each
 /// beginning without them is a beginning of that; by frames alone too. That it takes all of the bytes
-/// and closes every frame, the longest does where it is plain.
-pub fn plain_longest()
+/// and closes every frame, the longest does where it is scalar.
+pub fn scalar_longest()
     ensures exactly { (before : List Operator) (s : Source) (longest placed : Placed) → IsLongestBehind before s longest
-        → IsLongestOf IsPlain before s placed ↔ (placed ≡ plain_beginning longest) }
+        → IsLongestOf IsScalar before s placed ↔ (placed ≡ scalar_beginning longest) }
     ensures part { (before : List Operator) (s : Source) (longest placed : Placed) → IsLongestBehind before s longest
-        → IsBeginningBehind before s placed → IsPlain placed → IsBeginningOf placed (plain_beginning longest) }
+        → IsBeginningBehind before s placed → IsScalar placed → IsBeginningOf placed (scalar_beginning longest) }
     ensures flat { (frames : List FrameKind) (s : Source) (flat : Placed) → IsFlatFrom frames s flat
-        → IsFlatOf IsPlain frames s (plain_beginning flat) }
+        → IsFlatOf IsScalar frames s (scalar_beginning flat) }
     ensures closes { (frames : List FrameKind) (s : Source) (flat : Placed) → IsFlatFrom frames s flat
-        → ClosesFrom frames s (plain_beginning flat) ↔ (ClosesFrom frames s flat × IsPlain flat) }
+        → ClosesFrom frames s (scalar_beginning flat) ↔ (ClosesFrom frames s flat × IsScalar flat) }
 {}
 
 /// Twice the frames that an operator opens is at most the bytes that it takes; and it opens one

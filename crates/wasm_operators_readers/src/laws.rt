@@ -2,13 +2,13 @@
 ghost use Rattle.std.specs.Prelude.{◌≡◌, ◌≢◌, List};
 ghost use Rattle.wasm_decode.specs.below.bytes.error.Error.{Error};
 ghost use Rattle.wasm_decode.specs.instr.declared.operator.Operator.{Operator};
-ghost use Rattle.wasm_decode.specs.opcodes.Allowed.{EncodesAllowed, EncodesPlain};
-ghost use Rattle.wasm_decode.specs.opcodes.OperatorFaults.{OperatorFault, PlainOperatorFault};
-ghost use Rattle.wasm_operators_readers.specs.Next.{NeedsNext, StopsNext};
+ghost use Rattle.wasm_decode.specs.opcodes.Allowed.{EncodesAllowed, EncodesScalar};
+ghost use Rattle.wasm_decode.specs.opcodes.OperatorFaults.{OperatorFault, ScalarOperatorFault};
+ghost use Rattle.wasm_operators_readers.specs.Next.{NextMayAllocate, StopsNext};
 ghost use Rattle.wasm_operators_readers.specs.Expression.{Placed, IsAny};
 ghost use Rattle.wasm_operators_readers.specs.Reading.{State, TakesOperator, Anywhere};
 ghost use Rattle.wasm_operators_readers.specs.Headline.{ReadsBeginning};
-ghost use Rattle.wasm_operators_readers.specs.Visiting.{IsPlain};
+ghost use Rattle.wasm_operators_readers.specs.Visiting.{IsScalar};
 
 use wasm_decode::below::Message;
 
@@ -19,9 +19,9 @@ pub fn refused_again()
         → StopsNext EncodesAllowed OperatorFault d old mid → d.message ≢ Message.OutOfMemory
         → StopsNext EncodesAllowed OperatorFault e mid new → e.message ≢ Message.OutOfMemory
         → (d.message ≡ e.message) × (d.offset ≡ e.offset) }
-    ensures plain { (d e : Error) (old mid new : State)
-        → StopsNext EncodesPlain PlainOperatorFault d old mid → d.message ≢ Message.OutOfMemory
-        → StopsNext EncodesPlain PlainOperatorFault e mid new → e.message ≢ Message.OutOfMemory
+    ensures scalar { (d e : Error) (old mid new : State)
+        → StopsNext EncodesScalar ScalarOperatorFault d old mid → d.message ≢ Message.OutOfMemory
+        → StopsNext EncodesScalar ScalarOperatorFault e mid new → e.message ≢ Message.OutOfMemory
         → (d.message ≡ e.message) × (d.offset ≡ e.offset) }
 {}
 
@@ -30,9 +30,9 @@ pub fn not_taken()
     ensures any { (e : Error) (old mid new : State) (op : Operator)
         → StopsNext EncodesAllowed OperatorFault e old mid → e.message ≢ Message.OutOfMemory
         → ¬ TakesOperator EncodesAllowed op mid new }
-    ensures plain { (e : Error) (old mid new : State) (op : Operator)
-        → StopsNext EncodesPlain PlainOperatorFault e old mid → e.message ≢ Message.OutOfMemory
-        → ¬ TakesOperator EncodesPlain op mid new }
+    ensures scalar { (e : Error) (old mid new : State) (op : Operator)
+        → StopsNext EncodesScalar ScalarOperatorFault e old mid → e.message ≢ Message.OutOfMemory
+        → ¬ TakesOperator EncodesScalar op mid new }
 {}
 
 /// Where reading or visiting to the end is refused, the whole answer is determined, allocation
@@ -47,16 +47,18 @@ pub fn one_answer()
         → (placed ≡ others) × (end.reader ≡ new.reader) × (end.frames ≡ new.frames) × (d.message ≡ e.message)
         × (d.offset ≡ e.offset) }
     ensures visits { (before : List Operator) (d e : Error) (old new end : State) (placed others : Placed)
-        → ReadsBeginning IsAny EncodesAllowed OperatorFault (NeedsNext EncodesAllowed) before d old new placed
+        → ReadsBeginning IsAny EncodesAllowed OperatorFault (NextMayAllocate EncodesAllowed) before d old new placed
         → d.message ≢ Message.OutOfMemory
-        → ReadsBeginning IsAny EncodesAllowed OperatorFault (NeedsNext EncodesAllowed) before e old end others
+        → ReadsBeginning IsAny EncodesAllowed OperatorFault (NextMayAllocate EncodesAllowed) before e old end others
         → e.message ≢ Message.OutOfMemory
         → (placed ≡ others) × (end.reader ≡ new.reader) × (end.frames ≡ new.frames) × (d.message ≡ e.message)
         × (d.offset ≡ e.offset) }
-    ensures plain { (before : List Operator) (d e : Error) (old new end : State) (placed others : Placed)
-        → ReadsBeginning IsPlain EncodesPlain PlainOperatorFault (NeedsNext EncodesPlain) before d old new placed
+    ensures scalar { (before : List Operator) (d e : Error) (old new end : State) (placed others : Placed)
+        → ReadsBeginning IsScalar EncodesScalar ScalarOperatorFault (NextMayAllocate EncodesScalar)
+        before d old new placed
         → d.message ≢ Message.OutOfMemory
-        → ReadsBeginning IsPlain EncodesPlain PlainOperatorFault (NeedsNext EncodesPlain) before e old end others
+        → ReadsBeginning IsScalar EncodesScalar ScalarOperatorFault (NextMayAllocate EncodesScalar)
+        before e old end others
         → e.message ≢ Message.OutOfMemory
         → (placed ≡ others) × (end.reader ≡ new.reader) × (end.frames ≡ new.frames) × (d.message ≡ e.message)
         × (d.offset ≡ e.offset) }

@@ -3,7 +3,7 @@ ghost use Rattle.std.specs.Prelude.{◌≡◌, ◌↔◌, ◌≤◌, ◌∷◌, 
 ghost use Rattle.wasm_decode.specs.below.Source.{rest, offset_of};
 ghost use Rattle.wasm_operators_readers.specs.Reading.{Finishes, IsFresh};
 ghost use Rattle.wasm_operators_readers.specs.Headline.{StoodBefore};
-ghost use Rattle.wasm_operators_readers.specs.Next.{ReadsNext, VisitsNext, VisitsNextPlain};
+ghost use Rattle.wasm_operators_readers.specs.Next.{ReadsNext, VisitsNext, VisitsNextScalar};
 
 mod stack;
 
@@ -40,6 +40,12 @@ impl<'a> Model for OperatorsReader<'a> {
 impl<'a> OperatorsReader<'a> {
     /// A reader of the expression that begins where this reader stands: one frame is open, and no
     /// operator stood before it. It takes no memory.
+    ///
+    /// # Examples
+    ///
+    /// ```
+    /// let mut operators = OperatorsReader::new(alloc, BinaryReader::new(bytes, 0));
+    /// ```
     pub fn new(alloc: Global, reader: BinaryReader<'a>) -> OperatorsReader<'a>
         ensures reader { result.reader ≡ reader.entry }
         ensures fresh { IsFresh result }
@@ -111,6 +117,15 @@ impl<'a> OperatorsReader<'a> {
     /// `OperatorsRemaining` where no frame is open; else what `docs/REFUSALS.md` says of operators.
     /// `OutOfMemory` at the position, where the operator opens a frame and no room is left, or where
     /// it owns a list. On an error reader and frames are unchanged; there may be more room.
+    ///
+    /// # Examples
+    ///
+    /// ```
+    /// match operators.read()? {
+    ///     Operator::Call { function_index } => calls.push(function_index)?,
+    ///     _ => {}
+    /// }
+    /// ```
     #[inline(always)]
     pub fn read(&mut self) -> Result<Operator<'a>>
         ensures { ReadsNext result self.old self.new }
@@ -132,6 +147,13 @@ impl<'a> OperatorsReader<'a> {
     /// Visits the next operator, a vector operator too: as `read`, with the answer of the visit.
     ///
     /// Refusals are those of `read`; then no visit was made.
+    ///
+    /// # Examples
+    ///
+    /// ```
+    /// let mut count = Count { operators: 0 };
+    /// operators.visit_operator_simd(&mut count)?;
+    /// ```
     #[inline(always)]
     pub fn visit_operator_simd<V>(&mut self, v: &mut V) -> Result<V::Output>
     where
@@ -167,7 +189,7 @@ impl<'a> OperatorsReader<'a> {
     /// `UnexpectedSimd` at the position where the byte fd stands; else as `visit_operator_simd`.
     #[inline(always)]
     pub fn visit_operator<V: VisitOperator<'a>>(&mut self, v: &mut V) -> Result<V::Output>
-        ensures { VisitsNextPlain V.visits result self.old self.new v.old v.new }
+        ensures { VisitsNextScalar V.visits result self.old self.new v.old v.new }
     {
         match begin(&mut self.reader, &mut self.control) {
             Ok(at) => {
@@ -197,6 +219,15 @@ impl<'a> OperatorsReader<'a> {
     ///
     /// `FramesRemain` where a frame is open, else `UnexpectedData` where a byte is left; both at the
     /// position.
+    ///
+    /// # Examples
+    ///
+    /// ```
+    /// while !operators.eof() {
+    ///     operators.visit_operator_simd(&mut count)?;
+    /// }
+    /// operators.finish()?;
+    /// ```
     pub fn finish(&self) -> Result<()>
         ensures { Finishes result self.now }
     {

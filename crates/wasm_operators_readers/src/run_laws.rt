@@ -1,7 +1,7 @@
 //! Laws of readers of operators. Each is the contract of a function that does nothing.
 ghost use Rattle.std.specs.Prelude.{[], ◌∷◌, ◌++◌, List};
 ghost use Rattle.wasm_decode.specs.instr.declared.operator.Operator.{Operator};
-ghost use Rattle.wasm_decode.specs.opcodes.Allowed.{EncodesAllowed, EncodesPlain};
+ghost use Rattle.wasm_decode.specs.opcodes.Allowed.{EncodesAllowed, EncodesScalar};
 ghost use Rattle.wasm_operators_readers.specs.Reading.{State, IsFresh, IsUnchanged, TakesOperator};
 ghost use Rattle.wasm_operators_readers.specs.Headline.{StoodBefore, IsWithinDepth};
 
@@ -15,8 +15,8 @@ pub fn fresh_readers()
 pub fn one_operator()
     ensures any { (before : List Operator) (op : Operator) (old new : State)
         → TakesOperator EncodesAllowed op old new → StoodBefore before old → StoodBefore (before ++ op ∷ []) new }
-    ensures plain { (before : List Operator) (op : Operator) (old new : State)
-        → TakesOperator EncodesPlain op old new → StoodBefore before old → StoodBefore (before ++ op ∷ []) new }
+    ensures scalar { (before : List Operator) (op : Operator) (old new : State)
+        → TakesOperator EncodesScalar op old new → StoodBefore before old → StoodBefore (before ++ op ∷ []) new }
     ensures refused { (before : List Operator) (old new : State)
         → IsUnchanged old new → StoodBefore before old → StoodBefore before new }
 {}
@@ -24,5 +24,6 @@ pub fn one_operator()
 /// Twice the frames that one operator added is at most the bytes that it took.
 pub fn one_depth()
     ensures any { (op : Operator) (old new : State) → TakesOperator EncodesAllowed op old new → IsWithinDepth old new }
-    ensures plain { (op : Operator) (old new : State) → TakesOperator EncodesPlain op old new → IsWithinDepth old new }
+    ensures scalar { (op : Operator) (old new : State) → TakesOperator EncodesScalar op old new
+        → IsWithinDepth old new }
 {}

@@ -1,7 +1,8 @@
 //! The stack of open frames.
 ghost use Rattle.std.specs.Prelude.{◌≡◌, ◌↔◌, ◌+◌, ◌≤◌, ◌<◌, [], ◌∷◌, ◌++◌, length, IsTrue, IsSome, IsOk, Some, OnOk, IfOk, IfErr};
 ghost use Rattle.wasm_decode.specs.grammar.Frames.{frames_after, innermost, without_innermost};
-ghost use Rattle.wasm_operators_readers.specs.Stack.{HasRoom, IsOutOfMemory};
+ghost use Rattle.wasm_decode.specs.imm.OutOfMemory.{IsOutOfMemoryAt};
+ghost use Rattle.wasm_operators_readers.specs.Stack.{HasRoom};
 ghost use Rattle.wasm_operators_readers.specs.Step.{Opens, role_of_step};
 
 use crate::allocations::OperatorsReaderAllocations;
@@ -100,7 +101,7 @@ impl ControlStack {
         ensures room { OnOk result (frames ≤ self.new.room) }
         ensures kept { self.old.room ≤ self.new.room }
         ensures enough { frames ≤ self.old.room → IsOk result }
-        ensures refused { IfErr result (λ e. IsOutOfMemory e × (self.new ≡ self.old)) }
+        ensures refused { IfErr result (λ e. IsOutOfMemoryAt 0 e × (self.new ≡ self.old)) }
     {
         if self.around.reserve(frames).is_err() {
             return Err(Error::new(Message::OutOfMemory, 0));
@@ -117,7 +118,8 @@ impl ControlStack {
         ensures frames { self.new.frames ≡ self.old.frames }
         ensures room { OnOk result (Opens step → HasRoom self.new) }
         ensures kept { self.old.room ≤ self.new.room }
-        ensures refused { IfErr result (λ e. IsOutOfMemory e × Opens step × (self.old.room ≡ 0) × (self.new ≡ self.old)) }
+        ensures refused { IfErr result
+            (λ e. IsOutOfMemoryAt 0 e × Opens step × (self.old.room ≡ 0) × (self.new ≡ self.old)) }
     {
         if step.opens() {
             return self.reserve(1);
@@ -133,7 +135,7 @@ impl ControlStack {
         ensures frames { OnOk result (self.new.frames ≡ self.old.frames ++ frame ∷ []) }
         ensures room { self.old.room ≤ self.new.room + 1 }
         ensures enough { HasRoom self.old → IsOk result }
-        ensures refused { IfErr result (λ e. IsOutOfMemory e × (self.new ≡ self.old)) }
+        ensures refused { IfErr result (λ e. IsOutOfMemoryAt 0 e × (self.new ≡ self.old)) }
     {
         if self.current.is_some() && self.reserve(1).is_err() {
             return Err(Error::new(Message::OutOfMemory, 0));
@@ -208,7 +210,7 @@ impl ControlStack {
     /// `OutOfMemory` at offset 0, and only where more than one frame is open.
     pub fn clone(&self) -> Result<ControlStack>
         ensures frames { IfOk result (λ copy. copy.frames ≡ self.now.frames) }
-        ensures refused { IfErr result (λ e. IsOutOfMemory e × (1 < length self.now.frames)) }
+        ensures refused { IfErr result (λ e. IsOutOfMemoryAt 0 e × (1 < length self.now.frames)) }
     {
         let mut around = Vec::new(*self.around.allocator());
         if around.extend_from_slice(self.around.as_slice()).is_err() {

@@ -3,8 +3,8 @@
 use crate::runs::{Told, run_factory, run_plain, run_read, run_simd, write_answer, write_refusal};
 use crate::task::Task;
 use crate::teller::Teller;
-use crate::values::Written;
 use std::alloc::Global;
+use wasm_tests_texts::Written;
 
 /// The texts that are written while a line is.
 #[derive(Drop)]

@@ -2,19 +2,16 @@
 //! answer.
 #![tactic(auto)]
 
-mod bytes;
 mod each;
-mod fields;
 mod runs;
 mod task;
 mod teller;
-mod values;
 
-use crate::bytes::{read_hex, read_input};
 use crate::each::{Texts, write_each};
 use crate::task::task_of;
 use std::alloc::Global;
 use std::io::{self, Print};
+use wasm_tests_texts::{read_hex, read_input};
 
 fn main(rt: HostRuntime) -> io::Result<()> {
     let alloc = rt.alloc();

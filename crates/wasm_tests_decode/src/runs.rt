@@ -1,14 +1,13 @@
 //! One operator, read and visited.
 
-use crate::fields::operator;
 use crate::task::Task;
 use crate::teller::{Call, Teller};
-use crate::values::Written;
 use std::alloc::{AllocError, Global};
 use wasm_decode::below::{BinaryReader, Error, Result};
 use wasm_decode::instr::Operator;
 use wasm_decode::visitors::OperatorFactory;
 use wasm_decode::{read_operator, visit_operator, visit_operator_simd};
+use wasm_tests_texts::{Written, write_operator};
 
 /// A reader that stands at the operator of a task, or at the end of data that are too short.
 fn reader_at<'a>(task: Task, bytes: &'a [u8]) -> BinaryReader<'a> {
@@ -63,7 +62,7 @@ pub fn write_refusal(out: &mut String, e: Error) -> Written {
 /// An operator that was read, or the refusal.
 pub fn write_answer(out: &mut String, answer: &Result<Operator<'_>>) -> Written {
     match answer {
-        Ok(op) => operator(out, op),
+        Ok(op) => write_operator(out, op),
         Err(e) => write_refusal(out, *e),
     }
 }

@@ -1,12 +1,12 @@
 //! A visitor with visits of its own.
 
-use crate::fields::operator;
 use std::alloc::{AllocError, Global};
 use wasm_decode::below::{BinaryReader, Result};
 use wasm_decode::instr::{BrTable, MiscOperator, Operator};
 use wasm_decode::visitors::{
-    VisitFixed, VisitMisc, VisitOperator, VisitSimdOperator, Visitor, decode, dispatch,
+    VisitGroups, VisitMisc, VisitOperator, VisitSimdOperator, Visitor, decode, dispatch,
 };
+use wasm_tests_texts::write_operator;
 
 /// Which of its calls a visitor got.
 #[derive(Clone, Copy, Debug)]
@@ -39,7 +39,7 @@ impl Visitor for Teller {
     ghost visits = { λ before op answer after. Unit {0} };
 
     fn visit_any(&mut self, op: Operator<'static>) -> Self::Output {
-        operator(&mut self.text, &op)?;
+        write_operator(&mut self.text, &op)?;
         Ok(Call::Any)
     }
 }
@@ -71,7 +71,7 @@ impl VisitMisc for Teller {
     }
 }
 
-impl VisitFixed for Teller {
+impl VisitGroups for Teller {
     fn dispatch_misc(&mut self, op: MiscOperator) -> Self::Output {
         dispatch::misc(self, op)
     }
@@ -88,7 +88,7 @@ impl VisitFixed for Teller {
 
 impl<'a> VisitOperator<'a> for Teller {
     fn visit_br_table(&mut self, targets: BrTable<'a>) -> Self::Output {
-        operator(&mut self.text, &Operator::BrTable { targets })?;
+        write_operator(&mut self.text, &Operator::BrTable { targets })?;
         Ok(Call::Table)
     }
 }

@@ -1,5 +1,5 @@
 -- What the module answers in which arities are printed.
-use Rattle.std.specs.Prelude.{ℕ, cond, eqb, Option, Some, None}
+use Rattle.std.specs.Prelude.{ℕ, ◌==◌, if◌then◌else◌, Option, Some, None}
 use Rattle.wasm_visit.specs.grammar.declared.frame_kind.FrameKind.TheVariants as frame
 use Rattle.wasm_visit.specs.imm.control.block_type.BlockType.TheVariants as block
 use Rattle.wasm_visit.specs.instr.Answers.{Answers}
@@ -7,7 +7,7 @@ use Rattle.wasm_tests_lists.specs.declared.uniform.Uniform.{Uniform}
 
 -- This answer at one index, another elsewhere.
 abbrev pub at_index : {X : Type 0} → ℕ → X → (ℕ → Option X) → ℕ → Option X
-at_index index answer others i = cond (eqb i index) (Some answer) (others i)
+at_index index answer others i = if i == index then Some answer else others i
 
 abbrev pub nowhere : {X : Type 0} → ℕ → Option X
 nowhere i = None

@@ -1,7 +1,7 @@
 //! A box of a visitor is one: each call is that call of the visitor.
-use crate::fixed::VisitFixed;
 use crate::operator::VisitOperator;
 use crate::vectors::VisitSimdOperator;
+use crate::visit_groups::VisitGroups;
 use std::alloc::Global;
 use wasm_decode_groups::below::{BinaryReader, Result};
 use wasm_decode_groups::grammar::FrameKind;
@@ -9,7 +9,7 @@ use wasm_decode_groups::instr::{
     AtomicOperator, BrTable, GcOperator, MiscOperator, NumericOperator, Operator, SimdOperator,
 };
 
-impl<V: VisitFixed> VisitFixed for Box<V> {
+impl<V: VisitGroups> VisitGroups for Box<V> {
     fn dispatch_one_byte(&mut self, op: Operator<'_>) -> Self::Output {
         (**self).dispatch_one_byte(op)
     }

@@ -1,13 +1,13 @@
 //! The factory of the layers is a visitor that reading calls can be handed.
-use crate::fixed::VisitFixed;
 use crate::vectors::VisitSimdOperator;
+use crate::visit_groups::VisitGroups;
 use std::alloc::Global;
 use wasm_decode_groups as decode;
 use wasm_decode_groups::below::{BinaryReader, Result};
 use wasm_decode_groups::grammar::FrameKind;
 use wasm_visit_factory::Factory;
 
-impl VisitFixed for Factory {
+impl VisitGroups for Factory {
     #[inline(always)]
     fn decode_one_byte(
         &mut self,

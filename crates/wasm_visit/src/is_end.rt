@@ -2,9 +2,9 @@
 ghost use Rattle.std.specs.Prelude.{◌≡◌, ◌↔◌, IsTrue};
 ghost use Rattle.wasm_decode_groups.specs.instr.declared.operator.Operator.{Operator};
 
-use crate::fixed::VisitFixed;
 use crate::operator::VisitOperator;
 use crate::vectors::VisitSimdOperator;
+use crate::visit_groups::VisitGroups;
 use wasm_decode_groups::groups::Visitor;
 use wasm_decode_groups::instr::{BrTable, Operator};
 
@@ -23,7 +23,7 @@ impl Visitor for IsEndOperatorVisitor {
     }
 }
 
-impl VisitFixed for IsEndOperatorVisitor {}
+impl VisitGroups for IsEndOperatorVisitor {}
 
 impl<'a> VisitOperator<'a> for IsEndOperatorVisitor {
     #[inline(always)]

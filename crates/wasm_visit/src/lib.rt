@@ -8,20 +8,20 @@ mod by_box;
 mod by_reference;
 pub mod dispatch;
 mod factory;
-mod fixed;
 mod is_end;
 mod maker;
 mod operator;
 mod owned;
 mod vectors;
+mod visit_groups;
 
 pub use borrowed::{visit_operator, visit_operator_with_simd};
-pub use fixed::VisitFixed;
 pub use is_end::IsEndOperatorVisitor;
-pub use maker::{HoldFixed, HoldTable, OperatorFactory, OperatorMaker};
+pub use maker::{HoldOperator, HoldTable, OperatorFactory, OperatorMaker};
 pub use operator::VisitOperator;
 pub use owned::{visit_owned, visit_owned_simd};
 pub use vectors::VisitSimdOperator;
+pub use visit_groups::VisitGroups;
 pub use wasm_decode_groups as decode;
 pub use wasm_decode_groups::groups::{
     VisitAtomic, VisitGc, VisitMisc, VisitNumeric, VisitOneByte, VisitSimdHigh, VisitSimdLow,

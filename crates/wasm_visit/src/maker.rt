@@ -2,34 +2,34 @@
 ghost use Rattle.std.specs.Prelude.{◌≡◌};
 ghost use Rattle.wasm_decode_groups.specs.instr.declared.operator.Operator.{Operator};
 
-use crate::fixed::VisitFixed;
 use crate::operator::VisitOperator;
 use crate::vectors::VisitSimdOperator;
+use crate::visit_groups::VisitGroups;
 use wasm_decode_groups::groups::Visitor;
 use wasm_decode_groups::instr::{BrTable, Operator};
 
 /// What can be made of an operator that borrows nothing.
-pub trait HoldFixed {
+pub trait HoldOperator {
     // This is made of the operator.
     ghost holds: { Operator → Self → Type 0 };
 
     /// Makes it.
-    fn hold_fixed(op: Operator<'static>) -> Self
+    fn hold_operator(op: Operator<'static>) -> Self
         ensures { holds op.entry result };
 }
 
 /// What can be made of a branch table, too.
-pub trait HoldTable<'a>: HoldFixed {
+pub trait HoldTable<'a>: HoldOperator {
     /// Makes it.
     fn hold_table(targets: BrTable<'a>) -> Self
         ensures { Self.holds (Operator.BrTable targets.entry) result };
 }
 
-impl<'a> HoldFixed for Operator<'a> {
+impl<'a> HoldOperator for Operator<'a> {
     ghost holds = { λ op made. made ≡ op };
 
     #[inline(always)]
-    fn hold_fixed(op: Operator<'static>) -> Operator<'a> {
+    fn hold_operator(op: Operator<'static>) -> Operator<'a> {
         op
     }
 }
@@ -58,18 +58,18 @@ impl<T> OperatorMaker<T> {
     }
 }
 
-impl<T: HoldFixed> Visitor for OperatorMaker<T> {
+impl<T: HoldOperator> Visitor for OperatorMaker<T> {
     type Output = T;
 
     ghost visits = { λ before op answer after. T.holds op answer };
 
     #[inline(always)]
     fn visit_any(&mut self, op: Operator<'static>) -> T {
-        T::hold_fixed(op)
+        T::hold_operator(op)
     }
 }
 
-impl<T: HoldFixed> VisitFixed for OperatorMaker<T> {}
+impl<T: HoldOperator> VisitGroups for OperatorMaker<T> {}
 
 impl<'a, T: HoldTable<'a>> VisitOperator<'a> for OperatorMaker<T> {
     #[inline(always)]
@@ -78,4 +78,4 @@ impl<'a, T: HoldTable<'a>> VisitOperator<'a> for OperatorMaker<T> {
     }
 }
 
-impl<T: HoldFixed> VisitSimdOperator for OperatorMaker<T> {}
+impl<T: HoldOperator> VisitSimdOperator for OperatorMaker<T> {}

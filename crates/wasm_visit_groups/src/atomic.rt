@@ -9,7 +9,7 @@ use wasm_instr::{AtomicOperator, Operator};
 /// Visits of the operators behind the byte fe. Proposal threads.
 ///
 /// Each hands its operator to `visit_any` unless a visitor has its own. They are called only where
-/// the visitor's `VisitFixed` names them, by the line `dispatch::atomic(self, op)`.
+/// the visitor's `VisitGroups` names them, by the line `dispatch::atomic(self, op)`.
 pub trait VisitAtomic: Visitor {
     /// Visits `MemoryAtomicNotify`.
     #[inline(always)]

@@ -9,7 +9,7 @@ use wasm_instr::{GcOperator, Operator};
 /// Visits of the operators behind the byte fb. Aggregate Instructions.
 ///
 /// Each hands its operator to `visit_any` unless a visitor has its own. They are called only where
-/// the visitor's `VisitFixed` names them, by the line `dispatch::gc(self, op)`.
+/// the visitor's `VisitGroups` names them, by the line `dispatch::gc(self, op)`.
 pub trait VisitGc: Visitor {
     /// Visits `StructNew`.
     #[inline(always)]

@@ -8,7 +8,7 @@ use wasm_instr::{MiscOperator, Operator};
 /// Visits of the operators behind the byte fc. Numeric, Memory and Table Instructions.
 ///
 /// Each hands its operator to `visit_any` unless a visitor has its own. They are called only where
-/// the visitor's `VisitFixed` names them, by the line `dispatch::misc(self, op)`.
+/// the visitor's `VisitGroups` names them, by the line `dispatch::misc(self, op)`.
 pub trait VisitMisc: Visitor {
     /// Visits `I32TruncSatF32S`.
     #[inline(always)]

@@ -8,7 +8,7 @@ use wasm_instr::{NumericOperator, Operator};
 /// Visits of the numeric operators of one byte, 45 to c4. Numeric Instructions.
 ///
 /// Each hands its operator to `visit_any` unless a visitor has its own. They are called only where
-/// the visitor's `VisitFixed` names them, by the line `dispatch::numeric(self, op)`.
+/// the visitor's `VisitGroups` names them, by the line `dispatch::numeric(self, op)`.
 pub trait VisitNumeric: Visitor {
     /// Visits `I32Eqz`.
     #[inline(always)]

@@ -9,7 +9,7 @@ use wasm_instr::imm::{BlockType, Ieee32, Ieee64, MemArg, ResumeTable, SelectType
 /// Visits of the operators of one byte that are not numeric, but for the branch table. Instructions.
 ///
 /// Each hands its operator to `visit_any` unless a visitor has its own. They are called only where
-/// the visitor's `VisitFixed` names them, by the line `dispatch::one_byte(self, op)`.
+/// the visitor's `VisitGroups` names them, by the line `dispatch::one_byte(self, op)`.
 pub trait VisitOneByte: Visitor {
     /// Visits `Unreachable`.
     #[inline(always)]

@@ -1,6 +1,6 @@
 //! The open frames of a reader: the innermost of them, and a clone of the reader with all of them.
 ghost use Rattle.std.specs.Prelude.{◌≡◌, ◌<◌, length, IfOk, IfErr};
-ghost use Rattle.wasm_operators_readers.specs.Stack.{IsOutOfMemory};
+ghost use Rattle.wasm_decode.specs.imm.OutOfMemory.{IsOutOfMemoryAt};
 
 use super::OperatorsReader;
 use wasm_decode::below::Result;
@@ -15,7 +15,7 @@ impl<'a> OperatorsReader<'a> {
     pub fn clone(&self) -> Result<OperatorsReader<'a>>
         ensures reader { IfOk result (λ copy. copy.reader ≡ self.now.reader) }
         ensures frames { IfOk result (λ copy. copy.frames ≡ self.now.frames) }
-        ensures refused { IfErr result (λ e. IsOutOfMemory e × (1 < length self.now.frames)) }
+        ensures refused { IfErr result (λ e. IsOutOfMemoryAt 0 e × (1 < length self.now.frames)) }
     {
         match self.control.clone() {
             Ok(control) => Ok(OperatorsReader {

@@ -285,6 +285,40 @@ fn resume_tables(rt: HostRuntime) -> std::result::Result<(), Fail> {
 }
 
 #[test]
+fn tables_by_type(rt: HostRuntime) -> std::result::Result<(), Fail> {
+    let bytes = [
+        0x40, 0x01, 0x00, 0x05, 0x00, 0x02, 0x00, 0x01, 0x02, 0x01, 0x03,
+    ];
+    let mut reader = BinaryReader::new(&bytes, 7);
+    let table = reader.read::<TryTable>(rt.alloc())?;
+    assert_eq!(rt; table.ty, BlockType::Empty);
+    assert_eq!(rt;
+        table.catches.as_slice(),
+        [Catch::One { tag: 5, label: 0 }].as_slice()
+    );
+    assert_eq!(rt; reader.original_position(), 12);
+    let handlers = [
+        Handle::OnLabel { tag: 1, label: 2 },
+        Handle::OnSwitch { tag: 3 },
+    ];
+    let table = reader.read::<ResumeTable>(rt.alloc())?;
+    assert_eq!(rt; table.handlers.as_slice(), handlers.as_slice());
+    assert!(rt; reader.eof());
+    let mut reader = BinaryReader::new(&[0x40, 0x91, 0x4e], 7);
+    let error = reader.read::<TryTable>(rt.alloc()).err();
+    assert_eq!(rt;
+        error,
+        Some(Error::new(Message::SizeOutOfBounds(SizeName::Catches), 8))
+    );
+    let mut reader = BinaryReader::new(&[0x01, 0x02, 0x03], 7);
+    let error = reader.read::<ResumeTable>(rt.alloc()).err();
+    let on_clause = Message::InvalidLeadingByte(2, LeadingByteName::OnClause);
+    assert_eq!(rt; error, Some(Error::new(on_clause, 8)));
+    assert_eq!(rt; reader.current_position(), 0);
+    Ok(())
+}
+
+#[test]
 fn catches_and_clauses(rt: HostRuntime) -> std::result::Result<(), Fail> {
     let catch = |bytes: &[u8]| Catch::read(&mut BinaryReader::new(bytes, 0));
     assert_eq!(rt;

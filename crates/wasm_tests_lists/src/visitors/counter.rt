@@ -1,7 +1,7 @@
 //! A visitor with five fields.
 use std::alloc::Global;
 use wasm_visit::instr::{BrTable, MiscOperator, Operator};
-use wasm_visit::{VisitFixed, VisitMisc, VisitOperator, VisitSimdOperator, Visitor, dispatch};
+use wasm_visit::{VisitGroups, VisitMisc, VisitOperator, VisitSimdOperator, Visitor, dispatch};
 
 /// Counts its visits, with a visit of its own for `DataDrop` that keeps the index.
 #[derive(Debug, Drop)]
@@ -47,7 +47,7 @@ impl VisitMisc for Counter {
     }
 }
 
-impl VisitFixed for Counter {
+impl VisitGroups for Counter {
     fn dispatch_misc(&mut self, op: MiscOperator) {
         dispatch::misc(self, op)
     }

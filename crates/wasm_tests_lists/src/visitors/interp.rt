@@ -2,7 +2,7 @@
 ghost use Rattle.std.specs.Prelude.{◌≤◌};
 
 use wasm_visit::instr::{BrTable, GcOperator, Operator};
-use wasm_visit::{VisitFixed, VisitGc, VisitOperator, VisitSimdOperator, Visitor, dispatch};
+use wasm_visit::{VisitGc, VisitGroups, VisitOperator, VisitSimdOperator, Visitor, dispatch};
 
 /// Counts the operators that it knows and those that it does not, for a module.
 #[derive(Drop)]
@@ -37,7 +37,7 @@ impl<'m, M> VisitGc for Interp<'m, M> {
     }
 }
 
-impl<'m, M> VisitFixed for Interp<'m, M> {
+impl<'m, M> VisitGroups for Interp<'m, M> {
     fn dispatch_gc(&mut self, op: GcOperator) -> bool {
         dispatch::gc(self, op)
     }

@@ -1,6 +1,6 @@
 //! An answer that is large.
 use wasm_visit::instr::{BrTable, Operator};
-use wasm_visit::{HoldFixed, HoldTable};
+use wasm_visit::{HoldOperator, HoldTable};
 
 /// An answer of 4096 bytes.
 #[derive(Drop)]
@@ -8,11 +8,11 @@ pub struct Large {
     pub bytes: [u8; 4096],
 }
 
-impl HoldFixed for Large {
+impl HoldOperator for Large {
     // Whatever the operator.
     ghost holds = { λ op large. Unit {0} };
 
-    fn hold_fixed(_op: Operator<'static>) -> Large {
+    fn hold_operator(_op: Operator<'static>) -> Large {
         Large { bytes: [7; 4096] }
     }
 }

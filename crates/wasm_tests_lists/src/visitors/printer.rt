@@ -4,7 +4,7 @@ ghost use Rattle.std.specs.Prelude.{◌≤◌};
 use std::alloc::AllocError;
 use wasm_visit::instr::{BrTable, NumericOperator, Operator, SimdOperator};
 use wasm_visit::{
-    VisitFixed, VisitNumeric, VisitOneByte, VisitOperator, VisitSimdLow, VisitSimdOperator,
+    VisitGroups, VisitNumeric, VisitOneByte, VisitOperator, VisitSimdLow, VisitSimdOperator,
     Visitor, dispatch,
 };
 
@@ -45,7 +45,7 @@ impl<'w> VisitSimdLow for Printer<'w> {
     }
 }
 
-impl<'w> VisitFixed for Printer<'w> {
+impl<'w> VisitGroups for Printer<'w> {
     fn dispatch_one_byte(&mut self, op: Operator<'_>) -> Result<(), AllocError> {
         dispatch::one_byte(self, op)
     }

@@ -1,6 +1,6 @@
 //! A visitor without fields, and with a visit of its own.
 use wasm_visit::instr::{BrTable, MiscOperator, Operator};
-use wasm_visit::{VisitFixed, VisitMisc, VisitOperator, VisitSimdOperator, Visitor, dispatch};
+use wasm_visit::{VisitGroups, VisitMisc, VisitOperator, VisitSimdOperator, Visitor, dispatch};
 
 /// Which call was made of a visitor.
 #[derive(Clone, Copy, Debug)]
@@ -31,7 +31,7 @@ impl VisitMisc for Tells {
     }
 }
 
-impl VisitFixed for Tells {
+impl VisitGroups for Tells {
     fn dispatch_misc(&mut self, op: MiscOperator) -> Call {
         dispatch::misc(self, op)
     }

@@ -1,10 +1,10 @@
 use Rattle.std.proofs.Common.{refl, arith}
-use Rattle.wasm_decode.proofs.DecodingLemmas.{to_plain}
+use Rattle.wasm_decode.proofs.DecodingLemmas.{to_scalar}
 use Rattle.wasm_decode.proofs.visit.visit_behind.Goals as goal
 
 pub returns-in-14 : goal.returns-in-14
 returns-in-14 g c =
-    to_plain g.V.Visitor.visits c.args.frame c.args.start c.args.code c.args.reader.now c.table_behind.new.reader c.args.v.now c.table_behind.new.v c.table_behind.result
+    to_scalar g.V.Visitor.visits c.args.frame c.args.start c.args.code c.args.reader.now c.table_behind.new.reader c.args.v.now c.table_behind.new.v c.table_behind.result
     (λ h. grind (arith, h)) c.requires (c.table_behind.ensures c.args.frame)
 
 pub returns-in-253 : goal.returns-in-253
@@ -12,5 +12,5 @@ returns-in-253 g c = (refl, c.unexpected_simd.ensures c.args.frame)
 
 pub returns-in_default : goal.returns-in_default
 returns-in_default g c =
-    to_plain g.V.Visitor.visits c.args.frame c.args.start c.args.code c.args.reader.now c.fixed_behind.new.reader c.args.v.now c.fixed_behind.new.v c.fixed_behind.result
-    (λ h. grind (arith, h)) c.requires c.fixed_behind.ensures
+    to_scalar g.V.Visitor.visits c.args.frame c.args.start c.args.code c.args.reader.now c.group_behind.new.reader c.args.v.now c.group_behind.new.v c.group_behind.result
+    (λ h. grind (arith, h)) c.requires c.group_behind.ensures

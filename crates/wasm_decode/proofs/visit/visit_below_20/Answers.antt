@@ -1,11 +1,11 @@
 use Rattle.std.proofs.Common.{arith}
 use Rattle.wasm_visit.specs.decode.OneByte.{IsOneByteCode}
-use Rattle.wasm_decode.proofs.DecodingLemmas.{prefix_bytes, to_plain}
+use Rattle.wasm_decode.proofs.DecodingLemmas.{prefix_bytes, to_scalar}
 use Rattle.wasm_decode.proofs.visit.visit_below_20.Goals as goal
 
-pub returns-in-14-clause-plain : goal.returns-in-14-clause-plain
-returns-in-14-clause-plain g c =
-    to_plain g.V.Visitor.visits c.args.frame c.args.start c.args.code c.args.reader.now c.table_behind.new.reader c.args.v.now c.table_behind.new.v c.table_behind.result
+pub returns-in-14-clause-scalar : goal.returns-in-14-clause-scalar
+returns-in-14-clause-scalar g c =
+    to_scalar g.V.Visitor.visits c.args.frame c.args.start c.args.code c.args.reader.now c.table_behind.new.reader c.args.v.now c.table_behind.new.v c.table_behind.result
     (λ h. grind (arith, h, c.requires.low)) c.requires.behind (c.table_behind.ensures c.args.frame)
 
 pub decode_below_20-requires-clause-apart : goal.decode_below_20-requires-clause-apart
@@ -16,7 +16,7 @@ decode_below_20-requires-clause-apart g c =
       numeric = λ from to. grind (arith, from, c.requires.low);
     }
 
-pub returns-in_default-clause-plain : goal.returns-in_default-clause-plain
-returns-in_default-clause-plain g c =
-    to_plain g.V.Visitor.visits c.args.frame c.args.start c.args.code c.args.reader.now c.decode_below_20.new.reader c.args.v.now c.decode_below_20.new.self c.decode_below_20.result
+pub returns-in_default-clause-scalar : goal.returns-in_default-clause-scalar
+returns-in_default-clause-scalar g c =
+    to_scalar g.V.Visitor.visits c.args.frame c.args.start c.args.code c.args.reader.now c.decode_below_20.new.reader c.args.v.now c.decode_below_20.new.self c.decode_below_20.result
     (λ h. grind (arith, h, c.requires.low)) c.requires.behind c.decode_below_20.ensures

@@ -1,10 +1,10 @@
 -- Written by tools/lists.py from tools/operators.tsv.
 use Rattle.std.proofs.Common.{Some}
 use Rattle.wasm_decode_opcodes.specs.OperatorFaults.{OperatorFault}
-use Rattle.wasm_decode_opcodes.proofs.OperatorLemmas.{visited_plain}
+use Rattle.wasm_decode_opcodes.proofs.OperatorLemmas.{visited_without_immediates}
 use Rattle.wasm_decode_groups.proofs.atomic_operators.without_immediates.Goals as goal
 
 pub returns : goal.returns
 returns g c k =
     let r = c.args.reader.now in
-    visited_plain g.V.Visitor.visits (OperatorFault r.features k) k (Some 0xfe) c.args.code c.args.start r c.args.v.now c.visit_without_immediates.new.v c.visit_without_immediates.result c.requires.kinds c.requires.behind c.visit_without_immediates.ensures
+    visited_without_immediates g.V.Visitor.visits (OperatorFault r.features k) k (Some 0xfe) c.args.code c.args.start r c.args.v.now c.visit_without_immediates.new.v c.visit_without_immediates.result c.requires.kinds c.requires.behind c.visit_without_immediates.ensures

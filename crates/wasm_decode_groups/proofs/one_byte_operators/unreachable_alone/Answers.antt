@@ -2,10 +2,10 @@
 use Rattle.std.proofs.Common.{None, refl}
 use Rattle.wasm_visit_groups.specs.instr.declared.operator.Operator.TheVariants as operator
 use Rattle.wasm_decode_opcodes.specs.OperatorFaults.{OperatorFault}
-use Rattle.wasm_decode_opcodes.proofs.OperatorLemmas.{visited_plain}
+use Rattle.wasm_decode_opcodes.proofs.OperatorLemmas.{visited_without_immediates}
 use Rattle.wasm_decode_groups.proofs.one_byte_operators.unreachable_alone.Goals as goal
 
 pub returns : goal.returns
 returns g c k =
     let r = c.args.reader.now in
-    visited_plain g.V.Visitor.visits (OperatorFault r.features k) k None 0x00 c.args.start r c.args.v.now c.visit_unreachable.new.self c.visit_unreachable.result refl c.requires.behind (operator.Unreachable, refl, refl, refl, c.visit_unreachable.ensures)
+    visited_without_immediates g.V.Visitor.visits (OperatorFault r.features k) k None 0x00 c.args.start r c.args.v.now c.visit_unreachable.new.self c.visit_unreachable.result refl c.requires.behind (operator.Unreachable, refl, refl, refl, c.visit_unreachable.ensures)

@@ -22,9 +22,9 @@ returns-in-Err-read_members-clause-reads g c =
     let same : mid.features ≡ f = ap (λ (r : Reader). r.features) s.2.moved in
     let h = subst (λ (z : WasmFeatures). (c.read_members.new.reader ≡ mid) ×
     IsRefused (EncodesMany (g.T.FromReader.encodes z) c.in-Ok.count) true c.in-Err-read_members.e mid) same c.in-Err-read_members.ensures.reads in
-    begun_refused (EncodesSize c.args.limit) (EncodesMany (g.T.FromReader.encodes f)) c.in-Err-read_members.e c.begun_at.result c.args.reader.now mid
-    c.read_members.new.reader c.begun_at.new.reader c.in-Ok.count c.current_position-start.result (size_prefix_code c.args.limit)
-    (λ text p. unsigned_some 32 text c.in-Ok.count p.0) s h c.current_position-start.ensures c.begun_at.ensures.rewound c.begun_at.ensures.begun
+    begun_refused (EncodesSize c.args.limit) (EncodesMany (g.T.FromReader.encodes f)) c.in-Err-read_members.e c.refuse_from.result c.args.reader.now mid
+    c.read_members.new.reader c.refuse_from.new.reader c.in-Ok.count c.current_position-start.result (size_prefix_code c.args.limit)
+    (λ text p. unsigned_some 32 text c.in-Ok.count p.0) s h c.current_position-start.ensures c.refuse_from.ensures.back c.refuse_from.ensures.told
 
 pub returns-in-Ok-read_members-clause-reads : goal.returns-in-Ok-read_members-clause-reads
 returns-in-Ok-read_members-clause-reads g c =
@@ -45,7 +45,7 @@ pub returns-in-Err-read_members-clause-fault : goal.returns-in-Err-read_members-
 returns-in-Err-read_members-clause-fault g c =
     let mid = c.read_size.new.self in
     let s = c.in-Ok.ensures.reads in
-    let f = c.begun_at.result in
+    let f = c.refuse_from.result in
     let same : mid.features ≡ c.args.reader.now.features = ap (λ (r : Reader). r.features) s.2.moved in
     let many = λ (z : WasmFeatures) (m : Message) (offset : ℕ). ManyFault (g.T.FromReader.encodes z) g.T.FromReader.fault c.in-Ok.count m mid offset in
     λ some. inr (
@@ -53,5 +53,5 @@ returns-in-Err-read_members-clause-fault g c =
       mid,
       s,
       subst (λ z. many z f.message f.offset) same
-          (kept_fault (many mid.features) c.in-Err-read_members.e f _ c.begun_at.ensures.begun c.in-Err-read_members.ensures.fault some),
+          (kept_fault (many mid.features) c.in-Err-read_members.e f _ c.refuse_from.ensures.told c.in-Err-read_members.ensures.fault some),
     )

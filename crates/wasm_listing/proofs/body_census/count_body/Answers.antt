@@ -2,7 +2,7 @@ use Rattle.std.proofs.Common.{◌∙◌, []}
 use Rattle.std.proofs.lemmas.Result.{err_from_is_err_and}
 use Rattle.wasm_operators.specs.below.Source.{reader_of}
 use Rattle.wasm_operators.specs.opcodes.Allowed.{EncodesAllowed}
-use Rattle.wasm_operators.specs.readers.Next.{NeedsNext}
+use Rattle.wasm_operators.specs.readers.Next.{NextMayAllocate}
 use Rattle.wasm_operators.proofs.Bodies.{no_body, expression_behind}
 use Rattle.wasm_listing.proofs.CensusLemmas.{refused_counts, opened_counts}
 use Rattle.wasm_listing.proofs.body_census.count_body.Goals as goal
@@ -25,7 +25,7 @@ pub returns-clause-counts : goal.returns-clause-counts
 returns-clause-counts c =
     let same = c.new.ensures ∙ c.new_features-reader.ensures in
     let opens = rw same at c.in_ok-operators.ensures.opens in
-    opened_counts (NeedsNext EncodesAllowed) c.visit_all_simd.result (reader_of c.args.features 0 c.args.bytes.now)
+    opened_counts (NextMayAllocate EncodesAllowed) c.visit_all_simd.result (reader_of c.args.features 0 c.args.bytes.now)
     c.in_ok-operators.operators c.visit_all_simd.new.self c.args.census.now c.visit_all_simd.new.v opens
     (c.visit_all_simd.ensures.rest [] c.in_ok-operators.ensures.stood)
 

@@ -1,6 +1,6 @@
 use Rattle.std.proofs.Common.{sym, ◌∙◌}
-use Rattle.wasm_decode.specs.opcodes.Allowed.{EncodesAllowed, EncodesPlain}
-use Rattle.wasm_decode.specs.opcodes.OperatorFaults.{OperatorFault, PlainOperatorFault}
+use Rattle.wasm_decode.specs.opcodes.Allowed.{EncodesAllowed, EncodesScalar}
+use Rattle.wasm_decode.specs.opcodes.OperatorFaults.{OperatorFault, ScalarOperatorFault}
 use Rattle.wasm_operators_readers.proofs.Begins.{begun_without_room}
 use Rattle.wasm_operators_readers.proofs.begin.begin.Goals as goal
 
@@ -11,9 +11,9 @@ returns-in-Err-make_room-clause-refused c =
     c.in-Ok.code c.current_position-start.result c.at.result c.refuse.result (sym c.last.ensures ∙ c.in-Some.is) c.in-Ok.ensures.reads c.current_position-start.ensures c.at.ensures refused.1 refused.2
     refused.3 c.refuse.ensures.rewound c.refuse.ensures.message c.refuse.ensures.offset
 
-pub returns-in-Err-make_room-clause-plain : goal.returns-in-Err-make_room-clause-plain
-returns-in-Err-make_room-clause-plain c =
+pub returns-in-Err-make_room-clause-scalar : goal.returns-in-Err-make_room-clause-scalar
+returns-in-Err-make_room-clause-scalar c =
     let refused = c.in-Err-make_room.ensures.refused in
-    begun_without_room EncodesPlain PlainOperatorFault c.args.reader.now c.read_u8.new.self c.refuse.new.self c.args.control.now c.make_room.new.self c.in-Some.frame
+    begun_without_room EncodesScalar ScalarOperatorFault c.args.reader.now c.read_u8.new.self c.refuse.new.self c.args.control.now c.make_room.new.self c.in-Some.frame
     c.in-Ok.code c.current_position-start.result c.at.result c.refuse.result (sym c.last.ensures ∙ c.in-Some.is) c.in-Ok.ensures.reads c.current_position-start.ensures c.at.ensures refused.1 refused.2
     refused.3 c.refuse.ensures.rewound c.refuse.ensures.message c.refuse.ensures.offset

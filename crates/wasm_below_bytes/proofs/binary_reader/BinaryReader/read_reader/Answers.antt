@@ -1,8 +1,8 @@
 use Rattle.std.proofs.Common.{◌≤◌, inr, Ok, length, sym, subst, ap, ◌∙◌, arith}
 use Rattle.std.proofs.lemmas.Result.{err_from_is_err_and}
 use Rattle.wasm_below_bytes.specs.Number.{EncodesUnsigned}
-use Rattle.wasm_below_bytes.specs.FromReader.{IsReaderOf, EncodesReader, EndsWithin}
-use Rattle.wasm_below_bytes.specs.Source.{Reads, at_position, U32Fault}
+use Rattle.wasm_below_bytes.specs.FromReader.{IsReaderOf, EncodesReader}
+use Rattle.wasm_below_bytes.specs.Source.{Reads, at_position, U32Fault, EndsWithin}
 use Rattle.wasm_below_bytes.proofs.Faults.{first_fault}
 use Rattle.wasm_below_bytes.proofs.Blocks.{short_refused}
 use Rattle.wasm_below_bytes.proofs.Parts.{part_read, part_refused}

@@ -31,9 +31,9 @@ returns-in-Ok-read_members-clause-reads c =
 
 pub returns-in-Err-read_members-clause-reads : goal.returns-in-Err-read_members-clause-reads
 returns-in-Err-read_members-clause-reads c =
-    types_refused c.in-Err-read_members.e c.begun_at.result c.args.reader.now c.read_size.new.self c.read_members.new.reader c.begun_at.new.reader
+    types_refused c.in-Err-read_members.e c.refuse_from.result c.args.reader.now c.read_size.new.self c.read_members.new.reader c.refuse_from.new.reader
     c.in-Ok.count c.current_position-start.result c.in-Ok.ensures.reads c.in-Err-read_members.ensures.reads c.current_position-start.ensures
-    c.begun_at.ensures.rewound c.begun_at.ensures.begun
+    c.refuse_from.ensures.back c.refuse_from.ensures.told
 
 pub returns-in-Err-read_members-clause-lone : goal.returns-in-Err-read_members-clause-lone
 returns-in-Err-read_members-clause-lone c = λ m. not_one c.args.reader.now c.read_size.new.self c.in-Ok.count c.in-Ok.ensures.reads c.if-count-eq1.false
@@ -64,5 +64,5 @@ returns-in-Err-read_members-clause-fault c =
       c.in-Ok.count,
       mid,
       c.in-Ok.ensures.reads,
-      kept_fault F c.in-Err-read_members.e c.begun_at.result _ c.begun_at.ensures.begun c.in-Err-read_members.ensures.fault some,
+      kept_fault F c.in-Err-read_members.e c.refuse_from.result _ c.refuse_from.ensures.told c.in-Err-read_members.ensures.fault some,
     )

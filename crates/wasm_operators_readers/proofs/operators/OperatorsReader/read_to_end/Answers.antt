@@ -6,7 +6,7 @@ use Rattle.wasm_decode.specs.opcodes.OperatorFaults.{OperatorFault}
 use Rattle.wasm_operators_readers.specs.Reading.{Anywhere}
 use Rattle.wasm_operators_readers.proofs.OneRead.{needs_more}
 use Rattle.wasm_operators_readers.proofs.Runs.{ran_push, ran_unchanged, run_stops, pushed}
-use Rattle.wasm_operators_readers.specs.Next.{NeedsNext}
+use Rattle.wasm_operators_readers.specs.Next.{NextMayAllocate}
 use Rattle.wasm_decode.specs.opcodes.Allowed.{EncodesAllowed}
 use Rattle.wasm_operators_readers.proofs.DecoderPremises.{sound, is_reading}
 use Rattle.wasm_operators_readers.proofs.MemoryLemmas.{memory_needs}
@@ -32,7 +32,7 @@ returns-in-Err-clause-runs c =
     let i = c.operators.invariant in
     let r = c.in-Err.ensures in
     let left : rest c.operators.self.reader ≡ [] → ⊥ = search rules in
-    let stops = needs_more EncodesAllowed OperatorFault (NeedsNext EncodesAllowed) Anywhere (λ s h. tt) c.in-Err.e c.read.new.self r.1 in (
+    let stops = needs_more EncodesAllowed OperatorFault (NextMayAllocate EncodesAllowed) Anywhere (λ s h. tt) c.in-Err.e c.read.new.self r.1 in (
       i.0,
       c.try_reserve.ensures.items ∙ i.1,
       ran_unchanged c.args.self.now c.operators.self c.read.new.self i.0 i.2 r.0,
@@ -40,5 +40,5 @@ returns-in-Err-clause-runs c =
     )
 
 pub returns-in-Err-clause-memory : goal.returns-in-Err-clause-memory
-returns-in-Err-clause-memory c = λ is. inl (memory_needs EncodesAllowed OperatorFault (NeedsNext EncodesAllowed) is_reading c.in-Err.e c.read.new.self
+returns-in-Err-clause-memory c = λ is. inl (memory_needs EncodesAllowed OperatorFault (NextMayAllocate EncodesAllowed) is_reading c.in-Err.e c.read.new.self
     c.in-Err.ensures.1 is)

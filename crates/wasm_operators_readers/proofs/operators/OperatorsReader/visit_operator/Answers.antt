@@ -1,9 +1,9 @@
 use Rattle.std.proofs.Common.{Ok, Err, refl, subst}
-use Rattle.wasm_decode.specs.opcodes.Allowed.{EncodesPlain}
-use Rattle.wasm_decode.specs.opcodes.OperatorFaults.{PlainOperatorFault}
+use Rattle.wasm_decode.specs.opcodes.Allowed.{EncodesScalar}
+use Rattle.wasm_decode.specs.opcodes.OperatorFaults.{ScalarOperatorFault}
 use Rattle.wasm_operators_readers.specs.Reading.{State, VisitsOperator}
-use Rattle.wasm_operators_readers.specs.Next.{NeedsNext, state_of}
-use Rattle.wasm_operators_readers.proofs.DecoderPremises.{plain_sound}
+use Rattle.wasm_operators_readers.specs.Next.{NextMayAllocate, state_of}
+use Rattle.wasm_operators_readers.proofs.DecoderPremises.{scalar_sound}
 use Rattle.wasm_operators_readers.proofs.VisitSteps.{step_allowed_behind, visited_with_step, refused_behind, visited_from_20}
 use Rattle.wasm_operators_readers.proofs.operators.OperatorsReader.visit_operator.Goals as goal
 
@@ -13,8 +13,8 @@ advance-requires-clause-allowed g c =
     let old = state_of c.self.inside.reader c.self.inside.control in
     let mid = state_of c.begin.new.reader c.begin.new.control in
     let new = state_of c.visit_below_20.new.reader c.begin.new.control in
-    step_allowed_behind g.V.Visitor.visits EncodesPlain PlainOperatorFault plain_sound (λ f kind text op h. h.0.1) old mid new at.frame at.code at.start c.in-Ok-visit_below_20.answer c.args.v.now
-    c.visit_below_20.new.v c.in-Ok.ensures.begun c.in-Ok-visit_below_20.ensures.plain
+    step_allowed_behind g.V.Visitor.visits EncodesScalar ScalarOperatorFault scalar_sound (λ f kind text op h. h.0.1) old mid new at.frame at.code at.start c.in-Ok-visit_below_20.answer c.args.v.now
+    c.visit_below_20.new.v c.in-Ok.ensures.begun c.in-Ok-visit_below_20.ensures.scalar
 
 pub returns-in-Ok-visit_below_20 : goal.returns-in-Ok-visit_below_20
 returns-in-Ok-visit_below_20 g c =
@@ -23,9 +23,9 @@ returns-in-Ok-visit_below_20 g c =
     let mid = state_of c.begin.new.reader c.begin.new.control in
     let new = state_of c.visit_below_20.new.reader c.advance.new.control in
     let step = c.advance.ensures in
-    let made = visited_with_step g.V.Visitor.visits EncodesPlain PlainOperatorFault plain_sound old mid new at.frame at.code at.start c.in-Ok-visit_below_20.answer c.args.v.now
-    c.visit_below_20.new.v c.in-Ok.ensures.begun c.in-Ok-visit_below_20.ensures.plain step.frames step.opened step.other in
-    let is : State → Type 0 = λ s. VisitsOperator g.V.Visitor.visits EncodesPlain PlainOperatorFault (NeedsNext EncodesPlain) (Ok c.in-Ok-visit_below_20.answer) s new c.args.v.now
+    let made = visited_with_step g.V.Visitor.visits EncodesScalar ScalarOperatorFault scalar_sound old mid new at.frame at.code at.start c.in-Ok-visit_below_20.answer c.args.v.now
+    c.visit_below_20.new.v c.in-Ok.ensures.begun c.in-Ok-visit_below_20.ensures.scalar step.frames step.opened step.other in
+    let is : State → Type 0 = λ s. VisitsOperator g.V.Visitor.visits EncodesScalar ScalarOperatorFault (NextMayAllocate EncodesScalar) (Ok c.in-Ok-visit_below_20.answer) s new c.args.v.now
     c.visit_below_20.new.v in
     subst is c.self.view_is made
 
@@ -36,9 +36,9 @@ returns-in-Err-visit_below_20 g c =
     let mid = state_of c.begin.new.reader c.begin.new.control in
     let new = state_of c.visit_below_20.new.reader c.begin.new.control in
     let e = c.in-Err-visit_below_20.e in
-    let made = refused_behind g.V.Visitor.visits EncodesPlain PlainOperatorFault old mid new at.frame at.code at.start e c.args.v.now c.visit_below_20.new.v
-    c.in-Ok.ensures.begun c.in-Err-visit_below_20.ensures.plain refl refl in
-    let is : State → Type 0 = λ s. VisitsOperator g.V.Visitor.visits EncodesPlain PlainOperatorFault (NeedsNext EncodesPlain) (Err e) s new c.args.v.now c.visit_below_20.new.v in
+    let made = refused_behind g.V.Visitor.visits EncodesScalar ScalarOperatorFault old mid new at.frame at.code at.start e c.args.v.now c.visit_below_20.new.v
+    c.in-Ok.ensures.begun c.in-Err-visit_below_20.ensures.scalar refl refl in
+    let is : State → Type 0 = λ s. VisitsOperator g.V.Visitor.visits EncodesScalar ScalarOperatorFault (NextMayAllocate EncodesScalar) (Err e) s new c.args.v.now c.visit_below_20.new.v in
     subst is c.self.view_is made
 
 pub returns-then-leaves_frames : goal.returns-then-leaves_frames
@@ -47,7 +47,7 @@ returns-then-leaves_frames g c =
     let old = state_of c.self.inside.reader c.self.inside.control in
     let mid = state_of c.begin.new.reader c.begin.new.control in
     let new = state_of c.visit_behind.new.reader c.begin.new.control in
-    let made = visited_from_20 g.V.Visitor.visits EncodesPlain PlainOperatorFault plain_sound (λ f kind text op h. h.0.1) old mid new at.frame at.code at.start c.visit_behind.result c.args.v.now c.visit_behind.new.v
+    let made = visited_from_20 g.V.Visitor.visits EncodesScalar ScalarOperatorFault scalar_sound (λ f kind text op h. h.0.1) old mid new at.frame at.code at.start c.visit_behind.result c.args.v.now c.visit_behind.new.v
     (c.leaves_frames.ensures.0 c.if-leaves_frames.true) c.in-Ok.ensures.begun c.visit_behind.ensures refl refl in
-    let is : State → Type 0 = λ s. VisitsOperator g.V.Visitor.visits EncodesPlain PlainOperatorFault (NeedsNext EncodesPlain) c.visit_behind.result s new c.args.v.now c.visit_behind.new.v in
+    let is : State → Type 0 = λ s. VisitsOperator g.V.Visitor.visits EncodesScalar ScalarOperatorFault (NextMayAllocate EncodesScalar) c.visit_behind.result s new c.args.v.now c.visit_behind.new.v in
     subst is c.self.view_is made

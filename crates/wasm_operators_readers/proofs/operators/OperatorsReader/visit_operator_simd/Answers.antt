@@ -2,7 +2,7 @@ use Rattle.std.proofs.Common.{Ok, Err, refl, subst}
 use Rattle.wasm_decode.specs.opcodes.Allowed.{EncodesAllowed}
 use Rattle.wasm_decode.specs.opcodes.OperatorFaults.{OperatorFault}
 use Rattle.wasm_operators_readers.specs.Reading.{State, VisitsOperator}
-use Rattle.wasm_operators_readers.specs.Next.{NeedsNext, state_of}
+use Rattle.wasm_operators_readers.specs.Next.{NextMayAllocate, state_of}
 use Rattle.wasm_operators_readers.proofs.DecoderPremises.{sound}
 use Rattle.wasm_operators_readers.proofs.VisitSteps.{step_allowed_behind, visited_with_step, refused_behind, visited_from_20}
 use Rattle.wasm_operators_readers.proofs.operators.OperatorsReader.visit_operator_simd.Goals as goal
@@ -25,7 +25,7 @@ returns-in-Ok-visit_below_20 g c =
     let step = c.advance.ensures in
     let made = visited_with_step g.V.Visitor.visits EncodesAllowed OperatorFault sound old mid new at.frame at.code at.start c.in-Ok-visit_below_20.answer c.args.v.now
     c.visit_below_20.new.v c.in-Ok.ensures.begun c.in-Ok-visit_below_20.ensures.allowed step.frames step.opened step.other in
-    let is : State → Type 0 = λ s. VisitsOperator g.V.Visitor.visits EncodesAllowed OperatorFault (NeedsNext EncodesAllowed) (Ok c.in-Ok-visit_below_20.answer) s new c.args.v.now
+    let is : State → Type 0 = λ s. VisitsOperator g.V.Visitor.visits EncodesAllowed OperatorFault (NextMayAllocate EncodesAllowed) (Ok c.in-Ok-visit_below_20.answer) s new c.args.v.now
     c.visit_below_20.new.v in
     subst is c.self.view_is made
 
@@ -38,7 +38,7 @@ returns-in-Err-visit_below_20 g c =
     let e = c.in-Err-visit_below_20.e in
     let made = refused_behind g.V.Visitor.visits EncodesAllowed OperatorFault old mid new at.frame at.code at.start e c.args.v.now c.visit_below_20.new.v
     c.in-Ok.ensures.begun c.in-Err-visit_below_20.ensures.allowed refl refl in
-    let is : State → Type 0 = λ s. VisitsOperator g.V.Visitor.visits EncodesAllowed OperatorFault (NeedsNext EncodesAllowed) (Err e) s new c.args.v.now c.visit_below_20.new.v in
+    let is : State → Type 0 = λ s. VisitsOperator g.V.Visitor.visits EncodesAllowed OperatorFault (NextMayAllocate EncodesAllowed) (Err e) s new c.args.v.now c.visit_below_20.new.v in
     subst is c.self.view_is made
 
 pub returns-then-leaves_frames : goal.returns-then-leaves_frames
@@ -49,5 +49,5 @@ returns-then-leaves_frames g c =
     let new = state_of c.visit_behind_simd.new.reader c.begin.new.control in
     let made = visited_from_20 g.V.Visitor.visits EncodesAllowed OperatorFault sound (λ f kind text op h. h.1) old mid new at.frame at.code at.start c.visit_behind_simd.result c.args.v.now c.visit_behind_simd.new.v
     (c.leaves_frames.ensures.0 c.if-leaves_frames.true) c.in-Ok.ensures.begun c.visit_behind_simd.ensures refl refl in
-    let is : State → Type 0 = λ s. VisitsOperator g.V.Visitor.visits EncodesAllowed OperatorFault (NeedsNext EncodesAllowed) c.visit_behind_simd.result s new c.args.v.now c.visit_behind_simd.new.v in
+    let is : State → Type 0 = λ s. VisitsOperator g.V.Visitor.visits EncodesAllowed OperatorFault (NextMayAllocate EncodesAllowed) c.visit_behind_simd.result s new c.args.v.now c.visit_behind_simd.new.v in
     subst is c.self.view_is made

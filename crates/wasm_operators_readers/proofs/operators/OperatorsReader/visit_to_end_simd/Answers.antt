@@ -5,7 +5,7 @@ use Rattle.wasm_decode.specs.opcodes.OperatorFaults.{OperatorFault}
 use Rattle.wasm_operators_readers.specs.Visiting.{Visited}
 use Rattle.wasm_operators_readers.proofs.VisitLemmas.{visited_push}
 use Rattle.wasm_operators_readers.proofs.Runs.{ran_push, ran_unchanged, run_stops}
-use Rattle.wasm_operators_readers.specs.Next.{NeedsNext}
+use Rattle.wasm_operators_readers.specs.Next.{NextMayAllocate}
 use Rattle.wasm_operators_readers.proofs.DecoderPremises.{sound}
 use Rattle.wasm_operators_readers.proofs.operators.OperatorsReader.visit_to_end_simd.Goals as goal
 
@@ -29,5 +29,5 @@ returns-in-Err g c =
       i.0,
       subst (λ w. Visited g.V.Visitor.visits c.args.v.now w i.0) (sym h.1) i.1,
       ran_unchanged c.args.self.now c.visits.self c.visit_operator_simd.new.self i.0 i.2 h.0,
-      run_stops EncodesAllowed OperatorFault (NeedsNext EncodesAllowed) c.in-Err.e c.visits.self c.visit_operator_simd.new.self left h.0 h.2,
+      run_stops EncodesAllowed OperatorFault (NextMayAllocate EncodesAllowed) c.in-Err.e c.visits.self c.visit_operator_simd.new.self left h.0 h.2,
     )

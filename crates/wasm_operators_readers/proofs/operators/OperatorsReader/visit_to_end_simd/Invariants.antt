@@ -2,12 +2,12 @@ use Rattle.std.proofs.Common.{length}
 use Rattle.wasm_decode.specs.below.Source.{rest}
 use Rattle.wasm_operators_readers.specs.Expression.{Placed}
 use Rattle.wasm_operators_readers.specs.Visiting.{Visited}
-use Rattle.wasm_operators_readers.specs.Reading.{Ran}
+use Rattle.wasm_operators_readers.specs.Reading.{TakesOperators}
 use Rattle.wasm_operators_readers.proofs.operators.OperatorsReader.visit_to_end_simd.Given as goal
 
 -- the visitor went along the operators of the visits so far
 abbrev pub invariant-visits : goal.invariant-visits
-invariant-visits g l = (placed : Placed) × Visited g.V.Visitor.visits l.fn.v l.v placed × Ran l.fn.self l.self placed
+invariant-visits g l = (placed : Placed) × Visited g.V.Visitor.visits l.fn.v l.v placed × TakesOperators l.fn.self l.self placed
 
 abbrev pub decreases-visits : goal.decreases-visits
 decreases-visits g l = length (rest l.self.reader)

@@ -1,0 +1,10 @@
+use Rattle.wasm_decode_groups.specs.below.Source.{at_position}
+use Rattle.wasm_decode_groups.specs.opcodes.Allowed.{EncodesAllowed}
+use Rattle.wasm_decode_groups.specs.opcodes.OperatorFaults.{OperatorFault}
+use Rattle.wasm_visit.proofs.Passing.{through_reference}
+use Rattle.wasm_visit.proofs.by_reference.RefMutVisitGroups.decode_gc.Goals as goal
+
+pub returns : goal.returns
+returns g c k =
+    let r = c.args.reader.now in
+    through_reference g.V.Visitor.visits (EncodesAllowed r.features k) (OperatorFault r.features k) c.decode_gc.result (at_position r c.args.start) c.decode_gc.new.reader c.args.self.now c.decode_gc.new.self (c.decode_gc.ensures k)

@@ -1,0 +1,186 @@
+"""The plain data of operators (crates/wasm_view): the number of each, and the fields of each shape."""
+
+from table import ENUMS, HEAD, PREFIXES, held
+
+# The function of src/shapes.rt that makes the plain data of operators with these immediates.
+SHAPES = {
+    (): "nothing",
+    ("unsigned",): "index",
+    ("memory_index",): "index",
+    ("unsigned", "unsigned"): "two_indices",
+    ("unsigned", "table_index"): "two_indices",
+    ("memory",): "memory",
+    ("memory", "lane_index"): "memory_lane",
+    ("lane_index",): "lane",
+    ("signed_32",): "integer_32",
+    ("signed_64",): "integer_64",
+    ("float_32",): "float_32",
+    ("float_64",): "float_64",
+    ("vector",): "vector",
+    ("lane_list",): "lanes",
+    ("ordered", "unsigned"): "ordered",
+    ("ordered", "unsigned", "unsigned"): "ordered_two",
+    ("fence",): "fence",
+    ("heap_type",): "heap",
+    ("cast",): "cast",
+    ("block_type",): "block",
+    ("branch_table",): "table",
+    ("one_type",): "select_one",
+    ("types",): "select_many",
+    ("try_table",): "try_table",
+    ("unsigned", "resume_table"): "resume",
+    ("unsigned", "unsigned", "resume_table"): "resume_throw",
+}
+# The types that are passed by reference.
+BORROWED = ("BlockType", "ValType", "BrTable<'a>", "SelectTypes", "TryTable", "ResumeTable")
+# The names that the fields of a shape are bound to, one after another.
+BOUND = ["a", "b", "c"]
+
+
+def kinds(op):
+    """The kinds of an operator's immediates."""
+    return tuple(immediate.split()[0] for immediate in op.immediates)
+
+
+def unshaped(ops):
+    """What is to be told of operators whose immediates have no shape yet."""
+    told = "its immediates have no shape: give them one in tools/generate/plain.py, crates/wasm_view/src/shapes.rt and specs/View.antt"
+    return [f"{op.place}: {told}" for op in ops if kinds(op) not in SHAPES]
+
+
+def number(op):
+    """The opcode; behind a prefix byte the subopcode, and 65536 times that byte."""
+    return op.code + (int(op.prefix, 16) << 16 if op.prefix else 0)
+
+
+def opcode_arms(ops, ty):
+    """An arm for each operator."""
+    return [f"{ty}::{op.name}{' { .. }' if op.fields else ''} => 0x{number(op):x}," for op in ops]
+
+
+def opcodes_source(ops):
+    """The file of the numbers."""
+    own = [op for op in ops if op.group == "Own"]
+    names = ", ".join(enum.type for enum in sorted(ENUMS, key=lambda it: it.type))
+    words = ", ".join(enum.opcode for enum in ENUMS)
+    lines = [
+        f"//! The number of each operator. {HEAD}",
+        "ghost use Rattle.std.specs.Prelude.{◌≡◌, Some};",
+        *[f"ghost use Rattle.wasm_instr.specs.{enum.group}.{{{enum.opcode}}};" for enum in ENUMS],
+        "ghost use Rattle.wasm_instr.specs.Row.{prefix_of, opcode_of};",
+        "ghost use Rattle.wasm_view.specs.View.{opcode_number};",
+        "",
+        f"use wasm_instr::{{{names}, Operator}};",
+        "",
+        "/// The opcode of an operator; behind a prefix byte its subopcode, and 65536 times that byte.",
+        "#[inline(always)]",
+        "pub fn opcode_of(op: &Operator<'_>) -> u32",
+        "    ensures { result ≡ opcode_number (prefix_of op.now) (opcode_of op.now) }",
+        "{",
+        "match op {",
+        *opcode_arms(own, "Operator"),
+        *[f"Operator::{enum.group}(op) => {enum.opcode}(*op)," for enum in held()],
+        "}",
+        "}",
+    ]
+    for enum in held():
+        those = [op for op in ops if op.group == enum.group]
+        prefix = next((byte for byte, group in PREFIXES.items() if group == enum.group), None)
+        wanted = f"opcode_number (Some 0x{prefix}) ({enum.opcode} op)" if prefix else f"{enum.opcode} op"
+        lines += [
+            "",
+            f"/// The number of one of {enum.title}.",
+            f"fn {enum.opcode}(op: {enum.type}) -> u32",
+            f"    ensures {{ result ≡ {wanted} }}",
+            "{",
+            "match op {",
+            *opcode_arms(those, enum.type),
+            "}",
+            "}",
+        ]
+    return "\n".join(lines) + "\n"
+
+
+def bound(op):
+    """Its fields, and the names that they are bound to."""
+    names = BOUND[: len(op.fields)]
+    return [(name, ty, to) for (name, ty), to in zip(op.fields, names)]
+
+
+def shape_arms(ops, ty, by_reference):
+    """An arm for the operators of each shape."""
+    groups = {}
+    for op in ops:
+        groups.setdefault(kinds(op), []).append(op)
+    arms = []
+    for shape in [it for it in SHAPES if it in groups]:
+        those = groups[shape]
+        fields = bound(those[0])
+        patterns = []
+        for op in those:
+            inside = ", ".join(f"{name}: {to}" for name, _, to in bound(op))
+            patterns.append(f"{ty}::{op.name}" + (f" {{ {inside} }}" if inside else ""))
+        values = [to if kind in BORROWED or not by_reference else f"*{to}" for _, kind, to in fields]
+        arms.append(f"{' | '.join(patterns)} => {', '.join([f'shapes::{SHAPES[shape]}(offset', 'opcode', *values])}),")
+    return arms
+
+
+def views_source(ops):
+    """The file of the fields."""
+    own = [op for op in ops if op.group == "Own"]
+    enums = [enum for enum in held() if enum.group != "Numeric"]
+    names = ", ".join(sorted(enum.type for enum in enums))
+    lines = [
+        f"//! The plain data of each operator. {HEAD}",
+        "ghost use Rattle.std.specs.Prelude.{◌≡◌};",
+        *[f"ghost use Rattle.wasm_instr.specs.{enum.group}.{{{enum.module}_immediates}};" for enum in enums],
+        "ghost use Rattle.wasm_instr.specs.Row.{immediates_of};",
+        "ghost use Rattle.wasm_view.specs.View.{view, view_of};",
+        "",
+        "use crate::opcodes::opcode_of;",
+        "use crate::shapes;",
+        "use crate::view::WasmOperator;",
+        f"use wasm_instr::{{{names}, Operator}};",
+        "",
+        "/// The plain data of an operator that begins at this offset. It takes no memory.",
+        "#[inline(always)]",
+        "pub fn view_of(op: &Operator<'_>, offset: u64) -> WasmOperator",
+        "    ensures { result ≡ view_of (op.now, offset) }",
+        "{",
+        "own(offset, opcode_of(op), op)",
+        "}",
+        "",
+        "/// The fields of an operator of this number.",
+        "fn own(offset: u64, opcode: u32, op: &Operator<'_>) -> WasmOperator",
+        "    ensures { result ≡ view offset opcode (immediates_of op.now) }",
+        "{",
+        "match op {",
+        *shape_arms(own, "Operator", True),
+        "Operator::Numeric(_) => shapes::nothing(offset, opcode),",
+        *[f"Operator::{enum.group}(op) => {enum.module}(offset, opcode, *op)," for enum in enums],
+        "}",
+        "}",
+    ]
+    for enum in enums:
+        those = [op for op in ops if op.group == enum.group]
+        lines += [
+            "",
+            f"/// The fields of one of {enum.title}.",
+            f"fn {enum.module}(offset: u64, opcode: u32, op: {enum.type}) -> WasmOperator",
+            f"    ensures {{ result ≡ view offset opcode ({enum.module}_immediates op) }}",
+            "{",
+            "match op {",
+            *shape_arms(those, enum.type, False),
+            "}",
+            "}",
+        ]
+    return "\n".join(lines) + "\n"
+
+
+def plain_files(ops):
+    """The files of the crate that are lists over the operators which have a shape."""
+    ops = [op for op in ops if kinds(op) in SHAPES]
+    return {
+        "crates/wasm_view/src/opcodes.rt": opcodes_source(ops),
+        "crates/wasm_view/src/views.rt": views_source(ops),
+    }

@@ -1,0 +1,19 @@
+"""The plain data of operators."""
+
+import unittest
+
+import plain
+from table import SHARED, table
+
+
+class Plain(unittest.TestCase):
+    def test_each_operator_has_a_shape(self):
+        self.assertEqual(plain.unshaped(table()), [])
+
+    def test_a_number_belongs_to_one_operator_but_for_the_two_of_a_select(self):
+        numbers = [plain.number(op) for op in table() if op.name != SHARED[1]]
+        self.assertEqual(len(numbers), len(set(numbers)))
+
+
+if __name__ == "__main__":
+    unittest.main()
