@@ -1,6 +1,7 @@
 pub mod MemoryLemmas
 pub mod VisitSteps
 pub mod LayoutLemmas
+pub mod Ranges
 pub mod FlatLemmas
 pub mod VisitLemmas
 pub mod OpeningLemmas
@@ -8,12 +9,14 @@ pub mod Roles
 pub mod Bytes
 pub mod Premises
 pub mod OneRead
+pub mod SameReads
 pub mod Runs
 pub mod Ends
 pub mod Scalar
 pub mod Clauses
 pub mod StepLemmas
 pub mod Messages
+pub mod Offsets
 pub mod DecoderPremises
 pub mod Taken
 pub mod Begins

@@ -29,6 +29,10 @@ LaidOut f offset [] bytes = bytes ≡ []
 LaidOut f offset (p ∷ ps) bytes = (p.1 ≡ offset) × (text more : List ℕ) × (bytes ≡ text ++ more) × EncodesOperator f p.0 text ×
     LaidOut f (offset + length text) ps more
 
+-- The operator's bytes, the first of them at its offset, end before this one.
+abbrev pub EndsAt : WasmFeatures → Operator × ℕ → ℕ → Type 0
+EndsAt f p end = (text : List ℕ) × EncodesOperator f p.0 text × (end ≡ p.1 + length text)
+
 -- The operators, in this order, are the walk of an expression.
 abbrev pub AreWalk : List Operator → Type 0
 AreWalk ops = IsWalk (roles_of ops)

@@ -41,6 +41,10 @@ IsFresh s = s.frames ≡ frame.Block ∷ []
 abbrev pub IsUnchanged : State → State → Type 0
 IsUnchanged old new = (new.reader ≡ old.reader) × (new.frames ≡ old.frames) × (old.room ≤ new.room)
 
+-- The second reader stands where the first does, in the same bytes and under the same frames; their room may differ.
+abbrev pub StandAlike : State → State → Type 0
+StandAlike first second = (second.reader ≡ first.reader) × (second.frames ≡ first.frames)
+
 -- A prefix of the rest encoded this operator, which the innermost frame allows, and was taken. Where it opens a frame, that used at most one of the room.
 pub record TakesOperator (Encodes : Taking) (op : Operator) (old new : State) : Type 0 where
   pub kind : FrameKind

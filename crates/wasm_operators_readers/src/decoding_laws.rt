@@ -6,7 +6,7 @@ ghost use Rattle.wasm_decode.specs.below.Source.{Reader, rest, BeginsWith};
 ghost use Rattle.wasm_decode.specs.opcodes.Allowed.{EncodesAllowed, EncodesScalar};
 ghost use Rattle.wasm_decode.specs.opcodes.OperatorFaults.{OperatorFault, ScalarOperatorFault};
 ghost use Rattle.wasm_operators_readers.specs.Next.{NextMayAllocate};
-ghost use Rattle.wasm_operators_readers.specs.Reading.{State, StopsRun, Anywhere};
+ghost use Rattle.wasm_operators_readers.specs.Reading.{State, StopsRead, StopsRun, Anywhere};
 
 use wasm_decode::below::{Message, WasmFeatures};
 use wasm_decode::grammar::FrameKind;
@@ -45,4 +45,17 @@ pub fn run_messages()
     ensures scalar_left { (e : Error) (s : State)
         → StopsRun EncodesScalar ScalarOperatorFault (NextMayAllocate EncodesScalar) e s
         → (e.message ≡ Message.FramesRemain) ↔ ((rest s.reader ≡ []) × (s.frames ≡ [] → ⊥)) }
+{}
+
+/// Where memory is refused, the next operator may ask for it: it opens a frame for which no room is
+/// left, or it owns a list.
+pub fn memory_asked()
+    ensures read { (e : Error) (s : State) → StopsRead EncodesAllowed OperatorFault (NextMayAllocate EncodesAllowed) e s
+        → e.message ≡ Message.OutOfMemory → NextMayAllocate EncodesAllowed s }
+    ensures scalar_read { (e : Error) (s : State) → StopsRead EncodesScalar ScalarOperatorFault (NextMayAllocate EncodesScalar) e s
+        → e.message ≡ Message.OutOfMemory → NextMayAllocate EncodesScalar s }
+    ensures visits { (e : Error) (s : State) → StopsRun EncodesAllowed OperatorFault (NextMayAllocate EncodesAllowed) e s
+        → e.message ≡ Message.OutOfMemory → NextMayAllocate EncodesAllowed s }
+    ensures scalar_visits { (e : Error) (s : State) → StopsRun EncodesScalar ScalarOperatorFault (NextMayAllocate EncodesScalar) e s
+        → e.message ≡ Message.OutOfMemory → NextMayAllocate EncodesScalar s }
 {}

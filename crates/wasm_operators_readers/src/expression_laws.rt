@@ -1,12 +1,12 @@
 //! Laws of expressions, of their beginnings, and of what visitors are handed. Each is the contract of
 //! a function that does nothing.
-ghost use Rattle.std.specs.Prelude.{◌≡◌, ◌↔◌, ◌*◌, ◌<◌, ◌≤◌, ℕ, List, [], ◌∷◌, ◌++◌, length};
-ghost use Rattle.wasm_decode.specs.below.Source.{Source, BeginsWith};
+ghost use Rattle.std.specs.Prelude.{◌≡◌, ◌↔◌, ◌*◌, ◌<◌, ◌≤◌, ℕ, List, [], ◌∷◌, ◌++◌, ◌+◌, length};
+ghost use Rattle.wasm_decode.specs.below.Source.{Source, Reader, offset_of, Takes, BeginsWith};
 ghost use Rattle.wasm_decode.specs.grammar.declared.frame_kind.FrameKind.{FrameKind};
 ghost use Rattle.wasm_decode.specs.instr.declared.operator.Operator.{Operator};
 ghost use Rattle.wasm_decode.specs.instr.Encoding.{EncodesOperator};
 ghost use Rattle.wasm_decode.specs.instr.Kinds.{IsVector};
-ghost use Rattle.wasm_operators_readers.specs.Expression.{Placed, LaidOut, AreEncoded, EncodesRest, EncodesExpression, IsBeginningOf, IsBeginningBehind, IsLongestOf, IsLongestBehind, IsLongestBeginning};
+ghost use Rattle.wasm_operators_readers.specs.Expression.{Placed, operators, LaidOut, EndsAt, AreEncoded, EncodesRest, EncodesExpression, IsBeginningOf, IsBeginningBehind, IsLongestOf, IsLongestBehind, IsLongestBeginning};
 ghost use Rattle.wasm_operators_readers.specs.Flat.{IsFlatOf, IsFlatFrom, IsFlatBeginning};
 ghost use Rattle.wasm_operators_readers.specs.Headline.{ClosesFrom};
 ghost use Rattle.wasm_operators_readers.specs.Openings.{opened_by, LeadsFrame};
@@ -26,6 +26,30 @@ pub fn one_layout(features: WasmFeatures)
         → LaidOut features offset first a → LaidOut features offset second b
         → a ++ x ≡ b ++ y → length first ≡ length second
         → (first ≡ second) × (a ≡ b) × (x ≡ y) }
+{}
+
+/// A list that is laid out is no longer than its bytes, and its operators have encodings; and where it
+/// is two lists, one behind the other, so are its bytes.
+pub fn layouts(features: WasmFeatures)
+    ensures length { (offset : ℕ) (placed : Placed) (bytes : List ℕ) → LaidOut features offset placed bytes
+        → length placed ≤ length bytes }
+    ensures encoded { (offset : ℕ) (placed : Placed) (bytes : List ℕ) → LaidOut features offset placed bytes
+        → AreEncoded features (operators placed) }
+    ensures parts { (offset : ℕ) (first second : Placed) (bytes : List ℕ) → LaidOut features offset (first ++ second) bytes
+        → (a b : List ℕ) × (bytes ≡ a ++ b) × LaidOut features offset first a × LaidOut features (offset + length a) second b }
+    ensures joined { (offset : ℕ) (first second : Placed) (a b : List ℕ) → LaidOut features offset first a
+        → LaidOut features (offset + length a) second b → LaidOut features offset (first ++ second) (a ++ b) }
+{}
+
+/// Each operator of a list that is laid out ends where the next begins, and the last where the bytes
+/// do; of a list that was read, where the reader stands.
+pub fn ranges(features: WasmFeatures)
+    ensures next { (offset : ℕ) (before after : Placed) (p q : Operator × ℕ) (bytes : List ℕ)
+        → LaidOut features offset (before ++ p ∷ q ∷ after) bytes → EndsAt features p q.1 }
+    ensures last { (offset : ℕ) (before : Placed) (p : Operator × ℕ) (bytes : List ℕ)
+        → LaidOut features offset (before ++ p ∷ []) bytes → EndsAt features p (offset + length bytes) }
+    ensures read { (old new : Reader) (before : Placed) (p : Operator × ℕ) (text : List ℕ) → Takes old new text
+        → LaidOut old.features (offset_of old) (before ++ p ∷ []) text → EndsAt old.features p (offset_of new) }
 {}
 
 /// No encoding of an expression is a proper prefix of another's, and one encoding belongs to one

@@ -6,7 +6,7 @@ ghost use Rattle.wasm_decode.specs.opcodes.Allowed.{EncodesAllowed, EncodesScala
 ghost use Rattle.wasm_decode.specs.opcodes.OperatorFaults.{OperatorFault, ScalarOperatorFault};
 ghost use Rattle.wasm_operators_readers.specs.Next.{NextMayAllocate, StopsNext};
 ghost use Rattle.wasm_operators_readers.specs.Expression.{Placed, IsAny};
-ghost use Rattle.wasm_operators_readers.specs.Reading.{State, TakesOperator, Anywhere};
+ghost use Rattle.wasm_operators_readers.specs.Reading.{State, StandAlike, TakesOperator, Anywhere};
 ghost use Rattle.wasm_operators_readers.specs.Headline.{ReadsBeginning};
 ghost use Rattle.wasm_operators_readers.specs.Visiting.{IsScalar};
 
@@ -33,6 +33,32 @@ pub fn not_taken()
     ensures scalar { (e : Error) (old mid new : State) (op : Operator)
         → StopsNext EncodesScalar ScalarOperatorFault e old mid → e.message ≢ Message.OutOfMemory
         → ¬ TakesOperator EncodesScalar op mid new }
+{}
+
+/// Two reads or visits from readers that stand alike answer alike, allocation failure aside: they take
+/// the same operator, or are refused by one message at one offset; and they stand alike then. Where
+/// one takes an operator, the other is refused for memory alone.
+pub fn same_answer()
+    ensures taken { (op other : Operator) (old new start end : State) → StandAlike old start
+        → TakesOperator EncodesAllowed op old new → TakesOperator EncodesAllowed other start end
+        → (op ≡ other) × StandAlike new end }
+    ensures refused { (d e : Error) (old new start end : State) → StandAlike old start
+        → StopsNext EncodesAllowed OperatorFault d old new → d.message ≢ Message.OutOfMemory
+        → StopsNext EncodesAllowed OperatorFault e start end → e.message ≢ Message.OutOfMemory
+        → (d.message ≡ e.message) × (d.offset ≡ e.offset) × StandAlike new end }
+    ensures never_both { (e : Error) (op : Operator) (old new start end : State) → StandAlike old start
+        → TakesOperator EncodesAllowed op old new → StopsNext EncodesAllowed OperatorFault e start end
+        → e.message ≡ Message.OutOfMemory }
+    ensures scalar_taken { (op other : Operator) (old new start end : State) → StandAlike old start
+        → TakesOperator EncodesScalar op old new → TakesOperator EncodesScalar other start end
+        → (op ≡ other) × StandAlike new end }
+    ensures scalar_refused { (d e : Error) (old new start end : State) → StandAlike old start
+        → StopsNext EncodesScalar ScalarOperatorFault d old new → d.message ≢ Message.OutOfMemory
+        → StopsNext EncodesScalar ScalarOperatorFault e start end → e.message ≢ Message.OutOfMemory
+        → (d.message ≡ e.message) × (d.offset ≡ e.offset) × StandAlike new end }
+    ensures scalar_never_both { (e : Error) (op : Operator) (old new start end : State) → StandAlike old start
+        → TakesOperator EncodesScalar op old new → StopsNext EncodesScalar ScalarOperatorFault e start end
+        → e.message ≡ Message.OutOfMemory }
 {}
 
 /// Where reading or visiting to the end is refused, the whole answer is determined, allocation

@@ -14,6 +14,7 @@ pub mod frame_laws;
 mod iterators;
 pub mod laws;
 mod operators;
+pub mod position_laws;
 pub mod run_laws;
 mod stack;
 mod step;

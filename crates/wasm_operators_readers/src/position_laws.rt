@@ -1,0 +1,40 @@
+//! Laws of where readers stand, and of the offsets of refusals.
+ghost use Rattle.std.specs.Prelude.{◌≡◌, ◌≤◌, List, ℕ, Err};
+ghost use Rattle.wasm_decode.specs.below.bytes.error.Error.{Error};
+ghost use Rattle.wasm_decode.specs.below.Source.{Reader, offset_of, end_of, Takes, IsAhead};
+ghost use Rattle.wasm_decode.specs.opcodes.Allowed.{EncodesAllowed, EncodesScalar};
+ghost use Rattle.wasm_decode.specs.opcodes.OperatorFaults.{OperatorFault, ScalarOperatorFault};
+ghost use Rattle.wasm_operators_readers.specs.Next.{NextMayAllocate};
+ghost use Rattle.wasm_operators_readers.specs.Reading.{State, Finishes, StopsRead, StopsRun, Anywhere};
+
+use wasm_decode::below::BinaryReader;
+
+/// A reader of bytes stands within its data or just behind them. The call looks at the next byte, and
+/// that is all.
+pub fn within(reader: &BinaryReader<'_>)
+    ensures { offset_of reader.now ≤ end_of reader.now }
+{
+    let _ = reader.peek();
+}
+
+/// So it does behind what was taken, and the data ends where they did.
+pub fn taken_within()
+    ensures { (old new : Reader) (text : List ℕ) → Takes old new text → offset_of old ≤ end_of old
+        → (offset_of old ≤ offset_of new) × (offset_of new ≤ end_of new) × (end_of new ≡ end_of old) }
+{}
+
+/// The offset of a refusal lies in what is left, or just behind it.
+pub fn refusals_ahead()
+    ensures read { (e : Error) (s : State) → StopsRead EncodesAllowed OperatorFault (NextMayAllocate EncodesAllowed) e s
+        → offset_of s.reader ≤ end_of s.reader → IsAhead s.reader e.offset }
+    ensures scalar_read { (e : Error) (s : State) → StopsRead EncodesScalar ScalarOperatorFault (NextMayAllocate EncodesScalar) e s
+        → offset_of s.reader ≤ end_of s.reader → IsAhead s.reader e.offset }
+    ensures finish { (e : Error) (s : State) → Finishes {X = Unit {0}} (Err e) s
+        → offset_of s.reader ≤ end_of s.reader → IsAhead s.reader e.offset }
+    ensures reads { (e : Error) (s : State) → StopsRun EncodesAllowed OperatorFault Anywhere e s
+        → offset_of s.reader ≤ end_of s.reader → IsAhead s.reader e.offset }
+    ensures visits { (e : Error) (s : State) → StopsRun EncodesAllowed OperatorFault (NextMayAllocate EncodesAllowed) e s
+        → offset_of s.reader ≤ end_of s.reader → IsAhead s.reader e.offset }
+    ensures scalar_visits { (e : Error) (s : State) → StopsRun EncodesScalar ScalarOperatorFault (NextMayAllocate EncodesScalar) e s
+        → offset_of s.reader ≤ end_of s.reader → IsAhead s.reader e.offset }
+{}
