@@ -26,9 +26,7 @@ OUTSIDE = ("wasm_text", "wasm_module", "wasm_objdump", "wasm_listing", "wasm_dum
 # What is cited today: the crate, the library and the file of the lemmas, their names, and why.
 CODES = "that encodings of a kind are a prefix code, which a law says too, and that none is empty, which none says"
 REFUSED = "what a refusal says of the bytes that are there"
-BODIES = "from the clauses of what opens a body and of a driver to what reading the body says (`ReadsBody`)"
 BENCH = "wasm_bench", "wasm_operators_readers.proofs"
-LISTING = "wasm_listing", "wasm_operators.proofs"
 CITED = [
     (*BENCH, "of_below.Blocks", "refused_now", REFUSED),
     (*BENCH, "of_below.PrefixCode", "byte_prefix_code signed_prefix_code signed_some", CODES),
@@ -38,8 +36,6 @@ CITED = [
     (*BENCH, "of_imm.BranchTables", "table_prefix_code", CODES),
     (*BENCH, "of_imm.FlagsNumber", "memarg_prefix_code", CODES),
     (*BENCH, "of_imm.ListLemmas", "each_more", "a list of texts with one more"),
-    (*LISTING, "Bodies", "body_tree body_beginning no_body expression_behind refused_body opened_body", BODIES),
-    (*LISTING, "of_readers.LayoutLemmas", "encoded_some", "that no encoding of an operator is empty"),
 ]
 
 

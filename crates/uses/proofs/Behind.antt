@@ -7,7 +7,7 @@ use Rattle.wasm_operators.specs.Expression.{Placed, operators, LaidOut, AreWalk,
 use Rattle.wasm_operators.specs.Reading.{State}
 use Rattle.wasm_operators.specs.Headline.{StoodBefore}
 use Rattle.uses.specs.Again.{StandsBehind}
-use Rattle.uses.proofs.Parts.{operators_join, laid_join}
+use Rattle.uses.proofs.Parts.{IsJoined, operators_join}
 
 -- What is laid out from a reader on that took a text of another is laid out behind that text.
 laid_behind : (r old : Reader) (text : List ℕ) (placed : Placed) (more : List ℕ) → Takes r old text → LaidOut old.features (offset_of old) placed more →
@@ -38,21 +38,21 @@ stands_first r now same stood =
     }
 
 -- A call more that was refused.
-pub stands_on : (r : Reader) (old new : State) (found placed : Placed) (text : List ℕ) → StandsBehind r old found →
+pub stands_on : (r : Reader) (old new : State) (found placed : Placed) (text : List ℕ) → IsJoined r.features → StandsBehind r old found →
     Takes old.reader new.reader text → LaidOut old.reader.features (offset_of old.reader) placed text →
     StoodBefore (operators found ++ operators placed) new → StandsBehind r new (found ++ placed)
-stands_on r old new found placed text h takes laid stood = record {
+stands_on r old new found placed text joined h takes laid stood = record {
   text = h.text ++ text;
   takes = takes_both r old.reader new.reader h.text text h.takes takes;
-  laid = laid_join r.features (offset_of r) found placed h.text text h.laid (laid_behind r old.reader h.text placed text h.takes laid);
+  laid = joined (offset_of r) found placed h.text text h.laid (laid_behind r old.reader h.text placed text h.takes laid);
   stood = subst (λ ops. StoodBefore ops new) (sym (operators_join found placed)) stood;
 }
 
 -- A call more that read to the end.
-pub whole_behind : (r : Reader) (old : State) (found placed : Placed) → StandsBehind r old found →
+pub whole_behind : (r : Reader) (old : State) (found placed : Placed) → IsJoined r.features → StandsBehind r old found →
     EncodesRest (operators found) (source_of old.reader) placed → EncodesExpression (source_of r) (found ++ placed)
-whole_behind r old found placed h (laid, walk) =
-    let all = laid_join r.features (offset_of r) found placed h.text (rest old.reader) h.laid (laid_behind r old.reader h.text placed (rest old.reader) h.takes laid) in (
+whole_behind r old found placed joined h (laid, walk) =
+    let all = joined (offset_of r) found placed h.text (rest old.reader) h.laid (laid_behind r old.reader h.text placed (rest old.reader) h.takes laid) in (
       subst (λ bytes. LaidOut r.features (offset_of r) (found ++ placed) bytes) (sym h.takes.parts) all,
       subst AreWalk (sym (operators_join found placed)) walk,
     )

@@ -1,10 +1,9 @@
 pub mod Beginnings
 pub mod Behind
-pub mod Bodies
 pub mod CallsAlong
 pub mod ConstantText
 pub mod Counting
 pub mod Frames
-pub mod Lengths
+pub mod HeightsAlong
 pub mod Parts
 pub mod Singles

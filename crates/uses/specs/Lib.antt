@@ -2,4 +2,6 @@ pub mod Again
 pub mod Calls
 pub mod Constants
 pub mod Frames
+pub mod Heights
 pub mod Input
+pub mod Module

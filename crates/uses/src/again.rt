@@ -5,14 +5,15 @@ ghost use Rattle.uses.specs.Input.{input};
 
 use std::alloc::Global;
 use wasm_operators::{
-    BinaryReader, Error, Message, Operator, OperatorsReader, Result, WasmFeatures,
+    BinaryReader, Error, Message, Operator, OperatorsReader, Result, WasmFeatures, expression_laws,
 };
 
 /// The operators of an expression, where memory may be refused so many times but one: the same list
 /// as if it had never been.
 ///
 /// Behind a call that was refused for memory, the clause `beginning` says that what was found stands
-/// before the reader; the clause `tree` of the next call is over what was found before it.
+/// before the reader; the clause `tree` of the next call is over what was found before it, and the
+/// law `layouts` joins the lists.
 pub fn operators_again<'a>(
     alloc: Global,
     features: WasmFeatures,
@@ -21,6 +22,7 @@ pub fn operators_again<'a>(
 ) -> Result<Vec<(Operator<'a>, u64)>>
     ensures { IfOk result (λ found. EncodesExpression (input features bytes.now) found.items) }
 {
+    expression_laws::layouts(features);
     let mut found = Vec::new(alloc);
     let mut reader = OperatorsReader::new(alloc, BinaryReader::new_features(bytes, 0, features));
     'tries: for _try in 0..tries {

@@ -10,7 +10,7 @@ use std::alloc::Global;
 use std::marker::Model;
 use wasm_operators::{
     BinaryReader, BrTable, Error, FunctionBody, Message, Operator, Result, VisitGroups,
-    VisitOperator, VisitSimdOperator, Visitor, WasmFeatures,
+    VisitOperator, VisitSimdOperator, Visitor, WasmFeatures, body_laws,
 };
 
 /// A visitor that finds calls.
@@ -58,11 +58,12 @@ impl VisitSimdOperator for Calls {}
 /// that stands behind its locals.
 ///
 /// The clause `tree` of `visit_all_simd` gives that expression, and the visitor's relation along it;
-/// `get_operators_reader` says where it begins.
+/// `get_operators_reader` says where it begins, and the law `opened_bodies` that both are the body.
 pub fn called_functions(alloc: Global, features: WasmFeatures, bytes: &[u8]) -> Result<Vec<u32>>
     ensures { IfOk result (λ calls. (declarations : List Declaration) × (placed : Placed)
         × EncodesBody (input features bytes.now) declarations placed × (calls.items ≡ calls_of placed)) }
 {
+    body_laws::opened_bodies();
     let mut found = Calls {
         calls: Vec::new(alloc),
         refused: false,

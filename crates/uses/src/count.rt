@@ -6,7 +6,7 @@ ghost use Rattle.uses.specs.Input.{input};
 use std::alloc::Global;
 use wasm_operators::{
     BinaryReader, BrTable, Message, Operator, OperatorsReader, Result, VisitGroups, VisitOperator,
-    VisitSimdOperator, Visitor, WasmFeatures,
+    VisitSimdOperator, Visitor, WasmFeatures, expression_laws,
 };
 
 /// How many operators were visited.
@@ -39,14 +39,15 @@ impl VisitSimdOperator for Count {}
 /// How many operators an expression has.
 ///
 /// The visitor's relation counts one visit; along the list of the clause `tree` it counts them all,
-/// since a list that is laid out is no longer than its bytes. Where the bytes encode an expression,
-/// nothing but memory is refused: the clause `only`.
+/// since a list that is laid out is no longer than its bytes: the law `layouts`. Where the bytes
+/// encode an expression, nothing but memory is refused: the clause `only`.
 pub fn count_operators(alloc: Global, features: WasmFeatures, bytes: &[u8]) -> Result<u64>
     ensures counts { IfOk result (λ count. (placed : Placed)
         × EncodesExpression (input features bytes.now) placed × (count ≡ length placed)) }
     ensures whole { (placed : Placed) → EncodesExpression (input features bytes.now) placed
         → IfErr result (λ e. e.message ≡ Message.OutOfMemory) }
 {
+    expression_laws::layouts(features);
     let mut count = Count { operators: 0 };
     let mut reader = OperatorsReader::new(alloc, BinaryReader::new_features(bytes, 0, features));
     reader.visit_all_simd(&mut count)?;

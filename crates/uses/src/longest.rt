@@ -69,7 +69,7 @@ fn keep<'a>(found: Vec<(Operator<'a>, u64)>) -> Kept<'a>
 ///
 /// Where `read_all` refuses the bytes, the clause `beginning` says that the list is the longest, and
 /// where its open path leads; the laws `path_is_run` and `ends_complete` of the grammar say the rest.
-/// Where it succeeds, `tree` says so, and the law `one_layout` that nothing is longer.
+/// Where it succeeds, `tree` says so, and the law `whole_is_longest` that nothing is longer.
 pub fn longest_beginning<'a>(
     alloc: Global,
     features: WasmFeatures,
@@ -80,7 +80,7 @@ pub fn longest_beginning<'a>(
         (λ kept. AreWalk (operators kept.operators.items ++ replicate kept.ends Operator.End)) }
     ensures memory { IfErr result (λ e. e.message ≡ Message.OutOfMemory) }
 {
-    expression_laws::one_layout(features);
+    expression_laws::whole_is_longest();
     grammar_laws::path_is_run::<Operator<'a>>();
     grammar_laws::rules_accept_walks::<Operator<'a>>();
     grammar_laws::ends_complete::<Operator<'a>>();

@@ -6,7 +6,7 @@ ghost use Rattle.uses.specs.Input.{input};
 use std::alloc::Global;
 use wasm_operators::{
     BinaryReader, BrTable, MiscOperator, Operator, OperatorsReader, Result, VisitGroups, VisitMisc,
-    VisitOperator, VisitSimdOperator, Visitor, WasmFeatures, decode, dispatch,
+    VisitOperator, VisitSimdOperator, Visitor, WasmFeatures, decode, dispatch, expression_laws,
 };
 
 /// How many operators copy or fill a stretch of memory, and how many others there were.
@@ -69,6 +69,7 @@ pub fn count_moves(alloc: Global, features: WasmFeatures, bytes: &[u8]) -> Resul
     ensures { IfOk result (λ found. (placed : Placed)
         × EncodesExpression (input features bytes.now) placed × (found.moves + found.others ≡ length placed)) }
 {
+    expression_laws::layouts(features);
     let mut found = Moves {
         moves: 0,
         others: 0,

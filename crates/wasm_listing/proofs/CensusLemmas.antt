@@ -1,5 +1,5 @@
 -- The counts behind visits of a list, and that none comes to the greatest u64.
-use Rattle.std.proofs.Common.{◌≡◌, ◌≢◌, inl, inr, ℕ, ◌+◌, ◌-◌, ◌^◌, ◌≤◌, List, [], ◌∷◌, length, map, refl, sym, subst, ap, ◌∙◌, arith, cond, Bool, true, false, nat_eq, Result, Ok, Err}
+use Rattle.std.proofs.Common.{◌≡◌, ◌≢◌, ℕ, ◌+◌, ◌-◌, ◌^◌, ◌≤◌, List, [], ◌∷◌, length, map, refl, sym, subst, ap, ◌∙◌, arith, cond, Bool, true, false, nat_eq, Result, Ok, Err}
 use Rattle.std.proofs.lemmas.List.{length-append}
 use Rattle.std.specs.Cmp.Lexicographic.{pointwise}
 use Rattle.wasm_operators.specs.below.bytes.error.Error.{Error}
@@ -8,28 +8,13 @@ use Rattle.wasm_operators.specs.below.Source.{Reader, rest, offset_of}
 use Rattle.wasm_operators.specs.below.bytes.features.WasmFeatures.{WasmFeatures}
 use Rattle.wasm_operators.specs.instr.declared.operator.Operator.{Operator}
 use Rattle.wasm_operators.specs.instr.Row.{proposal_of}
-use Rattle.wasm_operators.specs.opcodes.Allowed.{EncodesAllowed}
-use Rattle.wasm_operators.specs.opcodes.OperatorFaults.{OperatorFault}
-use Rattle.wasm_operators.specs.readers.Expression.{Placed, IsAny, LaidOut}
+use Rattle.wasm_operators.specs.readers.Expression.{Placed, LaidOut}
 use Rattle.wasm_operators.specs.readers.Visiting.{VisitRun, Visited}
-use Rattle.wasm_operators.proofs.of_readers.LayoutLemmas.{encoded_some}
-use Rattle.wasm_operators.specs.readers.Reading.{Allocating, State}
-use Rattle.wasm_operators.specs.readers.Headline.{ReadsRest}
-use Rattle.wasm_operators.specs.Locals.{Declaration, RefusesLocals}
-use Rattle.wasm_operators.specs.Body.{OpensBody, StopsBody}
-use Rattle.wasm_operators.proofs.Bodies.{body_tree, body_beginning}
+use Rattle.wasm_operators.specs.Locals.{Declaration}
+use Rattle.wasm_operators.specs.Body.{StopsBody, ReadsBody}
 use Rattle.wasm_listing.specs.declared.fault.DumpFault.TheVariants as fault
-use Rattle.wasm_listing.specs.Census.{proposals, count_of, counts_of, one_more, one_more_of, CountsVisit, CountsBody, Counts}
+use Rattle.wasm_listing.specs.Census.{proposals, count_of, counts_of, one_more, one_more_of, CountsVisit, Counted, Counts}
 use Rattle.wasm_listing.specs.Dump.{IsBody}
-
--- A list that is laid out has at most as many operators as bytes.
-pub laid_length : (f : WasmFeatures) (offset : ℕ) (placed : Placed) (bytes : List ℕ) → LaidOut f offset placed bytes → length placed ≤ length bytes
-laid_length f offset [] bytes h = omega arith
-laid_length f offset (p ∷ ps) bytes (at, text, more, parts, encodes, others) =
-    let some : 1 ≤ length text = encoded_some f p.0 text encodes in
-    let left : length ps ≤ length more = laid_length f (offset + length text) ps more others in
-    let whole : length bytes ≡ length text + length more = ap length parts ∙ length-append text more in
-    omega (arith, some, left, whole)
 
 -- the counts, and to each what the list adds
 abbrev pub added : List (List ℕ) → List ℕ → Placed → List ℕ
@@ -107,44 +92,34 @@ visited_counts placed before after none below (answers, run) =
     counts_along placed answers before after 0 (ap length (sym none)) (subst (AreWithin 0) (sym none) (zeros_within proposals)) (omega (arith, below)) run ∙
     ap (λ counts. added proposals counts placed) none ∙ added_zeros proposals placed
 
--- A body has at most as many operators as bytes.
-pub body_length : (input : Reader) (declarations : List Declaration) (placed : Placed) → IsBody input declarations placed → length placed ≤ length (rest input)
-body_length input declarations placed h =
-    let fits = laid_length input.features (offset_of input + length h.locals) placed h.expression h.encodes_expression.0 in
+-- What the law `layouts` says: a list that is laid out has at most as many operators as bytes.
+abbrev pub IsNoLonger : WasmFeatures → Type 0
+IsNoLonger f = (offset : ℕ) (placed : Placed) (bytes : List ℕ) → LaidOut f offset placed bytes → length placed ≤ length bytes
+
+-- So has a body.
+pub body_length : (input : Reader) (declarations : List Declaration) (placed : Placed) → IsNoLonger input.features → IsBody input declarations placed →
+    length placed ≤ length (rest input)
+body_length input declarations placed no_longer h =
+    let fits = no_longer (offset_of input + length h.locals) placed h.expression h.encodes_expression.0 in
     let whole : length (rest input) ≡ length h.locals + length h.expression = ap length h.parts ∙ length-append h.locals h.expression in
     omega (arith, fits, whole)
 
--- Counting a body whose locals are refused.
-pub refused_counts : (X : Type 0) (e : Error) (body : Reader) (before : List ℕ) → RefusesLocals e body → CountsBody {X = X} (Err e) body before before
-refused_counts X e body before h = λ other. ([], inl (record { refused = h; nothing = refl }))
-
--- Counting the operators of a body whose locals were read.
-pub opened_counts : {X : Type 0} (Allocates : Allocating) (r : Result X Error) (body : Reader) (opened new : State) (before after : List ℕ) →
-    OpensBody (Ok opened) body →
-    ReadsRest (Visited {A = Unit {0}} (λ s op a t. CountsVisit s op t) before after) IsAny EncodesAllowed OperatorFault Allocates [] r opened new →
-    CountsBody r body before after
-opened_counts Allocates (Ok x) body opened new before after opens h =
-    let whole = body_tree body opened new h.tree.0 opens h.tree.2 in
-    (whole.0, h.tree.0, whole.1, h.tree.1)
-opened_counts Allocates (Err e) body opened new before after opens h =
-    λ other. (h.beginning.0, inr (body_beginning Allocates e body opened new h.beginning.0 opens h.beginning.2))
-
 -- The counts of a whole body.
-pub whole_counts : (r : Result (Unit {0}) Error) (x : Unit {0}) (input : Reader) (before after : List ℕ) → r ≡ Ok x → CountsBody r input before after →
-    before ≡ map (λ p. 0) proposals → length (rest input) ≤ 2 ^ 64 - 1 → Counts input (Ok after)
-whole_counts (Ok y) x input before after is (declarations, placed, whole, visited) none fits =
-    let few = body_length input declarations placed whole in
+pub whole_counts : (r : Result (Unit {0}) Error) (x : Unit {0}) (input : Reader) (before after : List ℕ) → IsNoLonger input.features → r ≡ Ok x →
+    ReadsBody (Counted before after) r input → before ≡ map (λ p. 0) proposals → length (rest input) ≤ 2 ^ 64 - 1 → Counts input (Ok after)
+whole_counts (Ok y) x input before after no_longer is (declarations, placed, visited, whole) none fits =
+    let few = body_length input declarations placed no_longer whole in
     (declarations, placed, whole, visited_counts placed before after none (omega (arith, few, fits)) visited)
-whole_counts (Err e) x input before after is h none fits = absurd (cc is)
+whole_counts (Err e) x input before after no_longer is h none fits = absurd (cc is)
 
 -- A refusal, memory aside.
-pub other_counts : {X : Type 0} (r : Result X Error) (e : Error) (input : Reader) (before after : List ℕ) → r ≡ Err e → CountsBody r input before after →
-    e.message ≢ message.OutOfMemory → Counts input (Err (fault.Refused e))
+pub other_counts : {X : Type 0} (r : Result X Error) (e : Error) (input : Reader) (before after : List ℕ) → r ≡ Err e →
+    ReadsBody (Counted before after) r input → e.message ≢ message.OutOfMemory → Counts input (Err (fault.Refused e))
 other_counts (Ok x) e input before after is h other = absurd (cc is)
 other_counts {X} (Err d) e input before after is h other =
     let same : d ≡ e = ap found is in
     let stops = h (λ m. other (sym (ap (λ x. x.message) same) ∙ m)) in
-    (stops.0, (other, subst (λ x. StopsBody x input stops.0) same stops.1))
+    (stops.0, (other, subst (λ x. StopsBody x input stops.0) same stops.2))
   where
     found : Result X Error → Error
     found (Err x) = x

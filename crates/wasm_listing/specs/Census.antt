@@ -1,14 +1,15 @@
 -- Counts of operators by the proposals that brought them.
-use Rattle.std.specs.Prelude.{◌≡◌, ◌≢◌, ℕ, ◌+◌, ◌-◌, ◌^◌, List, [], ◌∷◌, Result, Ok, Err, codes, nat_eq, if◌then◌else◌, map, min}
+use Rattle.std.specs.Prelude.{◌≡◌, ℕ, ◌+◌, ◌-◌, ◌^◌, List, [], ◌∷◌, Result, Ok, Err, codes, nat_eq, if◌then◌else◌, map, min}
 use Rattle.std.specs.Cmp.Lexicographic.{pointwise}
-use Rattle.wasm_operators.specs.below.bytes.error.Error.{Error}
-use Rattle.wasm_operators.specs.below.bytes.message.Message.TheVariants as message
 use Rattle.wasm_operators.specs.below.Source.{Reader}
 use Rattle.wasm_operators.specs.instr.declared.operator.Operator.{Operator}
 use Rattle.wasm_operators.specs.instr.Row.{proposal_of}
-use Rattle.wasm_operators.specs.Expression.{Placed}
+use Rattle.wasm_operators.specs.opcodes.Allowed.{EncodesAllowed}
+use Rattle.wasm_operators.specs.Expression.{Placed, OfPlaced}
+use Rattle.wasm_operators.specs.Next.{NextMayAllocate}
+use Rattle.wasm_operators.specs.Reading.{State, TakesOperators}
 use Rattle.wasm_operators.specs.Locals.{Declaration}
-use Rattle.wasm_operators.specs.Body.{StopsBody}
+use Rattle.wasm_operators.specs.Body.{OpensBody}
 use Rattle.wasm_operators.specs.Visiting.{Visited}
 use Rattle.wasm_listing.specs.declared.fault.DumpFault.{DumpFault}
 use Rattle.wasm_listing.specs.declared.fault.DumpFault.TheVariants as fault
@@ -60,12 +61,19 @@ one_more_of proposal _ _ = []
 abbrev pub CountsVisit : List ℕ → Operator → List ℕ → Type 0
 CountsVisit before op after = after ≡ one_more_of (proposal_of op) proposals before
 
--- Counting the operators of a body to its end, allocation failure aside.
-abbrev pub CountsBody : {X : Type 0} → Result X Error → Reader → List ℕ → List ℕ → Type 0
-CountsBody (Ok x) input before after =
-    (declarations : List Declaration) × (placed : Placed) × IsBody input declarations placed ×
-    Visited {A = Unit {0}} (λ s op answer t. CountsVisit s op t) before after placed
-CountsBody (Err e) input before after = e.message ≢ message.OutOfMemory → (placed : Placed) × StopsBody e input placed
+-- These operators were counted, one visit each.
+abbrev pub Counted : List ℕ → List ℕ → OfPlaced
+Counted before after placed = Visited {A = Unit {0}} (λ s op answer t. CountsVisit s op t) before after placed
+
+-- Memory may be asked for within the body that begins here: behind its locals and some of its operators, where the next one opens a frame for which no room is
+-- left, or owns a list.
+pub record BodyMayAllocate (body : Reader) : Type 0 where
+  pub opened : State
+  pub opens : OpensBody (Ok opened) body
+  pub stopped : State
+  pub placed : Placed
+  pub takes : TakesOperators opened stopped placed
+  pub asks : NextMayAllocate EncodesAllowed stopped
 
 -- The counts of a body are those of its operators. Other bytes are refused as they are where they are listed. There is no fault of a reader or a writer.
 abbrev pub Counts : Reader → Result (List ℕ) DumpFault → Type 0

@@ -1,14 +1,16 @@
 //! How many operators of each proposal a body has.
 ghost use Rattle.std.specs.Prelude.{◌≡◌, List, IfErr};
 ghost use Rattle.wasm_operators.specs.Expression.{Placed};
+ghost use Rattle.wasm_operators.specs.Body.{ReadsBody};
 ghost use Rattle.wasm_operators.specs.Locals.{Declaration};
-ghost use Rattle.wasm_listing.specs.Census.{CountsBody, Counts};
+ghost use Rattle.wasm_listing.specs.Census.{Counted, Counts, BodyMayAllocate};
 ghost use Rattle.wasm_listing.specs.Dump.{input_of, IsBody, IsNotRefused};
 
+use crate::body::open_body;
 use crate::counting::Census;
 use crate::fault::DumpFault;
 use std::alloc::Global;
-use wasm_operators::{BinaryReader, Error, FunctionBody, Message, WasmFeatures};
+use wasm_operators::{Error, Message, WasmFeatures, body_laws, decoding_laws, expression_laws};
 
 /// Counts a body's operators.
 fn count_body(
@@ -17,13 +19,17 @@ fn count_body(
     bytes: &[u8],
     census: &mut Census,
 ) -> Result<(), Error>
-    ensures counts { CountsBody result (input_of features bytes.now) census.old census.new }
+    ensures counts { ReadsBody (Counted census.old census.new) result (input_of features bytes.now) }
     ensures whole { (declarations : List Declaration) → (placed : Placed)
         → IsBody (input_of features bytes.now) declarations placed
         → IfErr result (λ e. e.message ≡ Message.OutOfMemory) }
+    ensures memory { IfErr result
+        (λ e. e.message ≡ Message.OutOfMemory → BodyMayAllocate (input_of features bytes.now)) }
 {
-    let reader = BinaryReader::new_features(bytes, 0, features);
-    let mut operators = FunctionBody::new(reader).get_operators_reader(alloc)?;
+    body_laws::opened_bodies();
+    body_laws::refused_locals();
+    decoding_laws::memory_asked();
+    let mut operators = open_body(alloc, features, bytes)?;
     operators.visit_all_simd(census)
 }
 
@@ -33,13 +39,16 @@ fn count_body(
 /// `exceptions`, `legacy_exceptions`, `shared_everything_threads`, `function_references`,
 /// `stack_switching`, `wide_arithmetic`, `acquire_release_atomics`.
 ///
-/// `Refused` where the bytes are no body; `Memory` where memory was refused.
+/// `Refused` where the bytes are no body; `Memory` where memory was refused, and only where an
+/// operator of the body may ask for it.
 pub fn census(alloc: Global, features: WasmFeatures, body: &[u8]) -> Result<[u64; 19], DumpFault>
     ensures counts { Counts (input_of features body.now) result }
     // Where the bytes encode a body, it is not refused.
     ensures whole { (declarations : List Declaration) → (placed : Placed)
         → IsBody (input_of features body.now) declarations placed → IsNotRefused result }
+    ensures memory { IfErr result (λ fault. fault ≡ DumpFault.Memory → BodyMayAllocate (input_of features body.now)) }
 {
+    expression_laws::layouts(features);
     let mut census = Census::new();
     match count_body(alloc, features, body, &mut census) {
         Ok(()) => Ok(census.counts()),

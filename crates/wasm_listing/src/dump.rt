@@ -3,15 +3,17 @@ ghost use Rattle.std.specs.Prelude.{◌≡◌, ◌↔◌, List, IsTrue, IsOk, Is
 ghost use Rattle.std.specs.Io.KnownBytes.{Appends};
 ghost use Rattle.wasm_operators.specs.Expression.{Placed};
 ghost use Rattle.wasm_operators.specs.Body.{ReadsBody};
+ghost use Rattle.wasm_operators.specs.Reading.{Adds};
 ghost use Rattle.wasm_operators.specs.Locals.{Declaration};
 ghost use Rattle.wasm_listing.specs.Dump.{input_of, IsBody, Lists, Dumps, WritesNothing, IsNotRefused};
 
+use crate::body::open_body;
 use crate::fault::DumpFault;
 use crate::input::read_input;
 use crate::lines::lines_of;
 use std::alloc::Global;
 use std::io::{Read, Write};
-use wasm_operators::{BinaryReader, Error, FunctionBody, Message, Operator, WasmFeatures};
+use wasm_operators::{Error, Message, Operator, WasmFeatures, body_laws};
 
 /// The lines of what was read of a body, and how reading it ended.
 #[derive(Drop)]
@@ -27,13 +29,14 @@ fn read_body<'a>(
     bytes: &'a [u8],
     out: &mut Vec<(Operator<'a>, u64)>,
 ) -> Result<(), Error>
-    ensures reads { ReadsBody result (input_of features bytes.now) out.old.items out.new.items }
+    ensures reads { ReadsBody (Adds out.old.items out.new.items) result (input_of features bytes.now) }
     ensures whole { (declarations : List Declaration) → (placed : Placed)
         → IsBody (input_of features bytes.now) declarations placed
         → IfErr result (λ e. e.message ≡ Message.OutOfMemory) }
 {
-    let reader = BinaryReader::new_features(bytes, 0, features);
-    let mut operators = FunctionBody::new(reader).get_operators_reader(alloc)?;
+    body_laws::opened_bodies();
+    body_laws::refused_locals();
+    let mut operators = open_body(alloc, features, bytes)?;
     operators.read_all(out)
 }
 

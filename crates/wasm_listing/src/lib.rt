@@ -3,6 +3,7 @@
 //! The theorem stands on [`run`], over any reader and writer.
 #![tactic(auto)]
 
+mod body;
 mod body_census;
 mod counting;
 mod dump;

@@ -15,13 +15,14 @@ use Rattle.wasm_operators_readers.specs.instr.Roles.{role_of}
 use Rattle.wasm_operators_readers.specs.opcodes.Allowed.{EncodesAllowed}
 use Rattle.wasm_operators_readers.specs.opcodes.OperatorFaults.{OperatorFault}
 use Rattle.wasm_operators_readers.specs.Next.{NextMayAllocate}
-use Rattle.wasm_operators_readers.proofs.DecoderPremises.{takes_all}
+use Rattle.wasm_operators_readers.proofs.DecoderPremises.{takes_all, is_reading}
 use Rattle.wasm_operators_readers.specs.Expression.{Placed, operators}
 use Rattle.wasm_operators_readers.specs.Reading.{State, IsFresh, IsUnchanged, TakesOperators, TakesOperator, StopsRead}
+use Rattle.wasm_operators_readers.proofs.MemoryLemmas.{memory_needs}
 use Rattle.wasm_operators_readers.proofs.OneRead.{is_memory, may_end, refused_none}
 use Rattle.wasm_operators_readers.proofs.Runs.{ran_unchanged}
 use Rattle.wasm_operators.specs.Constant.{HasNoEnd, EncodesConstantReader}
-use Rattle.wasm_operators.specs.ConstantFaults.{ConstantFault}
+use Rattle.wasm_operators.specs.ConstantFaults.{ConstantFault, ConstantMayAllocate}
 use Rattle.wasm_operators.proofs.OneEnd.{stays_open}
 use Rattle.wasm_operators.proofs.Passed.{from_block, passes, none_follows, none_inside, inside_fault, within_data, before, ahead_behind}
 
@@ -115,3 +116,10 @@ pub inside_has_fault : (d : Error) (s t u : State) (placed : Placed) → IsFresh
     HasFault ConstantFault d s.reader
 inside_has_fault d s t u placed fresh r no_end k stays is at not =
     subst (λ m. ConstantFault m s.reader d.offset) (sym is) (inside_fault s t u placed d.offset fresh r no_end k stays at)
+
+-- Where memory was refused, the next operator may ask for it.
+pub memory_there : (e d : Error) (s mid t : State) (placed : Placed) → IsFresh s → TakesOperators s mid placed → HasNoEnd (operators placed) →
+    IsUnchanged mid t → Stops e t → d.message ≡ e.message → d.message ≡ message.OutOfMemory → ConstantMayAllocate s.reader
+memory_there e d s mid t placed fresh r no_end same stops is memory =
+    let q = ran_unchanged s mid t placed r same in
+    (t, passes s t placed fresh q no_end, memory_needs EncodesAllowed OperatorFault (NextMayAllocate EncodesAllowed) is_reading e t stops (sym is ∙ memory))

@@ -1,5 +1,5 @@
 -- Readers of locals: one declaration with those before it, and all of them by the iterator.
-use Rattle.std.proofs.Common.{◌≡◌, ℕ, ◌+◌, ◌-◌, ◌<◌, ◌≤◌, List, [], ◌∷◌, ◌++◌, length, Ok, Err, refl, sym, subst, ap, ◌∙◌, append_assoc, length-append, length-drop, arith, inl, inr, false}
+use Rattle.std.proofs.Common.{◌≡◌, ℕ, ◌+◌, ◌-◌, ◌<◌, ◌≤◌, List, [], ◌∷◌, ◌++◌, length, Some, Ok, Err, refl, sym, subst, ap, ◌∙◌, append_assoc, length-append, length-drop, arith, inl, inr, false}
 use Rattle.wasm_operators_readers.specs.below.bytes.error.Error.{Error}
 use Rattle.wasm_operators_readers.specs.below.bytes.message.Message.TheVariants as message
 use Rattle.wasm_operators_readers.specs.below.declared.types.ValType.{ValType}
@@ -12,7 +12,7 @@ use Rattle.wasm_operators_readers.proofs.of_below.Steps.{number_prefix_code, uns
 use Rattle.wasm_operators_readers.proofs.of_below.TakesLemmas.{takes_none, takes_then, back}
 use Rattle.wasm_operators_readers.specs.imm.Lists.{EncodesEach}
 use Rattle.wasm_operators_readers.proofs.of_imm.ListRefusals.{as_refused, refused_by}
-use Rattle.wasm_operators.specs.Locals.{Declaration, EncodesDeclaration, EncodesNext, max_locals, Locals, ReadsDeclaration, LocalsLeft, StepsAlong, HasStepped, IsPastLocals, IsAnswerPastLocals}
+use Rattle.wasm_operators.specs.Locals.{Declaration, EncodesDeclaration, EncodesNext, max_locals, Locals, ReadsDeclaration, LocalsLeft, StepsLocals, all_left, StepsAlong, HasStepped, IsPastLocals, IsAnswerPastLocals}
 use Rattle.wasm_operators.proofs.LocalsLemmas.{type_refused, locals_read, one_past}
 
 abbrev pub locals_of : Reader → ℕ → ℕ → Locals
@@ -115,3 +115,13 @@ pub answer_past : (r body : Reader) (declarations : List Declaration) → IsPast
 answer_past r body declarations past (Ok s) (others, h) = ap Ok (one_past r s body declarations others past h).0
 answer_past r body declarations (text, encodes, takes) (Err e) h =
     absurd (refused_now _ e body h.refusal text (rest r) declarations encodes takes.parts)
+
+-- a step more
+one_more : (declarations : List Declaration) (d : Declaration) (old mid new : LocalsLeft) → StepsAlong declarations old mid →
+    StepsLocals (Some (Ok d)) mid new → StepsAlong (declarations ++ d ∷ []) old new
+one_more [] d old mid new same step = (new, subst (λ items. StepsLocals (Some (Ok d)) items new) same step, refl)
+one_more (first ∷ ds) d old mid new (next, one, along) step = (next, one, one_more ds d next mid new along step)
+
+pub stepped_more : (declarations : List Declaration) (d : Declaration) (body : Reader) (old new : LocalsLeft) → HasStepped declarations body old →
+    StepsLocals (Some (Ok d)) old new → HasStepped (declarations ++ d ∷ []) body new
+stepped_more declarations d body old new (unread, opens, along) step = (unread, opens, one_more declarations d (all_left unread) old new along step)

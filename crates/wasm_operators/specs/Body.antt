@@ -6,7 +6,7 @@ use Rattle.wasm_operators_readers.specs.below.bytes.message.Message.TheVariants 
 use Rattle.wasm_operators_readers.specs.below.Source.{Source, Reader, source_of}
 use Rattle.wasm_operators_readers.specs.opcodes.Allowed.{EncodesAllowed}
 use Rattle.wasm_operators_readers.specs.opcodes.OperatorFaults.{OperatorFault}
-use Rattle.wasm_operators_readers.specs.Expression.{Placed, IsAny, EncodesExpression}
+use Rattle.wasm_operators_readers.specs.Expression.{Placed, OfPlaced, IsAny, EncodesExpression}
 use Rattle.wasm_operators_readers.specs.Reading.{State, IsFresh, Anywhere}
 use Rattle.wasm_operators_readers.specs.Headline.{ReadsBeginning}
 use Rattle.wasm_operators.specs.Locals.{Declaration, EncodesLocals, RefusesLocals, ReadsPastLocals}
@@ -46,9 +46,7 @@ pub record NoExpression (e : Error) (body : Reader) (placed : Placed) : Type 0 w
 abbrev pub StopsBody : Error → Reader → Placed → Type 0
 StopsBody e body placed = NoLocals e body placed ⊎ NoExpression e body placed
 
--- Reading a body to its end, allocation failure aside.
-abbrev pub ReadsBody : {X : Type 0} → Result X Error → Reader → Placed → Placed → Type 0
-ReadsBody (Ok x) body out_old out_new =
-    (declarations : List Declaration) × (placed : Placed) × (out_new ≡ out_old ++ placed) × EncodesBody (source_of body) declarations placed
-ReadsBody (Err e) body out_old out_new =
-    e.message ≢ message.OutOfMemory → (placed : Placed) × (out_new ≡ out_old ++ placed) × StopsBody e body placed
+-- Reading or visiting a body to its end, allocation failure aside. The first word says what happened to the operators that came.
+abbrev pub ReadsBody : {X : Type 0} → OfPlaced → Result X Error → Reader → Type 0
+ReadsBody Happened (Ok x) body = (declarations : List Declaration) × (placed : Placed) × Happened placed × EncodesBody (source_of body) declarations placed
+ReadsBody Happened (Err e) body = e.message ≢ message.OutOfMemory → (placed : Placed) × Happened placed × StopsBody e body placed

@@ -11,6 +11,8 @@ use Rattle.wasm_operators_readers.specs.instr.Roles.{roles_of}
 use Rattle.wasm_operators_readers.specs.opcodes.Allowed.{EncodesAllowed}
 use Rattle.wasm_operators_readers.specs.opcodes.OperatorFaults.{OperatorFault}
 use Rattle.wasm_operators_readers.specs.Expression.{Placed, operators, LaidOut}
+use Rattle.wasm_operators_readers.specs.Next.{NextMayAllocate}
+use Rattle.wasm_operators_readers.specs.Reading.{State}
 use Rattle.wasm_operators.specs.Constant.{HasNoEnd}
 
 -- Between the readers stand operators that are no `end`, each allowed by the frame that those before it have left, from the frame of the
@@ -37,3 +39,7 @@ EndsInside m r frames offset =
 abbrev pub ConstantFault : Message → Reader → ℕ → Type 0
 ConstantFault m r offset =
     (behind : Reader) × (frames : List FrameKind) × PassesOperators r behind frames × (IsNoOperator m behind frames offset ⊎ EndsInside m behind frames offset)
+
+-- Operators stand there that are no `end`, and the next one may ask for memory: it opens a frame for which no room is left, or it owns a list.
+abbrev pub ConstantMayAllocate : Reader → Type 0
+ConstantMayAllocate r = (behind : State) × PassesOperators r behind.reader behind.frames × NextMayAllocate EncodesAllowed behind

@@ -2,15 +2,20 @@
 //!
 //! `PrefixCode` says that no encoding is a proper prefix of another, and that each is that of one
 //! value; `DeterminesRefusal`, that what a fault says determines the message and the offset.
-ghost use Rattle.std.specs.Prelude.{◌≡◌, ◌≢◌, ℕ, List};
+ghost use Rattle.std.specs.Prelude.{◌≡◌, ◌≢◌, ℕ, List, [], ◌∷◌, ◌++◌, Some, Ok};
 ghost use Rattle.wasm_operators_readers.specs.below.bytes.error.Error.{Error};
 ghost use Rattle.wasm_operators_readers.specs.below.Fault.{DeterminesRefusal};
 ghost use Rattle.wasm_operators_readers.specs.below.FromReader.{EncodesReader, SameReader};
 ghost use Rattle.wasm_operators_readers.specs.below.Sequence.{PrefixCode, PrefixCodeUpTo};
 ghost use Rattle.wasm_operators_readers.specs.below.Source.{Source, Reader, source_of};
-ghost use Rattle.wasm_operators.specs.Body.{EncodesBody, StopsBody};
-ghost use Rattle.wasm_operators.specs.Locals.{Declaration, EncodesDeclaration, EncodesLocals, DeclarationFault, LocalsFault, NextFault};
-ghost use Rattle.wasm_operators_readers.specs.Expression.{Placed};
+ghost use Rattle.wasm_operators_readers.specs.opcodes.Allowed.{EncodesAllowed};
+ghost use Rattle.wasm_operators_readers.specs.opcodes.OperatorFaults.{OperatorFault};
+ghost use Rattle.wasm_operators_readers.specs.Expression.{Placed, IsAny, EncodesExpression};
+ghost use Rattle.wasm_operators_readers.specs.Headline.{ReadsTree, ReadsBeginning};
+ghost use Rattle.wasm_operators_readers.specs.Next.{NextMayAllocate};
+ghost use Rattle.wasm_operators_readers.specs.Reading.{State, Anywhere};
+ghost use Rattle.wasm_operators.specs.Body.{EncodesBody, OpensBody, StopsBody};
+ghost use Rattle.wasm_operators.specs.Locals.{Declaration, EncodesDeclaration, EncodesLocals, DeclarationFault, LocalsFault, NextFault, RefusesLocals, IsPastLocals, Locals, LocalsLeft, OpensLocals, StepsLocals, HasStepped, all_left};
 
 use wasm_operators_readers::below::{Message, WasmFeatures};
 
@@ -38,6 +43,49 @@ pub fn one_body()
     ensures { (s : Source) (declarations others : List Declaration) (first second : Placed)
         → EncodesBody s declarations first → EncodesBody s others second
         → (declarations ≡ others) × (first ≡ second) }
+{}
+
+/// Behind the locals of a body stands its expression, and these locals and an expression behind them
+/// are a body.
+pub fn past_locals()
+    ensures body { (body r : Reader) (declarations : List Declaration) (placed : Placed)
+        → IsPastLocals declarations body r → EncodesExpression (source_of r) placed
+        → EncodesBody (source_of body) declarations placed }
+    ensures expression { (body r : Reader) (declarations others : List Declaration) (placed : Placed)
+        → IsPastLocals declarations body r → EncodesBody (source_of body) others placed
+        → (others ≡ declarations) × EncodesExpression (source_of r) placed }
+{}
+
+/// A body that was opened and read or visited to its end is that body, and has its expression where
+/// it was opened; one that was stopped is stopped as a body.
+pub fn opened_bodies()
+    ensures whole { (body : Reader) (opened new : State) (placed : Placed)
+        → OpensBody (Ok opened) body → ReadsTree [] opened new placed
+        → (declarations : List Declaration) × EncodesBody (source_of body) declarations placed }
+    ensures expression { (body : Reader) (opened : State) (declarations : List Declaration) (placed : Placed)
+        → OpensBody (Ok opened) body → EncodesBody (source_of body) declarations placed
+        → EncodesExpression (source_of opened.reader) placed }
+    ensures stopped { (e : Error) (body : Reader) (opened new : State) (placed : Placed) → OpensBody (Ok opened) body
+        → ReadsBeginning IsAny EncodesAllowed OperatorFault Anywhere [] e opened new placed
+        → StopsBody e body placed }
+    ensures stopped_visits { (e : Error) (body : Reader) (opened new : State) (placed : Placed) → OpensBody (Ok opened) body
+        → ReadsBeginning IsAny EncodesAllowed OperatorFault (NextMayAllocate EncodesAllowed) [] e opened new placed
+        → StopsBody e body placed }
+{}
+
+/// Where the locals are refused there is no body, and nothing was read of one.
+pub fn refused_locals()
+    ensures none { (e : Error) (body : Reader) (declarations : List Declaration) (placed : Placed)
+        → RefusesLocals e body → ¬ EncodesBody (source_of body) declarations placed }
+    ensures stopped { (e : Error) (body : Reader) → RefusesLocals e body → StopsBody e body [] }
+{}
+
+/// The steps of an iterator over the locals of a body, one after another from the first.
+pub fn steps_of_locals()
+    ensures first { (body : Reader) (unread : Locals) → OpensLocals (Ok unread) body → HasStepped [] body (all_left unread) }
+    ensures next { (declarations : List Declaration) (d : Declaration) (body : Reader) (old new : LocalsLeft)
+        → HasStepped declarations body old → StepsLocals (Some (Ok d)) old new
+        → HasStepped (declarations ++ d ∷ []) body new }
 {}
 
 /// What is refused is no body; and it is refused in one way: the operators that were read, the message

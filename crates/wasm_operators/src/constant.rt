@@ -8,13 +8,15 @@ ghost use Rattle.wasm_operators_readers.specs.below.Source.{offset_of};
 ghost use Rattle.wasm_operators_readers.specs.Reading.{IsFresh};
 ghost use Rattle.wasm_operators_readers.specs.Headline.{StoodBefore};
 ghost use Rattle.wasm_operators.specs.Constant.{EncodesConstantReader};
-ghost use Rattle.wasm_operators.specs.ConstantFaults.{ConstantFault};
+ghost use Rattle.wasm_operators.specs.ConstantFaults.{ConstantFault, ConstantMayAllocate};
 
 use crate::passing::pass_constant;
 use std::alloc::{AllocError, Global};
 use std::marker::Model;
 use wasm_operators_readers::OperatorsReader;
-use wasm_operators_readers::below::{BinaryReader, FromReader, May, MemoryUse, Result, UsesMemory};
+use wasm_operators_readers::below::{
+    BinaryReader, FromReader, May, MemoryUse, Message, Result, UsesMemory,
+};
 
 /// A constant expression: a reader of its bytes.
 ///
@@ -45,7 +47,8 @@ impl<'a> ConstExpr<'a> {
     /// close the expression. Binary Format, Expressions.
     ///
     /// `FramesRemainConst` behind that `end` where a frame is open then; else as the first operator
-    /// that is refused. `OutOfMemory` where the expression begins.
+    /// that is refused. `OutOfMemory` where the expression begins, and only where one of these operators
+    /// may ask for memory.
     ///
     /// # Examples
     ///
@@ -57,6 +60,7 @@ impl<'a> ConstExpr<'a> {
     pub fn read(alloc: Global, reader: &mut BinaryReader<'a>) -> Result<ConstExpr<'a>>
         ensures reads { ReadsValue (EncodesConstantReader reader.old.features) true result reader.old reader.new }
         ensures fault { IfErr result (λ e. HasFault ConstantFault e reader.old) }
+        ensures memory { IfErr result (λ e. e.message ≡ Message.OutOfMemory → ConstantMayAllocate reader.old) }
         ensures placed { IfOk result (λ c. c.start ≡ offset_of reader.old) }
     {
         let mut operators = OperatorsReader::new(alloc, reader.clone());
@@ -138,6 +142,7 @@ impl<'a> FromReader<'a> for ConstExpr<'a> {
     fn from_reader(alloc: Global, reader: &mut BinaryReader<'a>) -> Result<ConstExpr<'a>>
         ensures reads { ReadsValue (EncodesConstantReader reader.old.features) true result reader.old reader.new }
         ensures fault { IfErr result (λ e. HasFault ConstantFault e reader.old) }
+        ensures memory { IfErr result (λ e. e.message ≡ Message.OutOfMemory → ConstantMayAllocate reader.old) }
         ensures placed { IfOk result (λ c. c.start ≡ offset_of reader.old) }
     {
         ConstExpr::read(alloc, reader)

@@ -107,6 +107,7 @@ pub use wasm_operators_readers::instr::OperatorInfo;
 pub use wasm_operators_readers::instr::SimdOperator;
 pub use wasm_operators_readers::instr::laws as operator_laws;
 pub use wasm_operators_readers::laws as reading_laws;
+pub use wasm_operators_readers::position_laws;
 pub use wasm_operators_readers::run_laws;
 pub use wasm_operators_readers::visitors::HoldOperator;
 pub use wasm_operators_readers::visitors::HoldTable;

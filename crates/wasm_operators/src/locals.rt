@@ -188,11 +188,14 @@ impl<'a> LocalsIterator<'a> {
         self.locals.get_binary_reader()
     }
 
-    /// A reader of the operators that begin where this one stands. It takes no memory.
+    /// A reader of the operators that begin where this one stands: behind the locals, once nothing is
+    /// left and no item was refused. It takes no memory.
     pub fn into_operators_reader(self, alloc: Global) -> OperatorsReader<'a>
         ensures reader { result.reader ≡ self.entry.locals.reader }
         ensures fresh { IsFresh result }
         ensures stood { StoodBefore [] result }
+        ensures behind { (body : Reader) (declarations : List Declaration) → self.entry.left ≡ 0
+            → HasStepped declarations body self.entry → IsPastLocals declarations body result.reader }
     {
         OperatorsReader::new(alloc, self.locals.get_binary_reader())
     }

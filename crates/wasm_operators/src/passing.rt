@@ -5,7 +5,7 @@ ghost use Rattle.wasm_operators_readers.specs.below.FromReader.{IsRefused};
 ghost use Rattle.wasm_operators_readers.specs.below.Source.{offset_of};
 ghost use Rattle.wasm_operators_readers.specs.Reading.{IsFresh};
 ghost use Rattle.wasm_operators.specs.Constant.{EncodesConstantReader};
-ghost use Rattle.wasm_operators.specs.ConstantFaults.{ConstantFault};
+ghost use Rattle.wasm_operators.specs.ConstantFaults.{ConstantFault, ConstantMayAllocate};
 ghost use Rattle.wasm_operators.specs.Passing.{PassesOne, PassesEnd};
 
 use wasm_operators_readers::OperatorsReader;
@@ -23,6 +23,7 @@ pub fn pass_constant(operators: &mut OperatorsReader<'_>) -> Result<()>
     ensures refused { IfErr result
         (λ e. IsRefused (EncodesConstantReader operators.old.reader.features) true e operators.old.reader) }
     ensures fault { IfErr result (λ e. HasFault ConstantFault e operators.old.reader) }
+    ensures memory { IfErr result (λ e. e.message ≡ Message.OutOfMemory → ConstantMayAllocate operators.old.reader) }
 {
     let start = operators.original_position();
     loop {

@@ -54,10 +54,9 @@ impl<'a> ReadOperators<'a> for BinaryReader<'a> {
 
 /// Visits single operators by the visitor `V`, whose open frames are its own: each call asks for the
 /// innermost of them, once and before anything else, and changes none.
-pub trait ReadVisits<'a, V: VisitOperator<'a> + FrameStack> {
-    // The reader of bytes that it is.
-    ghost reader: { Self → Reader };
-
+///
+/// The reader that it is, is that of `ReadOperators`.
+pub trait ReadVisits<'a, V: VisitOperator<'a> + FrameStack>: ReadOperators<'a> {
     /// Visits the operator at the start of the rest, which is no vector operator, where the
     /// visitor's innermost frame allows it. Binary Format, Instructions.
     ///
@@ -66,12 +65,10 @@ pub trait ReadVisits<'a, V: VisitOperator<'a> + FrameStack> {
     /// `OutOfMemory` where the operator begins, and only of one that owns a list. Reader and visitor
     /// are unchanged then.
     fn visit_operator(&mut self, alloc: Global, v: &mut V) -> Result<V::Output>
-        ensures { DecodesScalarIn V.visits (V.frame v.old) result (reader self.old) (reader self.new) v.old v.new };
+        ensures { DecodesScalarIn V.visits (V.frame v.old) result (Self.reader self.old) (Self.reader self.new) v.old v.new };
 }
 
 impl<'a, V: VisitOperator<'a> + FrameStack> ReadVisits<'a, V> for BinaryReader<'a> {
-    ghost reader = { λ r. r };
-
     #[inline(always)]
     fn visit_operator(&mut self, alloc: Global, v: &mut V) -> Result<V::Output> {
         let frame = v.current_frame();
@@ -80,21 +77,18 @@ impl<'a, V: VisitOperator<'a> + FrameStack> ReadVisits<'a, V> for BinaryReader<'
 }
 
 /// The same by a visitor of all operators.
-pub trait ReadSimdVisits<'a, V: VisitOperator<'a> + VisitSimdOperator + FrameStack> {
-    // The reader of bytes that it is.
-    ghost reader: { Self → Reader };
-
+pub trait ReadSimdVisits<'a, V: VisitOperator<'a> + VisitSimdOperator + FrameStack>: ReadOperators<
+    'a,
+> {
     /// The same of all operators, vector operators too.
     ///
     /// As `visit_operator`, but for `UnexpectedSimd`.
     fn visit_operator_simd(&mut self, alloc: Global, v: &mut V) -> Result<V::Output>
-        ensures { DecodesIn V.visits (V.frame v.old) result (reader self.old) (reader self.new) v.old v.new };
+        ensures { DecodesIn V.visits (V.frame v.old) result (Self.reader self.old) (Self.reader self.new) v.old v.new };
 }
 
 impl<'a, V: VisitOperator<'a> + VisitSimdOperator + FrameStack> ReadSimdVisits<'a, V>
     for BinaryReader<'a> {
-    ghost reader = { λ r. r };
-
     #[inline(always)]
     fn visit_operator_simd(&mut self, alloc: Global, v: &mut V) -> Result<V::Output> {
         let frame = v.current_frame();

@@ -17,7 +17,7 @@ tries-preserved c =
     let r = reader_of c.args.features 0 c.args.bytes.now in
     let h = c.tries.invariant in
     let along = (c.in-Err.ensures.rest _ h.stood).beginning in
-    let next = stands_on r c.tries.reader c.read_all.new.self c.tries.found.items along.0 along.2.text h along.2.takes along.2.laid along.2.stood in
+    let next = stands_on r c.tries.reader c.read_all.new.self c.tries.found.items along.0 along.2.text c.layouts.ensures.joined h along.2.takes along.2.laid along.2.stood in
     subst (StandsBehind r c.read_all.new.self) (sym along.1) next
 
 pub returns-in-Ok : goal.returns-in-Ok
@@ -25,4 +25,4 @@ returns-in-Ok c =
     let r = reader_of c.args.features 0 c.args.bytes.now in
     let h = c.tries.invariant in
     let along = (c.in-Ok.ensures.rest _ h.stood).tree in
-    subst (EncodesExpression (input c.args.features c.args.bytes.now)) (sym along.1) (whole_behind r c.tries.reader c.tries.found.items along.0 h along.2.encodes)
+    subst (EncodesExpression (input c.args.features c.args.bytes.now)) (sym along.1) (whole_behind r c.tries.reader c.tries.found.items along.0 c.layouts.ensures.joined h along.2.encodes)

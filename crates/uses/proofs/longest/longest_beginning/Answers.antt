@@ -5,7 +5,7 @@ use Rattle.wasm_operators.specs.instr.declared.operator.Operator.TheVariants as 
 use Rattle.wasm_operators.specs.Expression.{Placed, operators, AreWalk, IsLongestBeginning}
 use Rattle.uses.specs.Frames.{open_behind}
 use Rattle.uses.specs.Input.{input}
-use Rattle.uses.proofs.Beginnings.{whole_longest, longest_at, ends_complete}
+use Rattle.uses.proofs.Beginnings.{longest_at, ends_complete}
 use Rattle.uses.proofs.longest.longest_beginning.Goals as goal
 
 abbrev IsCompleted : Placed → Type 0
@@ -17,7 +17,7 @@ returns-in-Ok-clause-longest c =
     let along = (c.in-Ok.ensures.rest [] c.new-reader.ensures.stood).tree in
     let list = c.keep.ensures.operators ∙ along.1 ∙ ap (λ first. first ++ along.0) c.new-found.ensures.items in
     let encodes = rw (c.new-reader.ensures.reader ∙ c.new_features.ensures) at along.2.encodes in
-    subst (IsLongestBeginning s) (sym list) (whole_longest s along.0 c.one_layout.ensures.beginning c.one_layout.ensures.same encodes)
+    subst (IsLongestBeginning s) (sym list) (c.whole_is_longest.ensures [] s along.0 tt encodes)
 
 pub returns-in-Ok-clause-completed : goal.returns-in-Ok-clause-completed
 returns-in-Ok-clause-completed c =

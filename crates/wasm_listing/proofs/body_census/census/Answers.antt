@@ -11,7 +11,7 @@ returns-in-Ok-clause-counts c =
     let few = c.type_inv.body in
     let fits : length c.args.body.now ≤ 2 ^ 64 - 1 = omega arith in
     subst (λ counts. Counts input (Ok counts)) (sym c.counts.ensures) (whole_counts c.count_body.result c.in-Ok.field-0 input c.new-census.result
-    c.count_body.new.census c.in-Ok.is c.count_body.ensures.counts c.new-census.ensures fits)
+    c.count_body.new.census c.layouts.ensures.length c.in-Ok.is c.count_body.ensures.counts c.new-census.ensures fits)
 
 pub returns-in_default : goal.returns-in_default
 returns-in_default c =
@@ -20,4 +20,8 @@ returns-in_default c =
     record {
       counts = other_counts c.count_body.result c.in-Err.error input c.new-census.result c.count_body.new.census c.in-Err.is c.count_body.ensures.counts other;
       whole = λ declarations placed encodes. other (c.in-Err.ensures.whole declarations placed encodes);
+      memory = λ is. absurd (cc is);
     }
+
+pub returns-in-OutOfMemory-clause-memory : goal.returns-in-OutOfMemory-clause-memory
+returns-in-OutOfMemory-clause-memory c = λ is. c.in-Err.ensures.memory (sym c.message.ensures ∙ c.in-OutOfMemory.is)

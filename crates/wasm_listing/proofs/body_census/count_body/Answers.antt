@@ -1,37 +1,44 @@
-use Rattle.std.proofs.Common.{◌∙◌, []}
+use Rattle.std.proofs.Common.{[], refl}
 use Rattle.std.proofs.lemmas.Result.{err_from_is_err_and}
-use Rattle.wasm_operators.specs.below.Source.{reader_of}
 use Rattle.wasm_operators.specs.opcodes.Allowed.{EncodesAllowed}
-use Rattle.wasm_operators.specs.readers.Next.{NextMayAllocate}
-use Rattle.wasm_operators.proofs.Bodies.{no_body, expression_behind}
-use Rattle.wasm_listing.proofs.CensusLemmas.{refused_counts, opened_counts}
+use Rattle.wasm_operators.specs.Next.{NextMayAllocate}
+use Rattle.wasm_listing.specs.Census.{Counted, BodyMayAllocate}
+use Rattle.wasm_listing.specs.Dump.{input_of}
+use Rattle.wasm_listing.proofs.BodyLemmas.{refused_body, opened_body, refused_no_memory, opened_memory}
 use Rattle.wasm_listing.proofs.body_census.count_body.Goals as goal
 
 pub returns-in_err-operators-clause-counts : goal.returns-in_err-operators-clause-counts
 returns-in_err-operators-clause-counts c =
     let p = err_from_is_err_and c.from_residual.result c.from_residual.ensures.1 in
-    let same = c.new.ensures ∙ c.new_features-reader.ensures in
-    rw (p.1, p.2) (refused_counts (Unit {0}) c.in_err-operators.field-0.0
-    (reader_of c.args.features 0 c.args.bytes.now) c.args.census.now
-    (rw same at c.in_err-operators.ensures.opens))
+    let e = c.in_err-operators.field-0.0 in
+    let body = input_of c.args.features c.args.bytes.now in
+    rw (p.1, p.2) (refused_body (Unit {0}) (Counted c.args.census.now c.args.census.now) e body ([], (refl, refl))
+    (c.refused_locals.ensures.stopped e body c.in_err-operators.ensures.opens))
 
 pub returns-in_err-operators-clause-whole : goal.returns-in_err-operators-clause-whole
 returns-in_err-operators-clause-whole c = λ declarations placed encodes.
-    let same = c.new.ensures ∙ c.new_features-reader.ensures in
-    absurd (no_body c.in_err-operators.field-0.0 (reader_of c.args.features 0 c.args.bytes.now) declarations placed
-    (rw same at c.in_err-operators.ensures.opens) encodes)
+    absurd (c.refused_locals.ensures.none c.in_err-operators.field-0.0 (input_of c.args.features c.args.bytes.now) declarations placed
+    c.in_err-operators.ensures.opens encodes)
+
+pub returns-in_err-operators-clause-memory : goal.returns-in_err-operators-clause-memory
+returns-in_err-operators-clause-memory c =
+    let p = err_from_is_err_and c.from_residual.result c.from_residual.ensures.1 in
+    let body = input_of c.args.features c.args.bytes.now in
+    rw (p.1, p.2) (refused_no_memory (BodyMayAllocate body) c.in_err-operators.field-0.0 body c.in_err-operators.ensures.opens)
 
 pub returns-clause-counts : goal.returns-clause-counts
 returns-clause-counts c =
-    let same = c.new.ensures ∙ c.new_features-reader.ensures in
-    let opens = rw same at c.in_ok-operators.ensures.opens in
-    opened_counts (NextMayAllocate EncodesAllowed) c.visit_all_simd.result (reader_of c.args.features 0 c.args.bytes.now)
-    c.in_ok-operators.operators c.visit_all_simd.new.self c.args.census.now c.visit_all_simd.new.v opens
-    (c.visit_all_simd.ensures.rest [] c.in_ok-operators.ensures.stood)
+    opened_body (Counted c.args.census.now c.visit_all_simd.new.v) (NextMayAllocate EncodesAllowed) c.visit_all_simd.result
+    (input_of c.args.features c.args.bytes.now) c.in_ok-operators.operators c.visit_all_simd.new.self c.opened_bodies.ensures.whole
+    c.opened_bodies.ensures.stopped_visits c.in_ok-operators.ensures.opens (c.visit_all_simd.ensures.rest [] c.in_ok-operators.ensures.stood)
 
 pub returns-clause-whole : goal.returns-clause-whole
 returns-clause-whole c = λ declarations placed encodes.
-    let same = c.new.ensures ∙ c.new_features-reader.ensures in
-    let opens = rw same at c.in_ok-operators.ensures.opens in
     (c.visit_all_simd.ensures.rest [] c.in_ok-operators.ensures.stood).only placed
-    (expression_behind (reader_of c.args.features 0 c.args.bytes.now) c.in_ok-operators.operators declarations placed opens encodes) tt
+    (c.opened_bodies.ensures.expression (input_of c.args.features c.args.bytes.now) c.in_ok-operators.operators declarations placed
+    c.in_ok-operators.ensures.opens encodes) tt
+
+pub returns-clause-memory : goal.returns-clause-memory
+returns-clause-memory c =
+    opened_memory (Counted c.args.census.now c.visit_all_simd.new.v) c.visit_all_simd.result (input_of c.args.features c.args.bytes.now)
+    c.in_ok-operators.operators c.visit_all_simd.new.self c.memory_asked.ensures.visits c.in_ok-operators.ensures.opens c.visit_all_simd.ensures.runs

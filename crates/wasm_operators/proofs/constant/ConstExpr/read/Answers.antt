@@ -1,7 +1,7 @@
 use Rattle.std.proofs.Common.{◌-◌, take, subst, ap, ◌∙◌}
 use Rattle.wasm_operators_readers.specs.below.Fault.{HasFault}
 use Rattle.wasm_operators_readers.specs.below.Source.{reader_of}
-use Rattle.wasm_operators.specs.ConstantFaults.{ConstantFault}
+use Rattle.wasm_operators.specs.ConstantFaults.{ConstantFault, ConstantMayAllocate}
 use Rattle.wasm_operators.proofs.Read.{constant_read}
 use Rattle.wasm_operators.proofs.constant.ConstExpr.read.Goals as goal
 
@@ -22,3 +22,6 @@ returns-in-Ok-clause-reads c =
 
 pub returns-clause-fault : goal.returns-clause-fault
 returns-clause-fault c = subst (HasFault ConstantFault c.in-Err.e) (c.new-operators.ensures.reader ∙ c.clone.ensures) c.in-Err.ensures.fault
+
+pub returns-clause-memory : goal.returns-clause-memory
+returns-clause-memory c = λ is. subst ConstantMayAllocate (c.new-operators.ensures.reader ∙ c.clone.ensures) (c.in-Err.ensures.memory is)

@@ -1,0 +1,41 @@
+//! A body: its locals, and then its operators.
+ghost use Rattle.std.specs.Prelude.{IfOk};
+ghost use Rattle.wasm_operators.specs.Body.{EncodesBody};
+ghost use Rattle.uses.specs.Input.{input};
+
+use std::alloc::Global;
+use wasm_operators::{
+    BinaryReader, Error, FunctionBody, Message, Operator, Result, ValType, WasmFeatures, body_laws,
+};
+
+/// A body: the declarations of its locals, and its operators with their offsets.
+#[derive(Drop)]
+pub struct Body<'a> {
+    pub locals: Vec<(u32, ValType)>,
+    pub operators: Vec<(Operator<'a>, u64)>,
+}
+
+/// The declarations and the operators of a body: those of the one body that the bytes encode.
+///
+/// Each step of the iterator over locals is one declaration, and the law `steps_of_locals` adds it to
+/// those before; behind them `into_operators_reader` says that the reader stands behind the
+/// declarations that were given, the clause `tree` of `read_all` that the rest is the expression, and
+/// the law `past_locals` that both are the body.
+pub fn read_body<'a>(alloc: Global, features: WasmFeatures, bytes: &'a [u8]) -> Result<Body<'a>>
+    ensures { IfOk result (λ body. EncodesBody (input features bytes.now) body.locals.items body.operators.items) }
+{
+    body_laws::steps_of_locals();
+    body_laws::past_locals();
+    let body = FunctionBody::new(BinaryReader::new_features(bytes, 0, features));
+    let mut items = body.get_locals_reader()?.into_iter();
+    let mut locals = Vec::new(alloc);
+    'declarations: while let Some(item) = items.next() {
+        let declaration = item?;
+        if locals.push(declaration).is_err() {
+            return Err(Error::new(Message::OutOfMemory, 0));
+        }
+    }
+    let mut operators = Vec::new(alloc);
+    items.into_operators_reader(alloc).read_all(&mut operators)?;
+    Ok(Body { locals, operators })
+}

@@ -1,0 +1,8 @@
+use Rattle.wasm_operators.proofs.Bodies.{no_body, refused_stops}
+use Rattle.wasm_operators.proofs.body_laws.refused_locals.Goals as goal
+
+pub returns-clause-none : goal.returns-clause-none
+returns-clause-none c = no_body
+
+pub returns-clause-stopped : goal.returns-clause-stopped
+returns-clause-stopped c = refused_stops
