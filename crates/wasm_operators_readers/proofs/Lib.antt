@@ -2,6 +2,7 @@ pub mod MemoryLemmas
 pub mod VisitSteps
 pub mod LayoutLemmas
 pub mod Ranges
+pub mod Existence
 pub mod FlatLemmas
 pub mod VisitLemmas
 pub mod OpeningLemmas

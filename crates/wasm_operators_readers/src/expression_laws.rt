@@ -1,15 +1,16 @@
 //! Laws of expressions, of their beginnings, and of what visitors are handed. Each is the contract of
 //! a function that does nothing.
 ghost use Rattle.std.specs.Prelude.{◌≡◌, ◌↔◌, ◌*◌, ◌<◌, ◌≤◌, ℕ, List, [], ◌∷◌, ◌++◌, ◌+◌, length};
-ghost use Rattle.wasm_decode.specs.below.Source.{Source, Reader, offset_of, Takes, BeginsWith};
+ghost use Rattle.wasm_decode.specs.below.Source.{Source, Reader, source_of, offset_of, Takes, BeginsWith};
 ghost use Rattle.wasm_decode.specs.grammar.declared.frame_kind.FrameKind.{FrameKind};
 ghost use Rattle.wasm_decode.specs.instr.declared.operator.Operator.{Operator};
 ghost use Rattle.wasm_decode.specs.instr.Encoding.{EncodesOperator};
 ghost use Rattle.wasm_decode.specs.instr.Kinds.{IsVector};
 ghost use Rattle.wasm_operators_readers.specs.Expression.{Placed, operators, LaidOut, EndsAt, AreEncoded, EncodesRest, EncodesExpression, IsBeginningOf, IsBeginningBehind, IsLongestOf, IsLongestBehind, IsLongestBeginning};
 ghost use Rattle.wasm_operators_readers.specs.Flat.{IsFlatOf, IsFlatFrom, IsFlatBeginning};
-ghost use Rattle.wasm_operators_readers.specs.Headline.{ClosesFrom};
+ghost use Rattle.wasm_operators_readers.specs.Headline.{StoodBefore, ClosesFrom};
 ghost use Rattle.wasm_operators_readers.specs.Openings.{opened_by, LeadsFrame};
+ghost use Rattle.wasm_operators_readers.specs.Reading.{State};
 ghost use Rattle.wasm_operators_readers.specs.Visiting.{scalar_beginning, IsScalar};
 
 use wasm_decode::below::WasmFeatures;
@@ -65,6 +66,18 @@ pub fn one_expression(features: WasmFeatures)
 pub fn one_longest_beginning()
     ensures { (s : Source) (first second : Placed)
         → IsLongestBeginning s first → IsLongestBeginning s second → first ≡ second }
+{}
+
+/// A longest beginning exists, behind the operators that a reader stands behind, and one without vector
+/// operators; by frames alone too. That no list is one can't be: which one is, `read_all` finds out.
+pub fn longest_exists()
+    ensures any { (before : List Operator) (s : State) → StoodBefore before s
+        → ¬ ((placed : Placed) → ¬ IsLongestBehind before (source_of s.reader) placed) }
+    ensures scalar { (before : List Operator) (s : State) → StoodBefore before s
+        → ¬ ((placed : Placed) → ¬ IsLongestOf IsScalar before (source_of s.reader) placed) }
+    ensures flat { (frames : List FrameKind) (s : Source) → ¬ ((placed : Placed) → ¬ IsFlatFrom frames s placed) }
+    ensures scalar_flat { (frames : List FrameKind) (s : Source)
+        → ¬ ((placed : Placed) → ¬ IsFlatOf IsScalar frames s placed) }
 {}
 
 /// What the bytes encode whole is the longest beginning, behind the operators before it.
