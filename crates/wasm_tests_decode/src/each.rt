@@ -88,7 +88,9 @@ pub fn write_each(alloc: Global, texts: &mut Texts, task: Task, bytes: &[u8]) ->
     if answer.is_err() {
         texts.line.push_str("; again ")?;
         let is_same = is_refused_again(alloc, &mut texts.teller, task, bytes);
-        texts.line.push_str(if is_same { "the same" } else { "otherwise" })?;
+        texts
+            .line
+            .push_str(if is_same { "the same" } else { "otherwise" })?;
     }
     texts.line.push_str("; cut")?;
     for size in task.before..end {

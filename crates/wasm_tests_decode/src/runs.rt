@@ -1,7 +1,7 @@
 //! One operator, read and visited.
 
-use crate::task::Task;
 use crate::own::Call;
+use crate::task::Task;
 use crate::teller::Teller;
 use std::alloc::{AllocError, Global};
 use wasm_decode::below::{BinaryReader, Error, Result};
