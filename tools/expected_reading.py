@@ -49,8 +49,18 @@ FLAGS = [
 RESERVED = "E20 at 1: malformed memop: reserved flags bits set"
 # The immediates that are taken at once: cut data are found to be short where these begin.
 BLOCKS = {"float_32": 4, "float_64": 8, "vector": 16}
-# The operators that the program's visitor has visits of its own for.
-OWN = ("I32TruncSatF32S", "DataDrop", "MemoryCopy", "TableInit", "I64MulWideU")
+# The operators that the program's visitor has visits of its own for, some of each group.
+OWN = (
+    "Unreachable", "Nop", "LocalGet", "I32Const", "Switch",
+    "I32Eqz", "I64Extend32S",
+    "StructNew", "ArrayCopy", "RefI31",
+    "I32TruncSatF32S", "DataDrop", "MemoryCopy", "TableInit", "I64MulWideU",
+    "MemoryAtomicNotify", "AtomicFence", "Pause",
+    "V128Load", "I8x16Shuffle", "V128AnyTrue",
+    "I64x2Eq", "I32x4RelaxedDotI8x16I7x16AddS",
+)
+# A visitor gets the same through a reference, in a box, and through a reference to the box.
+OTHERS = "others same same same"
 
 
 class Task:
@@ -98,12 +108,14 @@ def wanted(task, kinds):
     """The line that the program prints of a task; `kinds` has the immediates of each operator."""
     if task.is_refused:
         answer = f"{task.answer}; at {task.start}"
-        return f"{answer}; factory the same; visit {answer}; plain {plain_answer(task, answer)}; cut"
+        plain = plain_answer(task, answer)
+        return f"{answer}; factory the same; visit {answer}; {OTHERS}; plain {plain}; again the same; cut"
     name = task.answer.split()[0]
     call = "by " + ("Table" if name == "BrTable" else "Own" if name in OWN else "Any")
     offsets = "".join(f" {offset}" for offset in cuts(task, kinds[name]))
     at = task.start + len(task.operator)
-    return f"{task.answer}; at {at}; factory the same; visit {call}; plain {plain_answer(task, call)}; cut{offsets}"
+    plain = plain_answer(task, call)
+    return f"{task.answer}; at {at}; factory the same; visit {call}; {OTHERS}; plain {plain}; cut{offsets}"
 
 
 def samples():

@@ -22,6 +22,7 @@ from decode import decode_files, unread
 from entries import entry_files
 from layout import laid_out
 from original import differences
+from own_visits import own_visit_files
 from paths import by_listed
 from plain import plain_files, unshaped
 from printed import made_source, values_source
@@ -57,6 +58,7 @@ def files(ops):
     out |= printed_field_files(ops)
     out |= text_files(ops)
     out |= plain_files(ops)
+    out |= own_visit_files(ops)
     return laid_out(by_listed(out))
 
 

@@ -48,3 +48,26 @@ fn equal_wherever_they_stand(rt: HostRuntime) -> Result<(), Fail> {
     assert!(&rt; !format!(in rt.alloc(); "{first:?}")?.is_empty());
     Ok(())
 }
+
+/// A `try` inside opens a frame. Where memory is refused, nothing was taken, and the same call again
+/// is not refused.
+#[test]
+fn memory_of_a_frame(rt: HostRuntime) {
+    let tried: &[u8] = &[0x06, 0x40, 0x18, 0x00, 0x0b];
+    let mut reader = BinaryReader::new(tried, 9);
+    let mut refused = refusal(ConstExpr::read(rt.alloc(), &mut reader));
+    if refused == Some((3, 9)) {
+        assert_eq!(&rt; reader.current_position(), 0);
+        refused = refusal(ConstExpr::read(rt.alloc(), &mut reader));
+    }
+    assert_eq!(&rt; refused, None);
+    assert!(&rt; reader.eof());
+}
+
+/// The number and the offset of a refusal.
+fn refusal(answer: wasm_operators_readers::below::Result<ConstExpr<'_>>) -> Option<(u8, u64)> {
+    match answer {
+        Ok(_) => None,
+        Err(e) => Some((e.message().number(), e.offset())),
+    }
+}

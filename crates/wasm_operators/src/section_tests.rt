@@ -1,5 +1,5 @@
 //! Sections of numbers: each form of the end of the items.
-use crate::SectionLimited;
+use crate::{ConstExpr, SectionLimited};
 use std::test::Fail;
 use wasm_operators_readers::below::{BinaryReader, Result};
 
@@ -68,4 +68,23 @@ fn a_count_that_is_refused(rt: HostRuntime) {
             assert_eq!(&rt; e.offset(), 8);
         }
     }
+}
+
+/// A constant expression whose `try` opens a frame. Where memory is refused, it is where the item
+/// begins, and no item follows.
+#[test]
+fn memory_of_an_item(rt: HostRuntime) -> std::result::Result<(), Fail> {
+    let bytes: &[u8] = &[0x01, 0x06, 0x40, 0x18, 0x00, 0x0b];
+    let section = SectionLimited::<ConstExpr>::new(rt.alloc(), BinaryReader::new(bytes, 9));
+    let Ok(section) = section else {
+        return Err(Fail::from("the count is refused"));
+    };
+    let mut items = section.into_iter();
+    match items.next() {
+        Some(Ok(constant)) => assert_eq!(&rt; constant.get_binary_reader().range(), 10..15),
+        Some(Err(e)) => assert_eq!(&rt; (e.message().number(), e.offset()), (3, 10)),
+        None => return Err(Fail::from("no item")),
+    }
+    assert!(&rt; items.next().is_none());
+    Ok(())
 }

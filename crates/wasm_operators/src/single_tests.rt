@@ -177,3 +177,34 @@ fn memory_of_a_list(rt: HostRuntime) {
     assert_eq!(&rt; visited, Seen::I32AndI64);
     assert!(&rt; reader.eof());
 }
+
+/// Clones of an operator and of its table. Where memory is refused, it is at offset 0, and the same
+/// call again is not refused.
+#[test]
+fn memory_of_clones(rt: HostRuntime) {
+    let bytes: &[u8] = &[0xe3, 0x01, 0x01, 0x00, 0x02, 0x03];
+    let reader = BinaryReader::new(bytes, 9);
+    let block = Under(Some(FrameKind::Block));
+    let mut read = reader.peek_operator(rt.alloc(), &block);
+    if read.is_err() {
+        read = reader.peek_operator(rt.alloc(), &block);
+    }
+    let Ok(op) = read else {
+        assert!(&rt; false);
+        return;
+    };
+    let mut copy = op.clone(rt.alloc());
+    if let Err(e) = &copy {
+        assert_eq!(&rt; (e.message().number(), e.offset()), (3, 0));
+        copy = op.clone(rt.alloc());
+    }
+    assert!(&rt; copy.is_ok_and(|same| same == op));
+    if let Operator::Resume { resume_table, .. } = &op {
+        let mut copy = resume_table.clone(rt.alloc());
+        if let Err(e) = &copy {
+            assert_eq!(&rt; (e.message().number(), e.offset()), (3, 0));
+            copy = resume_table.clone(rt.alloc());
+        }
+        assert!(&rt; copy.is_ok_and(|table| table == *resume_table));
+    }
+}

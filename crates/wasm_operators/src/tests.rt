@@ -1,5 +1,5 @@
 //! Bodies, their locals, and code sections: the rows of one call after another.
-use crate::{BinaryReader, CodeSectionReader, FunctionBody, Result, ValType};
+use crate::{BinaryReader, CodeSectionReader, FunctionBody, OperatorsReader, Result, ValType};
 use std::test::Fail;
 
 /// What a call was refused by: the number of its message, and its offset.
@@ -116,6 +116,37 @@ fn operators_of_a_code_section(rt: HostRuntime) -> std::result::Result<(), Fail>
             Some(Ok((operator, offset))) => assert_eq!(&rt; (operator.info().name, offset), want),
             _ => assert!(&rt; false),
         }
+    }
+    assert!(&rt; items.next().is_none());
+    Ok(())
+}
+
+/// An `if` whose block type is refused, where there is no room for its frame: where memory is
+/// refused, that is the answer, and the next call finds the block type.
+#[test]
+fn memory_before_a_block_type(rt: HostRuntime) {
+    let bytes: &[u8] = &[0x04, 0xff, 0x7f];
+    let mut operators = OperatorsReader::new(rt.alloc(), BinaryReader::new(bytes, 9));
+    let mut refused = refusal(operators.read());
+    if refused == Some((3, 9)) {
+        assert_eq!(&rt; operators.original_position(), 9);
+        refused = refusal(operators.read());
+    }
+    assert_eq!(&rt; refused, Some((6, 12)));
+    assert_eq!(&rt; operators.original_position(), 9);
+}
+
+/// A section of no body, with data behind its count.
+#[test]
+fn no_body_and_data(rt: HostRuntime) -> std::result::Result<(), Fail> {
+    let bytes: &[u8] = &[0x00, 0xff];
+    let Ok(section) = CodeSectionReader::new(rt.alloc(), BinaryReader::new(bytes, 0)) else {
+        return Err(Fail::from("the count is refused"));
+    };
+    let mut items = section.into_iter();
+    match items.next() {
+        Some(item) => assert_eq!(&rt; refusal(item), Some((25, 1))),
+        None => assert!(&rt; false),
     }
     assert!(&rt; items.next().is_none());
     Ok(())

@@ -1,9 +1,12 @@
 //! One operator by each of the calls, written into one line.
 
-use crate::runs::{Told, run_factory, run_plain, run_read, run_simd, write_answer, write_refusal};
+use crate::runs::{
+    Told, is_refused_again, run_both, run_boxed, run_factory, run_lent, run_plain, run_read,
+    run_simd, write_answer, write_refusal,
+};
 use crate::task::Task;
 use crate::teller::Teller;
-use std::alloc::Global;
+use std::alloc::{AllocError, Global};
 use wasm_tests_texts::Written;
 
 /// The texts that are written while a line is.
@@ -16,17 +19,20 @@ pub struct Texts {
     /// What another call answered.
     pub other: String,
     pub teller: Teller,
+    /// Another, in a box.
+    pub boxed: Box<Teller>,
 }
 
 impl Texts {
     /// Texts without a letter.
-    pub fn new(alloc: Global) -> Texts {
-        Texts {
+    pub fn new(alloc: Global) -> Result<Texts, AllocError> {
+        Ok(Texts {
             line: String::new(alloc),
             read: String::new(alloc),
             other: String::new(alloc),
             teller: Teller::new(alloc),
-        }
+            boxed: Box::new(alloc, Teller::new(alloc))?,
+        })
     }
 
     /// The texts for another line.
@@ -35,6 +41,7 @@ impl Texts {
         self.read.clear();
         self.other.clear();
         self.teller.text.clear();
+        self.boxed.text.clear();
     }
 }
 
@@ -70,10 +77,21 @@ pub fn write_each(alloc: Global, texts: &mut Texts, task: Task, bytes: &[u8]) ->
     compare_factory(alloc, texts, task, bytes, end)?;
     texts.line.push_str("; visit ")?;
     let told = run_simd(alloc, &mut texts.teller, task, bytes);
+    texts.other.clear();
+    texts.other.push_str(texts.teller.text.as_str())?;
     compare_visit(texts, told, end)?;
+    texts.line.push_str("; others")?;
+    compare_ways(alloc, texts, task, bytes, told)?;
     texts.line.push_str("; plain ")?;
     let told = run_plain(alloc, &mut texts.teller, task, bytes);
     compare_visit(texts, told, end)?;
+    if answer.is_err() {
+        texts.line.push_str("; again ")?;
+        let is_same = is_refused_again(alloc, &mut texts.teller, task, bytes);
+        texts
+            .line
+            .push_str(if is_same { "the same" } else { "otherwise" })?;
+    }
     texts.line.push_str("; cut")?;
     for size in task.before..end {
         write_cut(alloc, texts, task, start_of(bytes, size))?;
@@ -116,6 +134,54 @@ fn compare_visit(texts: &mut Texts, told: (Told, usize), end: usize) -> Written 
         _ => write_visit(texts, told)?,
     }
     texts.teller.text.clear();
+    Ok(())
+}
+
+/// Whether a visitor gets the same visit through a reference, in a box, and through a reference to
+/// the box. The text of the direct visit stands in `other`.
+fn compare_ways(
+    alloc: Global,
+    texts: &mut Texts,
+    task: Task,
+    bytes: &[u8],
+    direct: (Told, usize),
+) -> Written {
+    let Texts {
+        line,
+        other,
+        teller,
+        boxed,
+        ..
+    } = texts;
+    let told = run_lent(alloc, teller, task, bytes);
+    let is_same = is_same_visit(direct, told) && teller.text == *other;
+    write_way(line, is_same, told.1, &mut teller.text)?;
+    let told = run_boxed(alloc, boxed, task, bytes);
+    let is_same = is_same_visit(direct, told) && boxed.text == *other;
+    write_way(line, is_same, told.1, &mut boxed.text)?;
+    let told = run_both(alloc, boxed, task, bytes);
+    let is_same = is_same_visit(direct, told) && boxed.text == *other;
+    write_way(line, is_same, told.1, &mut boxed.text)
+}
+
+/// Whether two visits answer the same, and leave the reader at the same place.
+fn is_same_visit(a: (Told, usize), b: (Told, usize)) -> bool {
+    let is_same = match (a.0, b.0) {
+        (Ok(Ok(call)), Ok(Ok(other))) => call == other,
+        (Err(e), Err(other)) => e == other,
+        _ => false,
+    };
+    is_same && a.1 == b.1
+}
+
+/// That a visit is the same, or what it visited and where it left the reader; the text is cleared.
+fn write_way(line: &mut String, is_same: bool, position: usize, text: &mut String) -> Written {
+    if is_same {
+        line.push_str(" same")?;
+    } else {
+        write!(line, " ({text} at {position})")?;
+    }
+    text.clear();
     Ok(())
 }
 

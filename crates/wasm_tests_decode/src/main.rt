@@ -3,6 +3,7 @@
 #![tactic(auto)]
 
 mod each;
+mod own;
 mod runs;
 mod task;
 mod teller;
@@ -20,7 +21,7 @@ fn main(rt: HostRuntime) -> io::Result<()> {
         return println!(rt; "the input is no text");
     };
     let mut bytes = Vec::new(alloc);
-    let mut texts = Texts::new(alloc);
+    let mut texts = Texts::new(alloc)?;
     for line in text.lines() {
         run_line(&rt, alloc, &mut bytes, &mut texts, line)?;
     }

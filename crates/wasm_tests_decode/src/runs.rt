@@ -1,7 +1,8 @@
 //! One operator, read and visited.
 
+use crate::own::Call;
 use crate::task::Task;
-use crate::teller::{Call, Teller};
+use crate::teller::Teller;
 use std::alloc::{AllocError, Global};
 use wasm_decode::below::{BinaryReader, Error, Result};
 use wasm_decode::instr::Operator;
@@ -49,6 +50,50 @@ pub fn run_plain(alloc: Global, teller: &mut Teller, task: Task, bytes: &[u8]) -
     let mut reader = reader_at(task, bytes);
     let answer = visit_operator(teller, alloc, &mut reader, task.frame);
     (answer, reader.current_position())
+}
+
+/// The same as `run_simd`, through a reference to the visitor.
+pub fn run_lent(alloc: Global, teller: &mut Teller, task: Task, bytes: &[u8]) -> (Told, usize) {
+    let mut reader = reader_at(task, bytes);
+    let mut lent = teller;
+    let answer = visit_operator_simd(&mut lent, alloc, &mut reader, task.frame);
+    (answer, reader.current_position())
+}
+
+/// The same of a visitor in a box.
+pub fn run_boxed(
+    alloc: Global,
+    boxed: &mut Box<Teller>,
+    task: Task,
+    bytes: &[u8],
+) -> (Told, usize) {
+    let mut reader = reader_at(task, bytes);
+    let answer = visit_operator_simd(boxed, alloc, &mut reader, task.frame);
+    (answer, reader.current_position())
+}
+
+/// The same through a reference to the box.
+pub fn run_both(alloc: Global, boxed: &mut Box<Teller>, task: Task, bytes: &[u8]) -> (Told, usize) {
+    let mut reader = reader_at(task, bytes);
+    let mut lent = boxed;
+    let answer = visit_operator_simd(&mut lent, alloc, &mut reader, task.frame);
+    (answer, reader.current_position())
+}
+
+/// Whether each call that is refused is refused alike by the same reader once more.
+pub fn is_refused_again(alloc: Global, teller: &mut Teller, task: Task, bytes: &[u8]) -> bool {
+    let mut reader = reader_at(task, bytes);
+    let read = read_operator(alloc, &mut reader, task.frame).err();
+    let read_again = read_operator(alloc, &mut reader, task.frame).err();
+    let visit = visit_operator_simd(teller, alloc, &mut reader, task.frame).err();
+    let visit_again = visit_operator_simd(teller, alloc, &mut reader, task.frame).err();
+    let plain = visit_operator(teller, alloc, &mut reader, task.frame).err();
+    let plain_again = visit_operator(teller, alloc, &mut reader, task.frame).err();
+    read == read_again
+        && read == visit
+        && visit == visit_again
+        && plain == plain_again
+        && reader.current_position() == task.before
 }
 
 /// A refusal: its number, its offset and its text.

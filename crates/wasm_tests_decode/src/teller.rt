@@ -1,23 +1,18 @@
-//! A visitor with visits of its own.
+//! A visitor with visits of its own in each group.
 
+use crate::own::Call;
 use std::alloc::{AllocError, Global};
 use wasm_decode::below::{BinaryReader, Result};
-use wasm_decode::instr::{BrTable, MiscOperator, Operator};
+use wasm_decode::grammar::FrameKind;
+use wasm_decode::instr::{
+    AtomicOperator, BrTable, GcOperator, MiscOperator, NumericOperator, Operator, SimdOperator,
+};
 use wasm_decode::visitors::{
-    VisitGroups, VisitMisc, VisitOperator, VisitSimdOperator, Visitor, decode, dispatch,
+    VisitGroups, VisitOperator, VisitSimdOperator, Visitor, decode, dispatch,
 };
 use wasm_tests_texts::write_operator;
 
-/// Which of its calls a visitor got.
-#[derive(Clone, Copy, Debug)]
-pub enum Call {
-    Own,
-    Any,
-    Table,
-}
-
-/// Writes the operators that it visits, and answers which of its calls was made. Five operators
-/// behind the byte fc have visits of their own.
+/// Writes the operators that it visits, and answers which of its calls was made.
 #[derive(Drop)]
 pub struct Teller {
     pub text: String,
@@ -29,6 +24,12 @@ impl Teller {
         Teller {
             text: String::new(alloc),
         }
+    }
+
+    /// A visit of its own of this operator.
+    pub fn own(&mut self, op: Operator<'static>) -> std::result::Result<Call, AllocError> {
+        write_operator(&mut self.text, &op)?;
+        Ok(Call::Own)
     }
 }
 
@@ -44,36 +45,60 @@ impl Visitor for Teller {
     }
 }
 
-impl VisitMisc for Teller {
-    fn visit_i32_trunc_sat_f32_s(&mut self) -> Self::Output {
-        self.text.push_str("I32TruncSatF32S")?;
-        Ok(Call::Own)
-    }
-
-    fn visit_data_drop(&mut self, data_index: u32) -> Self::Output {
-        write!(self.text, "DataDrop data_index={data_index}")?;
-        Ok(Call::Own)
-    }
-
-    fn visit_memory_copy(&mut self, dst_mem: u32, src_mem: u32) -> Self::Output {
-        write!(self.text, "MemoryCopy dst_mem={dst_mem} src_mem={src_mem}")?;
-        Ok(Call::Own)
-    }
-
-    fn visit_table_init(&mut self, elem_index: u32, table: u32) -> Self::Output {
-        write!(self.text, "TableInit elem_index={elem_index} table={table}")?;
-        Ok(Call::Own)
-    }
-
-    fn visit_i64_mul_wide_u(&mut self) -> Self::Output {
-        self.text.push_str("I64MulWideU")?;
-        Ok(Call::Own)
-    }
-}
-
 impl VisitGroups for Teller {
+    fn dispatch_one_byte(&mut self, op: Operator<'_>) -> Self::Output {
+        dispatch::one_byte(self, op)
+    }
+
+    fn dispatch_numeric(&mut self, op: NumericOperator) -> Self::Output {
+        dispatch::numeric(self, op)
+    }
+
+    fn dispatch_gc(&mut self, op: GcOperator) -> Self::Output {
+        dispatch::gc(self, op)
+    }
+
     fn dispatch_misc(&mut self, op: MiscOperator) -> Self::Output {
         dispatch::misc(self, op)
+    }
+
+    fn dispatch_atomic(&mut self, op: AtomicOperator) -> Self::Output {
+        dispatch::atomic(self, op)
+    }
+
+    fn decode_one_byte(
+        &mut self,
+        alloc: Global,
+        reader: &mut BinaryReader<'_>,
+        start: usize,
+        frame: FrameKind,
+        code: u8,
+    ) -> Result<Self::Output> {
+        decode::one_byte(self, alloc, reader, start, frame, code)
+    }
+
+    fn decode_below_20(
+        &mut self,
+        alloc: Global,
+        reader: &mut BinaryReader<'_>,
+        start: usize,
+        frame: FrameKind,
+        code: u8,
+    ) -> Result<Self::Output> {
+        decode::one_byte(self, alloc, reader, start, frame, code)
+    }
+
+    fn decode_numeric(&mut self, code: u8) -> Self::Output {
+        decode::numeric(self, code)
+    }
+
+    fn decode_gc(
+        &mut self,
+        reader: &mut BinaryReader<'_>,
+        start: usize,
+        code: u32,
+    ) -> Result<Self::Output> {
+        decode::gc(self, reader, start, code)
     }
 
     fn decode_misc(
@@ -84,6 +109,15 @@ impl VisitGroups for Teller {
     ) -> Result<Self::Output> {
         decode::misc(self, reader, start, code)
     }
+
+    fn decode_atomic(
+        &mut self,
+        reader: &mut BinaryReader<'_>,
+        start: usize,
+        code: u32,
+    ) -> Result<Self::Output> {
+        decode::atomic(self, reader, start, code)
+    }
 }
 
 impl<'a> VisitOperator<'a> for Teller {
@@ -93,4 +127,30 @@ impl<'a> VisitOperator<'a> for Teller {
     }
 }
 
-impl VisitSimdOperator for Teller {}
+impl VisitSimdOperator for Teller {
+    fn dispatch_simd_low(&mut self, op: SimdOperator) -> Self::Output {
+        dispatch::simd_low(self, op)
+    }
+
+    fn dispatch_simd_high(&mut self, op: SimdOperator) -> Self::Output {
+        dispatch::simd_high(self, op)
+    }
+
+    fn decode_simd_low(
+        &mut self,
+        reader: &mut BinaryReader<'_>,
+        start: usize,
+        code: u32,
+    ) -> Result<Self::Output> {
+        decode::simd_low(self, reader, start, code)
+    }
+
+    fn decode_simd_high(
+        &mut self,
+        reader: &mut BinaryReader<'_>,
+        start: usize,
+        code: u32,
+    ) -> Result<Self::Output> {
+        decode::simd_high(self, reader, start, code)
+    }
+}

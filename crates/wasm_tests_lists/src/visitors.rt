@@ -19,7 +19,9 @@ use std::alloc::Global;
 use std::io::{self, Print};
 use wasm_visit::below::ValType;
 use wasm_visit::instr::{Operator, SelectTypes};
-use wasm_visit::{OperatorFactory, OperatorMaker, visit_operator, visit_owned_simd};
+use wasm_visit::{
+    OperatorFactory, OperatorMaker, visit_operator, visit_operator_with_simd, visit_owned_simd,
+};
 
 /// Prints it.
 pub fn print_visitors<R: Print>(rt: &R, alloc: Global) -> io::Result<()> {
@@ -124,7 +126,8 @@ fn print_factory<R: Print>(rt: &R) -> io::Result<()> {
     println!(rt; "factory: {answers:?}")
 }
 
-/// Visits a copy of an operator with a list of two types, and says how that ended.
+/// Visits copies of an operator with a list of two types, by each of the two calls, and says how that
+/// ended.
 fn visit_list(alloc: Global) -> (&'static str, Counter) {
     let mut counter = Counter::new(alloc);
     let Ok(tys) = Vec::from_array(alloc, [ValType::I32, ValType::I64]) else {
@@ -133,8 +136,10 @@ fn visit_list(alloc: Global) -> (&'static str, Counter) {
     let op = Operator::TypedSelectMulti {
         tys: SelectTypes::from_vec(tys),
     };
-    match visit_operator(alloc, &mut counter, &op) {
-        Ok(()) => ("visited", counter),
+    let plain = visit_operator(alloc, &mut counter, &op);
+    match visit_operator_with_simd(alloc, &mut counter, &op) {
+        Ok(()) if plain.is_ok() => ("visited twice", counter),
+        Ok(()) => ("visited once", counter),
         Err(_) => ("refused", counter),
     }
 }

@@ -4,6 +4,7 @@
 
 mod input;
 mod items;
+mod own_misc;
 mod prints;
 mod reads;
 mod row;

@@ -2,7 +2,10 @@
 
 use crate::told::Listed;
 use std::fmt::{self, Write};
-use wasm_operators::{BrTable, Operator, VisitGroups, VisitOperator, VisitSimdOperator, Visitor};
+use wasm_operators::{
+    BinaryReader, BrTable, MiscOperator, Operator, Result, VisitGroups, VisitOperator,
+    VisitSimdOperator, Visitor, decode, dispatch,
+};
 
 /// How many operators there were, and a fingerprint (FNV-1a, 64 bits) of their texts.
 #[derive(Clone, Copy, Debug, PartialEq, Eq)]
@@ -65,3 +68,81 @@ impl<'a> VisitOperator<'a> for Prints {
 }
 
 impl VisitSimdOperator for Prints {}
+
+/// The same, with an answer of 4096 bytes: the fingerprint, again and again.
+#[derive(Clone, Copy, Debug, PartialEq, Eq)]
+pub struct LargePrints {
+    pub prints: Prints,
+}
+
+impl Visitor for LargePrints {
+    type Output = [u64; 512];
+
+    // Whatever the operator.
+    ghost visits = { λ before op answer after. Unit {0} };
+
+    fn visit_any(&mut self, op: Operator<'static>) -> [u64; 512] {
+        self.prints.add(&op);
+        [self.prints.print; 512]
+    }
+}
+
+impl VisitGroups for LargePrints {}
+
+impl<'a> VisitOperator<'a> for LargePrints {
+    fn visit_br_table(&mut self, targets: BrTable<'a>) -> [u64; 512] {
+        self.prints.add(&Operator::BrTable { targets });
+        [self.prints.print; 512]
+    }
+}
+
+impl VisitSimdOperator for LargePrints {}
+
+/// The same, with a visit of its own for each operator behind fc, which are counted too.
+#[derive(Clone, Copy, Debug, PartialEq, Eq)]
+pub struct OwnPrints {
+    pub prints: Prints,
+    pub own: usize,
+}
+
+impl OwnPrints {
+    /// A visit of its own.
+    pub fn own(&mut self, op: MiscOperator) {
+        self.own = self.own.saturating_add(1);
+        self.prints.add(&Operator::Misc(op));
+    }
+}
+
+impl Visitor for OwnPrints {
+    type Output = ();
+
+    // Whatever the operator.
+    ghost visits = { λ before op answer after. Unit {0} };
+
+    fn visit_any(&mut self, op: Operator<'static>) {
+        self.prints.add(&op);
+    }
+}
+
+impl VisitGroups for OwnPrints {
+    fn dispatch_misc(&mut self, op: MiscOperator) {
+        dispatch::misc(self, op)
+    }
+
+    fn decode_misc(
+        &mut self,
+        reader: &mut BinaryReader<'_>,
+        start: usize,
+        code: u32,
+    ) -> Result<()> {
+        decode::misc(self, reader, start, code)
+    }
+}
+
+impl<'a> VisitOperator<'a> for OwnPrints {
+    fn visit_br_table(&mut self, targets: BrTable<'a>) {
+        self.prints.add(&Operator::BrTable { targets });
+    }
+}
+
+impl VisitSimdOperator for OwnPrints {}

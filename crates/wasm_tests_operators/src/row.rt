@@ -4,7 +4,7 @@ use crate::input::Features;
 use crate::items::{items, items_with_offsets};
 use crate::reads::{read_all, read_clones, read_each};
 use crate::told::{Listed, Told};
-use crate::visits::{visit_all, visit_all_simd, visit_boxed};
+use crate::visits::{visit_all, visit_all_simd, visit_boxed, visit_large, visit_own};
 use bitflags::Flags;
 use std::alloc::Global;
 use std::io::{self, Print};
@@ -36,6 +36,8 @@ struct Agree {
     offsets: bool,
     visits: bool,
     boxed: bool,
+    large: bool,
+    own: bool,
 }
 
 /// That all gave the same.
@@ -45,6 +47,8 @@ const ALL_AGREE: Agree = Agree {
     offsets: true,
     visits: true,
     boxed: true,
+    large: true,
+    own: true,
 };
 
 /// Prints what is read of an expression, how the calls answer, and in how many sets of features
@@ -115,6 +119,8 @@ fn answers_to<'a>(
             offsets: offsets == items,
             visits: visit_all_simd(&mut OperatorsReader::new(alloc, reader.clone()), list) == read,
             boxed: visit_boxed(alloc, &reader, list) == read,
+            large: visit_large(&mut OperatorsReader::new(alloc, reader.clone()), list) == read,
+            own: visit_own(&mut OperatorsReader::new(alloc, reader), list) == read,
         },
     }
 }

@@ -1,16 +1,22 @@
-//! A visitor with a visit of its own.
+//! A visitor with visits of its own.
 
 use std::alloc::Global;
 use std::io::{self, Print};
 use wasm_operators::{
-    BinaryReader, BrTable, MiscOperator, Operator, OperatorsReader, Result, VisitGroups, VisitMisc,
-    VisitOperator, VisitSimdOperator, Visitor, decode, dispatch,
+    BinaryReader, BrTable, FrameKind, MiscOperator, Operator, OperatorsReader, Result, VisitGroups,
+    VisitMisc, VisitOneByte, VisitOperator, VisitSimdOperator, Visitor, decode, dispatch,
 };
 
 /// Twice `data.drop`, then `drop` and `end`.
-static BYTES: [u8; 8] = [0xfc, 0x09, 0x07, 0xfc, 0x09, 0x07, 0x1a, 0x0b];
+static DATA_DROPS: [u8; 8] = [0xfc, 0x09, 0x07, 0xfc, 0x09, 0x07, 0x1a, 0x0b];
 
-/// Counts visits, those of `DataDrop` by a visit of its own.
+/// Twice `nop`, then `drop` and `end`: opcodes below 20 alone.
+static NOPS: [u8; 4] = [0x01, 0x01, 0x1a, 0x0b];
+
+/// `i32.const 5`, `local.get 3`, `drop` and `end`: one opcode from 20 on has a visit of its own.
+static CONSTANT: [u8; 6] = [0x41, 0x05, 0x20, 0x03, 0x1a, 0x0b];
+
+/// Counts visits, those of `Nop`, `LocalGet` and `DataDrop` by visits of its own.
 #[derive(Debug, Drop)]
 pub struct Tally {
     pub own: u32,
@@ -28,6 +34,16 @@ impl Visitor for Tally {
     }
 }
 
+impl VisitOneByte for Tally {
+    fn visit_nop(&mut self) {
+        self.own = self.own.saturating_add(1);
+    }
+
+    fn visit_local_get(&mut self, _local_index: u32) {
+        self.own = self.own.saturating_add(1);
+    }
+}
+
 impl VisitMisc for Tally {
     fn visit_data_drop(&mut self, _data_index: u32) {
         self.own = self.own.saturating_add(1);
@@ -35,8 +51,34 @@ impl VisitMisc for Tally {
 }
 
 impl VisitGroups for Tally {
+    fn dispatch_one_byte(&mut self, op: Operator<'_>) {
+        dispatch::one_byte(self, op)
+    }
+
     fn dispatch_misc(&mut self, op: MiscOperator) {
         dispatch::misc(self, op)
+    }
+
+    fn decode_one_byte(
+        &mut self,
+        alloc: Global,
+        reader: &mut BinaryReader<'_>,
+        start: usize,
+        frame: FrameKind,
+        code: u8,
+    ) -> Result<()> {
+        decode::one_byte(self, alloc, reader, start, frame, code)
+    }
+
+    fn decode_below_20(
+        &mut self,
+        alloc: Global,
+        reader: &mut BinaryReader<'_>,
+        start: usize,
+        frame: FrameKind,
+        code: u8,
+    ) -> Result<()> {
+        decode::one_byte(self, alloc, reader, start, frame, code)
     }
 
     fn decode_misc(
@@ -57,24 +99,36 @@ impl<'a> VisitOperator<'a> for Tally {
 
 impl VisitSimdOperator for Tally {}
 
-/// Prints how often each visit ran: directly, through a reference and in a box.
+/// Prints how often each visit ran, by both drivers: directly, through a reference, in a box, and
+/// through a reference to a box.
 pub fn print_tallies<R: Print>(rt: &R, alloc: Global) -> io::Result<()> {
+    print_visits(rt, alloc, "data drops", &DATA_DROPS)?;
+    print_visits(rt, alloc, "nops", &NOPS)?;
+    print_visits(rt, alloc, "a constant", &CONSTANT)
+}
+
+fn print_visits<R: Print>(rt: &R, alloc: Global, name: &str, bytes: &[u8]) -> io::Result<()> {
     let mut tally = Tally { own: 0, any: 0 };
-    let answer = operators(alloc).visit_all(&mut tally);
-    println!(rt; "visits of its own: {answer:?}, {tally:?}")?;
+    let answer = operators(alloc, bytes).visit_all(&mut tally);
+    println!(rt; "visits of its own, {name}: {answer:?}, {tally:?}")?;
+    let answer = operators(alloc, bytes).visit_all_simd(&mut tally);
+    println!(rt; "once more: {answer:?}, {tally:?}")?;
     let mut tally = Tally { own: 0, any: 0 };
     let mut lent = &mut tally;
-    let answer = operators(alloc).visit_all(&mut lent);
+    let answer = operators(alloc, bytes).visit_all(&mut lent);
     println!(rt; "by reference: {answer:?}, {tally:?}")?;
     let mut made = Box::new(alloc, Tally { own: 0, any: 0 });
     if made.is_err() {
         made = Box::new(alloc, Tally { own: 0, any: 0 });
     }
     let mut boxed = made?;
-    let answer = operators(alloc).visit_all(&mut boxed);
-    println!(rt; "in a box: {answer:?}, {:?}", *boxed)
+    let answer = operators(alloc, bytes).visit_all(&mut boxed);
+    println!(rt; "in a box: {answer:?}, {:?}", *boxed)?;
+    let mut lent = &mut boxed;
+    let answer = operators(alloc, bytes).visit_all(&mut lent);
+    println!(rt; "by reference, once more: {answer:?}, {:?}", *boxed)
 }
 
-fn operators(alloc: Global) -> OperatorsReader<'static> {
-    OperatorsReader::new(alloc, BinaryReader::new(&BYTES, 0))
+fn operators<'a>(alloc: Global, bytes: &'a [u8]) -> OperatorsReader<'a> {
+    OperatorsReader::new(alloc, BinaryReader::new(bytes, 0))
 }

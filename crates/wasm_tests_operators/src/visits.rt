@@ -1,9 +1,9 @@
 //! The calls that visit.
 
-use crate::prints::Prints;
+use crate::prints::{LargePrints, OwnPrints, Prints};
 use crate::told::{Listed, Told, is_memory, offset_at};
 use std::alloc::Global;
-use wasm_operators::{BinaryReader, Error, Message, OperatorsReader, Result};
+use wasm_operators::{BinaryReader, Error, Message, Operator, OperatorsReader, Result};
 
 /// The visits of `visit_all_simd`. Where memory was refused, none was made of that operator, and a
 /// second call goes on from there.
@@ -28,6 +28,42 @@ pub fn visit_all<'a>(operators: &mut OperatorsReader<'a>, list: Listed<'_, 'a>) 
         answer = operators.visit_all(&mut prints);
     }
     end(told, list, prints, answer)
+}
+
+/// The visits of a visitor whose answers are large. Where memory was refused they go on.
+pub fn visit_large<'a>(operators: &mut OperatorsReader<'a>, list: Listed<'_, 'a>) -> Told {
+    let mut large = LargePrints {
+        prints: Prints::new(),
+    };
+    let mut told = Told::new();
+    let mut answer = operators.visit_all_simd(&mut large);
+    if let Some(e) = memory_refused(answer) {
+        check_stop(&mut told, operators, list, large.prints, e);
+        answer = operators.visit_all_simd(&mut large);
+    }
+    end(told, list, large.prints, answer)
+}
+
+/// The visits of a visitor that has its own for each operator behind fc: so many of them run.
+pub fn visit_own<'a>(operators: &mut OperatorsReader<'a>, list: Listed<'_, 'a>) -> Told {
+    let mut own = OwnPrints {
+        prints: Prints::new(),
+        own: 0,
+    };
+    let mut told = Told::new();
+    let mut answer = operators.visit_all_simd(&mut own);
+    if let Some(e) = memory_refused(answer) {
+        check_stop(&mut told, operators, list, own.prints, e);
+        answer = operators.visit_all_simd(&mut own);
+    }
+    let mut listed = 0usize;
+    for (op, _) in list {
+        if matches!(op, Operator::Misc(_)) {
+            listed = listed.saturating_add(1);
+        }
+    }
+    told.check(own.own == listed);
+    end(told, list, own.prints, answer)
 }
 
 /// The visits of a visitor in a box, through a reference to it. Where memory was refused they are

@@ -1,0 +1,30 @@
+"""The visits of a visitor that has its own for each operator behind fc, for the program that compares visitors."""
+
+from source import inner, rust_binding
+from table import HEAD
+from visits import GROUPS, type_name
+
+FILE = "crates/wasm_tests_operators/src/own_misc.rt"
+
+
+def own_visit(group, op):
+    """A visit that hands its operator on as its own."""
+    given = ", ".join(["&mut self", *([inner(op)] if op.fields else [])])
+    return ["", f"fn {op.visit}({given}) {{", f"self.own({rust_binding(op, type_name(group))})", "}"]
+
+
+def own_visit_files(ops):
+    """The impl of the group with all its visits."""
+    group = next(it for it in GROUPS if it.module == "misc")
+    lines = [line for op in group.of(ops) for line in own_visit(group, op)]
+    text = [
+        f"//! Visits of {group.title}, each of a visitor's own. {HEAD}",
+        "use crate::prints::OwnPrints;",
+        f"use wasm_operators::{{{type_name(group)}, {group.trait}}};",
+        "",
+        f"impl {group.trait} for OwnPrints {{",
+        *lines[1:],
+        "}",
+        "",
+    ]
+    return {FILE: "\n".join(text)}
