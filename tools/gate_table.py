@@ -2,14 +2,16 @@
 """Writes docs/GATE.md, what each crate costs the gate, from the log of a run.
 
     tools/gate_table.py LOG [NOTE]
+    tools/gate_table.py --summary LOG
 
-LOG is what `.ci/run` wrote: `.ci/run > LOG 2>&1`. NOTE, a sentence on the run, stands above the table. The
-functions of a crate come from the prover's last line for it, the edits from rt's line for each, the minutes from
+LOG is what `.ci/run` wrote: `.ci/run > LOG 2>&1`. NOTE, a sentence on the run, stands above the table. With
+`--summary` the same is printed in a few lines, and nothing is written: so `.ci/run` ends. The functions of a crate come from the prover's last line for it, the edits from rt's line for each, the minutes from
 the lines of tools/timed.py, and how often files are read from crates.txt.
 """
 
 import re
 import sys
+import textwrap
 from pathlib import Path
 
 sys.path.insert(0, str(Path(__file__).resolve().parent / "generate"))
@@ -92,24 +94,46 @@ def readings(listed):
     return sum(of(name) for name in listed)
 
 
-def page(text, note=""):
-    """The page that a log gives, with a note on the run."""
+def measured(text):
+    """What a log has, which has to be one of the gate."""
     crates, whole, last = read(text)
     if whole is None or not crates:
         sys.exit("the log has no lines of costs: it is not one of .ci/run")
-    processor, wall, count = whole
+    return crates, whole, last
+
+
+def by_cost(crates):
+    """The names of the crates, the dearest first."""
+    return sorted(crates, key=lambda name: (-sum(crates[name].processor.values()), name))
+
+
+def summary(text):
+    """The costs that a log has, in a few lines."""
+    crates, (processor, wall, count), _ = measured(text)
+    whole = f"{minutes(wall)} minutes on {count} processors, {minutes(processor)} of a processor"
+    parts = lambda it: "+".join(minutes(it.processor.get(part, 0)) or "0" for part in ("proof", "tests", "edits"))
+    cells = [f"{name} {crates[name].functions} {parts(crates[name])}" for name in by_cost(crates)]
+    head = f"rt ci took {whole}. Each crate's functions, and minutes of a processor for proof, tests and edits:"
+    return "\n".join([head, *textwrap.wrap(", ".join(cells), 116)])
+
+
+def page(text, note=""):
+    """The page that a log gives, with a note on the run."""
+    crates, (processor, wall, count), last = measured(text)
     said = {"wall": minutes(wall), "processor": minutes(processor), "count": count, "last": last}
     head = HEAD.format(**said, note=f" {note}" if note else "", readings=readings(crates_listed()))
-    dearest = sorted(crates, key=lambda name: (-sum(crates[name].processor.values()), name))
     functions, edits = (sum(getattr(it, word) for it in crates.values()) for word in ("functions", "edits"))
     parts = [sum(it.processor.get(part, 0) for it in crates.values()) for part in ("proof", "tests", "edits")]
     proof, tests, tried = map(minutes, parts)
     total = f"| all | {functions} | {proof} | | {tests} | {tried} | {edits} |"
-    return head + "\n".join([*[row(name, crates[name]) for name in dearest], total, ""])
+    return head + "\n".join([*[row(name, crates[name]) for name in by_cost(crates)], total, ""])
 
 
 def main():
     sys.dont_write_bytecode = True
+    if sys.argv[1:2] == ["--summary"] and len(sys.argv) == 3:
+        print(summary(Path(sys.argv[2]).read_text(encoding="utf-8", errors="replace")))
+        return
     if len(sys.argv) not in (2, 3) or sys.argv[1].startswith("-"):
         print(__doc__)
         sys.exit(sys.argv[1:] not in (["--help"], ["-h"]))

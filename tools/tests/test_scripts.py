@@ -44,6 +44,11 @@ class GateTable(unittest.TestCase):
         self.assertIn("took 2.1 minutes on 4 processors, and 3.1 minutes of a processor", page)
         self.assertIn("`2 passed, 1 failed`", page)
 
+    def test_summary(self):
+        head, crates = gate_table.summary(LOG).split("\n")
+        self.assertTrue(head.startswith("rt ci took 2.1 minutes on 4 processors, 3.1 of a processor."))
+        self.assertEqual(crates, "wasm_low 7 2.0+0+0.5")
+
     def test_readings(self):
         # low and kit; middle, low and kit; high, middle and low, each with what is below it
         self.assertEqual(gate_table.readings({"low": ["kit"], "middle": ["low"], "high": ["middle", "low"]}), 2 + 3 + 6)
