@@ -1,5 +1,9 @@
 -- What the theory of reads asks of a decoder, of this one.
-use Rattle.std.proofs.Common.{inl, inr}
+use Rattle.std.proofs.Common.{ℕ, inl, inr}
+use Rattle.wasm_decode.specs.below.bytes.features.WasmFeatures.{WasmFeatures}
+use Rattle.wasm_decode.specs.below.bytes.message.Message.{Message}
+use Rattle.wasm_decode.specs.below.Source.{Reader, rest, BeginsWith}
+use Rattle.wasm_decode.specs.grammar.declared.frame_kind.FrameKind.{FrameKind}
 use Rattle.wasm_decode.specs.opcodes.Allowed.{EncodesAllowed, EncodesScalar}
 use Rattle.wasm_decode.specs.opcodes.OperatorFaults.{OperatorFault, ScalarOperatorFault}
 use Rattle.wasm_operators_readers.specs.Expression.{IsAny}
@@ -35,3 +39,8 @@ scalar_is_reading f kind m r offset h = scalar_told f kind m r offset h
 pub refuses_vectors : RefusesVectors ScalarOperatorFault
 refuses_vectors f kind m r offset (inl h) begins = h.1
 refuses_vectors f kind m r offset (inr h) begins = absurd (h.0 begins)
+
+pub refused_alike : (f : WasmFeatures) (kind : FrameKind) (m : Message) (r : Reader) (offset : ℕ) → ScalarOperatorFault f kind m r offset →
+    (BeginsWith 0xfd (rest r) → ⊥) → OperatorFault f kind m r offset
+refused_alike f kind m r offset (inl h) other = absurd (other h.0)
+refused_alike f kind m r offset (inr h) other = h.1

@@ -17,6 +17,7 @@ pub mod Scalar
 pub mod Clauses
 pub mod StepLemmas
 pub mod Messages
+pub mod GuardedRefusals
 pub mod Offsets
 pub mod DecoderPremises
 pub mod Taken

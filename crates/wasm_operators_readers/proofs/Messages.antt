@@ -1,4 +1,4 @@
--- What an operator is refused by is a message of the reading of values.
+-- What an operator is refused by is a message of the reading of values; a missing feature and a wrong frame are said of guarded operators alone.
 use Rattle.std.proofs.Common.{◌≡◌, ◌≢◌, ℕ, zero, suc, inl, inr, List, [], ◌∷◌, Option, Some, None, true, false, sym, subst}
 use Rattle.wasm_decode.specs.below.bytes.features.WasmFeatures.{WasmFeatures}
 use Rattle.wasm_decode.specs.below.bytes.message.LeadingByteName.{LeadingByteName}
@@ -39,15 +39,26 @@ use Rattle.wasm_decode.specs.opcodes.Entries.{entry_at}
 use Rattle.wasm_decode.specs.opcodes.Kinds.{EncodesKind}
 use Rattle.wasm_decode.specs.opcodes.OperatorFaults.{KindFault, KindsFault, FreeFault, SubopcodeFault, unknown_message, LacksFeature, GuardFault, EntryFault, OpcodeFault, OperatorFault, ScalarOperatorFault}
 
+-- One of reading values that asks for no feature and for no frame.
+abbrev pub IsUnguarded : Message → Type 0
+IsUnguarded (message.FeatureRequired _) = ⊥
+IsUnguarded (message.WrongFrame _ _) = ⊥
+IsUnguarded m = IsReadFault m
+
+read_fault : (m : Message) → IsUnguarded m → IsReadFault m
+read_fault (message.FeatureRequired _) h = absurd h
+read_fault (message.WrongFrame _ _) h = absurd h
+read_fault _ h = h
+
 -- Each refusal of this fault is of that kind.
 abbrev pub Told : (Message → Reader → ℕ → Type 0) → Type 0
-Told Fault = (m : Message) (r : Reader) (offset : ℕ) → Fault m r offset → IsReadFault m
+Told Fault = (m : Message) (r : Reader) (offset : ℕ) → Fault m r offset → IsUnguarded m
 
 -- it is this message
-one : (m told : Message) → IsReadFault told → m ≡ told → IsReadFault m
-one m told h e = subst IsReadFault (sym e) h
+one : (m told : Message) → IsUnguarded told → m ≡ told → IsUnguarded m
+one m told h e = subst IsUnguarded (sym e) h
 
-then_told : {X : Type 0} (First : List ℕ → X → Type 0) (FirstFault : Message → Reader → ℕ → Type 0) (Behind : X → Message → Reader → ℕ → Type 0) →
+pub then_told : {X : Type 0} (First : List ℕ → X → Type 0) (FirstFault : Message → Reader → ℕ → Type 0) (Behind : X → Message → Reader → ℕ → Type 0) →
     Told FirstFault → ((x : X) → Told (Behind x)) → Told (ThenFault First FirstFault Behind)
 then_told First FirstFault Behind f g m r offset (inl h) = f m r offset h.1
 then_told First FirstFault Behind f g m r offset (inr (x, new, _, h)) = g x m new offset h
@@ -56,15 +67,15 @@ many_told : {X : Type 0} (Encodes : List ℕ → X → Type 0) (Fault : Message 
 many_told Encodes Fault f zero m r offset h = absurd h
 many_told Encodes Fault f (suc n) m r offset h = then_told Encodes Fault (λ x. ManyFault Encodes Fault n) f (λ x. many_told Encodes Fault f n) m r offset h
 
-check_told : (IsWrong : Type 0) (refusal : Message) (place : ℕ) (Later : Message → Reader → ℕ → Type 0) → IsReadFault refusal → Told Later →
+check_told : (IsWrong : Type 0) (refusal : Message) (place : ℕ) (Later : Message → Reader → ℕ → Type 0) → IsUnguarded refusal → Told Later →
     Told (CheckFault IsWrong refusal place Later)
 check_told IsWrong refusal place Later is f m r offset (inl h) = one m refusal is h.1
 check_told IsWrong refusal place Later is f m r offset (inr h) = f m r offset h.1
 
-end_told : Told EndFault
+pub end_told : Told EndFault
 end_told m r offset h = one m message.EndOfData tt h.0
 
-byte_told : (IsWrong : ℕ → Type 0) (refusal : ℕ → Message) (place : ℕ) → ((byte : ℕ) → IsReadFault (refusal byte)) → Told (CheckedByteFault IsWrong refusal place)
+byte_told : (IsWrong : ℕ → Type 0) (refusal : ℕ → Message) (place : ℕ) → ((byte : ℕ) → IsUnguarded (refusal byte)) → Told (CheckedByteFault IsWrong refusal place)
 byte_told IsWrong refusal place is m r offset (inl h) = end_told m r offset h
 byte_told IsWrong refusal place is m r offset (inr (byte, _, _, e, _)) = one m (refusal byte) (is byte) e
 
@@ -76,7 +87,7 @@ number_told width (message.IntegerTooLong _) r offset h = tt
 number_told width (message.IntegerTooLarge _) r offset h = tt
 number_told width _ r offset h = absurd h
 
-u32_told : Told U32Fault
+pub u32_told : Told U32Fault
 u32_told m r offset h = number_told 32 m r offset h.0
 
 u64_told : Told U64Fault
@@ -227,39 +238,43 @@ kind_told f start is_select_types = list_told size_name.SelectTypes max_select_t
 kind_told f start is_try_clauses = try_told
 kind_told f start is_resume_clauses = list_told size_name.ResumeTable max_handlers EncodesHandle HandleFault handle_told
 
-kinds_told : (f : WasmFeatures) (start : ℕ) (ks : List Kind) → Told (KindsFault f start ks)
+pub kinds_told : (f : WasmFeatures) (start : ℕ) (ks : List Kind) → Told (KindsFault f start ks)
 kinds_told f start [] m r offset h = absurd h
 kinds_told f start (k ∷ ks) m r offset h =
     then_told (EncodesKind f k) (KindFault f start k) (λ i. KindsFault f start ks) (kind_told f start k) (λ i. kinds_told f start ks) m r offset h
 
-unknown_told : (p : Option ℕ) (code : ℕ) → IsReadFault (unknown_message p code)
+unknown_told : (p : Option ℕ) (code : ℕ) → IsUnguarded (unknown_message p code)
 unknown_told None code = tt
 unknown_told (Some p) code = tt
 
-free_told : (f : WasmFeatures) (start : ℕ) (p : Option ℕ) (code : ℕ) (e : Entry) → Told (FreeFault f start p code e)
+pub free_told : (f : WasmFeatures) (start : ℕ) (p : Option ℕ) (code : ℕ) (e : Entry) → Told (FreeFault f start p code e)
 free_told f start p code unknown m r offset h = one m (unknown_message p code) (unknown_told p code) h.0
 free_told f start p code (free ks) m r offset h = kinds_told f start ks m r offset h
 free_told f start p code prefixes m r offset h = absurd h
 free_told f start p code (guarded g ks) m r offset h = absurd h
 
-guard_told : (f : WasmFeatures) (k : FrameKind) (start : ℕ) (g : Guard) (Later : Message → Reader → ℕ → Type 0) → Told Later → Told (GuardFault f k start g Later)
-guard_told f k start g Later t =
-    check_told (LacksFeature f g) (message.FeatureRequired (instruction_behind g)) start inner tt
-    (λ m r offset h. check_told (¬ Allows k (role_behind g)) (message.WrongFrame (instruction_behind g) (frame_behind g)) (offset_of r) Later tt t m r offset h)
-  where
-    inner : Message → Reader → ℕ → Type 0
-    inner m r = CheckFault (¬ Allows k (role_behind g)) (message.WrongFrame (instruction_behind g) (frame_behind g)) (offset_of r) Later m r
+-- behind a prefix byte
+pub subopcode_told : (f : WasmFeatures) (start code : ℕ) → Told (ThenFault (EncodesUnsigned 32) U32Fault (SubopcodeFault f start code))
+subopcode_told f start code =
+    then_told (EncodesUnsigned 32) U32Fault (SubopcodeFault f start code) u32_told (λ sub. free_told f start (Some code) sub (entry_at (Some code) sub))
 
-entry_told : (f : WasmFeatures) (k : FrameKind) (start code : ℕ) (e : Entry) → Told (EntryFault f k start code e)
-entry_told f k start code prefixes m r offset h =
-    then_told (EncodesUnsigned 32) U32Fault (SubopcodeFault f start code) u32_told (λ sub. free_told f start (Some code) sub (entry_at (Some code) sub)) m r offset h
-entry_told f k start code (guarded g ks) m r offset h = guard_told f k start g (KindsFault f start ks) (kinds_told f start ks) m r offset h
-entry_told f k start code unknown m r offset h = free_told f start None code unknown m r offset h
-entry_told f k start code (free ks) m r offset h = free_told f start None code (free ks) m r offset h
+guard_read : (f : WasmFeatures) (k : FrameKind) (start : ℕ) (g : Guard) (ks : List Kind) (m : Message) (r : Reader) (offset : ℕ) →
+    GuardFault f k start g (KindsFault f start ks) m r offset → IsReadFault m
+guard_read f k start g ks m r offset (inl h) = subst IsReadFault (sym h.1) tt
+guard_read f k start g ks m r offset (inr (_, inl h)) = subst IsReadFault (sym h.1) tt
+guard_read f k start g ks m r offset (inr (_, inr (_, h))) = read_fault m (kinds_told f start ks m r offset h)
 
-pub operator_told : (f : WasmFeatures) (k : FrameKind) → Told (OperatorFault f k)
-operator_told f k m r offset h =
-    then_told IsByte EndFault (OpcodeFault f k (offset_of r)) end_told (λ code. entry_told f k (offset_of r) code (entry_at None code)) m r offset h
+entry_read : (f : WasmFeatures) (k : FrameKind) (start code : ℕ) (e : Entry) (m : Message) (r : Reader) (offset : ℕ) →
+    EntryFault f k start code e m r offset → IsReadFault m
+entry_read f k start code prefixes m r offset h = read_fault m (subopcode_told f start code m r offset h)
+entry_read f k start code (guarded g ks) m r offset h = guard_read f k start g ks m r offset h
+entry_read f k start code unknown m r offset h = read_fault m (free_told f start None code unknown m r offset h)
+entry_read f k start code (free ks) m r offset h = read_fault m (free_told f start None code (free ks) m r offset h)
 
-pub scalar_told : (f : WasmFeatures) (k : FrameKind) → Told (ScalarOperatorFault f k)
-scalar_told f k m r offset h = check_told (BeginsWith 0xfd (rest r)) message.UnexpectedSimd (offset_of r) (OperatorFault f k) tt (operator_told f k) m r offset h
+pub operator_told : (f : WasmFeatures) (k : FrameKind) (m : Message) (r : Reader) (offset : ℕ) → OperatorFault f k m r offset → IsReadFault m
+operator_told f k m r offset (inl h) = read_fault m (end_told m r offset h.1)
+operator_told f k m r offset (inr (code, new, _, h)) = entry_read f k (offset_of r) code (entry_at None code) m new offset h
+
+pub scalar_told : (f : WasmFeatures) (k : FrameKind) (m : Message) (r : Reader) (offset : ℕ) → ScalarOperatorFault f k m r offset → IsReadFault m
+scalar_told f k m r offset (inl h) = subst IsReadFault (sym h.1) tt
+scalar_told f k m r offset (inr (_, h)) = operator_told f k m r offset h

@@ -8,6 +8,7 @@ pub mod Stack
 pub mod Reading
 pub mod Headline
 pub mod Next
+pub mod Guarded
 pub use Rattle.wasm_decode.specs.below as below
 pub use Rattle.wasm_decode.specs.imm as imm
 pub use Rattle.wasm_decode.specs.grammar as grammar

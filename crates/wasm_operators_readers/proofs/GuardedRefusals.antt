@@ -1,0 +1,105 @@
+-- A missing feature and a wrong frame: where they are refused, and that they are refused nowhere else.
+use Rattle.std.proofs.Common.{◌≡◌, ℕ, ◌+◌, ◌<◌, List, [], ◌∷◌, length, Ok, None, inl, inr, refl, sym, subst, ap, ◌∙◌, arith}
+use Rattle.wasm_decode.specs.below.bytes.features.WasmFeatures.{WasmFeatures}
+use Rattle.wasm_decode.specs.below.bytes.message.FrameName.{FrameName}
+use Rattle.wasm_decode.specs.below.bytes.message.InstructionName.{InstructionName}
+use Rattle.wasm_decode.specs.below.bytes.message.Message.{Message}
+use Rattle.wasm_decode.specs.below.bytes.message.Message.TheVariants as message
+use Rattle.wasm_decode.specs.below.Source.{Reader, rest, offset_of, at_position, IsByte, Reads, Takes, BeginsWith}
+use Rattle.wasm_decode.proofs.of_below.Prefixes.{advanced}
+use Rattle.wasm_decode.proofs.of_below.TakesLemmas.{first_byte_read}
+use Rattle.wasm_decode.specs.grammar.declared.frame_kind.FrameKind.{FrameKind}
+use Rattle.wasm_decode.specs.grammar.Frames.{Allows}
+use Rattle.wasm_decode.specs.instr.Immediate.{Kind}
+use Rattle.wasm_decode.specs.opcodes.declared.guard.Guard.{Guard}
+use Rattle.wasm_decode.specs.opcodes.Entry.{Entry, unknown, prefixes, free, guarded, role_behind, instruction_behind, frame_behind}
+use Rattle.wasm_decode.specs.opcodes.Entries.{entry_at}
+use Rattle.wasm_decode.specs.opcodes.OperatorFaults.{LacksFeature, EntryFault, OperatorFault}
+use Rattle.wasm_operators_readers.specs.Guarded.{BeginsGuarded}
+use Rattle.wasm_operators_readers.proofs.Messages.{end_told, subopcode_told, free_told, kinds_told}
+
+-- What a caller learns of a missing feature, and of a wrong frame.
+abbrev pub Lacking : WasmFeatures → InstructionName → Reader → ℕ → Type 0
+Lacking f name r offset = (g : Guard) × BeginsGuarded g r × LacksFeature f g × (name ≡ instruction_behind g) × (offset ≡ offset_of r)
+
+abbrev pub Misplaced : WasmFeatures → FrameKind → InstructionName → FrameName → Reader → ℕ → Type 0
+Misplaced f k name wanted r offset =
+    (g : Guard) × BeginsGuarded g r × (¬ LacksFeature f g) × (¬ Allows k (role_behind g)) × (name ≡ instruction_behind g) × (wanted ≡ frame_behind g) ×
+    (offset ≡ offset_of r + 1)
+
+-- behind the opcode
+behind_code : (r new : Reader) (code : ℕ) → Reads IsByte (Ok code) r new → offset_of new ≡ offset_of r + 1
+behind_code r new code reads =
+    let t = (first_byte_read r new code reads).2 in
+    ap offset_of t.moved ∙ omega arith
+
+begins : (r new : Reader) (code : ℕ) (g : Guard) (ks : List Kind) → Reads IsByte (Ok code) r new → entry_at None code ≡ guarded g ks → BeginsGuarded g r
+begins r new code g ks reads is =
+    let first = first_byte_read r new code reads in
+    (code, ks, first.1, (rest new, first.0), is)
+
+lacking_entry : (f : WasmFeatures) (k : FrameKind) (name : InstructionName) (r new : Reader) (offset code : ℕ) (e : Entry) → entry_at None code ≡ e →
+    Reads IsByte (Ok code) r new → EntryFault f k (offset_of r) code e (message.FeatureRequired name) new offset → Lacking f name r offset
+lacking_entry f k name r new offset code prefixes is reads h = absurd (subopcode_told f (offset_of r) code (message.FeatureRequired name) new offset h)
+lacking_entry f k name r new offset code unknown is reads h = absurd (free_told f (offset_of r) None code unknown (message.FeatureRequired name) new offset h)
+lacking_entry f k name r new offset code (free ks) is reads h =
+    absurd (free_told f (offset_of r) None code (free ks) (message.FeatureRequired name) new offset h)
+lacking_entry f k name r new offset code (guarded g ks) is reads (inl (lacks, e, at)) = (g, begins r new code g ks reads is, lacks, cc e, at)
+lacking_entry f k name r new offset code (guarded g ks) is reads (inr (_, inl (_, e, _))) = absurd (cc e)
+lacking_entry f k name r new offset code (guarded g ks) is reads (inr (_, inr (_, h))) =
+    absurd (kinds_told f (offset_of r) ks (message.FeatureRequired name) new offset h)
+
+pub lacking_only : (f : WasmFeatures) (k : FrameKind) (name : InstructionName) (r : Reader) (offset : ℕ) →
+    OperatorFault f k (message.FeatureRequired name) r offset → Lacking f name r offset
+lacking_only f k name r offset (inl h) = absurd (end_told (message.FeatureRequired name) r offset h.1)
+lacking_only f k name r offset (inr (code, new, reads, h)) = lacking_entry f k name r new offset code (entry_at None code) refl reads h
+
+misplaced_entry : (f : WasmFeatures) (k : FrameKind) (name : InstructionName) (wanted : FrameName) (r new : Reader) (offset code : ℕ) (e : Entry) →
+    entry_at None code ≡ e → Reads IsByte (Ok code) r new → EntryFault f k (offset_of r) code e (message.WrongFrame name wanted) new offset →
+    Misplaced f k name wanted r offset
+misplaced_entry f k name wanted r new offset code prefixes is reads h =
+    absurd (subopcode_told f (offset_of r) code (message.WrongFrame name wanted) new offset h)
+misplaced_entry f k name wanted r new offset code unknown is reads h =
+    absurd (free_told f (offset_of r) None code unknown (message.WrongFrame name wanted) new offset h)
+misplaced_entry f k name wanted r new offset code (free ks) is reads h =
+    absurd (free_told f (offset_of r) None code (free ks) (message.WrongFrame name wanted) new offset h)
+misplaced_entry f k name wanted r new offset code (guarded g ks) is reads (inl (_, e, _)) = absurd (cc e)
+misplaced_entry f k name wanted r new offset code (guarded g ks) is reads (inr (has, inl (bars, e, at))) =
+    (g, begins r new code g ks reads is, has, bars, cc e, cc e, at ∙ behind_code r new code reads)
+misplaced_entry f k name wanted r new offset code (guarded g ks) is reads (inr (_, inr (_, h))) =
+    absurd (kinds_told f (offset_of r) ks (message.WrongFrame name wanted) new offset h)
+
+pub misplaced_only : (f : WasmFeatures) (k : FrameKind) (name : InstructionName) (wanted : FrameName) (r : Reader) (offset : ℕ) →
+    OperatorFault f k (message.WrongFrame name wanted) r offset → Misplaced f k name wanted r offset
+misplaced_only f k name wanted r offset (inl h) = absurd (end_told (message.WrongFrame name wanted) r offset h.1)
+misplaced_only f k name wanted r offset (inr (code, new, reads, h)) = misplaced_entry f k name wanted r new offset code (entry_at None code) refl reads h
+
+-- The opcode of a guarded operator is read.
+code_read : (r : Reader) (code : ℕ) → code < 256 → BeginsWith code (rest r) → Reads IsByte (Ok code) r (at_position r (r.position + 1))
+code_read r code small first = (code ∷ [], (refl, small), advanced r (at_position r (r.position + 1)) code first refl)
+
+pub lacking_comes : (f : WasmFeatures) (k : FrameKind) (g : Guard) (r : Reader) → BeginsGuarded g r → LacksFeature f g →
+    OperatorFault f k (message.FeatureRequired (instruction_behind g)) r (offset_of r)
+lacking_comes f k g r (code, ks, small, first, is) lacks =
+    let new = at_position r (r.position + 1) in
+    let m = message.FeatureRequired (instruction_behind g) in
+    inr (
+      code,
+      new,
+      code_read r code small first,
+      subst (λ e. EntryFault f k (offset_of r) code e m new (offset_of r)) (sym is) (inl (lacks, refl, refl)),
+    )
+
+pub misplaced_comes : (f : WasmFeatures) (k : FrameKind) (g : Guard) (r : Reader) → BeginsGuarded g r → (¬ LacksFeature f g) → (¬ Allows k (role_behind g)) →
+    OperatorFault f k (message.WrongFrame (instruction_behind g) (frame_behind g)) r (offset_of r + 1)
+misplaced_comes f k g r (code, ks, small, first, is) has bars =
+    let new = at_position r (r.position + 1) in
+    let m = message.WrongFrame (instruction_behind g) (frame_behind g) in
+    let reads = code_read r code small first in
+    let at : offset_of r + 1 ≡ offset_of new = sym (behind_code r new code reads) in
+    inr (
+      code,
+      new,
+      reads,
+      subst (λ e. EntryFault f k (offset_of r) code e m new (offset_of r + 1)) (sym is) (inr (has, inl (bars, refl, at))),
+    )
