@@ -10,4 +10,4 @@ use Rattle.wasm_decode.specs.opcodes.Entries.{entry_at}
 
 -- The next byte is the opcode of the operator that this guards.
 abbrev pub BeginsGuarded : Guard → Reader → Type 0
-BeginsGuarded g r = (code : ℕ) (ks : List Kind) × (code < 256) × BeginsWith code (rest r) × (entry_at None code ≡ guarded g ks)
+BeginsGuarded g r = (code : ℕ) × (ks : List Kind) × (code < 256) × BeginsWith code (rest r) × (entry_at None code ≡ guarded g ks)
