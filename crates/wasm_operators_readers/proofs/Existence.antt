@@ -1,5 +1,5 @@
 -- That a longest list exists: of lists no longer than the bytes, one of which something is so.
-use Rattle.std.proofs.Common.{◌≡◌, ℕ, ◌+◌, ◌≤◌, List, [], ◌++◌, length, refl, sym, subst, ap, ◌∙◌, length-append, arith, inl, inr}
+use Rattle.std.proofs.Common.{◌≡◌, ℕ, zero, suc, ◌+◌, ◌≤◌, List, [], ◌++◌, length, refl, sym, subst, ap, ◌∙◌, length-append, arith, inl, inr}
 use Rattle.std.proofs.Math.Nat.{eq-or-lt_of_le}
 use Rattle.std.proofs.lemmas.List.{append-nil}
 use Rattle.wasm_decode.specs.below.bytes.features.WasmFeatures.{WasmFeatures}
@@ -52,7 +52,7 @@ longest_is_some Kept kept before s stood none =
 -- By frames alone.
 pub flat_is_some : (Kept : OfPlaced) → Kept [] → (frames : List FrameKind) (s : Source) → ((placed : Placed) → IsFlatOf Kept frames s placed → ⊥) → ⊥
 flat_is_some Kept kept frames s none =
-    let first : IsAllowedFrom frames s [] = record { beginning = []; more = s.bytes; parts = refl; laid = refl; allowed = tt } in
+    let first : IsAllowedFrom frames s [] = record { beginning = []; more = s.bytes; parts = refl; laid = refl; allowed = refl } in
     no_longest (λ x. IsAllowedFrom frames s x × Kept x) [] (first, kept)
     (λ x h long. none x (record { beginning = h.0; kept = h.1; longest = λ y b k. long y (b, k) })) (length s.bytes)
     (λ x h. short s.features s.offset x s.bytes h.0.beginning h.0.more h.0.parts h.0.laid)
