@@ -1,5 +1,5 @@
 -- The reader of a constant expression, as its text where it stood.
-use Rattle.std.proofs.Common.{◌≡◌, ℕ, ℤ, ◌+◌, List, [], ◌++◌, length, drop, Option, ap, sym, subst, ◌∙◌, arith}
+use Rattle.std.proofs.Common.{◌≡◌, ℕ, ℤ, ◌+◌, List, length, drop, Option, ap, subst, ◌∙◌, arith}
 use Rattle.wasm_operators.specs.below.bytes.features.WasmFeatures.{WasmFeatures}
 use Rattle.wasm_operators.specs.below.FromReader.{IsReaderOf}
 use Rattle.wasm_operators.specs.below.Source.{Source, Reader, offset_of, source_of, Takes}

@@ -1,9 +1,9 @@
 -- The arities of operators that were visited.
-use Rattle.std.proofs.Common.{◌≡◌, ℕ, List, [], ◌∷◌, None, refl, sym, ap, subst, ◌∙◌}
+use Rattle.std.proofs.Common.{◌≡◌, List, [], ◌∷◌, None, sym, ap, subst, ◌∙◌}
 use Rattle.wasm_operators.specs.Expression.{Placed}
 use Rattle.wasm_operators.specs.Visiting.{VisitRun, Visited}
 use Rattle.uses.specs.declared.heights.Heights.{Heights}
-use Rattle.uses.specs.Heights.{HasArity, HaveArities, StepsHeight}
+use Rattle.uses.specs.Heights.{HaveArities, StepsHeight}
 
 -- From where no fault was kept at the end, in a module of these types and functions.
 run : {A : Type 0} (placed : Placed) (answers : List A) (before after : Heights) → after.fault ≡ None →

@@ -1,6 +1,6 @@
-use Rattle.std.proofs.Common.{◌++◌, ap, sym, subst, ◌∙◌}
+use Rattle.std.proofs.Common.{sym, subst, ◌∙◌}
 use Rattle.wasm_operators.specs.below.Source.{reader_of}
-use Rattle.wasm_operators.specs.Expression.{Placed, EncodesExpression}
+use Rattle.wasm_operators.specs.Expression.{EncodesExpression}
 use Rattle.uses.specs.Again.{StandsBehind}
 use Rattle.uses.specs.Input.{input}
 use Rattle.uses.proofs.Behind.{stands_first, stands_on, whole_behind}

@@ -1,4 +1,4 @@
-use Rattle.std.proofs.Common.{◌≡◌, ◌≢◌, ◌++◌, replicate, [], ap, sym, subst, ◌∙◌}
+use Rattle.std.proofs.Common.{◌≢◌, ◌++◌, replicate, [], ap, sym, subst, ◌∙◌}
 use Rattle.wasm_operators.specs.below.bytes.message.Message.TheVariants as message
 use Rattle.wasm_operators.specs.instr.Roles.{roles_of}
 use Rattle.wasm_operators.specs.instr.declared.operator.Operator.TheVariants as operator
