@@ -1,9 +1,14 @@
 -- Two values that are read one behind the other.
-use Rattle.std.proofs.Common.{◌≡◌, ℕ, ◌+◌, List, [], ◌∷◌, ◌++◌, length, Ok, refl, ap, sym, ◌∙◌, append_assoc, arith}
-use Rattle.std.proofs.lemmas.List.{length-append}
+use Rattle.std.proofs.Common.{◌≡◌, ℕ, ◌+◌, inl, inr, List, [], ◌∷◌, ◌++◌, length, Ok, refl, ap, sym, subst, ◌∙◌, append_assoc, arith}
+use Rattle.std.proofs.lemmas.List.{append-nil, length-append}
 use Rattle.wasm_below.specs.bytes.error.Error.{Error}
-use Rattle.wasm_below.specs.Source.{Reader, rest, end_of, at_position, Takes, IsRefusal, Reads}
-use Rattle.wasm_module.specs.Module.{Both, past}
+use Rattle.wasm_below.specs.bytes.message.Message.{Message}
+use Rattle.wasm_below.specs.bytes.message.Message.TheVariants as message
+use Rattle.wasm_below.specs.Fault.{ThenFault, DeterminesRefusal}
+use Rattle.wasm_below.specs.Refusal.{IsReadFault}
+use Rattle.wasm_below.specs.Sequence.{PrefixCode}
+use Rattle.wasm_below.specs.Source.{Reader, rest, end_of, at_position, Takes, NoPrefix, MayFollow, IsRefusal, Reads, IsByte, EndFault, EndsWithin}
+use Rattle.wasm_module.specs.Module.{Both}
 
 same_rest : (a b x y : List ℕ) → length a ≡ length b → a ++ x ≡ b ++ y → x ≡ y
 same_rest [] [] x y h e = e
@@ -60,6 +65,46 @@ module _ {X Y : Type 0} (P : List ℕ → X → Type 0) (Q : List ℕ → Y → 
         ahead = (omega (arith, low, start, position), omega (arith, high, end));
       }
 
--- the reader behind as many bytes
-pub is_past : (n : ℕ) (old mid : Reader) (text : List ℕ) → length text ≡ n → Takes old mid text → mid ≡ past n old
-is_past n old mid text long t = t.moved ∙ ap (λ k. past k old) long
+-- ---- refusals of two parts
+
+ends_here : (m : Message) → IsReadFault m → MayFollow m []
+ends_here message.EndOfData fault = refl
+ends_here message.OutOfMemory fault = absurd fault
+ends_here _ fault = tt
+
+-- what is refused does not stand there
+pub refused_now : {X : Type 0} (P : List ℕ → X → Type 0) (e : Error) (r : Reader) → IsRefusal P e r → NoPrefix P (rest r)
+refused_now P e r h = subst (NoPrefix P) (append-nil (rest r)) (h.refuses [] (ends_here e.message h.fault))
+
+pub first_fault : {X : Type 0} (P : List ℕ → X → Type 0) (First : Message → Reader → ℕ → Type 0) (Behind : X → Message → Reader → ℕ → Type 0) (e : Error)
+    (r : Reader) → IsRefusal P e r → First e.message r e.offset → ThenFault P First Behind e.message r e.offset
+first_fault P First Behind e r h fault = inl (refused_now P e r h, fault)
+
+pub second_fault : {X : Type 0} (P : List ℕ → X → Type 0) (First : Message → Reader → ℕ → Type 0) (Behind : X → Message → Reader → ℕ → Type 0) (e : Error)
+    (old mid : Reader) (x : X) → Reads P (Ok x) old mid → Behind x e.message mid e.offset → ThenFault P First Behind e.message old e.offset
+second_fault P First Behind e old mid x reads fault = inr (x, mid, reads, fault)
+
+-- the reader behind a first part
+same_behind : {X : Type 0} (P : List ℕ → X → Type 0) → PrefixCode P → (r s t : Reader) (x y : X) → Reads P (Ok x) r s → Reads P (Ok y) r t →
+    (x ≡ y) × (s ≡ t)
+same_behind P code r s t x y (a, p, h) (b, q, k) =
+    let o = code a b (rest s) (rest t) x y p q (sym h.parts ∙ k.parts) in
+    (o.1, h.moved ∙ ap (λ z. at_position r (r.position + length z)) o.0 ∙ sym k.moved)
+
+pub then_determines : {X : Type 0} (P : List ℕ → X → Type 0) (First : Message → Reader → ℕ → Type 0) (Behind : X → Message → Reader → ℕ → Type 0) →
+    PrefixCode P → DeterminesRefusal First → ((x : X) → DeterminesRefusal (Behind x)) → DeterminesRefusal (ThenFault P First Behind)
+then_determines P First Behind code f g m k r a b (inl h) (inl q) = f m k r a b h.1 q.1
+then_determines P First Behind code f g m k r a b (inl h) (inr (x, new, (text, p, t), _)) = absurd (h.0 text (rest new) x p t.parts)
+then_determines P First Behind code f g m k r a b (inr (x, new, (text, p, t), _)) (inl q) = absurd (q.0 text (rest new) x p t.parts)
+then_determines P First Behind code f g m k r a b (inr (x, s, h, u)) (inr (y, t, q, v)) =
+    let o = same_behind P code r s t x y h q in
+    g x m k s a b u (subst (λ z. Behind z k s b) (sym o.0) (subst (λ z. Behind y k z b) (sym o.1) v))
+
+pub byte_prefix_code : PrefixCode IsByte
+byte_prefix_code a b x y m n p q e = let same : m ≡ n = cc (p.0, q.0, e) in (p.0 ∙ ap (λ z. z ∷ []) same ∙ sym q.0, same)
+
+pub short_determines : (n : ℕ) → DeterminesRefusal (EndsWithin n)
+short_determines n m k r a b h q = (h.0 ∙ sym q.0, h.1 ∙ sym q.1)
+
+pub end_determines : DeterminesRefusal EndFault
+end_determines m k r a b h q = (h.0 ∙ sym q.0, h.1 ∙ sym q.1)

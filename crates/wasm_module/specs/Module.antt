@@ -1,12 +1,13 @@
 -- The preamble and the sections of a module.
 -- WebAssembly Core Specification 3.0, Binary Format, Modules: Modules, Sections.
-use Rattle.std.specs.Prelude.{◌≡◌, ◌==◌, ℕ, ◌+◌, ◌⊎◌, List, ◌++◌, if◌then◌else◌}
+use Rattle.std.specs.Prelude.{◌≡◌, ◌==◌, ℕ, List, ◌++◌, if◌then◌else◌}
 use Rattle.std.specs.Int.{w32}
 use Rattle.wasm_below.specs.bytes.features.WasmFeatures.{WasmFeatures}
 use Rattle.wasm_below.specs.bytes.message.Message.{Message}
+use Rattle.wasm_below.specs.Fault.{ThenFault}
 use Rattle.wasm_below.specs.FromReader.{EncodesReader, ReaderFault}
 use Rattle.wasm_below.specs.Number.{EncodesFixed}
-use Rattle.wasm_below.specs.Source.{Reader, IsByte, EndFault, EndsWithin, at_position}
+use Rattle.wasm_below.specs.Source.{Reader, IsByte, EndFault, EndsWithin}
 use Rattle.wasm_module.specs.declared.preamble.Preamble.{Preamble}
 use Rattle.wasm_module.specs.declared.preamble.PreambleKind.{PreambleKind}
 use Rattle.wasm_module.specs.declared.preamble.PreambleKind.TheVariants as kind
@@ -37,14 +38,10 @@ pub record SectionParts : Type 0 where
 abbrev pub EncodesSection : WasmFeatures → List ℕ → SectionParts → Type 0
 EncodesSection features text s = Both IsByte (EncodesReader features) text s.id s.contents
 
--- The reader behind this many bytes more.
-abbrev pub past : ℕ → Reader → Reader
-past n r = at_position r (r.position + n)
-
--- Which refusal a preamble has: the data ends within the first number, or within the second.
+-- Which refusal a preamble has: the data ends within the first number; or that is there, and the data ends within the second.
 abbrev pub PreambleFault : Message → Reader → ℕ → Type 0
-PreambleFault m r offset = EndsWithin 4 m r offset ⊎ EndsWithin 4 m (past 4 r) offset
+PreambleFault = ThenFault (EncodesFixed w32) (EndsWithin 4) (λ magic. EndsWithin 4)
 
--- Which refusal a section has: the data ends at its number, or it is that of the length and the contents behind the number.
+-- Which refusal a section has: the data ends at its number; or that is there, and it is the refusal of the length and the contents behind it.
 abbrev pub SectionFault : Message → Reader → ℕ → Type 0
-SectionFault m r offset = EndFault m r offset ⊎ ReaderFault m (past 1 r) offset
+SectionFault = ThenFault IsByte EndFault (λ id. ReaderFault)

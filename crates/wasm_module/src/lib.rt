@@ -1,6 +1,7 @@
 //! What a module is made of: its preamble, and its sections by their numbers and sizes.
 #![tactic(auto)]
 
+pub mod module_laws;
 mod preamble;
 mod section;
 

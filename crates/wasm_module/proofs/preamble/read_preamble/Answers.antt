@@ -1,7 +1,8 @@
 use Rattle.std.proofs.Common.{ap, length}
 use Rattle.std.specs.Int.{w32}
 use Rattle.wasm_below.specs.Number.{EncodesFixed}
-use Rattle.wasm_module.proofs.Parts.{back, both_read, second_refused}
+use Rattle.wasm_below.specs.Source.{EndsWithin}
+use Rattle.wasm_module.proofs.Parts.{back, both_read, second_refused, first_fault, second_fault}
 use Rattle.wasm_module.proofs.preamble.read_preamble.Goals as goal
 
 pub returns-in-Ok-read_u32-clause-reads : goal.returns-in-Ok-read_u32-clause-reads
@@ -18,3 +19,12 @@ returns-in-Err-read_u32-clause-reads c =
       second_refused (EncodesFixed w32) (EncodesFixed w32) (λ p. p.magic) (λ p. p.version) 4 (λ text x p. ap length p.0) c.in-Err-read_u32.e
           c.args.reader.now c.read_u32.new.self c.in-Ok.magic first h.1,
     )
+
+pub returns-in-Err-clause-fault : goal.returns-in-Err-clause-fault
+returns-in-Err-clause-fault c =
+    first_fault (EncodesFixed w32) (EndsWithin 4) (λ magic. EndsWithin 4) c.in-Err.e c.args.reader.now c.in-Err.ensures.reads.1 c.in-Err.ensures.end
+
+pub returns-in-Err-read_u32-clause-fault : goal.returns-in-Err-read_u32-clause-fault
+returns-in-Err-read_u32-clause-fault c =
+    second_fault (EncodesFixed w32) (EndsWithin 4) (λ magic. EndsWithin 4) c.in-Err-read_u32.e c.args.reader.now c.read_u32.new.self c.in-Ok.magic
+    c.in-Ok.ensures.reads c.in-Err-read_u32.ensures.end

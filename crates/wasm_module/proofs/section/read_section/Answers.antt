@@ -1,7 +1,7 @@
 use Rattle.std.proofs.Common.{Ok, length, ap, subst}
-use Rattle.wasm_below.specs.FromReader.{EncodesReader}
-use Rattle.wasm_below.specs.Source.{IsByte, IsRefusal, Reads}
-use Rattle.wasm_module.proofs.Parts.{back, both_read, second_refused}
+use Rattle.wasm_below.specs.FromReader.{EncodesReader, ReaderFault}
+use Rattle.wasm_below.specs.Source.{IsByte, EndFault, IsRefusal, Reads}
+use Rattle.wasm_module.proofs.Parts.{back, both_read, second_refused, first_fault, second_fault}
 use Rattle.wasm_module.proofs.section.read_section.Goals as goal
 
 pub returns-in-Ok-read_reader-clause-reads : goal.returns-in-Ok-read_reader-clause-reads
@@ -23,3 +23,12 @@ returns-in-Err-read_reader-clause-reads c =
           c.args.reader.now c.read_u8.new.self c.in-Ok.id first
           (subst (λ f. IsRefusal (EncodesReader f) c.in-Err-read_reader.e c.read_u8.new.self) same h.1),
     )
+
+pub returns-in-Err-clause-fault : goal.returns-in-Err-clause-fault
+returns-in-Err-clause-fault c =
+    first_fault IsByte EndFault (λ id. ReaderFault) c.in-Err.e c.args.reader.now c.in-Err.ensures.reads.1 c.in-Err.ensures.end
+
+pub returns-in-Err-read_reader-clause-fault : goal.returns-in-Err-read_reader-clause-fault
+returns-in-Err-read_reader-clause-fault c =
+    second_fault IsByte EndFault (λ id. ReaderFault) c.in-Err-read_reader.e c.args.reader.now c.read_u8.new.self c.in-Ok.id c.in-Ok.ensures.reads
+    c.in-Err-read_reader.ensures.fault
