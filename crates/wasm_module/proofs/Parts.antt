@@ -16,7 +16,7 @@ same_rest [] (c ∷ b) x y h e = absurd (omega (arith, h))
 same_rest (c ∷ a) [] x y h e = absurd (omega (arith, h))
 same_rest (c ∷ a) (d ∷ b) x y h e = same_rest a b x y (omega (arith, h)) (cc e)
 
-takes_both : (a b c : Reader) (x y : List ℕ) → Takes a b x → Takes b c y → Takes a c (x ++ y)
+pub takes_both : (a b c : Reader) (x y : List ℕ) → Takes a b x → Takes b c y → Takes a c (x ++ y)
 takes_both a b c x y p q =
     record {
       moved = q.moved ∙ ap (λ r. at_position r (r.position + length y)) p.moved ∙

@@ -1,0 +1,83 @@
+-- Imports are a prefix code, and their faults determine the refusal.
+use Rattle.std.proofs.Common.{ℕ, zero, suc, inl, inr, refl, sym, ◌∙◌}
+use Rattle.wasm_below.specs.Fault.{DeterminesRefusal}
+use Rattle.wasm_below.specs.Number.{EncodesUnsigned}
+use Rattle.wasm_below.specs.Sequence.{PrefixCode}
+use Rattle.wasm_below.specs.Source.{IsByte, EndFault, EndsWithin, U32Fault, U64Fault}
+use Rattle.wasm_below.specs.TypeEncoding.{EncodesRefType, EncodesValType, RefTypeFault, ValTypeFault}
+use Rattle.wasm_module.specs.Imports.{SomeOf, IsName, NameFault, IsMost, MostFault, IsBounds, BoundsFault, IsLimits, LimitsFault, IsTable, IsGlobal, IsTag, IsEntity, EntityFault, EncodesEntity, EncodesKind, KindFault, EncodesNamed, NamedFault, EncodesImport, ImportFault}
+use Rattle.wasm_module.proofs.Parts.{then_determines, byte_prefix_code, short_determines, end_determines}
+use Rattle.wasm_module.proofs.Sequences.{then_code, some_code, name_code}
+
+module _ (numbers : (width : ℕ) → PrefixCode (EncodesUnsigned width)) (references : PrefixCode EncodesRefType) (values : PrefixCode EncodesValType) where
+  most_code : (flags : ℕ) → PrefixCode (IsMost flags)
+  most_code flags a b x y m n (inl p) (inl q) e = some_code (EncodesUnsigned 64) (numbers 64) a b x y m n p.1 q.1 e
+  most_code flags a b x y m n (inl p) (inr q) e = absurd (q.0 p.0)
+  most_code flags a b x y m n (inr p) (inl q) e = absurd (p.0 q.0)
+  most_code flags a b x y m n (inr p) (inr q) e = (p.1 ∙ sym q.1, refl)
+
+  bounds_code : (flags : ℕ) → PrefixCode (IsBounds flags)
+  bounds_code flags = then_code (EncodesUnsigned 64) (λ least. IsMost flags) (numbers 64) (λ least. most_code flags)
+
+  limits_code : PrefixCode IsLimits
+  limits_code = then_code IsByte IsBounds byte_prefix_code bounds_code
+
+  table_code : PrefixCode IsTable
+  table_code = then_code EncodesRefType (λ ty. IsLimits) references (λ ty. limits_code)
+
+  global_code : PrefixCode IsGlobal
+  global_code = then_code EncodesValType (λ ty. SomeOf IsByte) values (λ ty. some_code IsByte byte_prefix_code)
+
+  tag_code : PrefixCode IsTag
+  tag_code = then_code IsByte (λ attribute. SomeOf (EncodesUnsigned 32)) byte_prefix_code (λ attribute. some_code (EncodesUnsigned 32) (numbers 32))
+
+  is_code : (byte : ℕ) → PrefixCode (IsEntity byte)
+  is_code zero = some_code (EncodesUnsigned 32) (numbers 32)
+  is_code (suc zero) = table_code
+  is_code (suc (suc zero)) = limits_code
+  is_code (suc (suc (suc zero))) = global_code
+  is_code (suc (suc (suc (suc zero)))) = tag_code
+  is_code (suc (suc (suc (suc (suc more))))) = λ a b x y m n p q e. (p ∙ sym q, refl)
+
+  entity_code : (byte : ℕ) → PrefixCode (EncodesEntity byte)
+  entity_code byte a b x y m n p q e = ((is_code byte a b x y tt tt p.1 q.1 e).0, p.0 ∙ sym q.0)
+
+  kind_code : PrefixCode EncodesKind
+  kind_code = then_code IsByte EncodesEntity byte_prefix_code entity_code
+
+  named_code : PrefixCode EncodesNamed
+  named_code = then_code IsName (λ name. EncodesKind) (name_code (numbers 32)) (λ name. kind_code)
+
+  pub import_code : PrefixCode EncodesImport
+  import_code = then_code IsName (λ name. EncodesNamed) (name_code (numbers 32)) (λ name. named_code)
+
+  module _ (small : DeterminesRefusal U32Fault) (large : DeterminesRefusal U64Fault) (reference : DeterminesRefusal RefTypeFault)
+      (value : DeterminesRefusal ValTypeFault) where
+    name_determines : DeterminesRefusal NameFault
+    name_determines = then_determines (EncodesUnsigned 32) U32Fault EndsWithin (numbers 32) small short_determines
+
+    most_determines : (flags : ℕ) → DeterminesRefusal (MostFault flags)
+    most_determines flags m k r a b p q = large m k r a b p.1 q.1
+
+    bounds_determines : (flags : ℕ) → DeterminesRefusal (BoundsFault flags)
+    bounds_determines flags = then_determines (EncodesUnsigned 64) U64Fault (λ least. MostFault flags) (numbers 64) large (λ least. most_determines flags)
+
+    limits_determines : DeterminesRefusal LimitsFault
+    limits_determines = then_determines IsByte EndFault BoundsFault byte_prefix_code end_determines bounds_determines
+
+    entity_determines : (byte : ℕ) → DeterminesRefusal (EntityFault byte)
+    entity_determines zero = small
+    entity_determines (suc zero) = then_determines EncodesRefType RefTypeFault (λ ty. LimitsFault) references reference (λ ty. limits_determines)
+    entity_determines (suc (suc zero)) = limits_determines
+    entity_determines (suc (suc (suc zero))) = then_determines EncodesValType ValTypeFault (λ ty. EndFault) values value (λ ty. end_determines)
+    entity_determines (suc (suc (suc (suc zero)))) = then_determines IsByte EndFault (λ attribute. U32Fault) byte_prefix_code end_determines (λ attribute. small)
+    entity_determines (suc (suc (suc (suc (suc more))))) = λ m k r a b p q. absurd p
+
+    kind_determines : DeterminesRefusal KindFault
+    kind_determines = then_determines IsByte EndFault EntityFault byte_prefix_code end_determines entity_determines
+
+    named_determines : DeterminesRefusal NamedFault
+    named_determines = then_determines IsName NameFault (λ name. KindFault) (name_code (numbers 32)) name_determines (λ name. kind_determines)
+
+    pub import_determines : DeterminesRefusal ImportFault
+    import_determines = then_determines IsName NameFault (λ name. NamedFault) (name_code (numbers 32)) name_determines (λ name. named_determines)
