@@ -17,9 +17,11 @@ from pathlib import Path
 sys.path.insert(0, str(Path(__file__).resolve().parent / "generate"))
 
 from arities import fixed_arity_source, fixed_arity_specs
+from cargo import cargo_files
 from counts import wrong_counts
 from decode import decode_files, unread
 from entries import entry_files
+from header import header_files
 from layout import laid_out
 from original import differences
 from own_visits import own_visit_files
@@ -59,6 +61,8 @@ def files(ops):
     out |= text_files(ops)
     out |= plain_files(ops)
     out |= own_visit_files(ops)
+    out |= header_files(ops)
+    out |= cargo_files(ops)
     return laid_out(by_listed(out))
 
 

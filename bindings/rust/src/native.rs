@@ -1,0 +1,127 @@
+//! The calls of `libwasm_c.a`, as `wasm_operators.h` declares them, made safe.
+
+use crate::types::{BlockType, MemArg, MemArgOrdering, MemArgTarget, Ordering, val_type};
+
+/// The version of the structs and calls.
+const VERSION: u32 = 1;
+
+/// `wasm_operator` of the header.
+#[repr(C)]
+#[derive(Clone, Copy, Debug, Default, PartialEq, Eq)]
+pub struct PlainOperator {
+    pub offset: u64,
+    pub wide: u64,
+    pub opcode: u32,
+    pub first: u32,
+    pub second: u32,
+    pub third: u32,
+    pub kind: u32,
+    pub other_kind: u32,
+    pub shape: u8,
+    pub align: u8,
+    pub max_align: u8,
+    pub lane: u8,
+    pub target: u16,
+    pub ordering: u16,
+    pub bytes: [u8; 16],
+}
+
+/// `wasm_refusal` of the header.
+#[repr(C)]
+#[derive(Clone, Copy, Debug, Default, PartialEq, Eq)]
+pub struct Refusal {
+    pub offset: u64,
+    pub number: u32,
+    pub name: u32,
+    pub value: u32,
+    pub reserved: u32,
+}
+
+unsafe extern "C" {
+    safe fn wasm_operators_version() -> u32;
+    fn wasm_read_body(
+        bytes: *const u8,
+        bytes_length: usize,
+        offset: u64,
+        features: u32,
+        out: *mut PlainOperator,
+        out_length: usize,
+        count: *mut usize,
+        refusal: *mut Refusal,
+    ) -> u32;
+    fn wasm_refusal_text(refusal: *const Refusal, text: *mut u8, text_length: usize) -> usize;
+}
+
+/// All operators of a body, and how reading them ended.
+pub fn read_body(bytes: &[u8], offset: u64, features: u32) -> (Vec<PlainOperator>, Refusal) {
+    assert_eq!(wasm_operators_version(), VERSION, "libwasm_c.a has another version than this crate");
+    // An operator takes a byte or more, so there is room for all.
+    let mut out = vec![PlainOperator::default(); bytes.len()];
+    let mut count = 0;
+    let mut refusal = Refusal::default();
+    // SAFETY: the library is proved to read within `bytes`, to write within `out`, `count` and `refusal`, and to keep
+    // none of them behind the call. The pointers are of live borrows, with their lengths; those of empty slices are
+    // not null. The structs are laid out as the library's (`repr(C)`, and the version is compared), and every pattern
+    // of bits is a value of theirs.
+    unsafe {
+        wasm_read_body(
+            bytes.as_ptr(),
+            bytes.len(),
+            offset,
+            features,
+            out.as_mut_ptr(),
+            out.len(),
+            &mut count,
+            &mut refusal,
+        );
+    }
+    out.truncate(count);
+    (out, refusal)
+}
+
+/// What the library answers where the offset of the end does not fit in 64 bits.
+const PAST_OFFSETS: u32 = 101;
+
+/// The text of a refusal.
+pub fn refusal_text(refusal: &Refusal) -> String {
+    if refusal.number == PAST_OFFSETS {
+        return String::from("offsets do not fit in 64 bits");
+    }
+    let mut text = [0; 128];
+    // SAFETY: as above; the length that is answered may be more than there is room for.
+    let length = unsafe { wasm_refusal_text(refusal, text.as_mut_ptr(), text.len()) };
+    String::from_utf8_lossy(&text[..length.min(text.len())]).into_owned()
+}
+
+impl PlainOperator {
+    /// Its block type.
+    pub(crate) fn block_type(&self) -> BlockType {
+        match self.kind {
+            0x40 => BlockType::Empty,
+            0 => BlockType::FuncType(self.first),
+            kind => BlockType::Value(val_type(kind, self.first)),
+        }
+    }
+
+    /// Its memory argument.
+    pub(crate) fn memory_argument(&self) -> MemArg {
+        MemArg {
+            align: self.align,
+            max_align: self.max_align,
+            offset: self.wide,
+            target: if self.target == 0 { MemArgTarget::Memory(self.first) } else { MemArgTarget::Array(self.first) },
+            ordering: match self.ordering {
+                1 => Some(MemArgOrdering::Op(Ordering::SeqCst)),
+                2 => Some(MemArgOrdering::Op(Ordering::AcqRel)),
+                3 => Some(MemArgOrdering::Rmw(Ordering::SeqCst)),
+                4 => Some(MemArgOrdering::Rmw(Ordering::AcqRel)),
+                _ => None,
+            },
+        }
+    }
+
+    /// Its ordering.
+    pub(crate) fn order(&self) -> Ordering {
+        if self.ordering == 2 { Ordering::AcqRel } else { Ordering::SeqCst }
+    }
+}

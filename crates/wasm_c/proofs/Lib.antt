@@ -1,0 +1,5 @@
+pub mod Parts
+pub mod Behind
+pub mod Found
+pub mod Written
+pub mod Filled

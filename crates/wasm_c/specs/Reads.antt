@@ -1,0 +1,67 @@
+-- What reading a body as plain data promises.
+-- WebAssembly Core Specification 3.0: Binary Format, Modules, Code Section.
+use Rattle.std.specs.Prelude.{◌≡◌, ℕ, ◌+◌, ◌^◌, ◌<◌, List, [], ◌∷◌, length, Result, Ok, Err, ◌⊎◌}
+use Rattle.wasm_operators.specs.below.bytes.error.Error.{Error}
+use Rattle.wasm_operators.specs.below.Source.{Reader, source_of, offset_of, end_of, Takes}
+use Rattle.wasm_operators.specs.Body.{EncodesBody, StopsBody}
+use Rattle.wasm_operators.specs.opcodes.Allowed.{EncodesAllowed}
+use Rattle.wasm_operators.specs.opcodes.OperatorFaults.{OperatorFault}
+use Rattle.wasm_operators.specs.Expression.{Placed, operators, IsAny, LaidOut, EncodesExpression}
+use Rattle.wasm_operators.specs.Headline.{StoodBefore, ReadsBeginning}
+use Rattle.wasm_operators.specs.Locals.{Declaration}
+use Rattle.wasm_operators.specs.Reading.{State, Anywhere}
+use Rattle.wasm_view.specs.View.{views}
+use Rattle.wasm_view.specs.declared.view.WasmOperator.{WasmOperator}
+use Rattle.wasm_c.specs.declared.refusal.WasmRefusal.{WasmRefusal}
+use Rattle.wasm_c.specs.Refused.{refusal_of, no_refusal}
+
+-- The second list with the first in place of its beginning, as far as it has room.
+abbrev pub written : {X : Type 0} → List X → List X → List X
+written items [] = []
+written [] (old ∷ olds) = old ∷ olds
+written (item ∷ items) (old ∷ olds) = item ∷ written items olds
+
+-- The offsets of the bytes, and the one behind them, fit in 64 bits.
+abbrev pub IsWithin : ℕ → List ℕ → Type 0
+IsWithin offset bytes = offset + length bytes < 2 ^ 64
+
+-- How reading a body ended: the bytes encode the body with these operators; or these are the longest beginning of one, and what stands behind them is
+-- refused. Where memory was refused they are a beginning.
+abbrev pub EndsBody : {X : Type 0} → Result X Error → Reader → Placed → Type 0
+EndsBody (Ok x) input placed = (declarations : List Declaration) × EncodesBody (source_of input) declarations placed
+EndsBody (Err e) input placed = StopsBody e input placed
+
+-- The operators of a body that were found: how many, which stand in the array, and how it ended.
+pub record FindsBody {X : Type 0} (result : Result X Error) (input : Reader) (count : ℕ) (old new : List WasmOperator) (placed : Placed) : Type 0 where
+  pub ends : EndsBody result input placed
+  pub counted : count ≡ length placed
+  pub in_array : new ≡ written (views placed) old
+
+-- The same, with the refusal as plain data.
+abbrev pub EndsPlain : WasmRefusal → Reader → Placed → Type 0
+EndsPlain r input placed =
+    ((r ≡ no_refusal (end_of input)) × ((declarations : List Declaration) × EncodesBody (source_of input) declarations placed))
+    ⊎ ((e : Error) × (r ≡ refusal_of e) × StopsBody e input placed)
+
+pub record FindsPlain (r : WasmRefusal) (input : Reader) (count : ℕ) (old new : List WasmOperator) (placed : Placed) : Type 0 where
+  pub ends : EndsPlain r input placed
+  pub counted : count ≡ length placed
+  pub in_array : new ≡ written (views placed) old
+
+-- The operators that were found since the reader was opened are laid out in what was taken of it, and stand before where it is now.
+pub record StandsBehind (opened now : State) (found : Placed) : Type 0 where
+  pub text : List ℕ
+  pub takes : Takes opened.reader now.reader text
+  pub laid : LaidOut opened.reader.features (offset_of opened.reader) found text
+  pub stood : StoodBefore (operators found) now
+
+-- How reading the operators of a new reader ended.
+abbrev pub EndsOperators : {X : Type 0} → Result X Error → State → Placed → Type 0
+EndsOperators (Ok x) opened placed = EncodesExpression (source_of opened.reader) placed
+EndsOperators (Err e) opened placed = (stopped : State) × ReadsBeginning IsAny EncodesAllowed OperatorFault Anywhere [] e opened stopped placed
+
+-- The operators behind a new reader that were found: how many, which stand in the array, and how it ended.
+pub record FindsOperators {X : Type 0} (result : Result X Error) (opened : State) (count : ℕ) (old new : List WasmOperator) (placed : Placed) : Type 0 where
+  pub ends : EndsOperators result opened placed
+  pub counted : count ≡ length placed
+  pub in_array : new ≡ written (views placed) old

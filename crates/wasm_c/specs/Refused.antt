@@ -1,0 +1,96 @@
+-- Refusals as plain data. docs/REFUSALS.md has the table of their numbers.
+use Rattle.std.specs.Prelude.{ℕ, ◌+◌, ◌*◌, if◌then◌else◌, Result, Ok, Err}
+use Rattle.wasm_operators.specs.below.bytes.error.Error.{Error}
+use Rattle.wasm_operators.specs.below.bytes.message.Message.{Message}
+use Rattle.wasm_operators.specs.below.bytes.message.Message.TheVariants as message
+use Rattle.wasm_operators.specs.below.bytes.message.FrameName.{FrameName}
+use Rattle.wasm_operators.specs.below.bytes.message.FrameName.TheVariants as frame_name
+use Rattle.wasm_operators.specs.below.bytes.message.InstructionName.{InstructionName}
+use Rattle.wasm_operators.specs.below.bytes.message.InstructionName.TheVariants as instruction_name
+use Rattle.wasm_operators.specs.below.bytes.message.LeadingByteName.{LeadingByteName}
+use Rattle.wasm_operators.specs.below.bytes.message.LeadingByteName.TheVariants as leading_name
+use Rattle.wasm_operators.specs.below.bytes.message.NumberName.{NumberName}
+use Rattle.wasm_operators.specs.below.bytes.message.NumberName.TheVariants as number_name
+use Rattle.wasm_operators.specs.below.bytes.message.SizeName.{SizeName}
+use Rattle.wasm_operators.specs.below.bytes.message.SizeName.TheVariants as size_name
+use Rattle.wasm_operators.specs.below.bytes.message.TypeName.{TypeName}
+use Rattle.wasm_operators.specs.below.bytes.message.TypeName.TheVariants as type_name
+use Rattle.wasm_operators.specs.below.Refusal.{number_of}
+use Rattle.wasm_c.specs.declared.refusal.WasmRefusal.{WasmRefusal}
+
+-- The names that texts tell, each list counted from 0.
+abbrev pub instruction_number : InstructionName → ℕ
+instruction_number instruction_name.Else = 0
+instruction_number instruction_name.Try = 1
+instruction_number instruction_name.Catch = 2
+instruction_number instruction_name.CatchAll = 3
+instruction_number instruction_name.Delegate = 4
+
+abbrev pub frame_number : FrameName → ℕ
+frame_number frame_name.If = 0
+frame_number frame_name.LegacyTry = 1
+
+abbrev pub number_name_number : NumberName → ℕ
+number_name_number number_name.VarU32 = 0
+number_name_number number_name.VarU64 = 1
+number_name_number number_name.VarI32 = 2
+number_name_number number_name.VarS33 = 3
+number_name_number number_name.VarI64 = 4
+
+abbrev pub size_number : SizeName → ℕ
+size_number size_name.BrTable = 0
+size_number size_name.SelectTypes = 1
+size_number size_name.Catches = 2
+size_number size_name.ResumeTable = 3
+
+abbrev pub leading_number : LeadingByteName → ℕ
+leading_number leading_name.Catch = 0
+leading_number leading_name.OnClause = 1
+
+abbrev pub type_number : TypeName → ℕ
+type_number type_name.ValueType = 0
+type_number type_name.ReferenceType = 1
+type_number type_name.HeapType = 2
+
+-- Which name a text tells. Of numbers, too large is told from too long by 16; of a frame, 16 times its number is added.
+abbrev pub told_name : Message → ℕ
+told_name (message.FeatureRequired name) = instruction_number name
+told_name (message.IntegerTooLong name) = number_name_number name
+told_name (message.IntegerTooLarge name) = number_name_number name + 16
+told_name (message.SizeOutOfBounds name) = size_number name
+told_name (message.WrongFrame name frame) = instruction_number name + 16 * frame_number frame
+told_name (message.UnknownSubopcode prefix code) = prefix
+told_name (message.InvalidOrdering byte hex) = if hex then 1 else 0
+told_name (message.InvalidLeadingByte byte name) = leading_number name
+told_name (message.InvalidType name) = type_number name
+told_name _ = 0
+
+-- Which byte, code or flags it tells.
+abbrev pub told_value : Message → ℕ
+told_value (message.IllegalOpcode code) = code
+told_value (message.UnknownSubopcode prefix code) = code
+told_value (message.InvalidOrdering byte hex) = byte
+told_value (message.InvalidCastFlags flags) = flags
+told_value (message.InvalidLeadingByte byte name) = byte
+told_value _ = 0
+
+-- A refusal of these numbers.
+abbrev pub told : ℕ → ℕ → ℕ → ℕ → WasmRefusal
+told offset number name value = record { offset = offset; number = number; name = name; value = value; reserved = 0 }
+
+-- A refusal as plain data.
+abbrev pub refusal_of : Error → WasmRefusal
+refusal_of e = told e.offset (number_of e.message) (told_name e.message) (told_value e.message)
+
+-- None, of bytes that end at this offset.
+abbrev pub no_refusal : ℕ → WasmRefusal
+no_refusal end = told end 0 0 0
+
+-- What no reading answers, at the offset of the first byte.
+abbrev pub misuse : ℕ → ℕ → WasmRefusal
+misuse number offset = told offset number 0 0
+
+-- How reading ended, of bytes that end at this offset.
+abbrev pub refusal_at : {X : Type 0} → Result X Error → ℕ → WasmRefusal
+refusal_at (Ok x) end = no_refusal end
+refusal_at (Err e) end = refusal_of e

@@ -1,0 +1,101 @@
+//! A whole body, as plain data into an array.
+ghost use Rattle.std.specs.Prelude.{◌≡◌, ◌≤◌, [], ◌++◌, length, take, drop};
+ghost use Rattle.wasm_operators.specs.below.Source.{reader_of};
+ghost use Rattle.wasm_operators.specs.Expression.{Placed};
+ghost use Rattle.wasm_operators.specs.Headline.{StoodBefore};
+ghost use Rattle.wasm_view.specs.View.{views};
+ghost use Rattle.wasm_c.specs.Reads.{written, IsWithin, FindsBody, FindsOperators, StandsBehind};
+
+use std::alloc::Global;
+use wasm_operators::{
+    BinaryReader, FunctionBody, Operator, OperatorsReader, Result, WasmFeatures, expression_laws,
+    run_laws,
+};
+use wasm_view::{WasmOperator, view_of};
+
+/// How many operators were found, and how reading them ended.
+#[derive(Debug, Drop)]
+pub struct Found {
+    pub count: usize,
+    pub end: Result<()>,
+}
+
+/// Reads operators into the array while it has room, up to the end of the data or a refusal, and
+/// answers how many.
+fn fill(operators: &mut OperatorsReader<'_>, out: &mut [WasmOperator]) -> usize
+    requires { StoodBefore [] operators.old }
+    ensures { (found : Placed) × StandsBehind operators.old operators.new found × (result ≡ length found)
+        × (length found ≤ length out.old) × (out.new ≡ views found ++ drop (length found) out.old) }
+{
+    run_laws::one_operator();
+    let mut count: usize = 0;
+    'places: while count < out.len() && !operators.eof() {
+        let offset = operators.original_position();
+        match operators.read() {
+            Ok(operator) => {
+                out[count] = view_of(&operator, offset);
+                count += 1;
+            }
+            Err(_) => return count,
+        }
+    }
+    count
+}
+
+/// Places operators from this index on, as many as there is room for.
+fn place(more: &[(Operator<'_>, u64)], at: usize, out: &mut [WasmOperator])
+    requires { at ≤ length out.old }
+    ensures { out.new ≡ take at out.old ++ written (views more.now) (drop at out.old) }
+{
+    let room = (out.len() - at).min(more.len());
+    'more: for index in 0..room {
+        let (operator, offset) = &more[index];
+        out[at + index] = view_of(operator, *offset);
+    }
+}
+
+/// Reads the operators of a new reader to the end of the data or a refusal. As many of them as the
+/// array has room for are placed there.
+///
+/// Those that have no room are read into memory, and counted: so the count is that of the whole
+/// expression whatever the room.
+fn read_operators(
+    alloc: Global,
+    features: WasmFeatures,
+    operators: &mut OperatorsReader<'_>,
+    out: &mut [WasmOperator],
+) -> Found
+    requires stood { StoodBefore [] operators.old }
+    requires features { operators.old.reader.features ≡ features }
+    ensures { (placed : Placed) × FindsOperators result.end operators.old result.count out.old out.new placed }
+{
+    expression_laws::one_layout(features);
+    let placed = fill(operators, out);
+    let mut rest = Vec::new(alloc);
+    let end = operators.read_all(&mut rest);
+    place(rest.as_slice(), placed, out);
+    let count = placed + rest.len();
+    Found { count, end }
+}
+
+/// Reads the operators of a body, with an array for their plain data. They are those of the one body
+/// that the bytes encode, or the longest beginning of one and the refusal of what stands behind it.
+pub fn read_body(
+    alloc: Global,
+    features: WasmFeatures,
+    offset: u64,
+    bytes: &[u8],
+    out: &mut [WasmOperator],
+) -> Found
+    requires { IsWithin offset bytes.now }
+    ensures { (placed : Placed) × FindsBody result.end (reader_of features offset bytes.now) result.count out.old out.new placed }
+{
+    let body = FunctionBody::new(BinaryReader::new_features(bytes, offset, features));
+    match body.get_operators_reader(alloc) {
+        Ok(mut operators) => read_operators(alloc, features, &mut operators, out),
+        Err(error) => Found {
+            count: 0,
+            end: Err(error),
+        },
+    }
+}

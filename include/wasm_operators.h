@@ -1,0 +1,2116 @@
+/* The operators of WebAssembly function bodies, by a decoder that is proved: libwasm_c.a.
+ *
+ * Written by tools/lists.py from tools/operators.tsv.
+ * C99 and C++. docs/CALLERS.md has a first program. All memory is the caller's, and no pointer may be
+ * null, also where the length behind it is 0. Calls may run on several threads at once, each on memory
+ * of its own. */
+#ifndef WASM_OPERATORS_H
+#define WASM_OPERATORS_H
+
+#include <stddef.h>
+#include <stdint.h>
+
+#ifdef __cplusplus
+extern "C" {
+#endif
+
+/* The version of the structs and calls. wasm_operators_version() answers that of the library. */
+#define WASM_OPERATORS_VERSION 1u
+
+/* The features, of which any may be joined. */
+enum wasm_feature {
+  WASM_FEATURE_MULTI_MEMORY = 1,
+  WASM_FEATURE_MEMORY64 = 2,
+  WASM_FEATURE_CALL_INDIRECT_OVERLONG = 4,
+  WASM_FEATURE_LEGACY_EXCEPTIONS = 8,
+  WASM_FEATURE_ACQUIRE_RELEASE_ATOMICS = 16,
+  WASM_FEATURE_MULTIBYTE_ARRAY_ACCESS = 32,
+  WASM_FEATURES_ALL = 63
+};
+
+/* Which fields of an operator have a meaning. */
+enum wasm_shape {
+  WASM_SHAPE_NONE = 0, /* no immediates */
+  WASM_SHAPE_INDEX = 1, /* first */
+  WASM_SHAPE_TWO_INDICES = 2, /* first, second */
+  WASM_SHAPE_MEMORY = 3, /* wide, align, max_align, target, first, ordering */
+  WASM_SHAPE_MEMORY_LANE = 4, /* those, and lane */
+  WASM_SHAPE_LANE = 5, /* lane */
+  WASM_SHAPE_I32 = 6, /* wide */
+  WASM_SHAPE_I64 = 7, /* wide */
+  WASM_SHAPE_F32 = 8, /* wide */
+  WASM_SHAPE_F64 = 9, /* wide */
+  WASM_SHAPE_V128 = 10, /* bytes */
+  WASM_SHAPE_LANES = 11, /* bytes */
+  WASM_SHAPE_ORDERED = 12, /* ordering, first */
+  WASM_SHAPE_ORDERED_TWO = 13, /* ordering, first, second */
+  WASM_SHAPE_FENCE = 14, /* ordering */
+  WASM_SHAPE_HEAP_TYPE = 15, /* kind, first */
+  WASM_SHAPE_CAST = 16, /* first, and the types kind, second and other_kind, third */
+  WASM_SHAPE_BLOCK = 17, /* kind, first */
+  WASM_SHAPE_BRANCH_TABLE = 18, /* first targets, and second, the default one */
+  WASM_SHAPE_SELECT_ONE = 19, /* kind, first */
+  WASM_SHAPE_SELECT_MANY = 20, /* first types */
+  WASM_SHAPE_TRY_TABLE = 21, /* kind, first, and second catches */
+  WASM_SHAPE_RESUME = 22, /* first, and second clauses */
+  WASM_SHAPE_RESUME_THROW = 23 /* first, second, and third clauses */
+};
+
+/* Types. To the kind of an abstract heap type WASM_KIND_SHARED may be added, to that of any heap type WASM_KIND_NULLABLE
+ * where null is in it, and to that of a reference type as a value type WASM_KIND_REFERENCE. */
+enum wasm_kind {
+  WASM_KIND_FUNC_TYPE = 0, /* of a block: the function type of the index */
+  WASM_KIND_CONCRETE = 1,  /* the type of the index, or one below it */
+  WASM_KIND_EXACT = 2,     /* the type of the index alone */
+  WASM_KIND_EMPTY = 0x40,  /* of a block: no result */
+  WASM_KIND_CONT = 0x68,
+  WASM_KIND_EXN = 0x69,
+  WASM_KIND_ARRAY = 0x6a,
+  WASM_KIND_STRUCT = 0x6b,
+  WASM_KIND_I31 = 0x6c,
+  WASM_KIND_EQ = 0x6d,
+  WASM_KIND_ANY = 0x6e,
+  WASM_KIND_EXTERN = 0x6f,
+  WASM_KIND_FUNC = 0x70,
+  WASM_KIND_NONE = 0x71,
+  WASM_KIND_NOEXTERN = 0x72,
+  WASM_KIND_NOFUNC = 0x73,
+  WASM_KIND_NOEXN = 0x74,
+  WASM_KIND_NOCONT = 0x75,
+  WASM_KIND_V128 = 0x7b,
+  WASM_KIND_F64 = 0x7c,
+  WASM_KIND_F32 = 0x7d,
+  WASM_KIND_I64 = 0x7e,
+  WASM_KIND_I32 = 0x7f,
+  WASM_KIND_SHARED = 256,
+  WASM_KIND_NULLABLE = 512,
+  WASM_KIND_REFERENCE = 1024
+};
+
+/* The refusals. docs/REFUSALS.md tells their texts and offsets. */
+enum wasm_refused {
+  WASM_REFUSED_END_OF_DATA = 1,
+  WASM_REFUSED_FEATURE_REQUIRED = 2,
+  WASM_REFUSED_OUT_OF_MEMORY = 3,
+  WASM_REFUSED_INTEGER = 4,
+  WASM_REFUSED_SIZE_OUT_OF_BOUNDS = 5,
+  WASM_REFUSED_INVALID_FUNCTION_TYPE = 6,
+  WASM_REFUSED_WRONG_FRAME = 7,
+  WASM_REFUSED_OPERATORS_REMAINING = 8,
+  WASM_REFUSED_FRAMES_REMAIN = 9,
+  WASM_REFUSED_FRAMES_REMAIN_CONST = 10,
+  WASM_REFUSED_UNEXPECTED_DATA = 11,
+  WASM_REFUSED_ILLEGAL_OPCODE = 12,
+  WASM_REFUSED_UNKNOWN_SUBOPCODE = 13,
+  WASM_REFUSED_UNEXPECTED_SIMD = 14,
+  WASM_REFUSED_ZERO_BYTE_EXPECTED = 15,
+  WASM_REFUSED_NONZERO_AFTER_FENCE = 16,
+  WASM_REFUSED_MEMORY_AND_ARRAY = 17,
+  WASM_REFUSED_ORDERING_ON_PLAIN = 18,
+  WASM_REFUSED_INVALID_ORDERING = 19,
+  WASM_REFUSED_RESERVED_FLAGS = 20,
+  WASM_REFUSED_INVALID_CAST_FLAGS = 21,
+  WASM_REFUSED_INVALID_LEADING_BYTE = 22,
+  WASM_REFUSED_TOO_MANY_LOCALS = 23,
+  WASM_REFUSED_INVALID_TYPE = 24,
+  WASM_REFUSED_DATA_AFTER_SECTION = 25,
+  WASM_REFUSED_UNKNOWN_FEATURES = 100,
+  WASM_REFUSED_PAST_OFFSETS = 101
+};
+
+/* The operators: the opcode; behind a prefix byte the subopcode, and 65536 times that byte. A select with
+ * no types or several has the opcode of WASM_OP_TypedSelect, and another shape. */
+enum wasm_opcode {
+  WASM_OP_Unreachable = 0x0,
+  WASM_OP_Nop = 0x1,
+  WASM_OP_Block = 0x2,
+  WASM_OP_Loop = 0x3,
+  WASM_OP_If = 0x4,
+  WASM_OP_Else = 0x5,
+  WASM_OP_End = 0xb,
+  WASM_OP_Br = 0xc,
+  WASM_OP_BrIf = 0xd,
+  WASM_OP_BrTable = 0xe,
+  WASM_OP_Return = 0xf,
+  WASM_OP_Call = 0x10,
+  WASM_OP_CallIndirect = 0x11,
+  WASM_OP_Drop = 0x1a,
+  WASM_OP_Select = 0x1b,
+  WASM_OP_LocalGet = 0x20,
+  WASM_OP_LocalSet = 0x21,
+  WASM_OP_LocalTee = 0x22,
+  WASM_OP_GlobalGet = 0x23,
+  WASM_OP_GlobalSet = 0x24,
+  WASM_OP_I32Load = 0x28,
+  WASM_OP_I64Load = 0x29,
+  WASM_OP_F32Load = 0x2a,
+  WASM_OP_F64Load = 0x2b,
+  WASM_OP_I32Load8S = 0x2c,
+  WASM_OP_I32Load8U = 0x2d,
+  WASM_OP_I32Load16S = 0x2e,
+  WASM_OP_I32Load16U = 0x2f,
+  WASM_OP_I64Load8S = 0x30,
+  WASM_OP_I64Load8U = 0x31,
+  WASM_OP_I64Load16S = 0x32,
+  WASM_OP_I64Load16U = 0x33,
+  WASM_OP_I64Load32S = 0x34,
+  WASM_OP_I64Load32U = 0x35,
+  WASM_OP_I32Store = 0x36,
+  WASM_OP_I64Store = 0x37,
+  WASM_OP_F32Store = 0x38,
+  WASM_OP_F64Store = 0x39,
+  WASM_OP_I32Store8 = 0x3a,
+  WASM_OP_I32Store16 = 0x3b,
+  WASM_OP_I64Store8 = 0x3c,
+  WASM_OP_I64Store16 = 0x3d,
+  WASM_OP_I64Store32 = 0x3e,
+  WASM_OP_MemorySize = 0x3f,
+  WASM_OP_MemoryGrow = 0x40,
+  WASM_OP_I32Const = 0x41,
+  WASM_OP_I64Const = 0x42,
+  WASM_OP_F32Const = 0x43,
+  WASM_OP_F64Const = 0x44,
+  WASM_OP_I32Eqz = 0x45,
+  WASM_OP_I32Eq = 0x46,
+  WASM_OP_I32Ne = 0x47,
+  WASM_OP_I32LtS = 0x48,
+  WASM_OP_I32LtU = 0x49,
+  WASM_OP_I32GtS = 0x4a,
+  WASM_OP_I32GtU = 0x4b,
+  WASM_OP_I32LeS = 0x4c,
+  WASM_OP_I32LeU = 0x4d,
+  WASM_OP_I32GeS = 0x4e,
+  WASM_OP_I32GeU = 0x4f,
+  WASM_OP_I64Eqz = 0x50,
+  WASM_OP_I64Eq = 0x51,
+  WASM_OP_I64Ne = 0x52,
+  WASM_OP_I64LtS = 0x53,
+  WASM_OP_I64LtU = 0x54,
+  WASM_OP_I64GtS = 0x55,
+  WASM_OP_I64GtU = 0x56,
+  WASM_OP_I64LeS = 0x57,
+  WASM_OP_I64LeU = 0x58,
+  WASM_OP_I64GeS = 0x59,
+  WASM_OP_I64GeU = 0x5a,
+  WASM_OP_F32Eq = 0x5b,
+  WASM_OP_F32Ne = 0x5c,
+  WASM_OP_F32Lt = 0x5d,
+  WASM_OP_F32Gt = 0x5e,
+  WASM_OP_F32Le = 0x5f,
+  WASM_OP_F32Ge = 0x60,
+  WASM_OP_F64Eq = 0x61,
+  WASM_OP_F64Ne = 0x62,
+  WASM_OP_F64Lt = 0x63,
+  WASM_OP_F64Gt = 0x64,
+  WASM_OP_F64Le = 0x65,
+  WASM_OP_F64Ge = 0x66,
+  WASM_OP_I32Clz = 0x67,
+  WASM_OP_I32Ctz = 0x68,
+  WASM_OP_I32Popcnt = 0x69,
+  WASM_OP_I32Add = 0x6a,
+  WASM_OP_I32Sub = 0x6b,
+  WASM_OP_I32Mul = 0x6c,
+  WASM_OP_I32DivS = 0x6d,
+  WASM_OP_I32DivU = 0x6e,
+  WASM_OP_I32RemS = 0x6f,
+  WASM_OP_I32RemU = 0x70,
+  WASM_OP_I32And = 0x71,
+  WASM_OP_I32Or = 0x72,
+  WASM_OP_I32Xor = 0x73,
+  WASM_OP_I32Shl = 0x74,
+  WASM_OP_I32ShrS = 0x75,
+  WASM_OP_I32ShrU = 0x76,
+  WASM_OP_I32Rotl = 0x77,
+  WASM_OP_I32Rotr = 0x78,
+  WASM_OP_I64Clz = 0x79,
+  WASM_OP_I64Ctz = 0x7a,
+  WASM_OP_I64Popcnt = 0x7b,
+  WASM_OP_I64Add = 0x7c,
+  WASM_OP_I64Sub = 0x7d,
+  WASM_OP_I64Mul = 0x7e,
+  WASM_OP_I64DivS = 0x7f,
+  WASM_OP_I64DivU = 0x80,
+  WASM_OP_I64RemS = 0x81,
+  WASM_OP_I64RemU = 0x82,
+  WASM_OP_I64And = 0x83,
+  WASM_OP_I64Or = 0x84,
+  WASM_OP_I64Xor = 0x85,
+  WASM_OP_I64Shl = 0x86,
+  WASM_OP_I64ShrS = 0x87,
+  WASM_OP_I64ShrU = 0x88,
+  WASM_OP_I64Rotl = 0x89,
+  WASM_OP_I64Rotr = 0x8a,
+  WASM_OP_F32Abs = 0x8b,
+  WASM_OP_F32Neg = 0x8c,
+  WASM_OP_F32Ceil = 0x8d,
+  WASM_OP_F32Floor = 0x8e,
+  WASM_OP_F32Trunc = 0x8f,
+  WASM_OP_F32Nearest = 0x90,
+  WASM_OP_F32Sqrt = 0x91,
+  WASM_OP_F32Add = 0x92,
+  WASM_OP_F32Sub = 0x93,
+  WASM_OP_F32Mul = 0x94,
+  WASM_OP_F32Div = 0x95,
+  WASM_OP_F32Min = 0x96,
+  WASM_OP_F32Max = 0x97,
+  WASM_OP_F32Copysign = 0x98,
+  WASM_OP_F64Abs = 0x99,
+  WASM_OP_F64Neg = 0x9a,
+  WASM_OP_F64Ceil = 0x9b,
+  WASM_OP_F64Floor = 0x9c,
+  WASM_OP_F64Trunc = 0x9d,
+  WASM_OP_F64Nearest = 0x9e,
+  WASM_OP_F64Sqrt = 0x9f,
+  WASM_OP_F64Add = 0xa0,
+  WASM_OP_F64Sub = 0xa1,
+  WASM_OP_F64Mul = 0xa2,
+  WASM_OP_F64Div = 0xa3,
+  WASM_OP_F64Min = 0xa4,
+  WASM_OP_F64Max = 0xa5,
+  WASM_OP_F64Copysign = 0xa6,
+  WASM_OP_I32WrapI64 = 0xa7,
+  WASM_OP_I32TruncF32S = 0xa8,
+  WASM_OP_I32TruncF32U = 0xa9,
+  WASM_OP_I32TruncF64S = 0xaa,
+  WASM_OP_I32TruncF64U = 0xab,
+  WASM_OP_I64ExtendI32S = 0xac,
+  WASM_OP_I64ExtendI32U = 0xad,
+  WASM_OP_I64TruncF32S = 0xae,
+  WASM_OP_I64TruncF32U = 0xaf,
+  WASM_OP_I64TruncF64S = 0xb0,
+  WASM_OP_I64TruncF64U = 0xb1,
+  WASM_OP_F32ConvertI32S = 0xb2,
+  WASM_OP_F32ConvertI32U = 0xb3,
+  WASM_OP_F32ConvertI64S = 0xb4,
+  WASM_OP_F32ConvertI64U = 0xb5,
+  WASM_OP_F32DemoteF64 = 0xb6,
+  WASM_OP_F64ConvertI32S = 0xb7,
+  WASM_OP_F64ConvertI32U = 0xb8,
+  WASM_OP_F64ConvertI64S = 0xb9,
+  WASM_OP_F64ConvertI64U = 0xba,
+  WASM_OP_F64PromoteF32 = 0xbb,
+  WASM_OP_I32ReinterpretF32 = 0xbc,
+  WASM_OP_I64ReinterpretF64 = 0xbd,
+  WASM_OP_F32ReinterpretI32 = 0xbe,
+  WASM_OP_F64ReinterpretI64 = 0xbf,
+  WASM_OP_I32Extend8S = 0xc0,
+  WASM_OP_I32Extend16S = 0xc1,
+  WASM_OP_I64Extend8S = 0xc2,
+  WASM_OP_I64Extend16S = 0xc3,
+  WASM_OP_I64Extend32S = 0xc4,
+  WASM_OP_RefEq = 0xd3,
+  WASM_OP_StructNew = 0xfb0000,
+  WASM_OP_StructNewDefault = 0xfb0001,
+  WASM_OP_StructGet = 0xfb0002,
+  WASM_OP_StructGetS = 0xfb0003,
+  WASM_OP_StructGetU = 0xfb0004,
+  WASM_OP_StructSet = 0xfb0005,
+  WASM_OP_ArrayNew = 0xfb0006,
+  WASM_OP_ArrayNewDefault = 0xfb0007,
+  WASM_OP_ArrayNewFixed = 0xfb0008,
+  WASM_OP_ArrayNewData = 0xfb0009,
+  WASM_OP_ArrayNewElem = 0xfb000a,
+  WASM_OP_ArrayGet = 0xfb000b,
+  WASM_OP_ArrayGetS = 0xfb000c,
+  WASM_OP_ArrayGetU = 0xfb000d,
+  WASM_OP_ArraySet = 0xfb000e,
+  WASM_OP_ArrayLen = 0xfb000f,
+  WASM_OP_ArrayFill = 0xfb0010,
+  WASM_OP_ArrayCopy = 0xfb0011,
+  WASM_OP_ArrayInitData = 0xfb0012,
+  WASM_OP_ArrayInitElem = 0xfb0013,
+  WASM_OP_RefTestNonNull = 0xfb0014,
+  WASM_OP_RefTestNullable = 0xfb0015,
+  WASM_OP_RefCastNonNull = 0xfb0016,
+  WASM_OP_RefCastNullable = 0xfb0017,
+  WASM_OP_BrOnCast = 0xfb0018,
+  WASM_OP_BrOnCastFail = 0xfb0019,
+  WASM_OP_AnyConvertExtern = 0xfb001a,
+  WASM_OP_ExternConvertAny = 0xfb001b,
+  WASM_OP_RefI31 = 0xfb001c,
+  WASM_OP_I31GetS = 0xfb001d,
+  WASM_OP_I31GetU = 0xfb001e,
+  WASM_OP_StructNewDesc = 0xfb0020,
+  WASM_OP_StructNewDefaultDesc = 0xfb0021,
+  WASM_OP_RefGetDesc = 0xfb0022,
+  WASM_OP_RefCastDescEqNonNull = 0xfb0023,
+  WASM_OP_RefCastDescEqNullable = 0xfb0024,
+  WASM_OP_BrOnCastDescEq = 0xfb0025,
+  WASM_OP_BrOnCastDescEqFail = 0xfb0026,
+  WASM_OP_I32TruncSatF32S = 0xfc0000,
+  WASM_OP_I32TruncSatF32U = 0xfc0001,
+  WASM_OP_I32TruncSatF64S = 0xfc0002,
+  WASM_OP_I32TruncSatF64U = 0xfc0003,
+  WASM_OP_I64TruncSatF32S = 0xfc0004,
+  WASM_OP_I64TruncSatF32U = 0xfc0005,
+  WASM_OP_I64TruncSatF64S = 0xfc0006,
+  WASM_OP_I64TruncSatF64U = 0xfc0007,
+  WASM_OP_MemoryInit = 0xfc0008,
+  WASM_OP_DataDrop = 0xfc0009,
+  WASM_OP_MemoryCopy = 0xfc000a,
+  WASM_OP_MemoryFill = 0xfc000b,
+  WASM_OP_TableInit = 0xfc000c,
+  WASM_OP_ElemDrop = 0xfc000d,
+  WASM_OP_TableCopy = 0xfc000e,
+  WASM_OP_TypedSelect = 0x1c,
+  WASM_OP_RefNull = 0xd0,
+  WASM_OP_RefIsNull = 0xd1,
+  WASM_OP_RefFunc = 0xd2,
+  WASM_OP_TableFill = 0xfc0011,
+  WASM_OP_TableGet = 0x25,
+  WASM_OP_TableSet = 0x26,
+  WASM_OP_TableGrow = 0xfc000f,
+  WASM_OP_TableSize = 0xfc0010,
+  WASM_OP_ReturnCall = 0x12,
+  WASM_OP_ReturnCallIndirect = 0x13,
+  WASM_OP_MemoryDiscard = 0xfc0012,
+  WASM_OP_MemoryAtomicNotify = 0xfe0000,
+  WASM_OP_MemoryAtomicWait32 = 0xfe0001,
+  WASM_OP_MemoryAtomicWait64 = 0xfe0002,
+  WASM_OP_AtomicFence = 0xfe0003,
+  WASM_OP_I32AtomicLoad = 0xfe0010,
+  WASM_OP_I64AtomicLoad = 0xfe0011,
+  WASM_OP_I32AtomicLoad8U = 0xfe0012,
+  WASM_OP_I32AtomicLoad16U = 0xfe0013,
+  WASM_OP_I64AtomicLoad8U = 0xfe0014,
+  WASM_OP_I64AtomicLoad16U = 0xfe0015,
+  WASM_OP_I64AtomicLoad32U = 0xfe0016,
+  WASM_OP_I32AtomicStore = 0xfe0017,
+  WASM_OP_I64AtomicStore = 0xfe0018,
+  WASM_OP_I32AtomicStore8 = 0xfe0019,
+  WASM_OP_I32AtomicStore16 = 0xfe001a,
+  WASM_OP_I64AtomicStore8 = 0xfe001b,
+  WASM_OP_I64AtomicStore16 = 0xfe001c,
+  WASM_OP_I64AtomicStore32 = 0xfe001d,
+  WASM_OP_I32AtomicRmwAdd = 0xfe001e,
+  WASM_OP_I64AtomicRmwAdd = 0xfe001f,
+  WASM_OP_I32AtomicRmw8AddU = 0xfe0020,
+  WASM_OP_I32AtomicRmw16AddU = 0xfe0021,
+  WASM_OP_I64AtomicRmw8AddU = 0xfe0022,
+  WASM_OP_I64AtomicRmw16AddU = 0xfe0023,
+  WASM_OP_I64AtomicRmw32AddU = 0xfe0024,
+  WASM_OP_I32AtomicRmwSub = 0xfe0025,
+  WASM_OP_I64AtomicRmwSub = 0xfe0026,
+  WASM_OP_I32AtomicRmw8SubU = 0xfe0027,
+  WASM_OP_I32AtomicRmw16SubU = 0xfe0028,
+  WASM_OP_I64AtomicRmw8SubU = 0xfe0029,
+  WASM_OP_I64AtomicRmw16SubU = 0xfe002a,
+  WASM_OP_I64AtomicRmw32SubU = 0xfe002b,
+  WASM_OP_I32AtomicRmwAnd = 0xfe002c,
+  WASM_OP_I64AtomicRmwAnd = 0xfe002d,
+  WASM_OP_I32AtomicRmw8AndU = 0xfe002e,
+  WASM_OP_I32AtomicRmw16AndU = 0xfe002f,
+  WASM_OP_I64AtomicRmw8AndU = 0xfe0030,
+  WASM_OP_I64AtomicRmw16AndU = 0xfe0031,
+  WASM_OP_I64AtomicRmw32AndU = 0xfe0032,
+  WASM_OP_I32AtomicRmwOr = 0xfe0033,
+  WASM_OP_I64AtomicRmwOr = 0xfe0034,
+  WASM_OP_I32AtomicRmw8OrU = 0xfe0035,
+  WASM_OP_I32AtomicRmw16OrU = 0xfe0036,
+  WASM_OP_I64AtomicRmw8OrU = 0xfe0037,
+  WASM_OP_I64AtomicRmw16OrU = 0xfe0038,
+  WASM_OP_I64AtomicRmw32OrU = 0xfe0039,
+  WASM_OP_I32AtomicRmwXor = 0xfe003a,
+  WASM_OP_I64AtomicRmwXor = 0xfe003b,
+  WASM_OP_I32AtomicRmw8XorU = 0xfe003c,
+  WASM_OP_I32AtomicRmw16XorU = 0xfe003d,
+  WASM_OP_I64AtomicRmw8XorU = 0xfe003e,
+  WASM_OP_I64AtomicRmw16XorU = 0xfe003f,
+  WASM_OP_I64AtomicRmw32XorU = 0xfe0040,
+  WASM_OP_I32AtomicRmwXchg = 0xfe0041,
+  WASM_OP_I64AtomicRmwXchg = 0xfe0042,
+  WASM_OP_I32AtomicRmw8XchgU = 0xfe0043,
+  WASM_OP_I32AtomicRmw16XchgU = 0xfe0044,
+  WASM_OP_I64AtomicRmw8XchgU = 0xfe0045,
+  WASM_OP_I64AtomicRmw16XchgU = 0xfe0046,
+  WASM_OP_I64AtomicRmw32XchgU = 0xfe0047,
+  WASM_OP_I32AtomicRmwCmpxchg = 0xfe0048,
+  WASM_OP_I64AtomicRmwCmpxchg = 0xfe0049,
+  WASM_OP_I32AtomicRmw8CmpxchgU = 0xfe004a,
+  WASM_OP_I32AtomicRmw16CmpxchgU = 0xfe004b,
+  WASM_OP_I64AtomicRmw8CmpxchgU = 0xfe004c,
+  WASM_OP_I64AtomicRmw16CmpxchgU = 0xfe004d,
+  WASM_OP_I64AtomicRmw32CmpxchgU = 0xfe004e,
+  WASM_OP_V128Load = 0xfd0000,
+  WASM_OP_V128Load8x8S = 0xfd0001,
+  WASM_OP_V128Load8x8U = 0xfd0002,
+  WASM_OP_V128Load16x4S = 0xfd0003,
+  WASM_OP_V128Load16x4U = 0xfd0004,
+  WASM_OP_V128Load32x2S = 0xfd0005,
+  WASM_OP_V128Load32x2U = 0xfd0006,
+  WASM_OP_V128Load8Splat = 0xfd0007,
+  WASM_OP_V128Load16Splat = 0xfd0008,
+  WASM_OP_V128Load32Splat = 0xfd0009,
+  WASM_OP_V128Load64Splat = 0xfd000a,
+  WASM_OP_V128Load32Zero = 0xfd005c,
+  WASM_OP_V128Load64Zero = 0xfd005d,
+  WASM_OP_V128Store = 0xfd000b,
+  WASM_OP_V128Load8Lane = 0xfd0054,
+  WASM_OP_V128Load16Lane = 0xfd0055,
+  WASM_OP_V128Load32Lane = 0xfd0056,
+  WASM_OP_V128Load64Lane = 0xfd0057,
+  WASM_OP_V128Store8Lane = 0xfd0058,
+  WASM_OP_V128Store16Lane = 0xfd0059,
+  WASM_OP_V128Store32Lane = 0xfd005a,
+  WASM_OP_V128Store64Lane = 0xfd005b,
+  WASM_OP_V128Const = 0xfd000c,
+  WASM_OP_I8x16Shuffle = 0xfd000d,
+  WASM_OP_I8x16ExtractLaneS = 0xfd0015,
+  WASM_OP_I8x16ExtractLaneU = 0xfd0016,
+  WASM_OP_I8x16ReplaceLane = 0xfd0017,
+  WASM_OP_I16x8ExtractLaneS = 0xfd0018,
+  WASM_OP_I16x8ExtractLaneU = 0xfd0019,
+  WASM_OP_I16x8ReplaceLane = 0xfd001a,
+  WASM_OP_I32x4ExtractLane = 0xfd001b,
+  WASM_OP_I32x4ReplaceLane = 0xfd001c,
+  WASM_OP_I64x2ExtractLane = 0xfd001d,
+  WASM_OP_I64x2ReplaceLane = 0xfd001e,
+  WASM_OP_F32x4ExtractLane = 0xfd001f,
+  WASM_OP_F32x4ReplaceLane = 0xfd0020,
+  WASM_OP_F64x2ExtractLane = 0xfd0021,
+  WASM_OP_F64x2ReplaceLane = 0xfd0022,
+  WASM_OP_I8x16Swizzle = 0xfd000e,
+  WASM_OP_I8x16Splat = 0xfd000f,
+  WASM_OP_I16x8Splat = 0xfd0010,
+  WASM_OP_I32x4Splat = 0xfd0011,
+  WASM_OP_I64x2Splat = 0xfd0012,
+  WASM_OP_F32x4Splat = 0xfd0013,
+  WASM_OP_F64x2Splat = 0xfd0014,
+  WASM_OP_I8x16Eq = 0xfd0023,
+  WASM_OP_I8x16Ne = 0xfd0024,
+  WASM_OP_I8x16LtS = 0xfd0025,
+  WASM_OP_I8x16LtU = 0xfd0026,
+  WASM_OP_I8x16GtS = 0xfd0027,
+  WASM_OP_I8x16GtU = 0xfd0028,
+  WASM_OP_I8x16LeS = 0xfd0029,
+  WASM_OP_I8x16LeU = 0xfd002a,
+  WASM_OP_I8x16GeS = 0xfd002b,
+  WASM_OP_I8x16GeU = 0xfd002c,
+  WASM_OP_I16x8Eq = 0xfd002d,
+  WASM_OP_I16x8Ne = 0xfd002e,
+  WASM_OP_I16x8LtS = 0xfd002f,
+  WASM_OP_I16x8LtU = 0xfd0030,
+  WASM_OP_I16x8GtS = 0xfd0031,
+  WASM_OP_I16x8GtU = 0xfd0032,
+  WASM_OP_I16x8LeS = 0xfd0033,
+  WASM_OP_I16x8LeU = 0xfd0034,
+  WASM_OP_I16x8GeS = 0xfd0035,
+  WASM_OP_I16x8GeU = 0xfd0036,
+  WASM_OP_I32x4Eq = 0xfd0037,
+  WASM_OP_I32x4Ne = 0xfd0038,
+  WASM_OP_I32x4LtS = 0xfd0039,
+  WASM_OP_I32x4LtU = 0xfd003a,
+  WASM_OP_I32x4GtS = 0xfd003b,
+  WASM_OP_I32x4GtU = 0xfd003c,
+  WASM_OP_I32x4LeS = 0xfd003d,
+  WASM_OP_I32x4LeU = 0xfd003e,
+  WASM_OP_I32x4GeS = 0xfd003f,
+  WASM_OP_I32x4GeU = 0xfd0040,
+  WASM_OP_I64x2Eq = 0xfd00d6,
+  WASM_OP_I64x2Ne = 0xfd00d7,
+  WASM_OP_I64x2LtS = 0xfd00d8,
+  WASM_OP_I64x2GtS = 0xfd00d9,
+  WASM_OP_I64x2LeS = 0xfd00da,
+  WASM_OP_I64x2GeS = 0xfd00db,
+  WASM_OP_F32x4Eq = 0xfd0041,
+  WASM_OP_F32x4Ne = 0xfd0042,
+  WASM_OP_F32x4Lt = 0xfd0043,
+  WASM_OP_F32x4Gt = 0xfd0044,
+  WASM_OP_F32x4Le = 0xfd0045,
+  WASM_OP_F32x4Ge = 0xfd0046,
+  WASM_OP_F64x2Eq = 0xfd0047,
+  WASM_OP_F64x2Ne = 0xfd0048,
+  WASM_OP_F64x2Lt = 0xfd0049,
+  WASM_OP_F64x2Gt = 0xfd004a,
+  WASM_OP_F64x2Le = 0xfd004b,
+  WASM_OP_F64x2Ge = 0xfd004c,
+  WASM_OP_V128Not = 0xfd004d,
+  WASM_OP_V128And = 0xfd004e,
+  WASM_OP_V128AndNot = 0xfd004f,
+  WASM_OP_V128Or = 0xfd0050,
+  WASM_OP_V128Xor = 0xfd0051,
+  WASM_OP_V128Bitselect = 0xfd0052,
+  WASM_OP_V128AnyTrue = 0xfd0053,
+  WASM_OP_I8x16Abs = 0xfd0060,
+  WASM_OP_I8x16Neg = 0xfd0061,
+  WASM_OP_I8x16Popcnt = 0xfd0062,
+  WASM_OP_I8x16AllTrue = 0xfd0063,
+  WASM_OP_I8x16Bitmask = 0xfd0064,
+  WASM_OP_I8x16NarrowI16x8S = 0xfd0065,
+  WASM_OP_I8x16NarrowI16x8U = 0xfd0066,
+  WASM_OP_I8x16Shl = 0xfd006b,
+  WASM_OP_I8x16ShrS = 0xfd006c,
+  WASM_OP_I8x16ShrU = 0xfd006d,
+  WASM_OP_I8x16Add = 0xfd006e,
+  WASM_OP_I8x16AddSatS = 0xfd006f,
+  WASM_OP_I8x16AddSatU = 0xfd0070,
+  WASM_OP_I8x16Sub = 0xfd0071,
+  WASM_OP_I8x16SubSatS = 0xfd0072,
+  WASM_OP_I8x16SubSatU = 0xfd0073,
+  WASM_OP_I8x16MinS = 0xfd0076,
+  WASM_OP_I8x16MinU = 0xfd0077,
+  WASM_OP_I8x16MaxS = 0xfd0078,
+  WASM_OP_I8x16MaxU = 0xfd0079,
+  WASM_OP_I8x16AvgrU = 0xfd007b,
+  WASM_OP_I16x8ExtAddPairwiseI8x16S = 0xfd007c,
+  WASM_OP_I16x8ExtAddPairwiseI8x16U = 0xfd007d,
+  WASM_OP_I16x8Abs = 0xfd0080,
+  WASM_OP_I16x8Neg = 0xfd0081,
+  WASM_OP_I16x8Q15MulrSatS = 0xfd0082,
+  WASM_OP_I16x8AllTrue = 0xfd0083,
+  WASM_OP_I16x8Bitmask = 0xfd0084,
+  WASM_OP_I16x8NarrowI32x4S = 0xfd0085,
+  WASM_OP_I16x8NarrowI32x4U = 0xfd0086,
+  WASM_OP_I16x8ExtendLowI8x16S = 0xfd0087,
+  WASM_OP_I16x8ExtendHighI8x16S = 0xfd0088,
+  WASM_OP_I16x8ExtendLowI8x16U = 0xfd0089,
+  WASM_OP_I16x8ExtendHighI8x16U = 0xfd008a,
+  WASM_OP_I16x8Shl = 0xfd008b,
+  WASM_OP_I16x8ShrS = 0xfd008c,
+  WASM_OP_I16x8ShrU = 0xfd008d,
+  WASM_OP_I16x8Add = 0xfd008e,
+  WASM_OP_I16x8AddSatS = 0xfd008f,
+  WASM_OP_I16x8AddSatU = 0xfd0090,
+  WASM_OP_I16x8Sub = 0xfd0091,
+  WASM_OP_I16x8SubSatS = 0xfd0092,
+  WASM_OP_I16x8SubSatU = 0xfd0093,
+  WASM_OP_I16x8Mul = 0xfd0095,
+  WASM_OP_I16x8MinS = 0xfd0096,
+  WASM_OP_I16x8MinU = 0xfd0097,
+  WASM_OP_I16x8MaxS = 0xfd0098,
+  WASM_OP_I16x8MaxU = 0xfd0099,
+  WASM_OP_I16x8AvgrU = 0xfd009b,
+  WASM_OP_I16x8ExtMulLowI8x16S = 0xfd009c,
+  WASM_OP_I16x8ExtMulHighI8x16S = 0xfd009d,
+  WASM_OP_I16x8ExtMulLowI8x16U = 0xfd009e,
+  WASM_OP_I16x8ExtMulHighI8x16U = 0xfd009f,
+  WASM_OP_I32x4ExtAddPairwiseI16x8S = 0xfd007e,
+  WASM_OP_I32x4ExtAddPairwiseI16x8U = 0xfd007f,
+  WASM_OP_I32x4Abs = 0xfd00a0,
+  WASM_OP_I32x4Neg = 0xfd00a1,
+  WASM_OP_I32x4AllTrue = 0xfd00a3,
+  WASM_OP_I32x4Bitmask = 0xfd00a4,
+  WASM_OP_I32x4ExtendLowI16x8S = 0xfd00a7,
+  WASM_OP_I32x4ExtendHighI16x8S = 0xfd00a8,
+  WASM_OP_I32x4ExtendLowI16x8U = 0xfd00a9,
+  WASM_OP_I32x4ExtendHighI16x8U = 0xfd00aa,
+  WASM_OP_I32x4Shl = 0xfd00ab,
+  WASM_OP_I32x4ShrS = 0xfd00ac,
+  WASM_OP_I32x4ShrU = 0xfd00ad,
+  WASM_OP_I32x4Add = 0xfd00ae,
+  WASM_OP_I32x4Sub = 0xfd00b1,
+  WASM_OP_I32x4Mul = 0xfd00b5,
+  WASM_OP_I32x4MinS = 0xfd00b6,
+  WASM_OP_I32x4MinU = 0xfd00b7,
+  WASM_OP_I32x4MaxS = 0xfd00b8,
+  WASM_OP_I32x4MaxU = 0xfd00b9,
+  WASM_OP_I32x4DotI16x8S = 0xfd00ba,
+  WASM_OP_I32x4ExtMulLowI16x8S = 0xfd00bc,
+  WASM_OP_I32x4ExtMulHighI16x8S = 0xfd00bd,
+  WASM_OP_I32x4ExtMulLowI16x8U = 0xfd00be,
+  WASM_OP_I32x4ExtMulHighI16x8U = 0xfd00bf,
+  WASM_OP_I64x2Abs = 0xfd00c0,
+  WASM_OP_I64x2Neg = 0xfd00c1,
+  WASM_OP_I64x2AllTrue = 0xfd00c3,
+  WASM_OP_I64x2Bitmask = 0xfd00c4,
+  WASM_OP_I64x2ExtendLowI32x4S = 0xfd00c7,
+  WASM_OP_I64x2ExtendHighI32x4S = 0xfd00c8,
+  WASM_OP_I64x2ExtendLowI32x4U = 0xfd00c9,
+  WASM_OP_I64x2ExtendHighI32x4U = 0xfd00ca,
+  WASM_OP_I64x2Shl = 0xfd00cb,
+  WASM_OP_I64x2ShrS = 0xfd00cc,
+  WASM_OP_I64x2ShrU = 0xfd00cd,
+  WASM_OP_I64x2Add = 0xfd00ce,
+  WASM_OP_I64x2Sub = 0xfd00d1,
+  WASM_OP_I64x2Mul = 0xfd00d5,
+  WASM_OP_I64x2ExtMulLowI32x4S = 0xfd00dc,
+  WASM_OP_I64x2ExtMulHighI32x4S = 0xfd00dd,
+  WASM_OP_I64x2ExtMulLowI32x4U = 0xfd00de,
+  WASM_OP_I64x2ExtMulHighI32x4U = 0xfd00df,
+  WASM_OP_F32x4Ceil = 0xfd0067,
+  WASM_OP_F32x4Floor = 0xfd0068,
+  WASM_OP_F32x4Trunc = 0xfd0069,
+  WASM_OP_F32x4Nearest = 0xfd006a,
+  WASM_OP_F32x4Abs = 0xfd00e0,
+  WASM_OP_F32x4Neg = 0xfd00e1,
+  WASM_OP_F32x4Sqrt = 0xfd00e3,
+  WASM_OP_F32x4Add = 0xfd00e4,
+  WASM_OP_F32x4Sub = 0xfd00e5,
+  WASM_OP_F32x4Mul = 0xfd00e6,
+  WASM_OP_F32x4Div = 0xfd00e7,
+  WASM_OP_F32x4Min = 0xfd00e8,
+  WASM_OP_F32x4Max = 0xfd00e9,
+  WASM_OP_F32x4PMin = 0xfd00ea,
+  WASM_OP_F32x4PMax = 0xfd00eb,
+  WASM_OP_F64x2Ceil = 0xfd0074,
+  WASM_OP_F64x2Floor = 0xfd0075,
+  WASM_OP_F64x2Trunc = 0xfd007a,
+  WASM_OP_F64x2Nearest = 0xfd0094,
+  WASM_OP_F64x2Abs = 0xfd00ec,
+  WASM_OP_F64x2Neg = 0xfd00ed,
+  WASM_OP_F64x2Sqrt = 0xfd00ef,
+  WASM_OP_F64x2Add = 0xfd00f0,
+  WASM_OP_F64x2Sub = 0xfd00f1,
+  WASM_OP_F64x2Mul = 0xfd00f2,
+  WASM_OP_F64x2Div = 0xfd00f3,
+  WASM_OP_F64x2Min = 0xfd00f4,
+  WASM_OP_F64x2Max = 0xfd00f5,
+  WASM_OP_F64x2PMin = 0xfd00f6,
+  WASM_OP_F64x2PMax = 0xfd00f7,
+  WASM_OP_I32x4TruncSatF32x4S = 0xfd00f8,
+  WASM_OP_I32x4TruncSatF32x4U = 0xfd00f9,
+  WASM_OP_F32x4ConvertI32x4S = 0xfd00fa,
+  WASM_OP_F32x4ConvertI32x4U = 0xfd00fb,
+  WASM_OP_I32x4TruncSatF64x2SZero = 0xfd00fc,
+  WASM_OP_I32x4TruncSatF64x2UZero = 0xfd00fd,
+  WASM_OP_F64x2ConvertLowI32x4S = 0xfd00fe,
+  WASM_OP_F64x2ConvertLowI32x4U = 0xfd00ff,
+  WASM_OP_F32x4DemoteF64x2Zero = 0xfd005e,
+  WASM_OP_F64x2PromoteLowF32x4 = 0xfd005f,
+  WASM_OP_I8x16RelaxedSwizzle = 0xfd0100,
+  WASM_OP_I32x4RelaxedTruncF32x4S = 0xfd0101,
+  WASM_OP_I32x4RelaxedTruncF32x4U = 0xfd0102,
+  WASM_OP_I32x4RelaxedTruncF64x2SZero = 0xfd0103,
+  WASM_OP_I32x4RelaxedTruncF64x2UZero = 0xfd0104,
+  WASM_OP_F32x4RelaxedMadd = 0xfd0105,
+  WASM_OP_F32x4RelaxedNmadd = 0xfd0106,
+  WASM_OP_F64x2RelaxedMadd = 0xfd0107,
+  WASM_OP_F64x2RelaxedNmadd = 0xfd0108,
+  WASM_OP_I8x16RelaxedLaneselect = 0xfd0109,
+  WASM_OP_I16x8RelaxedLaneselect = 0xfd010a,
+  WASM_OP_I32x4RelaxedLaneselect = 0xfd010b,
+  WASM_OP_I64x2RelaxedLaneselect = 0xfd010c,
+  WASM_OP_F32x4RelaxedMin = 0xfd010d,
+  WASM_OP_F32x4RelaxedMax = 0xfd010e,
+  WASM_OP_F64x2RelaxedMin = 0xfd010f,
+  WASM_OP_F64x2RelaxedMax = 0xfd0110,
+  WASM_OP_I16x8RelaxedQ15mulrS = 0xfd0111,
+  WASM_OP_I16x8RelaxedDotI8x16I7x16S = 0xfd0112,
+  WASM_OP_I32x4RelaxedDotI8x16I7x16AddS = 0xfd0113,
+  WASM_OP_TryTable = 0x1f,
+  WASM_OP_Throw = 0x8,
+  WASM_OP_ThrowRef = 0xa,
+  WASM_OP_Try = 0x6,
+  WASM_OP_Catch = 0x7,
+  WASM_OP_Rethrow = 0x9,
+  WASM_OP_Delegate = 0x18,
+  WASM_OP_CatchAll = 0x19,
+  WASM_OP_GlobalAtomicGet = 0xfe004f,
+  WASM_OP_GlobalAtomicSet = 0xfe0050,
+  WASM_OP_GlobalAtomicRmwAdd = 0xfe0051,
+  WASM_OP_GlobalAtomicRmwSub = 0xfe0052,
+  WASM_OP_GlobalAtomicRmwAnd = 0xfe0053,
+  WASM_OP_GlobalAtomicRmwOr = 0xfe0054,
+  WASM_OP_GlobalAtomicRmwXor = 0xfe0055,
+  WASM_OP_GlobalAtomicRmwXchg = 0xfe0056,
+  WASM_OP_GlobalAtomicRmwCmpxchg = 0xfe0057,
+  WASM_OP_TableAtomicGet = 0xfe0058,
+  WASM_OP_TableAtomicSet = 0xfe0059,
+  WASM_OP_TableAtomicRmwXchg = 0xfe005a,
+  WASM_OP_TableAtomicRmwCmpxchg = 0xfe005b,
+  WASM_OP_StructAtomicGet = 0xfe005c,
+  WASM_OP_StructAtomicGetS = 0xfe005d,
+  WASM_OP_StructAtomicGetU = 0xfe005e,
+  WASM_OP_StructAtomicSet = 0xfe005f,
+  WASM_OP_StructAtomicRmwAdd = 0xfe0060,
+  WASM_OP_StructAtomicRmwSub = 0xfe0061,
+  WASM_OP_StructAtomicRmwAnd = 0xfe0062,
+  WASM_OP_StructAtomicRmwOr = 0xfe0063,
+  WASM_OP_StructAtomicRmwXor = 0xfe0064,
+  WASM_OP_StructAtomicRmwXchg = 0xfe0065,
+  WASM_OP_StructAtomicRmwCmpxchg = 0xfe0066,
+  WASM_OP_ArrayAtomicGet = 0xfe0067,
+  WASM_OP_ArrayAtomicGetS = 0xfe0068,
+  WASM_OP_ArrayAtomicGetU = 0xfe0069,
+  WASM_OP_ArrayAtomicSet = 0xfe006a,
+  WASM_OP_ArrayAtomicRmwAdd = 0xfe006b,
+  WASM_OP_ArrayAtomicRmwSub = 0xfe006c,
+  WASM_OP_ArrayAtomicRmwAnd = 0xfe006d,
+  WASM_OP_ArrayAtomicRmwOr = 0xfe006e,
+  WASM_OP_ArrayAtomicRmwXor = 0xfe006f,
+  WASM_OP_ArrayAtomicRmwXchg = 0xfe0070,
+  WASM_OP_ArrayAtomicRmwCmpxchg = 0xfe0071,
+  WASM_OP_RefI31Shared = 0xfe0072,
+  WASM_OP_CallRef = 0x14,
+  WASM_OP_ReturnCallRef = 0x15,
+  WASM_OP_RefAsNonNull = 0xd4,
+  WASM_OP_BrOnNull = 0xd5,
+  WASM_OP_BrOnNonNull = 0xd6,
+  WASM_OP_ContNew = 0xe0,
+  WASM_OP_ContBind = 0xe1,
+  WASM_OP_Suspend = 0xe2,
+  WASM_OP_Resume = 0xe3,
+  WASM_OP_ResumeThrow = 0xe4,
+  WASM_OP_ResumeThrowRef = 0xe5,
+  WASM_OP_Switch = 0xe6,
+  WASM_OP_I64Add128 = 0xfc0013,
+  WASM_OP_I64Sub128 = 0xfc0014,
+  WASM_OP_I64MulWideS = 0xfc0015,
+  WASM_OP_I64MulWideU = 0xfc0016,
+  WASM_OP_Pause = 0xfe0004
+};
+
+/* The proposals that brought the operators. */
+enum wasm_proposal {
+  WASM_PROPOSAL_MVP = 0,
+  WASM_PROPOSAL_SIGN_EXTENSION = 1,
+  WASM_PROPOSAL_GC = 2,
+  WASM_PROPOSAL_CUSTOM_DESCRIPTORS = 3,
+  WASM_PROPOSAL_SATURATING_FLOAT_TO_INT = 4,
+  WASM_PROPOSAL_BULK_MEMORY = 5,
+  WASM_PROPOSAL_REFERENCE_TYPES = 6,
+  WASM_PROPOSAL_TAIL_CALL = 7,
+  WASM_PROPOSAL_MEMORY_CONTROL = 8,
+  WASM_PROPOSAL_THREADS = 9,
+  WASM_PROPOSAL_SIMD = 10,
+  WASM_PROPOSAL_RELAXED_SIMD = 11,
+  WASM_PROPOSAL_EXCEPTIONS = 12,
+  WASM_PROPOSAL_LEGACY_EXCEPTIONS = 13,
+  WASM_PROPOSAL_SHARED_EVERYTHING_THREADS = 14,
+  WASM_PROPOSAL_FUNCTION_REFERENCES = 15,
+  WASM_PROPOSAL_STACK_SWITCHING = 16,
+  WASM_PROPOSAL_WIDE_ARITHMETIC = 17,
+  WASM_PROPOSAL_ACQUIRE_RELEASE_ATOMICS = 18
+};
+
+/* An operator: 64 bytes without gaps. `shape` says which of the fields have a meaning; the others are 0. */
+typedef struct wasm_operator {
+  /* The offset of its first byte. */
+  uint64_t offset;
+  /* A constant: an integer in two's complement, its sign repeated up to bit 63, or the bits of a float;
+   * or the static offset of a memory argument, in bytes. */
+  uint64_t wide;
+  /* Which operator it is: one of `enum wasm_opcode`. */
+  uint32_t opcode;
+  /* Indices, in the order of the binary format; or the number of members of a list. */
+  uint32_t first;
+  uint32_t second;
+  uint32_t third;
+  /* A type: `enum wasm_kind`; its index, if it has one, is in the field that the shape names. */
+  uint32_t kind;
+  /* The type that a cast tests for. */
+  uint32_t other_kind;
+  /* One of `enum wasm_shape`. */
+  uint8_t shape;
+  /* The alignment that a memory argument gives, as the exponent of a power of two. */
+  uint8_t align;
+  /* The operator's natural alignment, as the exponent of a power of two. */
+  uint8_t max_align;
+  /* The index of a lane. */
+  uint8_t lane;
+  /* What a memory argument accesses: 0 the memory of index `first`, 1 an array of that type. */
+  uint16_t target;
+  /* The memory ordering: 0 none, 1 sequentially consistent, 2 acquire and release; of a memory argument
+   * of a read-modify-write 3 and 4. */
+  uint16_t ordering;
+  /* A vector of 128 bits, the lowest byte first; or the sixteen lanes of a shuffle. */
+  uint8_t bytes[16];
+} wasm_operator;
+
+/* A refusal: 24 bytes without gaps. */
+typedef struct wasm_refusal {
+  /* The offset of what is refused; where nothing is, that of the end of the bytes. */
+  uint64_t offset;
+  /* 0 where nothing is refused, else one of `enum wasm_refused`. */
+  uint32_t number;
+  /* Which name its text tells. */
+  uint32_t name;
+  /* The byte, code or flags that its text tells. */
+  uint32_t value;
+  /* 0. */
+  uint32_t reserved;
+} wasm_refusal;
+
+/* The version of the structs and calls of the library. */
+uint32_t wasm_operators_version(void);
+
+/* All operators of the function body `bytes`, its locals first; the first byte has this offset.
+ *
+ * As many operators as there is room for stand in `out`, and `out` is unchanged behind them. `*count` is
+ * how many were found: more than `out_length` where there was too little room, and a second call with that
+ * much room then gives them all. Answers 0 where the bytes encode a body. Else it answers the number of the
+ * refusal, and the operators are the longest beginning of a body; where memory was refused, a beginning.
+ * `*refusal` has the number and the offset.
+ *
+ * WASM_REFUSED_UNKNOWN_FEATURES where a bit of `features` is none of `enum wasm_feature`, WASM_REFUSED_PAST_OFFSETS where
+ * `offset + bytes_length` does not fit in 64 bits: nothing is read then. */
+uint32_t wasm_read_body(const uint8_t *bytes, size_t bytes_length, uint64_t offset, uint32_t features,
+                        wasm_operator *out, size_t out_length, size_t *count, wasm_refusal *refusal);
+
+/* The text of a refusal in UTF-8, as much of it as there is room for, without a byte 0 behind it. Answers
+ * its whole length in bytes; 0 where the numbers are those of no refusal, or where memory is refused. */
+size_t wasm_refusal_text(const wasm_refusal *refusal, uint8_t *text, size_t text_length);
+
+/* The name of an operator; null where the number is that of none. */
+static inline const char *wasm_operator_name(const wasm_operator *op) {
+  switch (op->opcode) {
+    case 0x0: return "Unreachable";
+    case 0x1: return "Nop";
+    case 0x2: return "Block";
+    case 0x3: return "Loop";
+    case 0x4: return "If";
+    case 0x5: return "Else";
+    case 0xb: return "End";
+    case 0xc: return "Br";
+    case 0xd: return "BrIf";
+    case 0xe: return "BrTable";
+    case 0xf: return "Return";
+    case 0x10: return "Call";
+    case 0x11: return "CallIndirect";
+    case 0x1a: return "Drop";
+    case 0x1b: return "Select";
+    case 0x20: return "LocalGet";
+    case 0x21: return "LocalSet";
+    case 0x22: return "LocalTee";
+    case 0x23: return "GlobalGet";
+    case 0x24: return "GlobalSet";
+    case 0x28: return "I32Load";
+    case 0x29: return "I64Load";
+    case 0x2a: return "F32Load";
+    case 0x2b: return "F64Load";
+    case 0x2c: return "I32Load8S";
+    case 0x2d: return "I32Load8U";
+    case 0x2e: return "I32Load16S";
+    case 0x2f: return "I32Load16U";
+    case 0x30: return "I64Load8S";
+    case 0x31: return "I64Load8U";
+    case 0x32: return "I64Load16S";
+    case 0x33: return "I64Load16U";
+    case 0x34: return "I64Load32S";
+    case 0x35: return "I64Load32U";
+    case 0x36: return "I32Store";
+    case 0x37: return "I64Store";
+    case 0x38: return "F32Store";
+    case 0x39: return "F64Store";
+    case 0x3a: return "I32Store8";
+    case 0x3b: return "I32Store16";
+    case 0x3c: return "I64Store8";
+    case 0x3d: return "I64Store16";
+    case 0x3e: return "I64Store32";
+    case 0x3f: return "MemorySize";
+    case 0x40: return "MemoryGrow";
+    case 0x41: return "I32Const";
+    case 0x42: return "I64Const";
+    case 0x43: return "F32Const";
+    case 0x44: return "F64Const";
+    case 0x45: return "I32Eqz";
+    case 0x46: return "I32Eq";
+    case 0x47: return "I32Ne";
+    case 0x48: return "I32LtS";
+    case 0x49: return "I32LtU";
+    case 0x4a: return "I32GtS";
+    case 0x4b: return "I32GtU";
+    case 0x4c: return "I32LeS";
+    case 0x4d: return "I32LeU";
+    case 0x4e: return "I32GeS";
+    case 0x4f: return "I32GeU";
+    case 0x50: return "I64Eqz";
+    case 0x51: return "I64Eq";
+    case 0x52: return "I64Ne";
+    case 0x53: return "I64LtS";
+    case 0x54: return "I64LtU";
+    case 0x55: return "I64GtS";
+    case 0x56: return "I64GtU";
+    case 0x57: return "I64LeS";
+    case 0x58: return "I64LeU";
+    case 0x59: return "I64GeS";
+    case 0x5a: return "I64GeU";
+    case 0x5b: return "F32Eq";
+    case 0x5c: return "F32Ne";
+    case 0x5d: return "F32Lt";
+    case 0x5e: return "F32Gt";
+    case 0x5f: return "F32Le";
+    case 0x60: return "F32Ge";
+    case 0x61: return "F64Eq";
+    case 0x62: return "F64Ne";
+    case 0x63: return "F64Lt";
+    case 0x64: return "F64Gt";
+    case 0x65: return "F64Le";
+    case 0x66: return "F64Ge";
+    case 0x67: return "I32Clz";
+    case 0x68: return "I32Ctz";
+    case 0x69: return "I32Popcnt";
+    case 0x6a: return "I32Add";
+    case 0x6b: return "I32Sub";
+    case 0x6c: return "I32Mul";
+    case 0x6d: return "I32DivS";
+    case 0x6e: return "I32DivU";
+    case 0x6f: return "I32RemS";
+    case 0x70: return "I32RemU";
+    case 0x71: return "I32And";
+    case 0x72: return "I32Or";
+    case 0x73: return "I32Xor";
+    case 0x74: return "I32Shl";
+    case 0x75: return "I32ShrS";
+    case 0x76: return "I32ShrU";
+    case 0x77: return "I32Rotl";
+    case 0x78: return "I32Rotr";
+    case 0x79: return "I64Clz";
+    case 0x7a: return "I64Ctz";
+    case 0x7b: return "I64Popcnt";
+    case 0x7c: return "I64Add";
+    case 0x7d: return "I64Sub";
+    case 0x7e: return "I64Mul";
+    case 0x7f: return "I64DivS";
+    case 0x80: return "I64DivU";
+    case 0x81: return "I64RemS";
+    case 0x82: return "I64RemU";
+    case 0x83: return "I64And";
+    case 0x84: return "I64Or";
+    case 0x85: return "I64Xor";
+    case 0x86: return "I64Shl";
+    case 0x87: return "I64ShrS";
+    case 0x88: return "I64ShrU";
+    case 0x89: return "I64Rotl";
+    case 0x8a: return "I64Rotr";
+    case 0x8b: return "F32Abs";
+    case 0x8c: return "F32Neg";
+    case 0x8d: return "F32Ceil";
+    case 0x8e: return "F32Floor";
+    case 0x8f: return "F32Trunc";
+    case 0x90: return "F32Nearest";
+    case 0x91: return "F32Sqrt";
+    case 0x92: return "F32Add";
+    case 0x93: return "F32Sub";
+    case 0x94: return "F32Mul";
+    case 0x95: return "F32Div";
+    case 0x96: return "F32Min";
+    case 0x97: return "F32Max";
+    case 0x98: return "F32Copysign";
+    case 0x99: return "F64Abs";
+    case 0x9a: return "F64Neg";
+    case 0x9b: return "F64Ceil";
+    case 0x9c: return "F64Floor";
+    case 0x9d: return "F64Trunc";
+    case 0x9e: return "F64Nearest";
+    case 0x9f: return "F64Sqrt";
+    case 0xa0: return "F64Add";
+    case 0xa1: return "F64Sub";
+    case 0xa2: return "F64Mul";
+    case 0xa3: return "F64Div";
+    case 0xa4: return "F64Min";
+    case 0xa5: return "F64Max";
+    case 0xa6: return "F64Copysign";
+    case 0xa7: return "I32WrapI64";
+    case 0xa8: return "I32TruncF32S";
+    case 0xa9: return "I32TruncF32U";
+    case 0xaa: return "I32TruncF64S";
+    case 0xab: return "I32TruncF64U";
+    case 0xac: return "I64ExtendI32S";
+    case 0xad: return "I64ExtendI32U";
+    case 0xae: return "I64TruncF32S";
+    case 0xaf: return "I64TruncF32U";
+    case 0xb0: return "I64TruncF64S";
+    case 0xb1: return "I64TruncF64U";
+    case 0xb2: return "F32ConvertI32S";
+    case 0xb3: return "F32ConvertI32U";
+    case 0xb4: return "F32ConvertI64S";
+    case 0xb5: return "F32ConvertI64U";
+    case 0xb6: return "F32DemoteF64";
+    case 0xb7: return "F64ConvertI32S";
+    case 0xb8: return "F64ConvertI32U";
+    case 0xb9: return "F64ConvertI64S";
+    case 0xba: return "F64ConvertI64U";
+    case 0xbb: return "F64PromoteF32";
+    case 0xbc: return "I32ReinterpretF32";
+    case 0xbd: return "I64ReinterpretF64";
+    case 0xbe: return "F32ReinterpretI32";
+    case 0xbf: return "F64ReinterpretI64";
+    case 0xc0: return "I32Extend8S";
+    case 0xc1: return "I32Extend16S";
+    case 0xc2: return "I64Extend8S";
+    case 0xc3: return "I64Extend16S";
+    case 0xc4: return "I64Extend32S";
+    case 0xd3: return "RefEq";
+    case 0xfb0000: return "StructNew";
+    case 0xfb0001: return "StructNewDefault";
+    case 0xfb0002: return "StructGet";
+    case 0xfb0003: return "StructGetS";
+    case 0xfb0004: return "StructGetU";
+    case 0xfb0005: return "StructSet";
+    case 0xfb0006: return "ArrayNew";
+    case 0xfb0007: return "ArrayNewDefault";
+    case 0xfb0008: return "ArrayNewFixed";
+    case 0xfb0009: return "ArrayNewData";
+    case 0xfb000a: return "ArrayNewElem";
+    case 0xfb000b: return "ArrayGet";
+    case 0xfb000c: return "ArrayGetS";
+    case 0xfb000d: return "ArrayGetU";
+    case 0xfb000e: return "ArraySet";
+    case 0xfb000f: return "ArrayLen";
+    case 0xfb0010: return "ArrayFill";
+    case 0xfb0011: return "ArrayCopy";
+    case 0xfb0012: return "ArrayInitData";
+    case 0xfb0013: return "ArrayInitElem";
+    case 0xfb0014: return "RefTestNonNull";
+    case 0xfb0015: return "RefTestNullable";
+    case 0xfb0016: return "RefCastNonNull";
+    case 0xfb0017: return "RefCastNullable";
+    case 0xfb0018: return "BrOnCast";
+    case 0xfb0019: return "BrOnCastFail";
+    case 0xfb001a: return "AnyConvertExtern";
+    case 0xfb001b: return "ExternConvertAny";
+    case 0xfb001c: return "RefI31";
+    case 0xfb001d: return "I31GetS";
+    case 0xfb001e: return "I31GetU";
+    case 0xfb0020: return "StructNewDesc";
+    case 0xfb0021: return "StructNewDefaultDesc";
+    case 0xfb0022: return "RefGetDesc";
+    case 0xfb0023: return "RefCastDescEqNonNull";
+    case 0xfb0024: return "RefCastDescEqNullable";
+    case 0xfb0025: return "BrOnCastDescEq";
+    case 0xfb0026: return "BrOnCastDescEqFail";
+    case 0xfc0000: return "I32TruncSatF32S";
+    case 0xfc0001: return "I32TruncSatF32U";
+    case 0xfc0002: return "I32TruncSatF64S";
+    case 0xfc0003: return "I32TruncSatF64U";
+    case 0xfc0004: return "I64TruncSatF32S";
+    case 0xfc0005: return "I64TruncSatF32U";
+    case 0xfc0006: return "I64TruncSatF64S";
+    case 0xfc0007: return "I64TruncSatF64U";
+    case 0xfc0008: return "MemoryInit";
+    case 0xfc0009: return "DataDrop";
+    case 0xfc000a: return "MemoryCopy";
+    case 0xfc000b: return "MemoryFill";
+    case 0xfc000c: return "TableInit";
+    case 0xfc000d: return "ElemDrop";
+    case 0xfc000e: return "TableCopy";
+    case 0x1c: return op->shape == WASM_SHAPE_SELECT_ONE ? "TypedSelect" : "TypedSelectMulti";
+    case 0xd0: return "RefNull";
+    case 0xd1: return "RefIsNull";
+    case 0xd2: return "RefFunc";
+    case 0xfc0011: return "TableFill";
+    case 0x25: return "TableGet";
+    case 0x26: return "TableSet";
+    case 0xfc000f: return "TableGrow";
+    case 0xfc0010: return "TableSize";
+    case 0x12: return "ReturnCall";
+    case 0x13: return "ReturnCallIndirect";
+    case 0xfc0012: return "MemoryDiscard";
+    case 0xfe0000: return "MemoryAtomicNotify";
+    case 0xfe0001: return "MemoryAtomicWait32";
+    case 0xfe0002: return "MemoryAtomicWait64";
+    case 0xfe0003: return "AtomicFence";
+    case 0xfe0010: return "I32AtomicLoad";
+    case 0xfe0011: return "I64AtomicLoad";
+    case 0xfe0012: return "I32AtomicLoad8U";
+    case 0xfe0013: return "I32AtomicLoad16U";
+    case 0xfe0014: return "I64AtomicLoad8U";
+    case 0xfe0015: return "I64AtomicLoad16U";
+    case 0xfe0016: return "I64AtomicLoad32U";
+    case 0xfe0017: return "I32AtomicStore";
+    case 0xfe0018: return "I64AtomicStore";
+    case 0xfe0019: return "I32AtomicStore8";
+    case 0xfe001a: return "I32AtomicStore16";
+    case 0xfe001b: return "I64AtomicStore8";
+    case 0xfe001c: return "I64AtomicStore16";
+    case 0xfe001d: return "I64AtomicStore32";
+    case 0xfe001e: return "I32AtomicRmwAdd";
+    case 0xfe001f: return "I64AtomicRmwAdd";
+    case 0xfe0020: return "I32AtomicRmw8AddU";
+    case 0xfe0021: return "I32AtomicRmw16AddU";
+    case 0xfe0022: return "I64AtomicRmw8AddU";
+    case 0xfe0023: return "I64AtomicRmw16AddU";
+    case 0xfe0024: return "I64AtomicRmw32AddU";
+    case 0xfe0025: return "I32AtomicRmwSub";
+    case 0xfe0026: return "I64AtomicRmwSub";
+    case 0xfe0027: return "I32AtomicRmw8SubU";
+    case 0xfe0028: return "I32AtomicRmw16SubU";
+    case 0xfe0029: return "I64AtomicRmw8SubU";
+    case 0xfe002a: return "I64AtomicRmw16SubU";
+    case 0xfe002b: return "I64AtomicRmw32SubU";
+    case 0xfe002c: return "I32AtomicRmwAnd";
+    case 0xfe002d: return "I64AtomicRmwAnd";
+    case 0xfe002e: return "I32AtomicRmw8AndU";
+    case 0xfe002f: return "I32AtomicRmw16AndU";
+    case 0xfe0030: return "I64AtomicRmw8AndU";
+    case 0xfe0031: return "I64AtomicRmw16AndU";
+    case 0xfe0032: return "I64AtomicRmw32AndU";
+    case 0xfe0033: return "I32AtomicRmwOr";
+    case 0xfe0034: return "I64AtomicRmwOr";
+    case 0xfe0035: return "I32AtomicRmw8OrU";
+    case 0xfe0036: return "I32AtomicRmw16OrU";
+    case 0xfe0037: return "I64AtomicRmw8OrU";
+    case 0xfe0038: return "I64AtomicRmw16OrU";
+    case 0xfe0039: return "I64AtomicRmw32OrU";
+    case 0xfe003a: return "I32AtomicRmwXor";
+    case 0xfe003b: return "I64AtomicRmwXor";
+    case 0xfe003c: return "I32AtomicRmw8XorU";
+    case 0xfe003d: return "I32AtomicRmw16XorU";
+    case 0xfe003e: return "I64AtomicRmw8XorU";
+    case 0xfe003f: return "I64AtomicRmw16XorU";
+    case 0xfe0040: return "I64AtomicRmw32XorU";
+    case 0xfe0041: return "I32AtomicRmwXchg";
+    case 0xfe0042: return "I64AtomicRmwXchg";
+    case 0xfe0043: return "I32AtomicRmw8XchgU";
+    case 0xfe0044: return "I32AtomicRmw16XchgU";
+    case 0xfe0045: return "I64AtomicRmw8XchgU";
+    case 0xfe0046: return "I64AtomicRmw16XchgU";
+    case 0xfe0047: return "I64AtomicRmw32XchgU";
+    case 0xfe0048: return "I32AtomicRmwCmpxchg";
+    case 0xfe0049: return "I64AtomicRmwCmpxchg";
+    case 0xfe004a: return "I32AtomicRmw8CmpxchgU";
+    case 0xfe004b: return "I32AtomicRmw16CmpxchgU";
+    case 0xfe004c: return "I64AtomicRmw8CmpxchgU";
+    case 0xfe004d: return "I64AtomicRmw16CmpxchgU";
+    case 0xfe004e: return "I64AtomicRmw32CmpxchgU";
+    case 0xfd0000: return "V128Load";
+    case 0xfd0001: return "V128Load8x8S";
+    case 0xfd0002: return "V128Load8x8U";
+    case 0xfd0003: return "V128Load16x4S";
+    case 0xfd0004: return "V128Load16x4U";
+    case 0xfd0005: return "V128Load32x2S";
+    case 0xfd0006: return "V128Load32x2U";
+    case 0xfd0007: return "V128Load8Splat";
+    case 0xfd0008: return "V128Load16Splat";
+    case 0xfd0009: return "V128Load32Splat";
+    case 0xfd000a: return "V128Load64Splat";
+    case 0xfd005c: return "V128Load32Zero";
+    case 0xfd005d: return "V128Load64Zero";
+    case 0xfd000b: return "V128Store";
+    case 0xfd0054: return "V128Load8Lane";
+    case 0xfd0055: return "V128Load16Lane";
+    case 0xfd0056: return "V128Load32Lane";
+    case 0xfd0057: return "V128Load64Lane";
+    case 0xfd0058: return "V128Store8Lane";
+    case 0xfd0059: return "V128Store16Lane";
+    case 0xfd005a: return "V128Store32Lane";
+    case 0xfd005b: return "V128Store64Lane";
+    case 0xfd000c: return "V128Const";
+    case 0xfd000d: return "I8x16Shuffle";
+    case 0xfd0015: return "I8x16ExtractLaneS";
+    case 0xfd0016: return "I8x16ExtractLaneU";
+    case 0xfd0017: return "I8x16ReplaceLane";
+    case 0xfd0018: return "I16x8ExtractLaneS";
+    case 0xfd0019: return "I16x8ExtractLaneU";
+    case 0xfd001a: return "I16x8ReplaceLane";
+    case 0xfd001b: return "I32x4ExtractLane";
+    case 0xfd001c: return "I32x4ReplaceLane";
+    case 0xfd001d: return "I64x2ExtractLane";
+    case 0xfd001e: return "I64x2ReplaceLane";
+    case 0xfd001f: return "F32x4ExtractLane";
+    case 0xfd0020: return "F32x4ReplaceLane";
+    case 0xfd0021: return "F64x2ExtractLane";
+    case 0xfd0022: return "F64x2ReplaceLane";
+    case 0xfd000e: return "I8x16Swizzle";
+    case 0xfd000f: return "I8x16Splat";
+    case 0xfd0010: return "I16x8Splat";
+    case 0xfd0011: return "I32x4Splat";
+    case 0xfd0012: return "I64x2Splat";
+    case 0xfd0013: return "F32x4Splat";
+    case 0xfd0014: return "F64x2Splat";
+    case 0xfd0023: return "I8x16Eq";
+    case 0xfd0024: return "I8x16Ne";
+    case 0xfd0025: return "I8x16LtS";
+    case 0xfd0026: return "I8x16LtU";
+    case 0xfd0027: return "I8x16GtS";
+    case 0xfd0028: return "I8x16GtU";
+    case 0xfd0029: return "I8x16LeS";
+    case 0xfd002a: return "I8x16LeU";
+    case 0xfd002b: return "I8x16GeS";
+    case 0xfd002c: return "I8x16GeU";
+    case 0xfd002d: return "I16x8Eq";
+    case 0xfd002e: return "I16x8Ne";
+    case 0xfd002f: return "I16x8LtS";
+    case 0xfd0030: return "I16x8LtU";
+    case 0xfd0031: return "I16x8GtS";
+    case 0xfd0032: return "I16x8GtU";
+    case 0xfd0033: return "I16x8LeS";
+    case 0xfd0034: return "I16x8LeU";
+    case 0xfd0035: return "I16x8GeS";
+    case 0xfd0036: return "I16x8GeU";
+    case 0xfd0037: return "I32x4Eq";
+    case 0xfd0038: return "I32x4Ne";
+    case 0xfd0039: return "I32x4LtS";
+    case 0xfd003a: return "I32x4LtU";
+    case 0xfd003b: return "I32x4GtS";
+    case 0xfd003c: return "I32x4GtU";
+    case 0xfd003d: return "I32x4LeS";
+    case 0xfd003e: return "I32x4LeU";
+    case 0xfd003f: return "I32x4GeS";
+    case 0xfd0040: return "I32x4GeU";
+    case 0xfd00d6: return "I64x2Eq";
+    case 0xfd00d7: return "I64x2Ne";
+    case 0xfd00d8: return "I64x2LtS";
+    case 0xfd00d9: return "I64x2GtS";
+    case 0xfd00da: return "I64x2LeS";
+    case 0xfd00db: return "I64x2GeS";
+    case 0xfd0041: return "F32x4Eq";
+    case 0xfd0042: return "F32x4Ne";
+    case 0xfd0043: return "F32x4Lt";
+    case 0xfd0044: return "F32x4Gt";
+    case 0xfd0045: return "F32x4Le";
+    case 0xfd0046: return "F32x4Ge";
+    case 0xfd0047: return "F64x2Eq";
+    case 0xfd0048: return "F64x2Ne";
+    case 0xfd0049: return "F64x2Lt";
+    case 0xfd004a: return "F64x2Gt";
+    case 0xfd004b: return "F64x2Le";
+    case 0xfd004c: return "F64x2Ge";
+    case 0xfd004d: return "V128Not";
+    case 0xfd004e: return "V128And";
+    case 0xfd004f: return "V128AndNot";
+    case 0xfd0050: return "V128Or";
+    case 0xfd0051: return "V128Xor";
+    case 0xfd0052: return "V128Bitselect";
+    case 0xfd0053: return "V128AnyTrue";
+    case 0xfd0060: return "I8x16Abs";
+    case 0xfd0061: return "I8x16Neg";
+    case 0xfd0062: return "I8x16Popcnt";
+    case 0xfd0063: return "I8x16AllTrue";
+    case 0xfd0064: return "I8x16Bitmask";
+    case 0xfd0065: return "I8x16NarrowI16x8S";
+    case 0xfd0066: return "I8x16NarrowI16x8U";
+    case 0xfd006b: return "I8x16Shl";
+    case 0xfd006c: return "I8x16ShrS";
+    case 0xfd006d: return "I8x16ShrU";
+    case 0xfd006e: return "I8x16Add";
+    case 0xfd006f: return "I8x16AddSatS";
+    case 0xfd0070: return "I8x16AddSatU";
+    case 0xfd0071: return "I8x16Sub";
+    case 0xfd0072: return "I8x16SubSatS";
+    case 0xfd0073: return "I8x16SubSatU";
+    case 0xfd0076: return "I8x16MinS";
+    case 0xfd0077: return "I8x16MinU";
+    case 0xfd0078: return "I8x16MaxS";
+    case 0xfd0079: return "I8x16MaxU";
+    case 0xfd007b: return "I8x16AvgrU";
+    case 0xfd007c: return "I16x8ExtAddPairwiseI8x16S";
+    case 0xfd007d: return "I16x8ExtAddPairwiseI8x16U";
+    case 0xfd0080: return "I16x8Abs";
+    case 0xfd0081: return "I16x8Neg";
+    case 0xfd0082: return "I16x8Q15MulrSatS";
+    case 0xfd0083: return "I16x8AllTrue";
+    case 0xfd0084: return "I16x8Bitmask";
+    case 0xfd0085: return "I16x8NarrowI32x4S";
+    case 0xfd0086: return "I16x8NarrowI32x4U";
+    case 0xfd0087: return "I16x8ExtendLowI8x16S";
+    case 0xfd0088: return "I16x8ExtendHighI8x16S";
+    case 0xfd0089: return "I16x8ExtendLowI8x16U";
+    case 0xfd008a: return "I16x8ExtendHighI8x16U";
+    case 0xfd008b: return "I16x8Shl";
+    case 0xfd008c: return "I16x8ShrS";
+    case 0xfd008d: return "I16x8ShrU";
+    case 0xfd008e: return "I16x8Add";
+    case 0xfd008f: return "I16x8AddSatS";
+    case 0xfd0090: return "I16x8AddSatU";
+    case 0xfd0091: return "I16x8Sub";
+    case 0xfd0092: return "I16x8SubSatS";
+    case 0xfd0093: return "I16x8SubSatU";
+    case 0xfd0095: return "I16x8Mul";
+    case 0xfd0096: return "I16x8MinS";
+    case 0xfd0097: return "I16x8MinU";
+    case 0xfd0098: return "I16x8MaxS";
+    case 0xfd0099: return "I16x8MaxU";
+    case 0xfd009b: return "I16x8AvgrU";
+    case 0xfd009c: return "I16x8ExtMulLowI8x16S";
+    case 0xfd009d: return "I16x8ExtMulHighI8x16S";
+    case 0xfd009e: return "I16x8ExtMulLowI8x16U";
+    case 0xfd009f: return "I16x8ExtMulHighI8x16U";
+    case 0xfd007e: return "I32x4ExtAddPairwiseI16x8S";
+    case 0xfd007f: return "I32x4ExtAddPairwiseI16x8U";
+    case 0xfd00a0: return "I32x4Abs";
+    case 0xfd00a1: return "I32x4Neg";
+    case 0xfd00a3: return "I32x4AllTrue";
+    case 0xfd00a4: return "I32x4Bitmask";
+    case 0xfd00a7: return "I32x4ExtendLowI16x8S";
+    case 0xfd00a8: return "I32x4ExtendHighI16x8S";
+    case 0xfd00a9: return "I32x4ExtendLowI16x8U";
+    case 0xfd00aa: return "I32x4ExtendHighI16x8U";
+    case 0xfd00ab: return "I32x4Shl";
+    case 0xfd00ac: return "I32x4ShrS";
+    case 0xfd00ad: return "I32x4ShrU";
+    case 0xfd00ae: return "I32x4Add";
+    case 0xfd00b1: return "I32x4Sub";
+    case 0xfd00b5: return "I32x4Mul";
+    case 0xfd00b6: return "I32x4MinS";
+    case 0xfd00b7: return "I32x4MinU";
+    case 0xfd00b8: return "I32x4MaxS";
+    case 0xfd00b9: return "I32x4MaxU";
+    case 0xfd00ba: return "I32x4DotI16x8S";
+    case 0xfd00bc: return "I32x4ExtMulLowI16x8S";
+    case 0xfd00bd: return "I32x4ExtMulHighI16x8S";
+    case 0xfd00be: return "I32x4ExtMulLowI16x8U";
+    case 0xfd00bf: return "I32x4ExtMulHighI16x8U";
+    case 0xfd00c0: return "I64x2Abs";
+    case 0xfd00c1: return "I64x2Neg";
+    case 0xfd00c3: return "I64x2AllTrue";
+    case 0xfd00c4: return "I64x2Bitmask";
+    case 0xfd00c7: return "I64x2ExtendLowI32x4S";
+    case 0xfd00c8: return "I64x2ExtendHighI32x4S";
+    case 0xfd00c9: return "I64x2ExtendLowI32x4U";
+    case 0xfd00ca: return "I64x2ExtendHighI32x4U";
+    case 0xfd00cb: return "I64x2Shl";
+    case 0xfd00cc: return "I64x2ShrS";
+    case 0xfd00cd: return "I64x2ShrU";
+    case 0xfd00ce: return "I64x2Add";
+    case 0xfd00d1: return "I64x2Sub";
+    case 0xfd00d5: return "I64x2Mul";
+    case 0xfd00dc: return "I64x2ExtMulLowI32x4S";
+    case 0xfd00dd: return "I64x2ExtMulHighI32x4S";
+    case 0xfd00de: return "I64x2ExtMulLowI32x4U";
+    case 0xfd00df: return "I64x2ExtMulHighI32x4U";
+    case 0xfd0067: return "F32x4Ceil";
+    case 0xfd0068: return "F32x4Floor";
+    case 0xfd0069: return "F32x4Trunc";
+    case 0xfd006a: return "F32x4Nearest";
+    case 0xfd00e0: return "F32x4Abs";
+    case 0xfd00e1: return "F32x4Neg";
+    case 0xfd00e3: return "F32x4Sqrt";
+    case 0xfd00e4: return "F32x4Add";
+    case 0xfd00e5: return "F32x4Sub";
+    case 0xfd00e6: return "F32x4Mul";
+    case 0xfd00e7: return "F32x4Div";
+    case 0xfd00e8: return "F32x4Min";
+    case 0xfd00e9: return "F32x4Max";
+    case 0xfd00ea: return "F32x4PMin";
+    case 0xfd00eb: return "F32x4PMax";
+    case 0xfd0074: return "F64x2Ceil";
+    case 0xfd0075: return "F64x2Floor";
+    case 0xfd007a: return "F64x2Trunc";
+    case 0xfd0094: return "F64x2Nearest";
+    case 0xfd00ec: return "F64x2Abs";
+    case 0xfd00ed: return "F64x2Neg";
+    case 0xfd00ef: return "F64x2Sqrt";
+    case 0xfd00f0: return "F64x2Add";
+    case 0xfd00f1: return "F64x2Sub";
+    case 0xfd00f2: return "F64x2Mul";
+    case 0xfd00f3: return "F64x2Div";
+    case 0xfd00f4: return "F64x2Min";
+    case 0xfd00f5: return "F64x2Max";
+    case 0xfd00f6: return "F64x2PMin";
+    case 0xfd00f7: return "F64x2PMax";
+    case 0xfd00f8: return "I32x4TruncSatF32x4S";
+    case 0xfd00f9: return "I32x4TruncSatF32x4U";
+    case 0xfd00fa: return "F32x4ConvertI32x4S";
+    case 0xfd00fb: return "F32x4ConvertI32x4U";
+    case 0xfd00fc: return "I32x4TruncSatF64x2SZero";
+    case 0xfd00fd: return "I32x4TruncSatF64x2UZero";
+    case 0xfd00fe: return "F64x2ConvertLowI32x4S";
+    case 0xfd00ff: return "F64x2ConvertLowI32x4U";
+    case 0xfd005e: return "F32x4DemoteF64x2Zero";
+    case 0xfd005f: return "F64x2PromoteLowF32x4";
+    case 0xfd0100: return "I8x16RelaxedSwizzle";
+    case 0xfd0101: return "I32x4RelaxedTruncF32x4S";
+    case 0xfd0102: return "I32x4RelaxedTruncF32x4U";
+    case 0xfd0103: return "I32x4RelaxedTruncF64x2SZero";
+    case 0xfd0104: return "I32x4RelaxedTruncF64x2UZero";
+    case 0xfd0105: return "F32x4RelaxedMadd";
+    case 0xfd0106: return "F32x4RelaxedNmadd";
+    case 0xfd0107: return "F64x2RelaxedMadd";
+    case 0xfd0108: return "F64x2RelaxedNmadd";
+    case 0xfd0109: return "I8x16RelaxedLaneselect";
+    case 0xfd010a: return "I16x8RelaxedLaneselect";
+    case 0xfd010b: return "I32x4RelaxedLaneselect";
+    case 0xfd010c: return "I64x2RelaxedLaneselect";
+    case 0xfd010d: return "F32x4RelaxedMin";
+    case 0xfd010e: return "F32x4RelaxedMax";
+    case 0xfd010f: return "F64x2RelaxedMin";
+    case 0xfd0110: return "F64x2RelaxedMax";
+    case 0xfd0111: return "I16x8RelaxedQ15mulrS";
+    case 0xfd0112: return "I16x8RelaxedDotI8x16I7x16S";
+    case 0xfd0113: return "I32x4RelaxedDotI8x16I7x16AddS";
+    case 0x1f: return "TryTable";
+    case 0x8: return "Throw";
+    case 0xa: return "ThrowRef";
+    case 0x6: return "Try";
+    case 0x7: return "Catch";
+    case 0x9: return "Rethrow";
+    case 0x18: return "Delegate";
+    case 0x19: return "CatchAll";
+    case 0xfe004f: return "GlobalAtomicGet";
+    case 0xfe0050: return "GlobalAtomicSet";
+    case 0xfe0051: return "GlobalAtomicRmwAdd";
+    case 0xfe0052: return "GlobalAtomicRmwSub";
+    case 0xfe0053: return "GlobalAtomicRmwAnd";
+    case 0xfe0054: return "GlobalAtomicRmwOr";
+    case 0xfe0055: return "GlobalAtomicRmwXor";
+    case 0xfe0056: return "GlobalAtomicRmwXchg";
+    case 0xfe0057: return "GlobalAtomicRmwCmpxchg";
+    case 0xfe0058: return "TableAtomicGet";
+    case 0xfe0059: return "TableAtomicSet";
+    case 0xfe005a: return "TableAtomicRmwXchg";
+    case 0xfe005b: return "TableAtomicRmwCmpxchg";
+    case 0xfe005c: return "StructAtomicGet";
+    case 0xfe005d: return "StructAtomicGetS";
+    case 0xfe005e: return "StructAtomicGetU";
+    case 0xfe005f: return "StructAtomicSet";
+    case 0xfe0060: return "StructAtomicRmwAdd";
+    case 0xfe0061: return "StructAtomicRmwSub";
+    case 0xfe0062: return "StructAtomicRmwAnd";
+    case 0xfe0063: return "StructAtomicRmwOr";
+    case 0xfe0064: return "StructAtomicRmwXor";
+    case 0xfe0065: return "StructAtomicRmwXchg";
+    case 0xfe0066: return "StructAtomicRmwCmpxchg";
+    case 0xfe0067: return "ArrayAtomicGet";
+    case 0xfe0068: return "ArrayAtomicGetS";
+    case 0xfe0069: return "ArrayAtomicGetU";
+    case 0xfe006a: return "ArrayAtomicSet";
+    case 0xfe006b: return "ArrayAtomicRmwAdd";
+    case 0xfe006c: return "ArrayAtomicRmwSub";
+    case 0xfe006d: return "ArrayAtomicRmwAnd";
+    case 0xfe006e: return "ArrayAtomicRmwOr";
+    case 0xfe006f: return "ArrayAtomicRmwXor";
+    case 0xfe0070: return "ArrayAtomicRmwXchg";
+    case 0xfe0071: return "ArrayAtomicRmwCmpxchg";
+    case 0xfe0072: return "RefI31Shared";
+    case 0x14: return "CallRef";
+    case 0x15: return "ReturnCallRef";
+    case 0xd4: return "RefAsNonNull";
+    case 0xd5: return "BrOnNull";
+    case 0xd6: return "BrOnNonNull";
+    case 0xe0: return "ContNew";
+    case 0xe1: return "ContBind";
+    case 0xe2: return "Suspend";
+    case 0xe3: return "Resume";
+    case 0xe4: return "ResumeThrow";
+    case 0xe5: return "ResumeThrowRef";
+    case 0xe6: return "Switch";
+    case 0xfc0013: return "I64Add128";
+    case 0xfc0014: return "I64Sub128";
+    case 0xfc0015: return "I64MulWideS";
+    case 0xfc0016: return "I64MulWideU";
+    case 0xfe0004: return "Pause";
+    default: return NULL;
+  }
+}
+
+/* The proposal that brought an operator; -1 where the number is that of none. */
+static inline int wasm_operator_proposal(const wasm_operator *op) {
+  switch (op->opcode) {
+    case 0x0: return WASM_PROPOSAL_MVP;
+    case 0x1: return WASM_PROPOSAL_MVP;
+    case 0x2: return WASM_PROPOSAL_MVP;
+    case 0x3: return WASM_PROPOSAL_MVP;
+    case 0x4: return WASM_PROPOSAL_MVP;
+    case 0x5: return WASM_PROPOSAL_MVP;
+    case 0xb: return WASM_PROPOSAL_MVP;
+    case 0xc: return WASM_PROPOSAL_MVP;
+    case 0xd: return WASM_PROPOSAL_MVP;
+    case 0xe: return WASM_PROPOSAL_MVP;
+    case 0xf: return WASM_PROPOSAL_MVP;
+    case 0x10: return WASM_PROPOSAL_MVP;
+    case 0x11: return WASM_PROPOSAL_MVP;
+    case 0x1a: return WASM_PROPOSAL_MVP;
+    case 0x1b: return WASM_PROPOSAL_MVP;
+    case 0x20: return WASM_PROPOSAL_MVP;
+    case 0x21: return WASM_PROPOSAL_MVP;
+    case 0x22: return WASM_PROPOSAL_MVP;
+    case 0x23: return WASM_PROPOSAL_MVP;
+    case 0x24: return WASM_PROPOSAL_MVP;
+    case 0x28: return WASM_PROPOSAL_MVP;
+    case 0x29: return WASM_PROPOSAL_MVP;
+    case 0x2a: return WASM_PROPOSAL_MVP;
+    case 0x2b: return WASM_PROPOSAL_MVP;
+    case 0x2c: return WASM_PROPOSAL_MVP;
+    case 0x2d: return WASM_PROPOSAL_MVP;
+    case 0x2e: return WASM_PROPOSAL_MVP;
+    case 0x2f: return WASM_PROPOSAL_MVP;
+    case 0x30: return WASM_PROPOSAL_MVP;
+    case 0x31: return WASM_PROPOSAL_MVP;
+    case 0x32: return WASM_PROPOSAL_MVP;
+    case 0x33: return WASM_PROPOSAL_MVP;
+    case 0x34: return WASM_PROPOSAL_MVP;
+    case 0x35: return WASM_PROPOSAL_MVP;
+    case 0x36: return WASM_PROPOSAL_MVP;
+    case 0x37: return WASM_PROPOSAL_MVP;
+    case 0x38: return WASM_PROPOSAL_MVP;
+    case 0x39: return WASM_PROPOSAL_MVP;
+    case 0x3a: return WASM_PROPOSAL_MVP;
+    case 0x3b: return WASM_PROPOSAL_MVP;
+    case 0x3c: return WASM_PROPOSAL_MVP;
+    case 0x3d: return WASM_PROPOSAL_MVP;
+    case 0x3e: return WASM_PROPOSAL_MVP;
+    case 0x3f: return WASM_PROPOSAL_MVP;
+    case 0x40: return WASM_PROPOSAL_MVP;
+    case 0x41: return WASM_PROPOSAL_MVP;
+    case 0x42: return WASM_PROPOSAL_MVP;
+    case 0x43: return WASM_PROPOSAL_MVP;
+    case 0x44: return WASM_PROPOSAL_MVP;
+    case 0x45: return WASM_PROPOSAL_MVP;
+    case 0x46: return WASM_PROPOSAL_MVP;
+    case 0x47: return WASM_PROPOSAL_MVP;
+    case 0x48: return WASM_PROPOSAL_MVP;
+    case 0x49: return WASM_PROPOSAL_MVP;
+    case 0x4a: return WASM_PROPOSAL_MVP;
+    case 0x4b: return WASM_PROPOSAL_MVP;
+    case 0x4c: return WASM_PROPOSAL_MVP;
+    case 0x4d: return WASM_PROPOSAL_MVP;
+    case 0x4e: return WASM_PROPOSAL_MVP;
+    case 0x4f: return WASM_PROPOSAL_MVP;
+    case 0x50: return WASM_PROPOSAL_MVP;
+    case 0x51: return WASM_PROPOSAL_MVP;
+    case 0x52: return WASM_PROPOSAL_MVP;
+    case 0x53: return WASM_PROPOSAL_MVP;
+    case 0x54: return WASM_PROPOSAL_MVP;
+    case 0x55: return WASM_PROPOSAL_MVP;
+    case 0x56: return WASM_PROPOSAL_MVP;
+    case 0x57: return WASM_PROPOSAL_MVP;
+    case 0x58: return WASM_PROPOSAL_MVP;
+    case 0x59: return WASM_PROPOSAL_MVP;
+    case 0x5a: return WASM_PROPOSAL_MVP;
+    case 0x5b: return WASM_PROPOSAL_MVP;
+    case 0x5c: return WASM_PROPOSAL_MVP;
+    case 0x5d: return WASM_PROPOSAL_MVP;
+    case 0x5e: return WASM_PROPOSAL_MVP;
+    case 0x5f: return WASM_PROPOSAL_MVP;
+    case 0x60: return WASM_PROPOSAL_MVP;
+    case 0x61: return WASM_PROPOSAL_MVP;
+    case 0x62: return WASM_PROPOSAL_MVP;
+    case 0x63: return WASM_PROPOSAL_MVP;
+    case 0x64: return WASM_PROPOSAL_MVP;
+    case 0x65: return WASM_PROPOSAL_MVP;
+    case 0x66: return WASM_PROPOSAL_MVP;
+    case 0x67: return WASM_PROPOSAL_MVP;
+    case 0x68: return WASM_PROPOSAL_MVP;
+    case 0x69: return WASM_PROPOSAL_MVP;
+    case 0x6a: return WASM_PROPOSAL_MVP;
+    case 0x6b: return WASM_PROPOSAL_MVP;
+    case 0x6c: return WASM_PROPOSAL_MVP;
+    case 0x6d: return WASM_PROPOSAL_MVP;
+    case 0x6e: return WASM_PROPOSAL_MVP;
+    case 0x6f: return WASM_PROPOSAL_MVP;
+    case 0x70: return WASM_PROPOSAL_MVP;
+    case 0x71: return WASM_PROPOSAL_MVP;
+    case 0x72: return WASM_PROPOSAL_MVP;
+    case 0x73: return WASM_PROPOSAL_MVP;
+    case 0x74: return WASM_PROPOSAL_MVP;
+    case 0x75: return WASM_PROPOSAL_MVP;
+    case 0x76: return WASM_PROPOSAL_MVP;
+    case 0x77: return WASM_PROPOSAL_MVP;
+    case 0x78: return WASM_PROPOSAL_MVP;
+    case 0x79: return WASM_PROPOSAL_MVP;
+    case 0x7a: return WASM_PROPOSAL_MVP;
+    case 0x7b: return WASM_PROPOSAL_MVP;
+    case 0x7c: return WASM_PROPOSAL_MVP;
+    case 0x7d: return WASM_PROPOSAL_MVP;
+    case 0x7e: return WASM_PROPOSAL_MVP;
+    case 0x7f: return WASM_PROPOSAL_MVP;
+    case 0x80: return WASM_PROPOSAL_MVP;
+    case 0x81: return WASM_PROPOSAL_MVP;
+    case 0x82: return WASM_PROPOSAL_MVP;
+    case 0x83: return WASM_PROPOSAL_MVP;
+    case 0x84: return WASM_PROPOSAL_MVP;
+    case 0x85: return WASM_PROPOSAL_MVP;
+    case 0x86: return WASM_PROPOSAL_MVP;
+    case 0x87: return WASM_PROPOSAL_MVP;
+    case 0x88: return WASM_PROPOSAL_MVP;
+    case 0x89: return WASM_PROPOSAL_MVP;
+    case 0x8a: return WASM_PROPOSAL_MVP;
+    case 0x8b: return WASM_PROPOSAL_MVP;
+    case 0x8c: return WASM_PROPOSAL_MVP;
+    case 0x8d: return WASM_PROPOSAL_MVP;
+    case 0x8e: return WASM_PROPOSAL_MVP;
+    case 0x8f: return WASM_PROPOSAL_MVP;
+    case 0x90: return WASM_PROPOSAL_MVP;
+    case 0x91: return WASM_PROPOSAL_MVP;
+    case 0x92: return WASM_PROPOSAL_MVP;
+    case 0x93: return WASM_PROPOSAL_MVP;
+    case 0x94: return WASM_PROPOSAL_MVP;
+    case 0x95: return WASM_PROPOSAL_MVP;
+    case 0x96: return WASM_PROPOSAL_MVP;
+    case 0x97: return WASM_PROPOSAL_MVP;
+    case 0x98: return WASM_PROPOSAL_MVP;
+    case 0x99: return WASM_PROPOSAL_MVP;
+    case 0x9a: return WASM_PROPOSAL_MVP;
+    case 0x9b: return WASM_PROPOSAL_MVP;
+    case 0x9c: return WASM_PROPOSAL_MVP;
+    case 0x9d: return WASM_PROPOSAL_MVP;
+    case 0x9e: return WASM_PROPOSAL_MVP;
+    case 0x9f: return WASM_PROPOSAL_MVP;
+    case 0xa0: return WASM_PROPOSAL_MVP;
+    case 0xa1: return WASM_PROPOSAL_MVP;
+    case 0xa2: return WASM_PROPOSAL_MVP;
+    case 0xa3: return WASM_PROPOSAL_MVP;
+    case 0xa4: return WASM_PROPOSAL_MVP;
+    case 0xa5: return WASM_PROPOSAL_MVP;
+    case 0xa6: return WASM_PROPOSAL_MVP;
+    case 0xa7: return WASM_PROPOSAL_MVP;
+    case 0xa8: return WASM_PROPOSAL_MVP;
+    case 0xa9: return WASM_PROPOSAL_MVP;
+    case 0xaa: return WASM_PROPOSAL_MVP;
+    case 0xab: return WASM_PROPOSAL_MVP;
+    case 0xac: return WASM_PROPOSAL_MVP;
+    case 0xad: return WASM_PROPOSAL_MVP;
+    case 0xae: return WASM_PROPOSAL_MVP;
+    case 0xaf: return WASM_PROPOSAL_MVP;
+    case 0xb0: return WASM_PROPOSAL_MVP;
+    case 0xb1: return WASM_PROPOSAL_MVP;
+    case 0xb2: return WASM_PROPOSAL_MVP;
+    case 0xb3: return WASM_PROPOSAL_MVP;
+    case 0xb4: return WASM_PROPOSAL_MVP;
+    case 0xb5: return WASM_PROPOSAL_MVP;
+    case 0xb6: return WASM_PROPOSAL_MVP;
+    case 0xb7: return WASM_PROPOSAL_MVP;
+    case 0xb8: return WASM_PROPOSAL_MVP;
+    case 0xb9: return WASM_PROPOSAL_MVP;
+    case 0xba: return WASM_PROPOSAL_MVP;
+    case 0xbb: return WASM_PROPOSAL_MVP;
+    case 0xbc: return WASM_PROPOSAL_MVP;
+    case 0xbd: return WASM_PROPOSAL_MVP;
+    case 0xbe: return WASM_PROPOSAL_MVP;
+    case 0xbf: return WASM_PROPOSAL_MVP;
+    case 0xc0: return WASM_PROPOSAL_SIGN_EXTENSION;
+    case 0xc1: return WASM_PROPOSAL_SIGN_EXTENSION;
+    case 0xc2: return WASM_PROPOSAL_SIGN_EXTENSION;
+    case 0xc3: return WASM_PROPOSAL_SIGN_EXTENSION;
+    case 0xc4: return WASM_PROPOSAL_SIGN_EXTENSION;
+    case 0xd3: return WASM_PROPOSAL_GC;
+    case 0xfb0000: return WASM_PROPOSAL_GC;
+    case 0xfb0001: return WASM_PROPOSAL_GC;
+    case 0xfb0002: return WASM_PROPOSAL_GC;
+    case 0xfb0003: return WASM_PROPOSAL_GC;
+    case 0xfb0004: return WASM_PROPOSAL_GC;
+    case 0xfb0005: return WASM_PROPOSAL_GC;
+    case 0xfb0006: return WASM_PROPOSAL_GC;
+    case 0xfb0007: return WASM_PROPOSAL_GC;
+    case 0xfb0008: return WASM_PROPOSAL_GC;
+    case 0xfb0009: return WASM_PROPOSAL_GC;
+    case 0xfb000a: return WASM_PROPOSAL_GC;
+    case 0xfb000b: return WASM_PROPOSAL_GC;
+    case 0xfb000c: return WASM_PROPOSAL_GC;
+    case 0xfb000d: return WASM_PROPOSAL_GC;
+    case 0xfb000e: return WASM_PROPOSAL_GC;
+    case 0xfb000f: return WASM_PROPOSAL_GC;
+    case 0xfb0010: return WASM_PROPOSAL_GC;
+    case 0xfb0011: return WASM_PROPOSAL_GC;
+    case 0xfb0012: return WASM_PROPOSAL_GC;
+    case 0xfb0013: return WASM_PROPOSAL_GC;
+    case 0xfb0014: return WASM_PROPOSAL_GC;
+    case 0xfb0015: return WASM_PROPOSAL_GC;
+    case 0xfb0016: return WASM_PROPOSAL_GC;
+    case 0xfb0017: return WASM_PROPOSAL_GC;
+    case 0xfb0018: return WASM_PROPOSAL_GC;
+    case 0xfb0019: return WASM_PROPOSAL_GC;
+    case 0xfb001a: return WASM_PROPOSAL_GC;
+    case 0xfb001b: return WASM_PROPOSAL_GC;
+    case 0xfb001c: return WASM_PROPOSAL_GC;
+    case 0xfb001d: return WASM_PROPOSAL_GC;
+    case 0xfb001e: return WASM_PROPOSAL_GC;
+    case 0xfb0020: return WASM_PROPOSAL_CUSTOM_DESCRIPTORS;
+    case 0xfb0021: return WASM_PROPOSAL_CUSTOM_DESCRIPTORS;
+    case 0xfb0022: return WASM_PROPOSAL_CUSTOM_DESCRIPTORS;
+    case 0xfb0023: return WASM_PROPOSAL_CUSTOM_DESCRIPTORS;
+    case 0xfb0024: return WASM_PROPOSAL_CUSTOM_DESCRIPTORS;
+    case 0xfb0025: return WASM_PROPOSAL_CUSTOM_DESCRIPTORS;
+    case 0xfb0026: return WASM_PROPOSAL_CUSTOM_DESCRIPTORS;
+    case 0xfc0000: return WASM_PROPOSAL_SATURATING_FLOAT_TO_INT;
+    case 0xfc0001: return WASM_PROPOSAL_SATURATING_FLOAT_TO_INT;
+    case 0xfc0002: return WASM_PROPOSAL_SATURATING_FLOAT_TO_INT;
+    case 0xfc0003: return WASM_PROPOSAL_SATURATING_FLOAT_TO_INT;
+    case 0xfc0004: return WASM_PROPOSAL_SATURATING_FLOAT_TO_INT;
+    case 0xfc0005: return WASM_PROPOSAL_SATURATING_FLOAT_TO_INT;
+    case 0xfc0006: return WASM_PROPOSAL_SATURATING_FLOAT_TO_INT;
+    case 0xfc0007: return WASM_PROPOSAL_SATURATING_FLOAT_TO_INT;
+    case 0xfc0008: return WASM_PROPOSAL_BULK_MEMORY;
+    case 0xfc0009: return WASM_PROPOSAL_BULK_MEMORY;
+    case 0xfc000a: return WASM_PROPOSAL_BULK_MEMORY;
+    case 0xfc000b: return WASM_PROPOSAL_BULK_MEMORY;
+    case 0xfc000c: return WASM_PROPOSAL_BULK_MEMORY;
+    case 0xfc000d: return WASM_PROPOSAL_BULK_MEMORY;
+    case 0xfc000e: return WASM_PROPOSAL_BULK_MEMORY;
+    case 0x1c: return op->shape == WASM_SHAPE_SELECT_ONE ? WASM_PROPOSAL_REFERENCE_TYPES : WASM_PROPOSAL_REFERENCE_TYPES;
+    case 0xd0: return WASM_PROPOSAL_REFERENCE_TYPES;
+    case 0xd1: return WASM_PROPOSAL_REFERENCE_TYPES;
+    case 0xd2: return WASM_PROPOSAL_REFERENCE_TYPES;
+    case 0xfc0011: return WASM_PROPOSAL_REFERENCE_TYPES;
+    case 0x25: return WASM_PROPOSAL_REFERENCE_TYPES;
+    case 0x26: return WASM_PROPOSAL_REFERENCE_TYPES;
+    case 0xfc000f: return WASM_PROPOSAL_REFERENCE_TYPES;
+    case 0xfc0010: return WASM_PROPOSAL_REFERENCE_TYPES;
+    case 0x12: return WASM_PROPOSAL_TAIL_CALL;
+    case 0x13: return WASM_PROPOSAL_TAIL_CALL;
+    case 0xfc0012: return WASM_PROPOSAL_MEMORY_CONTROL;
+    case 0xfe0000: return WASM_PROPOSAL_THREADS;
+    case 0xfe0001: return WASM_PROPOSAL_THREADS;
+    case 0xfe0002: return WASM_PROPOSAL_THREADS;
+    case 0xfe0003: return WASM_PROPOSAL_THREADS;
+    case 0xfe0010: return WASM_PROPOSAL_THREADS;
+    case 0xfe0011: return WASM_PROPOSAL_THREADS;
+    case 0xfe0012: return WASM_PROPOSAL_THREADS;
+    case 0xfe0013: return WASM_PROPOSAL_THREADS;
+    case 0xfe0014: return WASM_PROPOSAL_THREADS;
+    case 0xfe0015: return WASM_PROPOSAL_THREADS;
+    case 0xfe0016: return WASM_PROPOSAL_THREADS;
+    case 0xfe0017: return WASM_PROPOSAL_THREADS;
+    case 0xfe0018: return WASM_PROPOSAL_THREADS;
+    case 0xfe0019: return WASM_PROPOSAL_THREADS;
+    case 0xfe001a: return WASM_PROPOSAL_THREADS;
+    case 0xfe001b: return WASM_PROPOSAL_THREADS;
+    case 0xfe001c: return WASM_PROPOSAL_THREADS;
+    case 0xfe001d: return WASM_PROPOSAL_THREADS;
+    case 0xfe001e: return WASM_PROPOSAL_THREADS;
+    case 0xfe001f: return WASM_PROPOSAL_THREADS;
+    case 0xfe0020: return WASM_PROPOSAL_THREADS;
+    case 0xfe0021: return WASM_PROPOSAL_THREADS;
+    case 0xfe0022: return WASM_PROPOSAL_THREADS;
+    case 0xfe0023: return WASM_PROPOSAL_THREADS;
+    case 0xfe0024: return WASM_PROPOSAL_THREADS;
+    case 0xfe0025: return WASM_PROPOSAL_THREADS;
+    case 0xfe0026: return WASM_PROPOSAL_THREADS;
+    case 0xfe0027: return WASM_PROPOSAL_THREADS;
+    case 0xfe0028: return WASM_PROPOSAL_THREADS;
+    case 0xfe0029: return WASM_PROPOSAL_THREADS;
+    case 0xfe002a: return WASM_PROPOSAL_THREADS;
+    case 0xfe002b: return WASM_PROPOSAL_THREADS;
+    case 0xfe002c: return WASM_PROPOSAL_THREADS;
+    case 0xfe002d: return WASM_PROPOSAL_THREADS;
+    case 0xfe002e: return WASM_PROPOSAL_THREADS;
+    case 0xfe002f: return WASM_PROPOSAL_THREADS;
+    case 0xfe0030: return WASM_PROPOSAL_THREADS;
+    case 0xfe0031: return WASM_PROPOSAL_THREADS;
+    case 0xfe0032: return WASM_PROPOSAL_THREADS;
+    case 0xfe0033: return WASM_PROPOSAL_THREADS;
+    case 0xfe0034: return WASM_PROPOSAL_THREADS;
+    case 0xfe0035: return WASM_PROPOSAL_THREADS;
+    case 0xfe0036: return WASM_PROPOSAL_THREADS;
+    case 0xfe0037: return WASM_PROPOSAL_THREADS;
+    case 0xfe0038: return WASM_PROPOSAL_THREADS;
+    case 0xfe0039: return WASM_PROPOSAL_THREADS;
+    case 0xfe003a: return WASM_PROPOSAL_THREADS;
+    case 0xfe003b: return WASM_PROPOSAL_THREADS;
+    case 0xfe003c: return WASM_PROPOSAL_THREADS;
+    case 0xfe003d: return WASM_PROPOSAL_THREADS;
+    case 0xfe003e: return WASM_PROPOSAL_THREADS;
+    case 0xfe003f: return WASM_PROPOSAL_THREADS;
+    case 0xfe0040: return WASM_PROPOSAL_THREADS;
+    case 0xfe0041: return WASM_PROPOSAL_THREADS;
+    case 0xfe0042: return WASM_PROPOSAL_THREADS;
+    case 0xfe0043: return WASM_PROPOSAL_THREADS;
+    case 0xfe0044: return WASM_PROPOSAL_THREADS;
+    case 0xfe0045: return WASM_PROPOSAL_THREADS;
+    case 0xfe0046: return WASM_PROPOSAL_THREADS;
+    case 0xfe0047: return WASM_PROPOSAL_THREADS;
+    case 0xfe0048: return WASM_PROPOSAL_THREADS;
+    case 0xfe0049: return WASM_PROPOSAL_THREADS;
+    case 0xfe004a: return WASM_PROPOSAL_THREADS;
+    case 0xfe004b: return WASM_PROPOSAL_THREADS;
+    case 0xfe004c: return WASM_PROPOSAL_THREADS;
+    case 0xfe004d: return WASM_PROPOSAL_THREADS;
+    case 0xfe004e: return WASM_PROPOSAL_THREADS;
+    case 0xfd0000: return WASM_PROPOSAL_SIMD;
+    case 0xfd0001: return WASM_PROPOSAL_SIMD;
+    case 0xfd0002: return WASM_PROPOSAL_SIMD;
+    case 0xfd0003: return WASM_PROPOSAL_SIMD;
+    case 0xfd0004: return WASM_PROPOSAL_SIMD;
+    case 0xfd0005: return WASM_PROPOSAL_SIMD;
+    case 0xfd0006: return WASM_PROPOSAL_SIMD;
+    case 0xfd0007: return WASM_PROPOSAL_SIMD;
+    case 0xfd0008: return WASM_PROPOSAL_SIMD;
+    case 0xfd0009: return WASM_PROPOSAL_SIMD;
+    case 0xfd000a: return WASM_PROPOSAL_SIMD;
+    case 0xfd005c: return WASM_PROPOSAL_SIMD;
+    case 0xfd005d: return WASM_PROPOSAL_SIMD;
+    case 0xfd000b: return WASM_PROPOSAL_SIMD;
+    case 0xfd0054: return WASM_PROPOSAL_SIMD;
+    case 0xfd0055: return WASM_PROPOSAL_SIMD;
+    case 0xfd0056: return WASM_PROPOSAL_SIMD;
+    case 0xfd0057: return WASM_PROPOSAL_SIMD;
+    case 0xfd0058: return WASM_PROPOSAL_SIMD;
+    case 0xfd0059: return WASM_PROPOSAL_SIMD;
+    case 0xfd005a: return WASM_PROPOSAL_SIMD;
+    case 0xfd005b: return WASM_PROPOSAL_SIMD;
+    case 0xfd000c: return WASM_PROPOSAL_SIMD;
+    case 0xfd000d: return WASM_PROPOSAL_SIMD;
+    case 0xfd0015: return WASM_PROPOSAL_SIMD;
+    case 0xfd0016: return WASM_PROPOSAL_SIMD;
+    case 0xfd0017: return WASM_PROPOSAL_SIMD;
+    case 0xfd0018: return WASM_PROPOSAL_SIMD;
+    case 0xfd0019: return WASM_PROPOSAL_SIMD;
+    case 0xfd001a: return WASM_PROPOSAL_SIMD;
+    case 0xfd001b: return WASM_PROPOSAL_SIMD;
+    case 0xfd001c: return WASM_PROPOSAL_SIMD;
+    case 0xfd001d: return WASM_PROPOSAL_SIMD;
+    case 0xfd001e: return WASM_PROPOSAL_SIMD;
+    case 0xfd001f: return WASM_PROPOSAL_SIMD;
+    case 0xfd0020: return WASM_PROPOSAL_SIMD;
+    case 0xfd0021: return WASM_PROPOSAL_SIMD;
+    case 0xfd0022: return WASM_PROPOSAL_SIMD;
+    case 0xfd000e: return WASM_PROPOSAL_SIMD;
+    case 0xfd000f: return WASM_PROPOSAL_SIMD;
+    case 0xfd0010: return WASM_PROPOSAL_SIMD;
+    case 0xfd0011: return WASM_PROPOSAL_SIMD;
+    case 0xfd0012: return WASM_PROPOSAL_SIMD;
+    case 0xfd0013: return WASM_PROPOSAL_SIMD;
+    case 0xfd0014: return WASM_PROPOSAL_SIMD;
+    case 0xfd0023: return WASM_PROPOSAL_SIMD;
+    case 0xfd0024: return WASM_PROPOSAL_SIMD;
+    case 0xfd0025: return WASM_PROPOSAL_SIMD;
+    case 0xfd0026: return WASM_PROPOSAL_SIMD;
+    case 0xfd0027: return WASM_PROPOSAL_SIMD;
+    case 0xfd0028: return WASM_PROPOSAL_SIMD;
+    case 0xfd0029: return WASM_PROPOSAL_SIMD;
+    case 0xfd002a: return WASM_PROPOSAL_SIMD;
+    case 0xfd002b: return WASM_PROPOSAL_SIMD;
+    case 0xfd002c: return WASM_PROPOSAL_SIMD;
+    case 0xfd002d: return WASM_PROPOSAL_SIMD;
+    case 0xfd002e: return WASM_PROPOSAL_SIMD;
+    case 0xfd002f: return WASM_PROPOSAL_SIMD;
+    case 0xfd0030: return WASM_PROPOSAL_SIMD;
+    case 0xfd0031: return WASM_PROPOSAL_SIMD;
+    case 0xfd0032: return WASM_PROPOSAL_SIMD;
+    case 0xfd0033: return WASM_PROPOSAL_SIMD;
+    case 0xfd0034: return WASM_PROPOSAL_SIMD;
+    case 0xfd0035: return WASM_PROPOSAL_SIMD;
+    case 0xfd0036: return WASM_PROPOSAL_SIMD;
+    case 0xfd0037: return WASM_PROPOSAL_SIMD;
+    case 0xfd0038: return WASM_PROPOSAL_SIMD;
+    case 0xfd0039: return WASM_PROPOSAL_SIMD;
+    case 0xfd003a: return WASM_PROPOSAL_SIMD;
+    case 0xfd003b: return WASM_PROPOSAL_SIMD;
+    case 0xfd003c: return WASM_PROPOSAL_SIMD;
+    case 0xfd003d: return WASM_PROPOSAL_SIMD;
+    case 0xfd003e: return WASM_PROPOSAL_SIMD;
+    case 0xfd003f: return WASM_PROPOSAL_SIMD;
+    case 0xfd0040: return WASM_PROPOSAL_SIMD;
+    case 0xfd00d6: return WASM_PROPOSAL_SIMD;
+    case 0xfd00d7: return WASM_PROPOSAL_SIMD;
+    case 0xfd00d8: return WASM_PROPOSAL_SIMD;
+    case 0xfd00d9: return WASM_PROPOSAL_SIMD;
+    case 0xfd00da: return WASM_PROPOSAL_SIMD;
+    case 0xfd00db: return WASM_PROPOSAL_SIMD;
+    case 0xfd0041: return WASM_PROPOSAL_SIMD;
+    case 0xfd0042: return WASM_PROPOSAL_SIMD;
+    case 0xfd0043: return WASM_PROPOSAL_SIMD;
+    case 0xfd0044: return WASM_PROPOSAL_SIMD;
+    case 0xfd0045: return WASM_PROPOSAL_SIMD;
+    case 0xfd0046: return WASM_PROPOSAL_SIMD;
+    case 0xfd0047: return WASM_PROPOSAL_SIMD;
+    case 0xfd0048: return WASM_PROPOSAL_SIMD;
+    case 0xfd0049: return WASM_PROPOSAL_SIMD;
+    case 0xfd004a: return WASM_PROPOSAL_SIMD;
+    case 0xfd004b: return WASM_PROPOSAL_SIMD;
+    case 0xfd004c: return WASM_PROPOSAL_SIMD;
+    case 0xfd004d: return WASM_PROPOSAL_SIMD;
+    case 0xfd004e: return WASM_PROPOSAL_SIMD;
+    case 0xfd004f: return WASM_PROPOSAL_SIMD;
+    case 0xfd0050: return WASM_PROPOSAL_SIMD;
+    case 0xfd0051: return WASM_PROPOSAL_SIMD;
+    case 0xfd0052: return WASM_PROPOSAL_SIMD;
+    case 0xfd0053: return WASM_PROPOSAL_SIMD;
+    case 0xfd0060: return WASM_PROPOSAL_SIMD;
+    case 0xfd0061: return WASM_PROPOSAL_SIMD;
+    case 0xfd0062: return WASM_PROPOSAL_SIMD;
+    case 0xfd0063: return WASM_PROPOSAL_SIMD;
+    case 0xfd0064: return WASM_PROPOSAL_SIMD;
+    case 0xfd0065: return WASM_PROPOSAL_SIMD;
+    case 0xfd0066: return WASM_PROPOSAL_SIMD;
+    case 0xfd006b: return WASM_PROPOSAL_SIMD;
+    case 0xfd006c: return WASM_PROPOSAL_SIMD;
+    case 0xfd006d: return WASM_PROPOSAL_SIMD;
+    case 0xfd006e: return WASM_PROPOSAL_SIMD;
+    case 0xfd006f: return WASM_PROPOSAL_SIMD;
+    case 0xfd0070: return WASM_PROPOSAL_SIMD;
+    case 0xfd0071: return WASM_PROPOSAL_SIMD;
+    case 0xfd0072: return WASM_PROPOSAL_SIMD;
+    case 0xfd0073: return WASM_PROPOSAL_SIMD;
+    case 0xfd0076: return WASM_PROPOSAL_SIMD;
+    case 0xfd0077: return WASM_PROPOSAL_SIMD;
+    case 0xfd0078: return WASM_PROPOSAL_SIMD;
+    case 0xfd0079: return WASM_PROPOSAL_SIMD;
+    case 0xfd007b: return WASM_PROPOSAL_SIMD;
+    case 0xfd007c: return WASM_PROPOSAL_SIMD;
+    case 0xfd007d: return WASM_PROPOSAL_SIMD;
+    case 0xfd0080: return WASM_PROPOSAL_SIMD;
+    case 0xfd0081: return WASM_PROPOSAL_SIMD;
+    case 0xfd0082: return WASM_PROPOSAL_SIMD;
+    case 0xfd0083: return WASM_PROPOSAL_SIMD;
+    case 0xfd0084: return WASM_PROPOSAL_SIMD;
+    case 0xfd0085: return WASM_PROPOSAL_SIMD;
+    case 0xfd0086: return WASM_PROPOSAL_SIMD;
+    case 0xfd0087: return WASM_PROPOSAL_SIMD;
+    case 0xfd0088: return WASM_PROPOSAL_SIMD;
+    case 0xfd0089: return WASM_PROPOSAL_SIMD;
+    case 0xfd008a: return WASM_PROPOSAL_SIMD;
+    case 0xfd008b: return WASM_PROPOSAL_SIMD;
+    case 0xfd008c: return WASM_PROPOSAL_SIMD;
+    case 0xfd008d: return WASM_PROPOSAL_SIMD;
+    case 0xfd008e: return WASM_PROPOSAL_SIMD;
+    case 0xfd008f: return WASM_PROPOSAL_SIMD;
+    case 0xfd0090: return WASM_PROPOSAL_SIMD;
+    case 0xfd0091: return WASM_PROPOSAL_SIMD;
+    case 0xfd0092: return WASM_PROPOSAL_SIMD;
+    case 0xfd0093: return WASM_PROPOSAL_SIMD;
+    case 0xfd0095: return WASM_PROPOSAL_SIMD;
+    case 0xfd0096: return WASM_PROPOSAL_SIMD;
+    case 0xfd0097: return WASM_PROPOSAL_SIMD;
+    case 0xfd0098: return WASM_PROPOSAL_SIMD;
+    case 0xfd0099: return WASM_PROPOSAL_SIMD;
+    case 0xfd009b: return WASM_PROPOSAL_SIMD;
+    case 0xfd009c: return WASM_PROPOSAL_SIMD;
+    case 0xfd009d: return WASM_PROPOSAL_SIMD;
+    case 0xfd009e: return WASM_PROPOSAL_SIMD;
+    case 0xfd009f: return WASM_PROPOSAL_SIMD;
+    case 0xfd007e: return WASM_PROPOSAL_SIMD;
+    case 0xfd007f: return WASM_PROPOSAL_SIMD;
+    case 0xfd00a0: return WASM_PROPOSAL_SIMD;
+    case 0xfd00a1: return WASM_PROPOSAL_SIMD;
+    case 0xfd00a3: return WASM_PROPOSAL_SIMD;
+    case 0xfd00a4: return WASM_PROPOSAL_SIMD;
+    case 0xfd00a7: return WASM_PROPOSAL_SIMD;
+    case 0xfd00a8: return WASM_PROPOSAL_SIMD;
+    case 0xfd00a9: return WASM_PROPOSAL_SIMD;
+    case 0xfd00aa: return WASM_PROPOSAL_SIMD;
+    case 0xfd00ab: return WASM_PROPOSAL_SIMD;
+    case 0xfd00ac: return WASM_PROPOSAL_SIMD;
+    case 0xfd00ad: return WASM_PROPOSAL_SIMD;
+    case 0xfd00ae: return WASM_PROPOSAL_SIMD;
+    case 0xfd00b1: return WASM_PROPOSAL_SIMD;
+    case 0xfd00b5: return WASM_PROPOSAL_SIMD;
+    case 0xfd00b6: return WASM_PROPOSAL_SIMD;
+    case 0xfd00b7: return WASM_PROPOSAL_SIMD;
+    case 0xfd00b8: return WASM_PROPOSAL_SIMD;
+    case 0xfd00b9: return WASM_PROPOSAL_SIMD;
+    case 0xfd00ba: return WASM_PROPOSAL_SIMD;
+    case 0xfd00bc: return WASM_PROPOSAL_SIMD;
+    case 0xfd00bd: return WASM_PROPOSAL_SIMD;
+    case 0xfd00be: return WASM_PROPOSAL_SIMD;
+    case 0xfd00bf: return WASM_PROPOSAL_SIMD;
+    case 0xfd00c0: return WASM_PROPOSAL_SIMD;
+    case 0xfd00c1: return WASM_PROPOSAL_SIMD;
+    case 0xfd00c3: return WASM_PROPOSAL_SIMD;
+    case 0xfd00c4: return WASM_PROPOSAL_SIMD;
+    case 0xfd00c7: return WASM_PROPOSAL_SIMD;
+    case 0xfd00c8: return WASM_PROPOSAL_SIMD;
+    case 0xfd00c9: return WASM_PROPOSAL_SIMD;
+    case 0xfd00ca: return WASM_PROPOSAL_SIMD;
+    case 0xfd00cb: return WASM_PROPOSAL_SIMD;
+    case 0xfd00cc: return WASM_PROPOSAL_SIMD;
+    case 0xfd00cd: return WASM_PROPOSAL_SIMD;
+    case 0xfd00ce: return WASM_PROPOSAL_SIMD;
+    case 0xfd00d1: return WASM_PROPOSAL_SIMD;
+    case 0xfd00d5: return WASM_PROPOSAL_SIMD;
+    case 0xfd00dc: return WASM_PROPOSAL_SIMD;
+    case 0xfd00dd: return WASM_PROPOSAL_SIMD;
+    case 0xfd00de: return WASM_PROPOSAL_SIMD;
+    case 0xfd00df: return WASM_PROPOSAL_SIMD;
+    case 0xfd0067: return WASM_PROPOSAL_SIMD;
+    case 0xfd0068: return WASM_PROPOSAL_SIMD;
+    case 0xfd0069: return WASM_PROPOSAL_SIMD;
+    case 0xfd006a: return WASM_PROPOSAL_SIMD;
+    case 0xfd00e0: return WASM_PROPOSAL_SIMD;
+    case 0xfd00e1: return WASM_PROPOSAL_SIMD;
+    case 0xfd00e3: return WASM_PROPOSAL_SIMD;
+    case 0xfd00e4: return WASM_PROPOSAL_SIMD;
+    case 0xfd00e5: return WASM_PROPOSAL_SIMD;
+    case 0xfd00e6: return WASM_PROPOSAL_SIMD;
+    case 0xfd00e7: return WASM_PROPOSAL_SIMD;
+    case 0xfd00e8: return WASM_PROPOSAL_SIMD;
+    case 0xfd00e9: return WASM_PROPOSAL_SIMD;
+    case 0xfd00ea: return WASM_PROPOSAL_SIMD;
+    case 0xfd00eb: return WASM_PROPOSAL_SIMD;
+    case 0xfd0074: return WASM_PROPOSAL_SIMD;
+    case 0xfd0075: return WASM_PROPOSAL_SIMD;
+    case 0xfd007a: return WASM_PROPOSAL_SIMD;
+    case 0xfd0094: return WASM_PROPOSAL_SIMD;
+    case 0xfd00ec: return WASM_PROPOSAL_SIMD;
+    case 0xfd00ed: return WASM_PROPOSAL_SIMD;
+    case 0xfd00ef: return WASM_PROPOSAL_SIMD;
+    case 0xfd00f0: return WASM_PROPOSAL_SIMD;
+    case 0xfd00f1: return WASM_PROPOSAL_SIMD;
+    case 0xfd00f2: return WASM_PROPOSAL_SIMD;
+    case 0xfd00f3: return WASM_PROPOSAL_SIMD;
+    case 0xfd00f4: return WASM_PROPOSAL_SIMD;
+    case 0xfd00f5: return WASM_PROPOSAL_SIMD;
+    case 0xfd00f6: return WASM_PROPOSAL_SIMD;
+    case 0xfd00f7: return WASM_PROPOSAL_SIMD;
+    case 0xfd00f8: return WASM_PROPOSAL_SIMD;
+    case 0xfd00f9: return WASM_PROPOSAL_SIMD;
+    case 0xfd00fa: return WASM_PROPOSAL_SIMD;
+    case 0xfd00fb: return WASM_PROPOSAL_SIMD;
+    case 0xfd00fc: return WASM_PROPOSAL_SIMD;
+    case 0xfd00fd: return WASM_PROPOSAL_SIMD;
+    case 0xfd00fe: return WASM_PROPOSAL_SIMD;
+    case 0xfd00ff: return WASM_PROPOSAL_SIMD;
+    case 0xfd005e: return WASM_PROPOSAL_SIMD;
+    case 0xfd005f: return WASM_PROPOSAL_SIMD;
+    case 0xfd0100: return WASM_PROPOSAL_RELAXED_SIMD;
+    case 0xfd0101: return WASM_PROPOSAL_RELAXED_SIMD;
+    case 0xfd0102: return WASM_PROPOSAL_RELAXED_SIMD;
+    case 0xfd0103: return WASM_PROPOSAL_RELAXED_SIMD;
+    case 0xfd0104: return WASM_PROPOSAL_RELAXED_SIMD;
+    case 0xfd0105: return WASM_PROPOSAL_RELAXED_SIMD;
+    case 0xfd0106: return WASM_PROPOSAL_RELAXED_SIMD;
+    case 0xfd0107: return WASM_PROPOSAL_RELAXED_SIMD;
+    case 0xfd0108: return WASM_PROPOSAL_RELAXED_SIMD;
+    case 0xfd0109: return WASM_PROPOSAL_RELAXED_SIMD;
+    case 0xfd010a: return WASM_PROPOSAL_RELAXED_SIMD;
+    case 0xfd010b: return WASM_PROPOSAL_RELAXED_SIMD;
+    case 0xfd010c: return WASM_PROPOSAL_RELAXED_SIMD;
+    case 0xfd010d: return WASM_PROPOSAL_RELAXED_SIMD;
+    case 0xfd010e: return WASM_PROPOSAL_RELAXED_SIMD;
+    case 0xfd010f: return WASM_PROPOSAL_RELAXED_SIMD;
+    case 0xfd0110: return WASM_PROPOSAL_RELAXED_SIMD;
+    case 0xfd0111: return WASM_PROPOSAL_RELAXED_SIMD;
+    case 0xfd0112: return WASM_PROPOSAL_RELAXED_SIMD;
+    case 0xfd0113: return WASM_PROPOSAL_RELAXED_SIMD;
+    case 0x1f: return WASM_PROPOSAL_EXCEPTIONS;
+    case 0x8: return WASM_PROPOSAL_EXCEPTIONS;
+    case 0xa: return WASM_PROPOSAL_EXCEPTIONS;
+    case 0x6: return WASM_PROPOSAL_LEGACY_EXCEPTIONS;
+    case 0x7: return WASM_PROPOSAL_LEGACY_EXCEPTIONS;
+    case 0x9: return WASM_PROPOSAL_LEGACY_EXCEPTIONS;
+    case 0x18: return WASM_PROPOSAL_LEGACY_EXCEPTIONS;
+    case 0x19: return WASM_PROPOSAL_LEGACY_EXCEPTIONS;
+    case 0xfe004f: return WASM_PROPOSAL_SHARED_EVERYTHING_THREADS;
+    case 0xfe0050: return WASM_PROPOSAL_SHARED_EVERYTHING_THREADS;
+    case 0xfe0051: return WASM_PROPOSAL_SHARED_EVERYTHING_THREADS;
+    case 0xfe0052: return WASM_PROPOSAL_SHARED_EVERYTHING_THREADS;
+    case 0xfe0053: return WASM_PROPOSAL_SHARED_EVERYTHING_THREADS;
+    case 0xfe0054: return WASM_PROPOSAL_SHARED_EVERYTHING_THREADS;
+    case 0xfe0055: return WASM_PROPOSAL_SHARED_EVERYTHING_THREADS;
+    case 0xfe0056: return WASM_PROPOSAL_SHARED_EVERYTHING_THREADS;
+    case 0xfe0057: return WASM_PROPOSAL_SHARED_EVERYTHING_THREADS;
+    case 0xfe0058: return WASM_PROPOSAL_SHARED_EVERYTHING_THREADS;
+    case 0xfe0059: return WASM_PROPOSAL_SHARED_EVERYTHING_THREADS;
+    case 0xfe005a: return WASM_PROPOSAL_SHARED_EVERYTHING_THREADS;
+    case 0xfe005b: return WASM_PROPOSAL_SHARED_EVERYTHING_THREADS;
+    case 0xfe005c: return WASM_PROPOSAL_SHARED_EVERYTHING_THREADS;
+    case 0xfe005d: return WASM_PROPOSAL_SHARED_EVERYTHING_THREADS;
+    case 0xfe005e: return WASM_PROPOSAL_SHARED_EVERYTHING_THREADS;
+    case 0xfe005f: return WASM_PROPOSAL_SHARED_EVERYTHING_THREADS;
+    case 0xfe0060: return WASM_PROPOSAL_SHARED_EVERYTHING_THREADS;
+    case 0xfe0061: return WASM_PROPOSAL_SHARED_EVERYTHING_THREADS;
+    case 0xfe0062: return WASM_PROPOSAL_SHARED_EVERYTHING_THREADS;
+    case 0xfe0063: return WASM_PROPOSAL_SHARED_EVERYTHING_THREADS;
+    case 0xfe0064: return WASM_PROPOSAL_SHARED_EVERYTHING_THREADS;
+    case 0xfe0065: return WASM_PROPOSAL_SHARED_EVERYTHING_THREADS;
+    case 0xfe0066: return WASM_PROPOSAL_SHARED_EVERYTHING_THREADS;
+    case 0xfe0067: return WASM_PROPOSAL_SHARED_EVERYTHING_THREADS;
+    case 0xfe0068: return WASM_PROPOSAL_SHARED_EVERYTHING_THREADS;
+    case 0xfe0069: return WASM_PROPOSAL_SHARED_EVERYTHING_THREADS;
+    case 0xfe006a: return WASM_PROPOSAL_SHARED_EVERYTHING_THREADS;
+    case 0xfe006b: return WASM_PROPOSAL_SHARED_EVERYTHING_THREADS;
+    case 0xfe006c: return WASM_PROPOSAL_SHARED_EVERYTHING_THREADS;
+    case 0xfe006d: return WASM_PROPOSAL_SHARED_EVERYTHING_THREADS;
+    case 0xfe006e: return WASM_PROPOSAL_SHARED_EVERYTHING_THREADS;
+    case 0xfe006f: return WASM_PROPOSAL_SHARED_EVERYTHING_THREADS;
+    case 0xfe0070: return WASM_PROPOSAL_SHARED_EVERYTHING_THREADS;
+    case 0xfe0071: return WASM_PROPOSAL_SHARED_EVERYTHING_THREADS;
+    case 0xfe0072: return WASM_PROPOSAL_SHARED_EVERYTHING_THREADS;
+    case 0x14: return WASM_PROPOSAL_FUNCTION_REFERENCES;
+    case 0x15: return WASM_PROPOSAL_FUNCTION_REFERENCES;
+    case 0xd4: return WASM_PROPOSAL_FUNCTION_REFERENCES;
+    case 0xd5: return WASM_PROPOSAL_FUNCTION_REFERENCES;
+    case 0xd6: return WASM_PROPOSAL_FUNCTION_REFERENCES;
+    case 0xe0: return WASM_PROPOSAL_STACK_SWITCHING;
+    case 0xe1: return WASM_PROPOSAL_STACK_SWITCHING;
+    case 0xe2: return WASM_PROPOSAL_STACK_SWITCHING;
+    case 0xe3: return WASM_PROPOSAL_STACK_SWITCHING;
+    case 0xe4: return WASM_PROPOSAL_STACK_SWITCHING;
+    case 0xe5: return WASM_PROPOSAL_STACK_SWITCHING;
+    case 0xe6: return WASM_PROPOSAL_STACK_SWITCHING;
+    case 0xfc0013: return WASM_PROPOSAL_WIDE_ARITHMETIC;
+    case 0xfc0014: return WASM_PROPOSAL_WIDE_ARITHMETIC;
+    case 0xfc0015: return WASM_PROPOSAL_WIDE_ARITHMETIC;
+    case 0xfc0016: return WASM_PROPOSAL_WIDE_ARITHMETIC;
+    case 0xfe0004: return WASM_PROPOSAL_ACQUIRE_RELEASE_ATOMICS;
+    default: return -1;
+  }
+}
+
+#ifdef __cplusplus
+}
+#endif
+
+#endif

@@ -1,0 +1,93 @@
+"""The operators of the cargo crate (bindings/rust/src/operator.rs)."""
+
+from plain import kinds, number
+from table import HEAD, SHARED
+
+# The types of fields, as the crate has them.
+TYPES = {"[u8; 16]": "[u8; 16]", "SelectTypes": "Vec<ValType>"}
+# The values of the fields of a shape, from its plain data `op` and the `bytes` of the body from the operator on.
+VALUES = {
+    (): [],
+    ("unsigned",): ["op.first"],
+    ("memory_index",): ["op.first"],
+    ("unsigned", "unsigned"): ["op.first", "op.second"],
+    ("unsigned", "table_index"): ["op.first", "op.second"],
+    ("memory",): ["op.memory_argument()"],
+    ("memory", "lane_index"): ["op.memory_argument()", "op.lane"],
+    ("lane_index",): ["op.lane"],
+    ("signed_32",): ["op.wide as i32"],
+    ("signed_64",): ["op.wide as i64"],
+    ("float_32",): ["Ieee32(op.wide as u32)"],
+    ("float_64",): ["Ieee64(op.wide)"],
+    ("vector",): ["V128(op.bytes)"],
+    ("lane_list",): ["op.bytes"],
+    ("ordered", "unsigned"): ["op.order()", "op.first"],
+    ("ordered", "unsigned", "unsigned"): ["op.order()", "op.first", "op.second"],
+    ("fence",): ["op.order()"],
+    ("heap_type",): ["heap_type(op.kind, op.first)"],
+    ("cast",): ["op.first", "ref_type(op.kind, op.second)", "ref_type(op.other_kind, op.third)"],
+    ("block_type",): ["op.block_type()"],
+    ("branch_table",): ["BrTable::of(op, bytes)"],
+    ("one_type",): ["val_type(op.kind, op.first)"],
+    ("types",): ["lists::select_types(bytes)"],
+    ("try_table",): ["lists::try_table(op, bytes)"],
+    ("unsigned", "resume_table"): ["op.first", "lists::resume_table(bytes, 1)"],
+    ("unsigned", "unsigned", "resume_table"): ["op.first", "op.second", "lists::resume_table(bytes, 2)"],
+}
+
+
+def variant(op):
+    """A variant of the enum."""
+    fields = ", ".join(f"{name}: {TYPES.get(ty, ty)}" for name, ty in op.fields)
+    return f"    {op.name}{f' {{ {fields} }}' if fields else ''},"
+
+
+def made(op):
+    """The operator, made of its plain data."""
+    fields = ", ".join(f"{name}: {value}" for (name, _), value in zip(op.fields, VALUES[kinds(op)]))
+    return f"Operator::{op.name}{f' {{ {fields} }}' if fields else ''}"
+
+
+def operator_source(ops):
+    """The file of the enum."""
+    lines = [
+        f"//! The operators. {HEAD}",
+        "",
+        "use crate::lists::{self, BrTable, ResumeTable, TryTable};",
+        "use crate::native::PlainOperator;",
+        "use crate::types::{BlockType, HeapType, Ieee32, Ieee64, MemArg, Ordering, RefType, V128, ValType};",
+        "use crate::types::{heap_type, ref_type, val_type};",
+        "",
+        "/// An operator with its immediates.",
+        "#[derive(Clone, Debug, PartialEq, Eq)]",
+        "#[rustfmt::skip]",
+        "pub enum Operator<'a> {",
+        *[variant(op) for op in ops],
+        "}",
+        "",
+        "/// The operator of this plain data, whose first byte is the first of these.",
+        "#[rustfmt::skip]",
+        "pub(crate) fn operator_of<'a>(op: &PlainOperator, bytes: &'a [u8]) -> Option<Operator<'a>> {",
+        "    Some(match op.opcode {",
+        *[f"        0x{number(op):x}{' if op.shape == 19' if op.name == SHARED[0] else ''} => {made(op)}," for op in ops],
+        "        _ => return None,",
+        "    })",
+        "}",
+        "",
+        "impl Operator<'_> {",
+        "    /// The name of the operator.",
+        "    #[rustfmt::skip]",
+        "    pub fn name(&self) -> &'static str {",
+        "        match self {",
+        *[f"            Operator::{op.name}{' { .. }' if op.fields else ''} => \"{op.name}\"," for op in ops],
+        "        }",
+        "    }",
+        "}",
+    ]
+    return "\n".join(lines) + "\n"
+
+
+def cargo_files(ops):
+    """The file of the crate that is a list over the operators which have a shape."""
+    ops = [op for op in ops if kinds(op) in VALUES]
+    return {"bindings/rust/src/operator.rs": operator_source(ops)}
