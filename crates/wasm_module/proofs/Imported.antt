@@ -1,13 +1,15 @@
 -- Imports are a prefix code, and their faults determine the refusal.
-use Rattle.std.proofs.Common.{ℕ, zero, suc, inl, inr, refl, sym, ◌∙◌}
+use Rattle.std.proofs.Common.{ℕ, List, zero, suc, inl, inr, refl, sym, ◌∙◌}
 use Rattle.wasm_below.specs.Fault.{DeterminesRefusal}
 use Rattle.wasm_below.specs.Number.{EncodesUnsigned}
 use Rattle.wasm_below.specs.Sequence.{PrefixCode}
-use Rattle.wasm_below.specs.Source.{IsByte, EndFault, EndsWithin, U32Fault, U64Fault}
+use Rattle.wasm_below.specs.Source.{IsByte, EndFault, U32Fault, U64Fault}
 use Rattle.wasm_below.specs.TypeEncoding.{EncodesRefType, EncodesValType, RefTypeFault, ValTypeFault}
-use Rattle.wasm_module.specs.Imports.{SomeOf, IsName, NameFault, IsMost, MostFault, IsBounds, BoundsFault, IsLimits, LimitsFault, IsTable, IsGlobal, IsTag, IsEntity, EntityFault, EncodesEntity, EncodesKind, KindFault, EncodesNamed, NamedFault, EncodesImport, ImportFault}
-use Rattle.wasm_module.proofs.Parts.{then_determines, byte_prefix_code, short_determines, end_determines}
-use Rattle.wasm_module.proofs.Sequences.{then_code, some_code, name_code}
+use Rattle.wasm_module.specs.Imports.{SomeOf, IsMost, MostFault, IsBounds, BoundsFault, IsLimits, LimitsFault, IsTable, IsGlobal, IsTag, IsEntity, EntityFault, EncodesEntity, EncodesKind, KindFault, EncodesNamed, NamedFault, ImportParts, EncodesImport, ImportFault}
+use Rattle.wasm_module.specs.Names.{EncodesName, NameFault}
+use Rattle.wasm_module.proofs.Named.{name_code, name_determines}
+use Rattle.wasm_module.proofs.Parts.{then_determines, byte_prefix_code, end_determines}
+use Rattle.wasm_module.proofs.Sequences.{then_code, both_code, some_code}
 
 module _ (numbers : (width : ℕ) → PrefixCode (EncodesUnsigned width)) (references : PrefixCode EncodesRefType) (values : PrefixCode EncodesValType) where
   most_code : (flags : ℕ) → PrefixCode (IsMost flags)
@@ -46,16 +48,15 @@ module _ (numbers : (width : ℕ) → PrefixCode (EncodesUnsigned width)) (refer
   kind_code = then_code IsByte EncodesEntity byte_prefix_code entity_code
 
   named_code : PrefixCode EncodesNamed
-  named_code = then_code IsName (λ name. EncodesKind) (name_code (numbers 32)) (λ name. kind_code)
+  named_code = both_code EncodesName EncodesKind (λ (p : List ℕ × ℕ). p) (name_code (numbers 32)) kind_code (λ p. p) (λ p. refl)
 
   pub import_code : PrefixCode EncodesImport
-  import_code = then_code IsName (λ name. EncodesNamed) (name_code (numbers 32)) (λ name. named_code)
+  import_code =
+      both_code EncodesName EncodesNamed (λ (i : ImportParts). (i.module_name, (i.name, i.kind))) (name_code (numbers 32)) named_code
+      (λ p. record { module_name = p.0; name = p.1.0; kind = p.1.1 }) (λ i. refl)
 
   module _ (small : DeterminesRefusal U32Fault) (large : DeterminesRefusal U64Fault) (reference : DeterminesRefusal RefTypeFault)
       (value : DeterminesRefusal ValTypeFault) where
-    name_determines : DeterminesRefusal NameFault
-    name_determines = then_determines (EncodesUnsigned 32) U32Fault EndsWithin (numbers 32) small short_determines
-
     most_determines : (flags : ℕ) → DeterminesRefusal (MostFault flags)
     most_determines flags m k r a b p q = large m k r a b p.1 q.1
 
@@ -77,7 +78,7 @@ module _ (numbers : (width : ℕ) → PrefixCode (EncodesUnsigned width)) (refer
     kind_determines = then_determines IsByte EndFault EntityFault byte_prefix_code end_determines entity_determines
 
     named_determines : DeterminesRefusal NamedFault
-    named_determines = then_determines IsName NameFault (λ name. KindFault) (name_code (numbers 32)) name_determines (λ name. kind_determines)
+    named_determines = then_determines EncodesName NameFault (λ name. KindFault) (name_code (numbers 32)) (name_determines (numbers 32) small) (λ name. kind_determines)
 
     pub import_determines : DeterminesRefusal ImportFault
-    import_determines = then_determines IsName NameFault (λ name. NamedFault) (name_code (numbers 32)) name_determines (λ name. named_determines)
+    import_determines = then_determines EncodesName NameFault (λ name. NamedFault) (name_code (numbers 32)) (name_determines (numbers 32) small) (λ name. named_determines)

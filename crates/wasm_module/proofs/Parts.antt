@@ -7,14 +7,7 @@ use Rattle.wasm_below.specs.bytes.message.Message.TheVariants as message
 use Rattle.wasm_below.specs.Fault.{ThenFault, DeterminesRefusal}
 use Rattle.wasm_below.specs.Refusal.{IsReadFault}
 use Rattle.wasm_below.specs.Sequence.{PrefixCode}
-use Rattle.wasm_below.specs.Source.{Reader, rest, end_of, at_position, Takes, NoPrefix, MayFollow, IsRefusal, Reads, IsByte, EndFault, EndsWithin}
-use Rattle.wasm_module.specs.Module.{Both}
-
-same_rest : (a b x y : List ℕ) → length a ≡ length b → a ++ x ≡ b ++ y → x ≡ y
-same_rest [] [] x y h e = e
-same_rest [] (c ∷ b) x y h e = absurd (omega (arith, h))
-same_rest (c ∷ a) [] x y h e = absurd (omega (arith, h))
-same_rest (c ∷ a) (d ∷ b) x y h e = same_rest a b x y (omega (arith, h)) (cc e)
+use Rattle.wasm_below.specs.Source.{Reader, rest, at_position, Takes, NoPrefix, MayFollow, IsRefusal, Reads, IsByte, EndFault, EndsWithin}
 
 pub takes_both : (a b c : Reader) (x y : List ℕ) → Takes a b x → Takes b c y → Takes a c (x ++ y)
 takes_both a b c x y p q =
@@ -29,41 +22,6 @@ pub back : (old mid now new : Reader) (text : List ℕ) (position : ℕ) → Tak
     new ≡ old
 back old mid now new text position t same at went =
     went ∙ ap (at_position now) at ∙ ap (λ r. at_position r old.position) same ∙ ap (λ r. at_position r old.position) t.moved
-
-module _ {X Y : Type 0} (P : List ℕ → X → Type 0) (Q : List ℕ → Y → Type 0) where
-  pub both_read : (old mid new : Reader) (x : X) (y : Y) → Reads P (Ok x) old mid → Reads Q (Ok y) mid new →
-      (text : List ℕ) × Both P Q text x y × Takes old new text
-  both_read old mid new x y (a, p, t) (b, q, u) = (a ++ b, (a, b, refl, p, q), takes_both old mid new a b t u)
-
-  -- the first is refused
-  pub first_refused : {Z : Type 0} (of_x : Z → X) (of_y : Z → Y) (e : Error) (old : Reader) → IsRefusal P e old →
-      IsRefusal (λ text z. Both P Q text (of_x z) (of_y z)) e old
-  first_refused of_x of_y e old h =
-      record {
-        refuses = λ more follow text behind z b whole.
-            h.refuses more follow b.0 (b.1 ++ behind) (of_x z) b.3 (whole ∙ ap (λ t. t ++ behind) b.2 ∙ append_assoc b.0 b.1 behind);
-        fault = h.fault;
-        ahead = h.ahead;
-      }
-
-  -- the second is refused, and each text of the first has as many bytes
-  pub second_refused : {Z : Type 0} (of_x : Z → X) (of_y : Z → Y) (n : ℕ) → ((text : List ℕ) (x : X) → P text x → length text ≡ n) →
-      (e : Error) (old mid : Reader) (x : X) → Reads P (Ok x) old mid → IsRefusal Q e mid →
-      IsRefusal (λ text z. Both P Q text (of_x z) (of_y z)) e old
-  second_refused of_x of_y n long e old mid x (a, p, t) h =
-      let start : mid.start ≡ old.start = ap (λ (r : Reader). r.start) t.moved in
-      let position : mid.position ≡ old.position + length a = ap (λ (r : Reader). r.position) t.moved in
-      let end : end_of mid ≡ end_of old = ap (λ (r : Reader). end_of r) t.moved in
-      let low = h.ahead.0 in
-      let high = h.ahead.1 in
-      record {
-        refuses = λ more follow text behind z b whole.
-            h.refuses more follow b.1 behind (of_y z) b.4
-            (same_rest a b.0 (rest mid ++ more) (b.1 ++ behind) (long a x p ∙ sym (long b.0 (of_x z) b.3))
-            (sym (append_assoc a (rest mid) more) ∙ ap (λ r. r ++ more) (sym t.parts) ∙ whole ∙ ap (λ t. t ++ behind) b.2 ∙ append_assoc b.0 b.1 behind));
-        fault = h.fault;
-        ahead = (omega (arith, low, start, position), omega (arith, high, end));
-      }
 
 -- ---- refusals of two parts
 

@@ -1,11 +1,10 @@
--- Values that are read one behind the other, of which only the last is kept.
+-- Values that are read one behind the other: of which only the last is kept, and of which both are.
 use Rattle.std.proofs.Common.{◌≡◌, ℕ, ◌+◌, List, [], ◌∷◌, ◌++◌, length, Ok, Err, refl, ap, sym, subst, ◌∙◌, append_assoc, arith}
 use Rattle.wasm_below.specs.bytes.error.Error.{Error}
-use Rattle.wasm_below.specs.Number.{EncodesUnsigned}
 use Rattle.wasm_below.specs.Sequence.{Then, PrefixCode}
-use Rattle.wasm_below.specs.Source.{Reader, rest, end_of, at_position, IsRefusal, Reads, IsBlock}
-use Rattle.std.specs.Borrow.{Bor}
-use Rattle.wasm_module.specs.Imports.{SomeOf, IsLong, IsName, IsEntity, EncodesEntity}
+use Rattle.wasm_below.specs.Source.{Reader, rest, end_of, at_position, IsRefusal, Reads}
+use Rattle.wasm_module.specs.Both.{Both}
+use Rattle.wasm_module.specs.Imports.{SomeOf, IsEntity, EncodesEntity}
 use Rattle.wasm_module.proofs.Parts.{takes_both, back}
 
 -- an encoding that is a prefix of what stands there
@@ -32,7 +31,7 @@ module _ {X Y : Type 0} (P : List ℕ → X → Type 0) (Q : X → List ℕ → 
   )
 
   module _ (code : PrefixCode P) where
-    then_refused : (e : Error) (old mid : Reader) (x : X) → Reads P (Ok x) old mid → IsRefusal (Q x) e mid → IsRefusal (Then P Q) e old
+    pub then_refused : (e : Error) (old mid : Reader) (x : X) → Reads P (Ok x) old mid → IsRefusal (Q x) e mid → IsRefusal (Then P Q) e old
     then_refused e old mid x (a, p, t) h =
         let start : mid.start ≡ old.start = ap (λ (r : Reader). r.start) t.moved in
         let position : mid.position ≡ old.position + length a = ap (λ (r : Reader). r.position) t.moved in
@@ -62,47 +61,67 @@ module _ {X Y : Type 0} (P : List ℕ → X → Type 0) (Q : X → List ℕ → 
         let second = behind p.2 p.1 q.1 x y m n p.5 (subst (λ v. Q v q.1 n) (sym first.1) q.5) (first_text p.0 q.0 (p.1 ++ x) (q.1 ++ y) first.0 whole) in
         (p.3 ∙ ap (λ t. t ++ p.1) first.0 ∙ ap (λ t. q.0 ++ t) second.0 ∙ sym q.3, second.1)
 
-module _ {X : Type 0} (P : List ℕ → X → Type 0) where
-  pub some_read : (old new : Reader) (x : X) → Reads P (Ok x) old new → Reads (SomeOf P) (Ok tt) old new
-  some_read old new x (a, p, t) = (a, (x, p), t)
-
-  pub some_refused : (e : Error) (old new : Reader) → Reads P (Err e) old new → Reads (SomeOf P) (Err e) old new
-  some_refused e old new (same, h) =
-      (same, record { refuses = λ more follow text behind z b. h.refuses more follow text behind b.0 b.1; fault = h.fault; ahead = h.ahead })
-
-  pub some_code : PrefixCode P → PrefixCode (SomeOf P)
-  some_code code a b x y m n p q e = ((code a b x y p.0 q.0 p.1 q.1 e).0, refl)
-
--- ---- parts of an import
-
-pub block_read : (n : ℕ) (old new : Reader) (block : Bor (List ℕ)) → Reads (IsBlock n) (Ok block) old new → Reads (IsLong n) (Ok tt) old new
-block_read n old new block (a, p, t) = (a, p.1, t)
-
-pub block_refused : (n : ℕ) (e : Error) (old new : Reader) → Reads (IsBlock n) (Err e) old new → Reads (IsLong n) (Err e) old new
-block_refused n e old new (same, h) = (
+-- what is refused is refused too as anything that has it in it
+pub refused_as : {X Z : Type 0} (P : List ℕ → X → Type 0) (Q : List ℕ → Z → Type 0) → ((text : List ℕ) (z : Z) → Q text z → (x : X) × P text x) →
+    (e : Error) (old new : Reader) → Reads P (Err e) old new → Reads Q (Err e) old new
+refused_as P Q has e old new (same, h) = (
   same,
   record {
-    refuses = λ more follow text behind z b. h.refuses more follow text behind (record { ref_ptr = (0, 0); now = text }) (refl, b);
+    refuses = λ more follow text behind z b. h.refuses more follow text behind (has text z b).0 (has text z b).1;
     fault = h.fault;
     ahead = h.ahead;
   },
 )
 
+-- ---- both are kept, as the parts of a value
+
+module _ {X Y Z : Type 0} (P : List ℕ → X → Type 0) (Q : List ℕ → Y → Type 0) (parts : Z → X × Y) where
+  abbrev Whole : List ℕ → Z → Type 0
+  Whole text z = Both P Q text (parts z)
+
+  abbrev Second : X → List ℕ → Z → Type 0
+  Second x text z = (x ≡ (parts z).0) × Q text (parts z).1
+
+  abbrev one_behind : (text : List ℕ) (z : Z) → Whole text z → (same : Z) × Then P Second text same
+  one_behind text z b = (z, (b.0, b.1, (parts z).0, b.2, b.3, (refl, b.4)))
+
+  pub both_first : (e : Error) (old new : Reader) → Reads P (Err e) old new → Reads Whole (Err e) old new
+  both_first e old new h = refused_as (Then P Second) Whole one_behind e old new (then_first P Second e old new h)
+
+  pub both_second : PrefixCode P → (e : Error) (old mid now new : Reader) (x : X) (position : ℕ) → Reads P (Ok x) old mid → Reads Q (Err e) mid now →
+      position ≡ old.position → new ≡ at_position now position → Reads Whole (Err e) old new
+  both_second code e old mid now new x position first second at went =
+      refused_as (Then P Second) Whole one_behind e old new
+      (then_second P Second code e old mid now new x position first (refused_as Q (Second x) (λ text z b. ((parts z).1, b.1)) e mid now second) at went)
+
+  pub both_code : PrefixCode P → PrefixCode Q → (make : X × Y → Z) → ((z : Z) → make (parts z) ≡ z) → PrefixCode Whole
+  both_code first second make made a b x y m n p q e =
+      then_code P Second first (λ v. second_code v) a b x y m n (one_behind a m p).1 (one_behind b n q).1 e
+    where
+      second_code : (v : X) → PrefixCode (Second v)
+      second_code v a b x y m n p q e =
+          let o = second a b x y (parts m).1 (parts n).1 p.1 q.1 e in
+          let same : parts m ≡ parts n = ap (λ k. (k, (parts m).1)) (sym p.0 ∙ q.0) ∙ ap (λ k. ((parts n).0, k)) o.1 in
+          (o.0, sym (made m) ∙ ap make same ∙ made n)
+
+pub both_read : {X Y : Type 0} (P : List ℕ → X → Type 0) (Q : List ℕ → Y → Type 0) (old mid new : Reader) (x : X) (y : Y) → Reads P (Ok x) old mid →
+    Reads Q (Ok y) mid new → Reads (Both P Q) (Ok (x, y)) old new
+both_read P Q old mid new x y (a, p, t) (b, q, u) = (a ++ b, (a, b, refl, p, q), takes_both old mid new a b t u)
+
+-- ---- parts of an import
+
+module _ {X : Type 0} (P : List ℕ → X → Type 0) where
+  pub some_read : (old new : Reader) (x : X) → Reads P (Ok x) old new → Reads (SomeOf P) (Ok tt) old new
+  some_read old new x (a, p, t) = (a, (x, p), t)
+
+  pub some_refused : (e : Error) (old new : Reader) → Reads P (Err e) old new → Reads (SomeOf P) (Err e) old new
+  some_refused = refused_as P (SomeOf P) (λ text z b. b)
+
+  pub some_code : PrefixCode P → PrefixCode (SomeOf P)
+  some_code code a b x y m n p q e = ((code a b x y p.0 q.0 p.1 q.1 e).0, refl)
+
 pub entity_read : (byte : ℕ) (old new : Reader) → Reads (IsEntity byte) (Ok tt) old new → Reads (EncodesEntity byte) (Ok byte) old new
 entity_read byte old new (a, p, t) = (a, (refl, p), t)
 
 pub entity_refused : (byte : ℕ) (e : Error) (old new : Reader) → Reads (IsEntity byte) (Err e) old new → Reads (EncodesEntity byte) (Err e) old new
-entity_refused byte e old new (same, h) =
-    (same, record { refuses = λ more follow text behind z b. h.refuses more follow text behind tt b.1; fault = h.fault; ahead = h.ahead })
-
-long_code : (n : ℕ) → PrefixCode (IsLong n)
-long_code n a b x y m k p q e = (same_start a b x y (p ∙ sym q) e, refl)
-  where
-    same_start : (a b x y : List ℕ) → length a ≡ length b → a ++ x ≡ b ++ y → a ≡ b
-    same_start [] [] x y h e = refl
-    same_start [] (d ∷ b) x y h e = absurd (omega (arith, h))
-    same_start (c ∷ a) [] x y h e = absurd (omega (arith, h))
-    same_start (c ∷ a) (d ∷ b) x y h e = let same : c ≡ d = cc e in ap (λ z. z ∷ a) same ∙ ap (λ zs. d ∷ zs) (same_start a b x y (omega (arith, h)) (cc e))
-
-pub name_code : PrefixCode (EncodesUnsigned 32) → PrefixCode IsName
-name_code code = then_code (EncodesUnsigned 32) IsLong code long_code
+entity_refused byte = refused_as (IsEntity byte) (EncodesEntity byte) (λ text z b. (tt, b.1))

@@ -1,12 +1,14 @@
--- Imports: which bytes are one, and which refusal it has. Of what is imported only the kind is kept.
--- WebAssembly Core Specification 3.0, Binary Format: Values, Names; Types, Limits, Table Types, Memory Types, Global Types, Tag Types, External Types; Modules, Import Section.
-use Rattle.std.specs.Prelude.{◌≡◌, ◌≢◌, ℕ, zero, suc, ◌%◌, ◌⊎◌, List, [], length}
+-- Imports: which bytes are one, and which refusal it has. Of what is imported the kind is kept.
+-- WebAssembly Core Specification 3.0, Binary Format: Types, Limits, Table Types, Memory Types, Global Types, Tag Types, External Types; Modules, Import Section.
+use Rattle.std.specs.Prelude.{◌≡◌, ◌≢◌, ℕ, zero, suc, ◌%◌, ◌⊎◌, List, []}
 use Rattle.wasm_below.specs.bytes.message.Message.{Message}
 use Rattle.wasm_below.specs.Fault.{ThenFault}
 use Rattle.wasm_below.specs.Number.{EncodesUnsigned}
 use Rattle.wasm_below.specs.Sequence.{Then}
-use Rattle.wasm_below.specs.Source.{Reader, IsByte, EndFault, EndsWithin, U32Fault, U64Fault}
+use Rattle.wasm_below.specs.Source.{Reader, IsByte, EndFault, U32Fault, U64Fault}
 use Rattle.wasm_below.specs.TypeEncoding.{EncodesRefType, EncodesValType, RefTypeFault, ValTypeFault}
+use Rattle.wasm_module.specs.Both.{Both}
+use Rattle.wasm_module.specs.Names.{EncodesName, NameFault}
 
 -- A text that is stepped over.
 abbrev pub Skipped : Type 1
@@ -23,18 +25,6 @@ SomeOf {X} Encodes text done = (x : X) × Encodes text x
 -- Nothing stands there.
 abbrev pub IsNothing : Skipped
 IsNothing text done = text ≡ []
-
--- This many bytes.
-abbrev pub IsLong : ℕ → Skipped
-IsLong n text done = length text ≡ n
-
--- A name. That its bytes are UTF-8 is not asked.
---   name ::= b*:list(byte)
-abbrev pub IsName : Skipped
-IsName = Then (EncodesUnsigned 32) IsLong
-
-abbrev pub NameFault : SkipFault
-NameFault = ThenFault (EncodesUnsigned 32) U32Fault EndsWithin
 
 -- The greatest size, where the flags say that there is one.
 abbrev pub IsMost : ℕ → Skipped
@@ -109,17 +99,24 @@ EncodesKind = Then IsByte EncodesEntity
 abbrev pub KindFault : SkipFault
 KindFault = ThenFault IsByte EndFault EntityFault
 
--- The same behind a name.
-abbrev pub EncodesNamed : List ℕ → ℕ → Type 0
-EncodesNamed = Then IsName (λ name. EncodesKind)
+-- An import: the names of its module and of itself, and the byte of its kind.
+pub record ImportParts : Type 0 where
+  pub module_name : List ℕ
+  pub name : List ℕ
+  pub kind : ℕ
+
+-- A kind behind a name.
+abbrev pub EncodesNamed : List ℕ → List ℕ × ℕ → Type 0
+EncodesNamed = Both EncodesName EncodesKind
 
 abbrev pub NamedFault : SkipFault
-NamedFault = ThenFault IsName NameFault (λ name. KindFault)
+NamedFault = ThenFault EncodesName NameFault (λ name. KindFault)
 
--- An import of this kind: the names of its module and of itself, and what it is.
+-- The same behind another name, that of the module.
 --   import ::= nm1:name nm2:name xt:externtype
-abbrev pub EncodesImport : List ℕ → ℕ → Type 0
-EncodesImport = Then IsName (λ name. EncodesNamed)
+abbrev pub EncodesImport : List ℕ → ImportParts → Type 0
+EncodesImport text i = Both EncodesName EncodesNamed text (i.module_name, (i.name, i.kind))
 
+-- Which refusal an import has: that of its first part that is not there.
 abbrev pub ImportFault : SkipFault
-ImportFault = ThenFault IsName NameFault (λ name. NamedFault)
+ImportFault = ThenFault EncodesName NameFault (λ module_name. NamedFault)

@@ -1,6 +1,6 @@
 -- The preamble and the sections of a module.
 -- WebAssembly Core Specification 3.0, Binary Format, Modules: Modules, Sections.
-use Rattle.std.specs.Prelude.{◌≡◌, ◌==◌, ℕ, List, ◌++◌, if◌then◌else◌}
+use Rattle.std.specs.Prelude.{◌==◌, ℕ, List, if◌then◌else◌}
 use Rattle.std.specs.Int.{w32}
 use Rattle.wasm_below.specs.bytes.features.WasmFeatures.{WasmFeatures}
 use Rattle.wasm_below.specs.bytes.message.Message.{Message}
@@ -8,18 +8,15 @@ use Rattle.wasm_below.specs.Fault.{ThenFault}
 use Rattle.wasm_below.specs.FromReader.{EncodesReader, ReaderFault}
 use Rattle.wasm_below.specs.Number.{EncodesFixed}
 use Rattle.wasm_below.specs.Source.{Reader, IsByte, EndFault, EndsWithin}
+use Rattle.wasm_module.specs.Both.{Both}
 use Rattle.wasm_module.specs.declared.preamble.Preamble.{Preamble}
 use Rattle.wasm_module.specs.declared.preamble.PreambleKind.{PreambleKind}
 use Rattle.wasm_module.specs.declared.preamble.PreambleKind.TheVariants as kind
 
--- Two values, one behind the other.
-abbrev pub Both : {X Y : Type 0} → (List ℕ → X → Type 0) → (List ℕ → Y → Type 0) → List ℕ → X → Y → Type 0
-Both P Q text x y = (first second : List ℕ) × (text ≡ first ++ second) × P first x × Q second y
-
 -- The magic number and the version, each of four bytes, the lowest first.
 --   magic ::= 0x00 0x61 0x73 0x6d    version ::= 0x01 0x00 0x00 0x00
 abbrev pub EncodesPreamble : List ℕ → Preamble → Type 0
-EncodesPreamble text p = Both (EncodesFixed w32) (EncodesFixed w32) text p.magic p.version
+EncodesPreamble text p = Both (EncodesFixed w32) (EncodesFixed w32) text (p.magic, p.version)
 
 -- What the two numbers say. That of components is of the proposal component model: version 13, layer 1.
 abbrev pub preamble_kind : Preamble → PreambleKind
@@ -36,7 +33,7 @@ pub record SectionParts : Type 0 where
 -- The bytes are a section: its number, the length of its contents, and these.
 --   section_N(X) ::= N:byte len:u32 en*:X
 abbrev pub EncodesSection : WasmFeatures → List ℕ → SectionParts → Type 0
-EncodesSection features text s = Both IsByte (EncodesReader features) text s.id s.contents
+EncodesSection features text s = Both IsByte (EncodesReader features) text (s.id, s.contents)
 
 -- Which refusal a preamble has: the data ends within the first number; or that is there, and the data ends within the second.
 abbrev pub PreambleFault : Message → Reader → ℕ → Type 0

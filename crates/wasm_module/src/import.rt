@@ -1,10 +1,15 @@
 //! Imports.
-ghost use Rattle.std.specs.Prelude.{◌≡◌, IfErr};
+ghost use Rattle.std.specs.Prelude.{◌≡◌, ⊤, false, IfOk, IfErr};
+ghost use Rattle.wasm_below.specs.bytes.features.WasmFeatures.{WasmFeatures};
+ghost use Rattle.wasm_below.specs.Fault.{HasFault, DeterminesRefusal};
+ghost use Rattle.wasm_below.specs.FromReader.{ReadsValue};
+ghost use Rattle.wasm_below.specs.Sequence.{PrefixCode};
 ghost use Rattle.wasm_below.specs.Source.{Reads};
 ghost use Rattle.wasm_module.specs.Imports.{IsEntity, EntityFault, EncodesKind, KindFault, EncodesNamed, NamedFault, EncodesImport, ImportFault};
 
 use crate::module_laws::imports;
-use crate::skip::{skip_global, skip_limits, skip_name, skip_table, skip_tag};
+use crate::name::Name;
+use crate::skip::{skip_global, skip_limits, skip_table, skip_tag};
 use std::alloc::Global;
 use std::marker::Model;
 use wasm_below::byte_laws::unsigned_numbers;
@@ -48,18 +53,18 @@ fn read_kind(reader: &mut BinaryReader<'_>) -> Result<u8>
 }
 
 /// An import behind the name of its module.
-fn read_named(reader: &mut BinaryReader<'_>) -> Result<u8>
+fn read_named<'a>(reader: &mut BinaryReader<'a>) -> Result<(Name<'a>, u8)>
     ensures reads { Reads EncodesNamed result reader.old reader.new }
     ensures fault { IfErr result (λ e. NamedFault e.message reader.old e.offset) }
 {
     unsigned_numbers();
     let start = reader.current_position();
-    match skip_name(reader) {
-        Ok(()) => {}
+    let name = match Name::read(reader) {
+        Ok(name) => name,
         Err(e) => return Err(e),
-    }
+    };
     match read_kind(reader) {
-        Ok(kind) => Ok(kind),
+        Ok(kind) => Ok((name, kind)),
         Err(e) => {
             reader.rewind(start);
             Err(e)
@@ -67,25 +72,43 @@ fn read_named(reader: &mut BinaryReader<'_>) -> Result<u8>
     }
 }
 
-/// An import. Of what is imported only the kind is kept, which contracts see.
+/// An import. Of what is imported the kind is kept.
+///
+/// Contracts see the bytes of the two names and the byte of the kind.
 #[derive(Debug, Drop)]
-pub struct Import {
+pub struct Import<'a> {
+    module_name: Name<'a>,
+    name: Name<'a>,
     kind: u8,
 }
 
-impl Model for Import {
-    ghost use Rattle.std.specs.Prelude.{ℕ};
+impl<'a> Model for Import<'a> {
+    ghost use Rattle.wasm_module.specs.Imports.{ImportParts};
 
-    ghost Value = { ℕ };
+    ghost Value = { ImportParts };
 
-    ghost view = { λ import. import.kind };
+    ghost view = { λ import. record { module_name = import.module_name; name = import.name; kind = import.kind } };
 }
 
-impl Import {
+impl<'a> Import<'a> {
+    /// The bytes of the name of the module that it is imported from.
+    pub fn module_name(&self) -> &'a [u8]
+        ensures { result.now ≡ self.now.module_name }
+    {
+        self.module_name.bytes()
+    }
+
+    /// The bytes of the name that it has in that module.
+    pub fn name(&self) -> &'a [u8]
+        ensures { result.now ≡ self.now.name }
+    {
+        self.name.bytes()
+    }
+
     /// The byte of the kind: 0 of a function, 1 of a table, 2 of a memory, 3 of a global, 4 of a tag.
     /// No other is one of the standard's.
     pub fn kind(&self) -> u8
-        ensures { result ≡ self.now }
+        ensures { result ≡ self.now.kind }
     {
         self.kind
     }
@@ -94,18 +117,22 @@ impl Import {
     ///
     /// Behind a byte that is none of the five kinds nothing is read. Refused as the part that is not
     /// there: `EndOfData`, or as a number or a type.
-    pub fn read(reader: &mut BinaryReader<'_>) -> Result<Import>
+    pub fn read(reader: &mut BinaryReader<'a>) -> Result<Import<'a>>
         ensures reads { Reads EncodesImport result reader.old reader.new }
         ensures fault { IfErr result (λ e. ImportFault e.message reader.old e.offset) }
     {
         unsigned_numbers();
         let start = reader.current_position();
-        match skip_name(reader) {
-            Ok(()) => {}
+        let module_name = match Name::read(reader) {
+            Ok(name) => name,
             Err(e) => return Err(e),
-        }
+        };
         match read_named(reader) {
-            Ok(kind) => Ok(Import { kind }),
+            Ok((name, kind)) => Ok(Import {
+                module_name,
+                name,
+                kind,
+            }),
             Err(e) => {
                 reader.rewind(start);
                 Err(e)
@@ -114,25 +141,33 @@ impl Import {
     }
 }
 
-impl UsesMemory for Import {
+impl<'a> UsesMemory for Import<'a> {
     type Memory = Never;
 }
 
-impl<'a> FromReader<'a> for Import {
+impl<'a> FromReader<'a> for Import<'a> {
     ghost encodes = { λ features text import. EncodesImport text import };
 
     ghost fault = { λ m r offset. ImportFault m r offset };
 
     /// As `Import::read`.
-    fn from_reader(_alloc: Global, reader: &mut BinaryReader<'a>) -> Result<Import> {
+    fn from_reader(_alloc: Global, reader: &mut BinaryReader<'a>) -> Result<Import<'a>>
+        ensures reads { ReadsValue EncodesImport false result reader.old reader.new }
+        ensures fault { IfErr result (λ e. HasFault ImportFault e reader.old) }
+        ensures placed { IfOk result (λ value. ⊤) }
+    {
         Import::read(reader)
     }
 
-    fn is_prefix_code() {
+    fn is_prefix_code()
+        ensures { (features : WasmFeatures) → PrefixCode EncodesImport }
+    {
         imports();
     }
 
-    fn determines_refusal() {
+    fn determines_refusal()
+        ensures { DeterminesRefusal ImportFault }
+    {
         imports();
     }
 }

@@ -1,14 +1,27 @@
-//! What a module is made of: its preamble, its sections by their numbers and sizes, and its imports by
-//! their kinds.
+//! What a module is made of: its preamble, its sections by their numbers and sizes, its types by their
+//! sorts, its imports by their names and kinds, its exports, its custom sections, and the names that one
+//! of these gives.
 #![tactic(auto)]
 
+mod composite;
+mod custom;
+mod export;
+mod field;
 mod import;
 pub mod module_laws;
+mod name;
 mod preamble;
 mod section;
 mod skip;
 
+pub use composite::{CompositeType, read_group_len};
+pub use custom::CustomSection;
+pub use export::Export;
 pub use import::Import;
+pub use name::{Name, NameAssociation};
 pub use preamble::{Preamble, PreambleKind, read_preamble};
 pub use section::{Section, read_section};
 pub use wasm_below as below;
+
+#[cfg(test)]
+mod tests;

@@ -4,8 +4,11 @@
 //! value; `DeterminesRefusal`, that what a fault says determines the message and the offset.
 ghost use Rattle.wasm_below.specs.Fault.{DeterminesRefusal};
 ghost use Rattle.wasm_below.specs.Sequence.{PrefixCode};
+ghost use Rattle.wasm_module.specs.Exports.{EncodesExport, ExportFault};
 ghost use Rattle.wasm_module.specs.Imports.{EncodesImport, ImportFault};
 ghost use Rattle.wasm_module.specs.Module.{PreambleFault, SectionFault};
+ghost use Rattle.wasm_module.specs.Names.{EncodesName, NameFault, EncodesNameAssociation, NameAssociationFault};
+ghost use Rattle.wasm_module.specs.Types.{EncodesSubType, SubTypeFault, EncodesGroup, GroupFault};
 
 use wasm_below::byte_laws::{fixed_numbers, number_refusals, part_refusals, unsigned_numbers};
 use wasm_below::type_laws::{reference_types, type_refusals, value_types};
@@ -19,13 +22,46 @@ pub fn refusals()
     part_refusals();
 }
 
-/// Imports, of which the kind is kept.
+/// Names, and names of indices.
+pub fn names()
+    ensures one { PrefixCode EncodesName }
+    ensures refusal { DeterminesRefusal NameFault }
+    ensures associated { PrefixCode EncodesNameAssociation }
+    ensures associated_refusal { DeterminesRefusal NameAssociationFault }
+{
+    unsigned_numbers();
+    number_refusals();
+}
+
+/// Exports.
+pub fn exports()
+    ensures one { PrefixCode EncodesExport }
+    ensures refusal { DeterminesRefusal ExportFault }
+{
+    unsigned_numbers();
+    number_refusals();
+}
+
+/// Imports, of which two names and the kind are kept.
 pub fn imports()
     ensures one { PrefixCode EncodesImport }
     ensures refusal { DeterminesRefusal ImportFault }
 {
     unsigned_numbers();
     reference_types();
+    value_types();
+    number_refusals();
+    type_refusals();
+}
+
+/// Types, of which the sort and the numbers of their parts are kept, and the beginning of a list of them.
+pub fn types()
+    ensures one { PrefixCode EncodesSubType }
+    ensures refusal { DeterminesRefusal SubTypeFault }
+    ensures group { PrefixCode EncodesGroup }
+    ensures group_refusal { DeterminesRefusal GroupFault }
+{
+    unsigned_numbers();
     value_types();
     number_refusals();
     type_refusals();

@@ -4,6 +4,7 @@ ghost use Rattle.wasm_below.specs.Source.{Reads};
 ghost use Rattle.wasm_module.specs.Module.{EncodesPreamble, PreambleFault, preamble_kind};
 
 use std::fmt;
+use wasm_below::byte_laws::fixed_numbers;
 use wasm_below::{BinaryReader, Result};
 
 /// The bytes `\0asm` as a number.
@@ -73,6 +74,7 @@ pub fn read_preamble(reader: &mut BinaryReader<'_>) -> Result<Preamble>
     ensures reads { Reads EncodesPreamble result reader.old reader.new }
     ensures fault { IfErr result (λ e. PreambleFault e.message reader.old e.offset) }
 {
+    fixed_numbers();
     let start = reader.current_position();
     let magic = match reader.read_u32() {
         Ok(magic) => magic,

@@ -39,6 +39,9 @@ impl<'a> Section<'a> {
 
 /// The next section: a byte, a number of 32 bits, and that many bytes. Sections.
 ///
+/// The subsections of the custom section `name` are encoded in the same way, so that this call reads
+/// them too. Name Section.
+///
 /// `EndOfData` at the end of the data; else refused as `read_reader` behind the byte.
 pub fn read_section<'a>(reader: &mut BinaryReader<'a>) -> Result<Section<'a>>
     ensures reads { Reads (EncodesSection reader.old.features) result reader.old reader.new }

@@ -1,31 +1,11 @@
-//! Steps over what an import has behind its kind, and over names.
+//! Steps over what an import has behind its kind.
 ghost use Rattle.std.specs.Prelude.{IfErr};
 ghost use Rattle.wasm_below.specs.Source.{Reads};
-ghost use Rattle.wasm_module.specs.Imports.{IsName, NameFault, IsMost, MostFault, IsBounds, BoundsFault, IsLimits, LimitsFault, IsTable, TableFault, IsGlobal, GlobalFault, IsTag, TagFault};
+ghost use Rattle.wasm_module.specs.Imports.{IsMost, MostFault, IsBounds, BoundsFault, IsLimits, LimitsFault, IsTable, TableFault, IsGlobal, GlobalFault, IsTag, TagFault};
 
 use wasm_below::byte_laws::unsigned_numbers;
 use wasm_below::type_laws::{reference_types, value_types};
 use wasm_below::{BinaryReader, RefType, Result, ValType};
-
-/// A name.
-pub fn skip_name(reader: &mut BinaryReader<'_>) -> Result<()>
-    ensures reads { Reads IsName result reader.old reader.new }
-    ensures fault { IfErr result (λ e. NameFault e.message reader.old e.offset) }
-{
-    unsigned_numbers();
-    let start = reader.current_position();
-    let length = match reader.read_var_u32() {
-        Ok(length) => length,
-        Err(e) => return Err(e),
-    };
-    match reader.read_bytes(length as usize) {
-        Ok(_) => Ok(()),
-        Err(e) => {
-            reader.rewind(start);
-            Err(e)
-        }
-    }
-}
 
 /// The greatest size, where these flags say that there is one.
 fn skip_most(reader: &mut BinaryReader<'_>, flags: u8) -> Result<()>

@@ -2,7 +2,7 @@
 use Rattle.std.proofs.Common.{◌≡◌, ◌≢◌, List, [], Ok, Err, sym, ap, ◌∙◌, arith, inl, inr}
 use Rattle.wasm_operators_readers.specs.below.bytes.error.Error.{Error}
 use Rattle.wasm_operators_readers.specs.below.bytes.message.Message.TheVariants as message
-use Rattle.wasm_operators_readers.specs.below.Source.{Reader, rest, source_of}
+use Rattle.wasm_operators_readers.specs.below.Source.{Reader, rest, offset_of, source_of}
 use Rattle.wasm_operators_readers.proofs.of_below.Blocks.{refused_now}
 use Rattle.wasm_operators_readers.specs.grammar.declared.frame_kind.FrameKind.{FrameKind}
 use Rattle.wasm_operators_readers.specs.grammar.Frames.{frames_along}
@@ -13,6 +13,7 @@ use Rattle.wasm_operators_readers.specs.opcodes.OperatorFaults.{OperatorFault}
 use Rattle.wasm_operators_readers.specs.Expression.{Placed, IsAny, operators}
 use Rattle.wasm_operators_readers.specs.Reading.{State, StopsRun, TakesOperators, Anywhere}
 use Rattle.wasm_operators_readers.proofs.Ends.{run_determined}
+use Rattle.wasm_operators_readers.proofs.FrameMemory.{frames_alone}
 use Rattle.wasm_operators_readers.proofs.Premises.{Everything}
 use Rattle.wasm_operators_readers.proofs.Runs.{run_only, fresh_before}
 use Rattle.wasm_operators_readers.proofs.DecoderPremises.{takes_all, keeps_all}
@@ -46,14 +47,15 @@ stops_roomless e s (inr (some, inr (inr memory))) = inr (some, inr (inr memory))
 -- the reads behind the locals
 ran_behind : (e : Error) (body : Reader) (placed : Placed) (h : NoExpression e body placed) → TakesOperators (roomless h.opened) (roomless h.stopped) placed
 ran_behind e body placed h =
+    let along = ap (λ (frames : List FrameKind). frames_along frames (roles_of (operators placed))) h.opens.1 ∙
+    run_path h.stopped.frames (roles_of (operators placed)) h.reads.stood.path in
     record {
       text = h.reads.text;
       takes = h.reads.takes;
       laid = h.reads.laid;
-      frames =
-          ap (λ (frames : List FrameKind). frames_along frames (roles_of (operators placed))) h.opens.1 ∙
-          run_path h.stopped.frames (roles_of (operators placed)) h.reads.stood.path;
+      frames = along;
       room = omega arith;
+      memory = frames_alone h.opened.reader.features (offset_of h.opened.reader) placed h.reads.text h.opened.frames h.stopped.frames h.reads.laid along;
     }
 
 -- where the locals are refused, they were not read

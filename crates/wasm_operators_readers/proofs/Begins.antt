@@ -1,5 +1,5 @@
 -- How an operator begins: what the calls before its immediates do is one of three things.
-use Rattle.std.proofs.Common.{◌≡◌, ℕ, ◌+◌, ◌≤◌, List, [], ◌∷◌, ◌++◌, Some, None, Ok, inl, inr, refl, sym, subst, ap, ◌∙◌, arith}
+use Rattle.std.proofs.Common.{◌≡◌, ℕ, ◌+◌, ◌≤◌, List, [], ◌∷◌, ◌++◌, length, Some, None, Ok, inl, inr, refl, sym, subst, ap, ◌∙◌, arith}
 use Rattle.wasm_decode.specs.below.bytes.error.Error.{Error}
 use Rattle.wasm_decode.specs.below.bytes.message.Message.TheVariants as message
 use Rattle.wasm_decode.specs.below.bytes.features.WasmFeatures.{WasmFeatures}
@@ -16,9 +16,10 @@ use Rattle.wasm_decode.specs.opcodes.Allowed.{EncodesAllowed, EncodesScalar}
 use Rattle.wasm_decode.specs.opcodes.Decoding.{RefusesOperator, StandsBehind}
 use Rattle.wasm_decode.specs.opcodes.OperatorFaults.{OperatorFault, ScalarOperatorFault}
 use Rattle.wasm_operators_readers.specs.declared.step.FrameStep.{FrameStep}
-use Rattle.wasm_operators_readers.specs.Stack.{OpenFrames, HasRoom}
+use Rattle.wasm_operators_readers.specs.Stack.{OpenFrames, HasRoom, GrowsByDoubling, frame_memory}
 use Rattle.wasm_operators_readers.specs.Step.{step_at, Opens}
 use Rattle.wasm_operators_readers.proofs.LayoutLemmas.{not_empty}
+use Rattle.wasm_operators_readers.proofs.FrameMemory.{memory_stays, as_little, doubled_once}
 use Rattle.wasm_operators_readers.proofs.Premises.{IsSound}
 use Rattle.wasm_operators_readers.specs.Reading.{Taking, Refusing}
 use Rattle.wasm_operators_readers.specs.Next.{BeginsOperator, StopsNext, state_of}
@@ -74,11 +75,20 @@ scalar_end_fault k e old h end = λ some. inr ((λ b. no_first (rest old) b.0 (n
 
 -- The opcode was read, and there is room.
 pub begun : (old mid : Reader) (s t : OpenFrames) (kind : FrameKind) (code start : ℕ) (f : FrameStep) → innermost s.frames ≡ Some kind → Reads IsByte (Ok code) old mid →
-    start ≡ old.position → f ≡ step_at code → t.frames ≡ s.frames → s.room ≤ t.room → (Opens f → HasRoom t) →
+    start ≡ old.position → f ≡ step_at code → t.frames ≡ s.frames → s.room ≤ t.room → GrowsByDoubling 1 s t → (Opens f → HasRoom t) →
     BeginsOperator (state_of old s) (state_of mid t) kind start code f
-begun old mid s t kind code start f open_frame reads same step frames room opens =
+begun old mid s t kind code start f open_frame reads same step frames room memory opens =
     let h = stands old mid code start reads same in
-    record { open_frame = open_frame; behind = h.1; back = h.0; step = step; frames = frames; room = room; opens = opens }
+    record {
+      open_frame = open_frame;
+      behind = h.1;
+      back = h.0;
+      step = step;
+      frames = frames;
+      room = room;
+      memory = doubled_once (frame_memory s.frames s.room) (length s.frames) (frame_memory t.frames t.room) memory;
+      opens = opens;
+    }
 
 -- The reader goes back to the opcode.
 pub back_to : (old mid : Reader) (code start : ℕ) → Reads IsByte (Ok code) old mid → start ≡ old.position → (start ≤ mid.position) × (at_position mid start ≡ old) × BeginsWith code (rest old)
@@ -100,7 +110,9 @@ begun_without_room Encodes Fault old mid new s t kind code start f e open_frame 
     let b = back_to old mid code start reads same in
     let begin : mid.start ≡ old.start = ap (λ (r : Reader). r.start) b.1 in
     let room : s.room ≤ t.room = subst (λ (x : OpenFrames). s.room ≤ x.room) (sym stays) (omega arith) in
-    room_refused Encodes Fault (state_of old s) (state_of new t) kind code e open_frame (went ∙ b.1) (ap (λ (x : OpenFrames). x.frames) stays) room b.2
+    room_refused Encodes Fault (state_of old s) (state_of new t) kind code e open_frame (went ∙ b.1) (ap (λ (x : OpenFrames). x.frames) stays) room
+    (as_little (frame_memory s.frames s.room) (length s.frames) 10 (frame_memory s.frames s.room) (frame_memory t.frames t.room)
+    (memory_stays (frame_memory s.frames s.room) (length s.frames) 10) (ap (λ (x : OpenFrames). frame_memory x.frames x.room) stays)) b.2
     (subst Opens step opens) (ap (λ (x : OpenFrames). x.room) stays ∙ none) is (omega (arith, at, begin, same))
 
 -- No byte is left.
@@ -108,8 +120,10 @@ pub begun_at_end : (old new : Reader) (s : OpenFrames) (kind : FrameKind) (e : E
     StopsNext EncodesAllowed OperatorFault e (state_of old s) (state_of new s)
 begun_at_end old new s kind e open_frame r end =
     refused_unchanged EncodesAllowed OperatorFault (state_of old s) (state_of new s) kind e open_frame (ends EncodesAllowed OperatorFault sound kind e old new r end (end_fault kind e old r.1 end)) refl (omega arith)
+    (memory_stays (frame_memory s.frames s.room) (length s.frames) 10)
 
 pub begun_at_end_scalar : (old new : Reader) (s : OpenFrames) (kind : FrameKind) (e : Error) → innermost s.frames ≡ Some kind → (new ≡ old) × IsRefusal IsByte e old → IsEndHere e old →
     StopsNext EncodesScalar ScalarOperatorFault e (state_of old s) (state_of new s)
 begun_at_end_scalar old new s kind e open_frame r end =
     refused_unchanged EncodesScalar ScalarOperatorFault (state_of old s) (state_of new s) kind e open_frame (ends EncodesScalar ScalarOperatorFault scalar_sound kind e old new r end (scalar_end_fault kind e old r.1 end)) refl (omega arith)
+    (memory_stays (frame_memory s.frames s.room) (length s.frames) 10)

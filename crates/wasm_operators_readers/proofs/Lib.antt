@@ -6,6 +6,8 @@ pub mod Existence
 pub mod FlatLemmas
 pub mod VisitLemmas
 pub mod OpeningLemmas
+pub mod FrameMemory
+pub mod CollectedLemmas
 pub mod Roles
 pub mod Bytes
 pub mod Premises

@@ -1,5 +1,5 @@
 -- A run of reads, and what its end says.
-use Rattle.std.proofs.Common.{◌≡◌, ℕ, ◌+◌, ◌≤◌, List, [], ◌∷◌, ◌++◌, length, Bool, true, cond, None, Some, Result, Ok, Err, refl, sym, subst, ap, ◌∙◌, append_assoc, arith, inl, inr}
+use Rattle.std.proofs.Common.{◌≡◌, ℕ, ◌+◌, ◌≤◌, List, [], ◌∷◌, ◌++◌, length, Bool, true, cond, None, Some, Result, Ok, Err, refl, sym, subst, ap, ◌∙◌, append_assoc, length-append, arith, inl, inr}
 use Rattle.std.proofs.lemmas.Bool.{cases_lt}
 use Rattle.std.proofs.lemmas.List.{append-nil}
 use Rattle.std.specs.Option.{option_and_then}
@@ -22,16 +22,18 @@ use Rattle.wasm_decode.specs.instr.Roles.{role_of, roles_of}
 use Rattle.wasm_operators_readers.specs.Expression.{Placed, OfPlaced, operators, LaidOut, AreEncoded, EncodesRest, IsBeginningBehind, IsLongestOf}
 use Rattle.wasm_operators_readers.specs.Flat.{IsAllowedFrom, IsFlatOf}
 use Rattle.wasm_operators_readers.specs.Openings.{opened_by, opened_along}
-use Rattle.wasm_operators_readers.specs.Reading.{Taking, Refusing, Allocating, State, StopsRead, IsFresh, IsUnchanged, TakesOperator, TakesOperators, StopsRun, Finishes, StopsFinish, EndsRun}
+use Rattle.wasm_operators_readers.specs.Reading.{Taking, Refusing, Allocating, State, StopsRead, IsFresh, GrowsLittle, IsUnchanged, TakesOperator, TakesOperators, StopsRun, Finishes, StopsFinish, EndsRun}
+use Rattle.wasm_operators_readers.specs.Stack.{frame_memory}
 use Rattle.wasm_operators_readers.specs.Headline.{StoodBefore, ReadsTree, BeginningAt, ReadsBeginning, IsWithinDepth, IsNotOutOfMemory}
 use Rattle.wasm_operators_readers.proofs.FlatLemmas.{allowed_begins, flat_longest}
 use Rattle.wasm_operators_readers.proofs.LayoutLemmas.{roles_of-append, operators-append, laid_push, laid_encoded, both_encoded, path_begins, not_empty, laid_goes_on, laid_no_longer, laid_same, one_longest, GoesOn, next_allowed}
 use Rattle.wasm_operators_readers.proofs.OneRead.{may_end, refused_none, is_memory, path_on, read_depth}
 use Rattle.wasm_operators_readers.proofs.OpeningLemmas.{twice_opened_along, along_length, opened_along-append}
+use Rattle.wasm_operators_readers.proofs.FrameMemory.{memory_stays, little_more, few_frames}
 use Rattle.wasm_operators_readers.proofs.Premises.{AreEach, IsSound, Keeps, TakesEach}
 
 pub ran_start : (s : State) → TakesOperators s s []
-ran_start s = record { text = []; takes = takes_none s.reader; laid = refl; frames = refl; room = omega arith }
+ran_start s = record { text = []; takes = takes_none s.reader; laid = refl; frames = refl; room = omega arith; memory = memory_stays (frame_memory s.frames s.room) (length s.frames) 10 }
 
 pub features_stay : (old new : Reader) (text : List ℕ) → Takes old new text → new.features ≡ old.features
 features_stay old new text t = ap (λ (r : Reader). r.features) t.moved
@@ -54,20 +56,29 @@ ran_push Encodes sound old mid new placed op r t =
           ap (option_and_then (λ frames. frames_along frames (role_of op ∷ []))) r.frames ∙
           ap (option_and_then (λ frames. frames_along {A = Operator} frames [])) t.frames;
       room = pushed_room old.room mid.room new.room (opened_along placed) (opened_by op) (opened_along (placed ++ at ∷ [])) r.room t.room opened;
+      memory = subst (λ n. GrowsLittle n old new) (sym (length-append r.text t.text))
+          (little_more (frame_memory old.frames old.room) (length old.frames) (length r.text) (frame_memory mid.frames mid.room) (length mid.frames)
+          (length t.text) (frame_memory new.frames new.room) r.memory t.memory (few_frames old.reader.features (offset_of old.reader) placed r.text old.frames mid.frames r.laid r.frames));
     }
   where
     pushed_room : (a b c m n k : ℕ) → a ≤ b + m → b ≤ c + n → k ≡ m + (n + 0) → a ≤ c + k
     pushed_room a b c m n k p q e = omega (arith, p, q, e)
 
+right-zero : (n : ℕ) → n + 0 ≡ n
+right-zero n = omega arith
+
 -- A read that is refused adds nothing.
 pub ran_unchanged : (old mid new : State) (placed : Placed) → TakesOperators old mid placed → IsUnchanged mid new → TakesOperators old new placed
-ran_unchanged old mid new placed r (reader, frames, room) =
+ran_unchanged old mid new placed r (reader, frames, room, memory) =
     record {
       text = r.text;
       takes = subst (λ s. Takes old.reader s r.text) (sym reader) r.takes;
       laid = r.laid;
       frames = r.frames ∙ ap (λ (x : List FrameKind). Some x) (sym frames);
       room = let first = r.room in omega (arith, first, room);
+      memory = subst (λ n. GrowsLittle n old new) (right-zero (length r.text))
+          (little_more (frame_memory old.frames old.room) (length old.frames) (length r.text) (frame_memory mid.frames mid.room) (length mid.frames) 0
+          (frame_memory new.frames new.room) r.memory memory (few_frames old.reader.features (offset_of old.reader) placed r.text old.frames mid.frames r.laid r.frames));
     }
 
 -- It ends the run, where data was left.

@@ -1,5 +1,5 @@
 -- From the call of the decoder behind an opcode to one read of the reader of operators.
-use Rattle.std.proofs.Common.{◌≡◌, ℕ, ◌+◌, ◌≤◌, List, [], ◌++◌, Some, None, Ok, inl, inr, refl, sym, subst, ap, ◌∙◌, arith}
+use Rattle.std.proofs.Common.{◌≡◌, ℕ, ◌+◌, ◌≤◌, List, [], ◌++◌, length, Some, None, Ok, inl, inr, refl, sym, subst, ap, ◌∙◌, arith}
 use Rattle.std.specs.Prelude.{IsSome}
 use Rattle.wasm_decode.specs.below.bytes.error.Error.{Error}
 use Rattle.wasm_decode.specs.below.bytes.features.WasmFeatures.{WasmFeatures}
@@ -14,7 +14,9 @@ use Rattle.wasm_decode.specs.opcodes.Decoding.{RefusesOperator, StandsBehind}
 use Rattle.wasm_decode.specs.opcodes.Refused.{MayAllocate}
 use Rattle.wasm_operators_readers.specs.declared.step.FrameStep.{FrameStep}
 use Rattle.wasm_operators_readers.specs.Step.{step_of, role_of_step, step_at, Opens}
-use Rattle.wasm_operators_readers.specs.Reading.{Taking, Refusing, State, IsUnchanged, TakesOperator, StopsRead}
+use Rattle.wasm_operators_readers.specs.Reading.{Taking, Refusing, State, GrowsLittle, IsUnchanged, TakesOperator, StopsRead}
+use Rattle.wasm_operators_readers.specs.Stack.{frame_memory}
+use Rattle.wasm_operators_readers.proofs.FrameMemory.{memory_stays, as_little}
 use Rattle.wasm_operators_readers.proofs.OneRead.{stops_read}
 use Rattle.wasm_operators_readers.proofs.Premises.{IsSound}
 use Rattle.wasm_operators_readers.proofs.StepLemmas.{step_allowed, step_there, took_operator, opens_leads}
@@ -41,8 +43,9 @@ begun_allows Encodes sound allowed old mid kind code start s op text new b encod
 -- An operator was decoded, and the stack made its step.
 pub begun_took : (Encodes : Taking) → IsSound Encodes → (old mid new : State) (kind : FrameKind) (code start : ℕ) (s : FrameStep) (op : Operator) (text : List ℕ) →
     BeginsOperator old mid kind start code s → Encodes mid.reader.features kind text op → Takes (at_position mid.reader start) new.reader text →
-    frames_after mid.frames (role_of_step s) ≡ Some new.frames → mid.room ≤ new.room + 1 → ((Opens s → ⊥) → mid.room ≤ new.room) → TakesOperator Encodes op old new
-begun_took Encodes sound old mid new kind code start s op text b encodes takes frames used other =
+    frames_after mid.frames (role_of_step s) ≡ Some new.frames → mid.room ≤ new.room + 1 → ((Opens s → ⊥) → mid.room ≤ new.room) →
+    frame_memory new.frames new.room ≡ frame_memory mid.frames mid.room → TakesOperator Encodes op old new
+begun_took Encodes sound old mid new kind code start s op text b encodes takes frames used other same =
     let is = b.step ∙ step_is Encodes sound mid.reader.features kind op text code start mid.reader new.reader b.behind encodes takes in
     let kept = b.room in
     let here : Encodes old.reader.features kind text op = subst (λ (f : WasmFeatures). Encodes f kind text op) (ap (λ (r : Reader). r.features) b.back) encodes in
@@ -50,15 +53,16 @@ begun_took Encodes sound old mid new kind code start s op text b encodes takes f
     took_operator Encodes op old new kind text s b.open_frame here taken is
     (ap (λ (fs : List FrameKind). frames_after fs (role_of_step s)) (sym b.frames) ∙ frames) (omega (arith, used, kept))
     (λ none. let h = other none in omega (arith, h, kept))
+    (as_little (frame_memory old.frames old.room) (length old.frames) 10 (frame_memory mid.frames mid.room) (frame_memory new.frames new.room) b.memory same)
 
 -- What stands at the reader was refused.
 pub refused_unchanged : (Encodes : Taking) (Fault : Refusing) (old new : State) (kind : FrameKind) (e : Error) → innermost old.frames ≡ Some kind →
     RefusesOperator (Encodes old.reader.features kind) (Fault old.reader.features kind) e old.reader new.reader → new.frames ≡ old.frames → old.room ≤ new.room →
-    IsUnchanged old new × StopsRead Encodes Fault (NextMayAllocate Encodes) e new
-refused_unchanged Encodes Fault old new kind e open_frame (same, refused, fault) frames room =
+    GrowsLittle 0 old new → IsUnchanged old new × StopsRead Encodes Fault (NextMayAllocate Encodes) e new
+refused_unchanged Encodes Fault old new kind e open_frame (same, refused, fault) frames room memory =
     let list : MayAllocate (Encodes old.reader.features kind) old.reader → MayAllocate (Encodes new.reader.features kind) new.reader =
     λ h. subst (λ (r : Reader). MayAllocate (Encodes r.features kind) r) (sym same) h in (
-      (same, frames, room),
+      (same, frames, room, memory),
       stops_read Encodes Fault (NextMayAllocate Encodes) e old new kind same frames open_frame refused.refuses refused.ahead fault
           (λ m. let h = refused.memory m in (h.0, inr (kind, ap innermost frames ∙ open_frame, list h.1))),
     )
@@ -73,13 +77,15 @@ begun_stopped Encodes Fault old mid new kind code start s e b refused frames roo
     (subst (λ (f : WasmFeatures). RefusesOperator (Encodes f kind) (Fault f kind) e old.reader new.reader) features
     (subst (λ (r : Reader). RefusesOperator (Encodes mid.reader.features kind) (Fault mid.reader.features kind) e r new.reader) b.back refused))
     (frames ∙ b.frames) (subst (λ (n : ℕ). old.room ≤ n) (sym room) b.room)
+    (as_little (frame_memory old.frames old.room) (length old.frames) 10 (frame_memory mid.frames mid.room) (frame_memory new.frames new.room) b.memory
+    (ap (λ (n : ℕ). frame_memory new.frames n) room ∙ ap (λ (fs : List FrameKind). frame_memory fs mid.room) frames))
 
 -- No room was made for the frame that the next operator opens.
 pub room_refused : (Encodes : Taking) (Fault : Refusing) (old new : State) (kind : FrameKind) (code : ℕ) (e : Error) → innermost old.frames ≡ Some kind →
-    new.reader ≡ old.reader → new.frames ≡ old.frames → old.room ≤ new.room → BeginsWith code (rest old.reader) → Opens (step_at code) → new.room ≡ 0 → e.message ≡ message.OutOfMemory → e.offset ≡ offset_of old.reader →
+    new.reader ≡ old.reader → new.frames ≡ old.frames → old.room ≤ new.room → GrowsLittle 0 old new → BeginsWith code (rest old.reader) → Opens (step_at code) → new.room ≡ 0 → e.message ≡ message.OutOfMemory → e.offset ≡ offset_of old.reader →
     IsUnchanged old new × StopsRead Encodes Fault (NextMayAllocate Encodes) e new
-room_refused Encodes Fault old new kind code e open_frame same frames room begins opens none is at = (
-  (same, frames, room),
+room_refused Encodes Fault old new kind code e open_frame same frames room memory begins opens none is at = (
+  (same, frames, room, memory),
   inr (inr (
     is,
     at ∙ ap offset_of (sym same),
@@ -90,4 +96,4 @@ room_refused Encodes Fault old new kind code e open_frame same frames room begin
 -- No frame is open.
 pub none_open : (Encodes : Taking) (Fault : Refusing) (s : State) (e : Error) → s.frames ≡ [] → e.message ≡ message.OperatorsRemaining →
     e.offset ≡ offset_of s.reader → IsUnchanged s s × StopsRead Encodes Fault (NextMayAllocate Encodes) e s
-none_open Encodes Fault s e closed is at = ((refl, refl, omega arith), inl (closed, is, at))
+none_open Encodes Fault s e closed is at = ((refl, refl, omega arith, memory_stays (frame_memory s.frames s.room) (length s.frames) 10), inl (closed, is, at))

@@ -1,5 +1,5 @@
 -- A visit behind its opcode: below 20 the stack makes its step, from 20 on nothing is left to do to the frames.
-use Rattle.std.proofs.Common.{◌≡◌, ℕ, ◌+◌, ◌≤◌, List, Some, Result, Ok, Err, sym, subst, ap, arith}
+use Rattle.std.proofs.Common.{◌≡◌, ℕ, ◌+◌, ◌≤◌, List, Some, Result, Ok, Err, sym, subst, ap, ◌∙◌, arith}
 use Rattle.std.specs.Prelude.{IsSome}
 use Rattle.wasm_decode.specs.below.bytes.error.Error.{Error}
 use Rattle.wasm_decode.specs.below.bytes.features.WasmFeatures.{WasmFeatures}
@@ -13,6 +13,7 @@ use Rattle.wasm_decode.specs.opcodes.Decoding.{Decodes}
 use Rattle.wasm_operators_readers.specs.Step.{role_of_step, step_at, Opens}
 use Rattle.wasm_operators_readers.proofs.Bytes.{stays_from_20}
 use Rattle.wasm_operators_readers.specs.Reading.{Taking, Refusing, State, VisitsOperator}
+use Rattle.wasm_operators_readers.specs.Stack.{frame_memory}
 use Rattle.wasm_operators_readers.proofs.Premises.{IsSound}
 use Rattle.wasm_operators_readers.specs.Next.{NextMayAllocate, BeginsOperator}
 use Rattle.wasm_operators_readers.proofs.Taken.{begun_allows, begun_took, begun_stopped}
@@ -37,9 +38,9 @@ module _ {V A : Type 0} (visits : V → Operator → A → V → Type 0) (Encode
   pub visited_with_step : IsSound Encodes → (old mid new : State) (kind : FrameKind) (code start : ℕ) (a : A) (v w : V) →
       BeginsOperator old mid kind start code (step_at code) → Behind mid new kind start (Ok a) v w →
       frames_after mid.frames (role_of_step (step_at code)) ≡ Some new.frames → mid.room ≤ new.room + 1 → ((Opens (step_at code) → ⊥) → mid.room ≤ new.room) →
-      VisitsOperator visits Encodes Fault (NextMayAllocate Encodes) (Ok a) old new v w
-  visited_with_step sound old mid new kind code start a v w b (text, op, encodes, takes, visit) frames opened other =
-      (op, begun_took Encodes sound old mid new kind code start (step_at code) op text b encodes takes frames opened other, visit)
+      frame_memory new.frames new.room ≡ frame_memory mid.frames mid.room → VisitsOperator visits Encodes Fault (NextMayAllocate Encodes) (Ok a) old new v w
+  visited_with_step sound old mid new kind code start a v w b (text, op, encodes, takes, visit) frames opened other same =
+      (op, begun_took Encodes sound old mid new kind code start (step_at code) op text b encodes takes frames opened other same, visit)
 
   -- It was refused; the frames stayed.
   pub refused_behind : (old mid new : State) (kind : FrameKind) (code start : ℕ) (e : Error) (v w : V) → BeginsOperator old mid kind start code (step_at code) →
@@ -58,5 +59,6 @@ module _ {V A : Type 0} (visits : V → Operator → A → V → Type 0) (Encode
       steps_stay mid.frames (role_of_step (step_at code)) tt (ap role_of_step (stays_from_20 code high)) allows in
       visited_with_step sound old mid new kind code start a v w b behind
       (subst (λ z. frames_after mid.frames (role_of_step (step_at code)) ≡ Some z) (sym frames) stays) (omega (arith, room)) (λ _. omega (arith, room))
+      (ap (λ (n : ℕ). frame_memory new.frames n) room ∙ ap (λ (fs : List FrameKind). frame_memory fs mid.room) frames)
   visited_from_20 sound allowed old mid new kind code start (Err e) v w high b behind frames room =
       refused_behind old mid new kind code start e v w b behind frames room

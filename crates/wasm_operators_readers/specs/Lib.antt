@@ -3,6 +3,7 @@ pub mod Expression
 pub mod Flat
 pub mod Openings
 pub mod Visiting
+pub mod Collecting
 pub mod Step
 pub mod Stack
 pub mod Reading

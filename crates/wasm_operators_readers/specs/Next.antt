@@ -12,7 +12,7 @@ use Rattle.wasm_decode.specs.opcodes.Refused.{MayAllocate}
 use Rattle.wasm_operators_readers.specs.declared.step.FrameStep.{FrameStep}
 use Rattle.wasm_operators_readers.specs.Stack.{OpenFrames}
 use Rattle.wasm_operators_readers.specs.Step.{step_at, Opens}
-use Rattle.wasm_operators_readers.specs.Reading.{Taking, Refusing, Allocating, State, FrameMayAllocate, IsUnchanged, StopsRead, ReadsOperator, VisitsOperator}
+use Rattle.wasm_operators_readers.specs.Reading.{Taking, Refusing, Allocating, State, GrowsLittle, FrameMayAllocate, IsUnchanged, StopsRead, ReadsOperator, VisitsOperator}
 
 -- The next operator may own a list, which asks for memory.
 abbrev pub ListMayAllocate : Taking → Allocating
@@ -50,4 +50,5 @@ pub record BeginsOperator (old new : State) (kind : FrameKind) (start code : ℕ
   pub step : s ≡ step_at code
   pub frames : new.frames ≡ old.frames
   pub room : old.room ≤ new.room
+  pub memory : GrowsLittle 0 old new
   pub opens : Opens s → (new.frames ≡ []) ⊎ (0 < new.room)

@@ -1,7 +1,7 @@
 -- A reader of operators, one read or visit of it, and several.
 -- The words below take three relations: which bytes encode an operator that is taken, in a frame of a given kind; which
 -- refusal is answered there; and where memory may be refused. So they serve reads, and both sorts of visits.
-use Rattle.std.specs.Prelude.{◌≡◌, ℕ, ◌+◌, ◌≤◌, List, [], ◌∷◌, ◌++◌, Some, Result, Ok, Err, ◌⊎◌}
+use Rattle.std.specs.Prelude.{◌≡◌, ℕ, ◌+◌, ◌≤◌, List, [], ◌∷◌, ◌++◌, length, Some, Result, Ok, Err, ◌⊎◌}
 use Rattle.wasm_decode.specs.below.bytes.error.Error.{Error}
 use Rattle.wasm_decode.specs.below.bytes.features.WasmFeatures.{WasmFeatures}
 use Rattle.wasm_decode.specs.below.bytes.message.Message.{Message}
@@ -14,6 +14,7 @@ use Rattle.wasm_decode.specs.instr.declared.operator.Operator.{Operator}
 use Rattle.wasm_decode.specs.instr.Roles.{role_of, roles_of}
 use Rattle.wasm_operators_readers.specs.Expression.{Placed, OfPlaced, operators, LaidOut}
 use Rattle.wasm_operators_readers.specs.Openings.{opened_by, opened_along, LeadsFrame}
+use Rattle.wasm_operators_readers.specs.Stack.{frame_memory, IsLittleMemory}
 
 -- The text encodes an operator that is taken, under these features and in a frame of this kind.
 abbrev pub Taking : Type 1
@@ -37,9 +38,14 @@ Allocating = State → Type 0
 abbrev pub IsFresh : State → Type 0
 IsFresh s = s.frames ≡ frame.Block ∷ []
 
--- Nothing changed, but that there may be more room.
+-- The memory of the frames, over this many bytes: it serves as many as before, or at most two for each frame that was open, one for each of the bytes, and ten.
+abbrev pub GrowsLittle : ℕ → State → State → Type 0
+GrowsLittle bytes old new =
+    IsLittleMemory (frame_memory old.frames old.room) (length old.frames) (bytes + 10) (frame_memory new.frames new.room)
+
+-- Nothing changed, but that there may be more room, and little.
 abbrev pub IsUnchanged : State → State → Type 0
-IsUnchanged old new = (new.reader ≡ old.reader) × (new.frames ≡ old.frames) × (old.room ≤ new.room)
+IsUnchanged old new = (new.reader ≡ old.reader) × (new.frames ≡ old.frames) × (old.room ≤ new.room) × GrowsLittle 0 old new
 
 -- The second reader stands where the first does, in the same bytes and under the same frames; their room may differ.
 abbrev pub StandAlike : State → State → Type 0
@@ -54,6 +60,7 @@ pub record TakesOperator (Encodes : Taking) (op : Operator) (old new : State) : 
   pub takes : Takes old.reader new.reader text
   pub frames : frames_after old.frames (role_of op) ≡ Some new.frames
   pub room : old.room ≤ new.room + opened_by op
+  pub memory : GrowsLittle 0 old new
 
 -- No frame is open.
 abbrev pub NoFrameOpen : Error → State → Type 0
@@ -100,6 +107,7 @@ pub record TakesOperators (old new : State) (placed : Placed) : Type 0 where
   pub laid : LaidOut old.reader.features (offset_of old.reader) placed text
   pub frames : frames_along old.frames (roles_of (operators placed)) ≡ Some new.frames
   pub room : old.room ≤ new.room + opened_along placed
+  pub memory : GrowsLittle (length text) old new
 
 -- What is so where finishing answers this refusal, at the position.
 abbrev pub StopsFinish : Message → Type 0 → Reader → Type 0

@@ -1,5 +1,5 @@
 //! Memory for frames that are not open yet.
-ghost use Rattle.std.specs.Prelude.{◌≡◌, ◌≤◌, [], IsOk, OnOk, IfErr, vec_capacity};
+ghost use Rattle.std.specs.Prelude.{◌≡◌, ◌≤◌, [], IsOk, OnOk, IfErr, max, vec_capacity};
 ghost use Rattle.wasm_decode.specs.imm.OutOfMemory.{IsOutOfMemoryAt};
 
 use std::alloc::Global;
@@ -37,14 +37,16 @@ impl OperatorsReaderAllocations {
 
     /// Makes room for this many frames.
     ///
-    /// `OutOfMemory` at offset 0; nothing changes then. It takes no memory where the room is there.
+    /// `OutOfMemory` at offset 0; nothing changes then. It takes no memory where the room is there, else
+    /// just as much as is wanted.
     pub fn reserve(&mut self, frames: usize) -> Result<()>
         ensures room { OnOk result (frames ≤ self.new) }
         ensures kept { self.old ≤ self.new }
         ensures enough { frames ≤ self.old → IsOk result }
+        ensures most { self.new ≤ max self.old frames }
         ensures refused { IfErr result (λ e. IsOutOfMemoryAt 0 e × (self.new ≡ self.old)) }
     {
-        if self.frames.reserve(frames).is_err() {
+        if self.frames.reserve_exact(frames).is_err() {
             return Err(Error::new(Message::OutOfMemory, 0));
         }
         Ok(())

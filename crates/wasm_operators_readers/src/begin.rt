@@ -4,7 +4,7 @@ ghost use Rattle.std.specs.Prelude.{◌≡◌, ◌+◌, ◌≤◌, Some, IsSome,
 ghost use Rattle.wasm_decode.specs.grammar.Frames.{frames_after};
 ghost use Rattle.wasm_decode.specs.opcodes.Allowed.{EncodesAllowed, EncodesScalar};
 ghost use Rattle.wasm_decode.specs.opcodes.OperatorFaults.{OperatorFault, ScalarOperatorFault};
-ghost use Rattle.wasm_operators_readers.specs.Stack.{HasRoom};
+ghost use Rattle.wasm_operators_readers.specs.Stack.{HasRoom, IsSameMemory};
 ghost use Rattle.wasm_operators_readers.specs.Step.{Opens, role_of_step, step_at};
 ghost use Rattle.wasm_operators_readers.specs.Next.{BeginsOperator, StopsNext, state_of};
 
@@ -68,6 +68,7 @@ pub fn advance(control: &mut ControlStack, code: u8)
     ensures frames { frames_after control.old.frames (role_of_step (step_at code)) ≡ Some control.new.frames }
     ensures opened { control.old.room ≤ control.new.room + 1 }
     ensures other { (Opens (step_at code) → ⊥) → control.old.room ≤ control.new.room }
+    ensures memory { IsSameMemory control.old control.new }
 {
     if leaves_frames(code) {
         return;

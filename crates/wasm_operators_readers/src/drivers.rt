@@ -8,32 +8,58 @@ ghost use Rattle.wasm_operators_readers.specs.Expression.{IsAny};
 ghost use Rattle.wasm_operators_readers.specs.Visiting.{Visited, VisitedScalar, IsScalar};
 ghost use Rattle.wasm_operators_readers.specs.Reading.{RunsToEnd, Adds, Anywhere};
 ghost use Rattle.wasm_operators_readers.specs.Headline.{StoodBefore, ReadsRest, ReadsFlat, IsWithinDepth};
+ghost use Rattle.wasm_operators_readers.specs.Collecting.{Collects};
 
+use crate::collector::Collector;
 use crate::operators::OperatorsReader;
+use std::mem::replace;
 use wasm_decode::below::{Error, Message, Result};
 use wasm_decode::instr::Operator;
-use wasm_decode::visitors::{VisitOperator, VisitSimdOperator};
+use wasm_decode::visitors::{HoldTable, VisitOperator, VisitSimdOperator};
 
 impl<'a> OperatorsReader<'a> {
-    /// Reads up to the end of the data or a refusal, and finishes.
-    fn read_to_end(&mut self, out: &mut Vec<(Operator<'a>, u64)>) -> Result<()>
-        ensures runs { RunsToEnd (Adds out.old.items out.new.items) EncodesAllowed OperatorFault Anywhere
+    /// Visits up to the end of the data or a refusal, and finishes. Each visit adds an item to the
+    /// list, where it is made: an operator that is read is copied there.
+    ///
+    /// It is generic over the items, since the prover compares all calls of a visitor that is known.
+    fn collect_to_end<T>(&mut self, list: &mut Collector<T>) -> Result<()>
+    where
+        T: HoldTable<'a> + Drop,
+        ensures runs { RunsToEnd (Collects T.holds list.old.items.items list.new.items.items) EncodesAllowed OperatorFault
+            Anywhere result self.old self.new }
+        ensures memory { IfErr result
+            (λ e. e.message ≡ Message.OutOfMemory
+            → NextMayAllocate EncodesAllowed self.new ⊎ (vec_capacity list.new.items < vec_len list.new.items + 1)) }
+    {
+        'operators: while !self.eof() {
+            list.offset = self.original_position();
+            if list.items.try_reserve(1).is_err() {
+                return Err(Error::new(Message::OutOfMemory, list.offset));
+            }
+            match self.visit_operator_simd(list) {
+                Ok(_) => {}
+                Err(e) => return Err(e),
+            }
+        }
+        self.finish()
+    }
+
+    /// Reads up to the end of the data or a refusal, and finishes. The items are added to this list.
+    fn read_to_end<T>(&mut self, out: &mut Vec<(T, u64)>) -> Result<()>
+    where
+        T: HoldTable<'a> + Drop,
+        ensures runs { RunsToEnd (Collects T.holds out.old.items out.new.items) EncodesAllowed OperatorFault Anywhere
             result self.old self.new }
         ensures memory { IfErr result
             (λ e. e.message ≡ Message.OutOfMemory
             → NextMayAllocate EncodesAllowed self.new ⊎ (vec_capacity out.new < vec_len out.new + 1)) }
     {
-        'operators: while !self.eof() {
-            let offset = self.original_position();
-            if out.try_reserve(1).is_err() {
-                return Err(Error::new(Message::OutOfMemory, offset));
-            }
-            match self.read() {
-                Ok(operator) => out.push((operator, offset)).unwrap(),
-                Err(e) => return Err(e),
-            }
-        }
-        self.finish()
+        let items = replace(out, Vec::new(*out.allocator()));
+        let mut list = Collector { items, offset: 0 };
+        let answer = self.collect_to_end(&mut list);
+        let Collector { items, .. } = list;
+        *out = items;
+        answer
     }
 
     /// Reads all operators up to the end of the data or a refusal, and finishes. They are added to

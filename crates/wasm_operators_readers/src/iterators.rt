@@ -1,6 +1,7 @@
 //! Operators by iterators, alone and with the offsets at which they begin.
 ghost use Rattle.std.specs.Prelude.{◌≡◌, ◌≤◌};
 ghost use Rattle.wasm_operators_readers.specs.Next.{ReadsNext};
+ghost use Rattle.wasm_operators_readers.specs.Stack.{frame_memory};
 ghost use Rattle.wasm_operators_readers.specs.Iterating.{ReadsNextPlaced, StepsBy, items_to_come, iterating_over};
 
 use crate::OperatorsReaderAllocations;
@@ -70,7 +71,7 @@ impl<'a> Model for OperatorsIterator<'a> {
 impl<'a> OperatorsIterator<'a> {
     /// The memory of the frames, for another reader.
     pub fn into_allocations(self) -> OperatorsReaderAllocations
-        ensures { self.entry.reader.room ≤ result }
+        ensures { result ≡ frame_memory self.entry.reader.frames self.entry.reader.room }
     {
         let OperatorsIterator { reader, .. } = self;
         reader.into_allocations()
@@ -117,7 +118,7 @@ impl<'a> Model for OperatorsIteratorWithOffsets<'a> {
 impl<'a> OperatorsIteratorWithOffsets<'a> {
     /// The memory of the frames, for another reader.
     pub fn into_allocations(self) -> OperatorsReaderAllocations
-        ensures { self.entry.reader.room ≤ result }
+        ensures { result ≡ frame_memory self.entry.reader.frames self.entry.reader.room }
     {
         let OperatorsIteratorWithOffsets { reader, .. } = self;
         reader.into_allocations()

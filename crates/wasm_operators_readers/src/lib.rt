@@ -7,6 +7,7 @@
 
 mod allocations;
 mod begin;
+mod collector;
 pub mod decoding_laws;
 mod drivers;
 pub mod expression_laws;

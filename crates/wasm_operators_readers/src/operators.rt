@@ -2,6 +2,7 @@
 ghost use Rattle.std.specs.Prelude.{◌≡◌, ◌↔◌, ◌≤◌, ◌∷◌, [], IsTrue, IfOk, IfErr};
 ghost use Rattle.wasm_decode.specs.below.Source.{rest, offset_of};
 ghost use Rattle.wasm_operators_readers.specs.Reading.{Finishes, IsFresh};
+ghost use Rattle.wasm_operators_readers.specs.Stack.{frame_memory};
 ghost use Rattle.wasm_operators_readers.specs.Headline.{StoodBefore};
 ghost use Rattle.wasm_operators_readers.specs.Next.{ReadsNext, VisitsNext, VisitsNextScalar};
 
@@ -63,7 +64,7 @@ impl<'a> OperatorsReader<'a> {
         ensures reader { result.reader ≡ reader.entry }
         ensures fresh { IsFresh result }
         ensures stood { StoodBefore [] result }
-        ensures room { allocs ≤ result.room }
+        ensures room { result.room ≡ allocs }
     {
         OperatorsReader {
             alloc,
@@ -74,7 +75,7 @@ impl<'a> OperatorsReader<'a> {
 
     /// The memory of the frames, for another reader.
     pub fn into_allocations(self) -> OperatorsReaderAllocations
-        ensures { self.entry.room ≤ result }
+        ensures { result ≡ frame_memory self.entry.frames self.entry.room }
     {
         let OperatorsReader { control, .. } = self;
         control.into_allocations()

@@ -1,8 +1,8 @@
 //! Laws of readers of operators. Each is the contract of a function that does nothing.
-ghost use Rattle.std.specs.Prelude.{[], ◌∷◌, ◌++◌, List};
+ghost use Rattle.std.specs.Prelude.{[], ◌∷◌, ◌++◌, ◌+◌, ◌*◌, ◌≤◌, ℕ, List, length};
 ghost use Rattle.wasm_decode.specs.instr.declared.operator.Operator.{Operator};
 ghost use Rattle.wasm_decode.specs.opcodes.Allowed.{EncodesAllowed, EncodesScalar};
-ghost use Rattle.wasm_operators_readers.specs.Reading.{State, IsFresh, IsUnchanged, TakesOperator};
+ghost use Rattle.wasm_operators_readers.specs.Reading.{State, IsFresh, GrowsLittle, IsUnchanged, TakesOperator};
 ghost use Rattle.wasm_operators_readers.specs.Headline.{StoodBefore, IsWithinDepth};
 
 /// Before a reader that has read nothing, no operator stood.
@@ -26,4 +26,12 @@ pub fn one_depth()
     ensures any { (op : Operator) (old new : State) → TakesOperator EncodesAllowed op old new → IsWithinDepth old new }
     ensures scalar { (op : Operator) (old new : State) → TakesOperator EncodesScalar op old new
         → IsWithinDepth old new }
+{}
+
+/// The memory of the frames stays little over one step and another, where the first opened no more
+/// frames than half of its bytes: as every read and visit does.
+pub fn memory_adds_up()
+    ensures { (first second : ℕ) (old mid new : State) → GrowsLittle first old mid
+        → 2 * length mid.frames ≤ 2 * length old.frames + first → GrowsLittle second mid new
+        → GrowsLittle (first + second) old new }
 {}

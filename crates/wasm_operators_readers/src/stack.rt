@@ -2,7 +2,7 @@
 ghost use Rattle.std.specs.Prelude.{◌≡◌, ◌↔◌, ◌+◌, ◌≤◌, ◌<◌, [], ◌∷◌, ◌++◌, length, IsTrue, IsSome, IsOk, Some, OnOk, IfOk, IfErr};
 ghost use Rattle.wasm_decode.specs.grammar.Frames.{frames_after, innermost, without_innermost};
 ghost use Rattle.wasm_decode.specs.imm.OutOfMemory.{IsOutOfMemoryAt};
-ghost use Rattle.wasm_operators_readers.specs.Stack.{HasRoom};
+ghost use Rattle.wasm_operators_readers.specs.Stack.{HasRoom, GrowsByDoubling, IsSameMemory, frame_memory};
 ghost use Rattle.wasm_operators_readers.specs.Step.{Opens, role_of_step};
 
 use crate::allocations::OperatorsReaderAllocations;
@@ -11,6 +11,9 @@ use std::alloc::Global;
 use std::marker::Model;
 use wasm_decode::below::{Error, Message, Result};
 use wasm_decode::grammar::FrameKind;
+
+/// The fewest frames that memory is asked for.
+const LEAST: usize = 8;
 
 /// The kinds of the open frames. The innermost stands in the value itself, those around it in
 /// memory, and the room is that for those: onto an empty stack a frame takes none.
@@ -61,7 +64,7 @@ impl ControlStack {
 
     /// The room, and that of the frames.
     pub fn into_allocations(self) -> OperatorsReaderAllocations
-        ensures { self.room ≤ result }
+        ensures { result ≡ frame_memory self.frames self.room }
     {
         let ControlStack { around, .. } = self;
         OperatorsReaderAllocations::from_frames(around)
@@ -71,6 +74,7 @@ impl ControlStack {
     pub fn clear(&mut self)
         ensures frames { self.new.frames ≡ [] }
         ensures room { self.old.room ≤ self.new.room }
+        ensures memory { IsSameMemory self.old self.new }
     {
         self.around.clear();
         self.current = None;
@@ -94,16 +98,35 @@ impl ControlStack {
 
     /// Makes room for this many frames more.
     ///
-    /// `OutOfMemory` at offset 0; nothing changes then. It takes no memory where the room is there.
+    /// `OutOfMemory` at offset 0; nothing changes then. It takes no memory where the room is there,
+    /// else at most twice what is needed, and that of eight frames.
     #[inline(always)]
     pub fn reserve(&mut self, frames: usize) -> Result<()>
         ensures frames { self.new.frames ≡ self.old.frames }
         ensures room { OnOk result (frames ≤ self.new.room) }
         ensures kept { self.old.room ≤ self.new.room }
         ensures enough { frames ≤ self.old.room → IsOk result }
+        ensures memory { GrowsByDoubling frames self.old self.new }
         ensures refused { IfErr result (λ e. IsOutOfMemoryAt 0 e × (self.new ≡ self.old)) }
     {
-        if self.around.reserve(frames).is_err() {
+        if frames <= self.around.capacity() - self.around.len() {
+            return Ok(());
+        }
+        self.grow(frames)
+    }
+
+    /// Asks for room for this many frames, or for as many as are open, or for the least.
+    #[cold]
+    #[inline(never)]
+    fn grow(&mut self, frames: usize) -> Result<()>
+        ensures frames { self.new.frames ≡ self.old.frames }
+        ensures room { OnOk result (frames ≤ self.new.room) }
+        ensures kept { self.old.room ≤ self.new.room }
+        ensures memory { GrowsByDoubling frames self.old self.new }
+        ensures refused { IfErr result (λ e. IsOutOfMemoryAt 0 e × (self.new ≡ self.old)) }
+    {
+        let more = frames.max(self.around.len()).max(LEAST);
+        if self.around.try_reserve_exact(more).is_err() {
             return Err(Error::new(Message::OutOfMemory, 0));
         }
         Ok(())
@@ -118,6 +141,7 @@ impl ControlStack {
         ensures frames { self.new.frames ≡ self.old.frames }
         ensures room { OnOk result (Opens step → HasRoom self.new) }
         ensures kept { self.old.room ≤ self.new.room }
+        ensures memory { GrowsByDoubling 1 self.old self.new }
         ensures refused { IfErr result
             (λ e. IsOutOfMemoryAt 0 e × Opens step × (self.old.room ≡ 0) × (self.new ≡ self.old)) }
     {
@@ -135,6 +159,7 @@ impl ControlStack {
         ensures frames { OnOk result (self.new.frames ≡ self.old.frames ++ frame ∷ []) }
         ensures room { self.old.room ≤ self.new.room + 1 }
         ensures enough { HasRoom self.old → IsOk result }
+        ensures memory { GrowsByDoubling 1 self.old self.new }
         ensures refused { IfErr result (λ e. IsOutOfMemoryAt 0 e × (self.new ≡ self.old)) }
     {
         if self.current.is_some() && self.reserve(1).is_err() {
@@ -150,6 +175,7 @@ impl ControlStack {
         requires { HasRoom self.old }
         ensures frames { self.new.frames ≡ self.old.frames ++ frame ∷ [] }
         ensures room { self.old.room ≤ self.new.room + 1 }
+        ensures memory { IsSameMemory self.old self.new }
     {
         if let Some(outer) = self.current {
             self.around.push_reserved(outer);
@@ -163,6 +189,7 @@ impl ControlStack {
         requires { IsSome (innermost self.old.frames) }
         ensures frames { self.new.frames ≡ without_innermost self.old.frames ++ frame ∷ [] }
         ensures room { self.new.room ≡ self.old.room }
+        ensures memory { IsSameMemory self.old self.new }
     {
         self.current = Some(frame);
     }
@@ -173,6 +200,7 @@ impl ControlStack {
         ensures frame { result ≡ innermost self.old.frames }
         ensures frames { self.new.frames ≡ without_innermost self.old.frames }
         ensures room { self.old.room ≤ self.new.room }
+        ensures memory { IsSameMemory self.old self.new }
     {
         let frame = self.current;
         self.current = self.around.pop();
@@ -188,6 +216,7 @@ impl ControlStack {
         ensures frames { frames_after self.old.frames (role_of_step step) ≡ Some self.new.frames }
         ensures opened { self.old.room ≤ self.new.room + 1 }
         ensures other { (Opens step → ⊥) → self.old.room ≤ self.new.room }
+        ensures memory { IsSameMemory self.old self.new }
     {
         match step {
             FrameStep::Stays => {}

@@ -1,2 +1,4 @@
 pub mod Numbers
 pub mod View
+pub mod Members
+pub mod Determined

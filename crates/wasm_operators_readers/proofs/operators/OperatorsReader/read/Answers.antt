@@ -27,7 +27,7 @@ returns-in-Ok-read_behind c =
     let op = c.in-Ok-read_behind.operator in
     let step = c.advance.ensures in
     let taken = begun_took EncodesAllowed sound old mid new at.frame at.code at.start (step_at at.code) op r.0 c.in-Ok.ensures.begun r.1 r.2 step.frames step.opened
-    step.other in
+    step.other step.memory in
     subst (λ (s : State). TakesOperator EncodesAllowed op s new) c.self.view_is taken
 
 pub returns-in-Err-read_behind : goal.returns-in-Err-read_behind

@@ -24,7 +24,7 @@ returns-in-Ok-visit_below_20 g c =
     let new = state_of c.visit_below_20.new.reader c.advance.new.control in
     let step = c.advance.ensures in
     let made = visited_with_step g.V.Visitor.visits EncodesScalar ScalarOperatorFault scalar_sound old mid new at.frame at.code at.start c.in-Ok-visit_below_20.answer c.args.v.now
-    c.visit_below_20.new.v c.in-Ok.ensures.begun c.in-Ok-visit_below_20.ensures.scalar step.frames step.opened step.other in
+    c.visit_below_20.new.v c.in-Ok.ensures.begun c.in-Ok-visit_below_20.ensures.scalar step.frames step.opened step.other step.memory in
     let is : State → Type 0 = λ s. VisitsOperator g.V.Visitor.visits EncodesScalar ScalarOperatorFault (NextMayAllocate EncodesScalar) (Ok c.in-Ok-visit_below_20.answer) s new c.args.v.now
     c.visit_below_20.new.v in
     subst is c.self.view_is made

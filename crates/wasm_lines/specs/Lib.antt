@@ -1,0 +1,3 @@
+pub mod Rows
+pub mod Lines
+pub use Rattle.wasm_text.specs as text

@@ -1,0 +1,41 @@
+-- Rows of a disassembly: an address, at most nine bytes, and a text. The form is that of `wasm-objdump -d` of wabt.
+use Rattle.std.specs.Prelude.{ℕ, zero, suc, ◌+◌, ◌-◌, ◌*◌, ◌/◌, ◌%◌, ◌^◌, ltb, false, List, [], ◌∷◌, ◌++◌, length, take, drop, codes, flat_map, if◌then◌else◌}
+use Rattle.std.specs.Fmt.{radix_digits}
+use Rattle.std.specs.List.{repeat}
+use Rattle.wasm_text.specs.Values.{byte_text}
+
+-- An offset in hexadecimal: six digits, or as many as it has.
+abbrev pub offset_text : ℕ → List ℕ
+offset_text offset =
+    if ltb offset (2 ^ 24)
+    then byte_text (offset / 2 ^ 16) ++ (byte_text (offset / 2 ^ 8 % 2 ^ 8) ++ byte_text (offset % 2 ^ 8))
+    else radix_digits 16 false offset
+
+-- A byte as two digits, behind a space.
+abbrev pub shown_byte : ℕ → List ℕ
+shown_byte byte = 32 ∷ byte_text byte
+
+-- An address, the bytes that stand there, of which there are at most nine, and three spaces for each that is missing.
+abbrev pub column : ℕ → List ℕ → List ℕ
+column offset bytes =
+    (codes " " ++ (offset_text offset ++ codes ":")) ++ (flat_map shown_byte bytes ++ (repeat (9 - length bytes) (codes "   ") ++ codes " | "))
+
+-- The column of one row of the bytes at an offset: the rows have nine bytes each, the last what is left.
+abbrev pub row : ℕ → List ℕ → ℕ → List ℕ
+row offset bytes n = column (offset + n * 9) (take 9 (drop (n * 9) bytes))
+
+-- So many rows without a text, from one on.
+abbrev pub rows_from : ℕ → ℕ → List ℕ → ℕ → List ℕ
+rows_from zero offset bytes n = []
+rows_from (suc more) offset bytes n = row offset bytes n ++ (10 ∷ rows_from more offset bytes (n + 1))
+
+-- The lines of what stands at an offset: the text behind the first row, two spaces before it for each construct that it stands in; and the rows of the bytes that
+-- are more than nine.
+abbrev pub line_begin : ℕ → ℕ → List ℕ → List ℕ
+line_begin depth offset bytes = row offset bytes 0 ++ repeat depth (codes "  ")
+
+abbrev pub line_end : ℕ → List ℕ → List ℕ
+line_end offset bytes = 10 ∷ rows_from ((length bytes - 1) / 9) offset bytes 1
+
+abbrev pub line_of : ℕ → ℕ → List ℕ → List ℕ → List ℕ
+line_of depth offset bytes text = line_begin depth offset bytes ++ (text ++ line_end offset bytes)

@@ -1,0 +1,44 @@
+//! The header of a function, and the indices of its locals.
+ghost use Rattle.std.specs.Prelude.{◌≡◌, ◌++◌, ◌+◌, ◌^◌, ◌<◌, OnOk, string_bytes};
+ghost use Rattle.wasm_lines.specs.Lines.{shown_name, header_of, shown_indices};
+
+use crate::rows::write_offset;
+use wasm_text::Written;
+
+/// Writes a name in angle brackets, and nothing of an empty one.
+fn write_name(out: &mut String, name: &str) -> Written
+    ensures { OnOk result (string_bytes out.new ≡ string_bytes out.old ++ shown_name name.now) }
+{
+    if name.is_empty() {
+        return Ok(());
+    }
+    write!(out, " <{name}>")
+}
+
+/// Writes the line of a function: the offset of its body, its index, and its name where that is not
+/// empty.
+///
+/// Where memory is refused, nothing is said of how much of it was written.
+pub fn write_header(out: &mut String, offset: u64, index: u32, name: &str) -> Written
+    ensures { OnOk result (string_bytes out.new ≡ string_bytes out.old ++ header_of offset index name.now) }
+{
+    write_offset(out, offset)?;
+    write!(out, " func[{index}]")?;
+    write_name(out, name)?;
+    out.push_str(":\n")
+}
+
+/// Writes the indices of locals, before their type: that of the first, and where they are not one, that
+/// of the last.
+///
+/// Where memory is refused, nothing is said of how much of it was written.
+pub fn write_indices(out: &mut String, first: u64, number: u32) -> Written
+    requires { first + number < 2 ^ 64 }
+    ensures { OnOk result (string_bytes out.new ≡ string_bytes out.old ++ shown_indices first number) }
+{
+    if number == 1 {
+        return write!(out, "local[{first}] type=");
+    }
+    let last = (first + u64::from(number)).saturating_sub(1);
+    write!(out, "local[{first}..{last}] type=")
+}

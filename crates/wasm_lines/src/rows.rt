@@ -1,0 +1,122 @@
+//! Rows: an address, at most nine bytes, and a text.
+ghost use Rattle.std.specs.Prelude.{◌≡◌, ◌++◌, ◌+◌, ◌-◌, ◌*◌, ◌/◌, ◌^◌, ◌<◌, ◌≤◌, ◌∷◌, OnOk, string_bytes, length, codes, flat_map};
+ghost use Rattle.std.specs.List.{repeat};
+ghost use Rattle.wasm_lines.specs.Rows.{offset_text, shown_byte, column, row, line_begin, line_end};
+
+use wasm_text::{Written, write_byte};
+
+/// How many bytes a row has.
+const BYTES: usize = 9;
+
+/// The first offset that has more than six digits.
+const SEVEN_DIGITS: u64 = 0x100_0000;
+
+/// Writes an offset in hexadecimal, with at least six digits.
+pub fn write_offset(out: &mut String, offset: u64) -> Written
+    ensures { OnOk result (string_bytes out.new ≡ string_bytes out.old ++ offset_text offset) }
+{
+    if offset >= SEVEN_DIGITS {
+        return write!(out, "{offset:x}");
+    }
+    write_byte(out, (offset / 0x1_0000) as u8)?;
+    write_byte(out, (offset / 0x100 % 0x100) as u8)?;
+    write_byte(out, (offset % 0x100) as u8)
+}
+
+/// Writes an address.
+fn write_address(out: &mut String, offset: u64) -> Written
+    ensures { OnOk result (string_bytes out.new ≡ string_bytes out.old ++ (codes " " ++ (offset_text offset ++ codes ":"))) }
+{
+    out.push_str(" ")?;
+    write_offset(out, offset)?;
+    out.push_str(":")
+}
+
+/// Writes a byte as two digits, behind a space.
+fn write_shown_byte(out: &mut String, byte: u8) -> Written
+    ensures { OnOk result (string_bytes out.new ≡ string_bytes out.old ++ shown_byte byte) }
+{
+    out.push_str(" ")?;
+    write_byte(out, byte)
+}
+
+/// Writes bytes, each behind a space.
+fn write_shown_bytes(out: &mut String, bytes: &[u8]) -> Written
+    ensures { OnOk result (string_bytes out.new ≡ string_bytes out.old ++ flat_map shown_byte bytes.now) }
+{
+    for byte in bytes {
+        write_shown_byte(out, *byte)?;
+    }
+    Ok(())
+}
+
+/// Writes a text so many times.
+fn write_times(out: &mut String, times: usize, text: &str) -> Written
+    ensures { OnOk result (string_bytes out.new ≡ string_bytes out.old ++ repeat times text.now) }
+{
+    for _time in 0..times {
+        out.push_str(text)?;
+    }
+    Ok(())
+}
+
+/// Writes bytes, and room for those that are missing.
+fn write_room(out: &mut String, bytes: &[u8]) -> Written
+    requires { length bytes.now ≤ 9 }
+    ensures { OnOk result
+        (string_bytes out.new ≡ string_bytes out.old ++ (flat_map shown_byte bytes.now
+        ++ (repeat (9 - length bytes.now) (codes "   ") ++ codes " | "))) }
+{
+    write_shown_bytes(out, bytes)?;
+    write_times(out, BYTES - bytes.len(), "   ")?;
+    out.push_str(" | ")
+}
+
+/// Writes the column of an address and its bytes.
+fn write_column(out: &mut String, offset: u64, bytes: &[u8]) -> Written
+    requires { length bytes.now ≤ 9 }
+    ensures { OnOk result (string_bytes out.new ≡ string_bytes out.old ++ column offset bytes.now) }
+{
+    write_address(out, offset)?;
+    write_room(out, bytes)
+}
+
+/// Writes the column of one row of the bytes at an offset.
+fn write_row(out: &mut String, offset: u64, bytes: &[u8], number: usize) -> Written
+    requires within { number * 9 ≤ length bytes.now }
+    requires fits { offset + length bytes.now < 2 ^ 64 }
+    ensures { OnOk result (string_bytes out.new ≡ string_bytes out.old ++ row offset bytes.now number) }
+{
+    let before = number * BYTES;
+    let left = &bytes[before..];
+    let shown = left.len().min(BYTES);
+    write_column(out, offset + before as u64, &left[..shown])
+}
+
+/// Begins the lines of what stands at an offset: the first row, and two spaces for each construct that
+/// it stands in.
+///
+/// Where memory is refused, nothing is said of how much of it was written.
+pub fn begin_line(out: &mut String, depth: usize, offset: u64, bytes: &[u8]) -> Written
+    requires { offset + length bytes.now < 2 ^ 64 }
+    ensures { OnOk result (string_bytes out.new ≡ string_bytes out.old ++ line_begin depth offset bytes.now) }
+{
+    write_row(out, offset, bytes, 0)?;
+    write_times(out, depth, "  ")
+}
+
+/// Ends them behind the text: the rows of the bytes that are more than nine.
+///
+/// Where memory is refused, nothing is said of how much of it was written.
+pub fn end_line(out: &mut String, offset: u64, bytes: &[u8]) -> Written
+    requires { offset + length bytes.now < 2 ^ 64 }
+    ensures { OnOk result (string_bytes out.new ≡ string_bytes out.old ++ line_end offset bytes.now) }
+{
+    out.push_str("\n")?;
+    let last = bytes.len().saturating_sub(1) / BYTES;
+    for number in 0..last {
+        write_row(out, offset, bytes, number + 1)?;
+        out.push_str("\n")?;
+    }
+    Ok(())
+}

@@ -1,0 +1,116 @@
+-- Values of one kind, one behind the other, as a loop reads them; and lists of which the length is kept.
+use Rattle.std.proofs.Common.{◌≡◌, ℕ, zero, suc, ◌+◌, ◌<◌, ◌≤◌, List, [], length, inl, inr, Ok, Err, refl, ap, sym, subst, ◌∙◌, arith}
+use Rattle.wasm_below.specs.bytes.error.Error.{Error}
+use Rattle.wasm_below.specs.bytes.message.Message.{Message}
+use Rattle.wasm_below.specs.Fault.{ManyFault, DeterminesRefusal}
+use Rattle.wasm_below.specs.Number.{EncodesUnsigned}
+use Rattle.wasm_below.specs.Sequence.{PrefixCode}
+use Rattle.wasm_below.specs.Source.{Reader, at_position, Takes, IsRefusal, Reads, U32Fault}
+use Rattle.wasm_module.specs.Types.{IsMany, EncodesCounted, EncodesLength, LengthFault}
+use Rattle.wasm_module.proofs.Parts.{refused_now, then_determines}
+use Rattle.wasm_module.proofs.Sequences.{then_read, then_first, then_refused, then_code, refused_as}
+
+takes_none : (r : Reader) → Takes r r []
+takes_none r = record { moved = ap (at_position r) (let same : r.position ≡ r.position + 0 = omega arith in same); parts = refl }
+
+-- some of the values were read, and what is said of those that are left is said of all
+pub record IsOnTheWay {X : Type 0} (P : List ℕ → X → Type 0) (Fault : Message → Reader → ℕ → Type 0) (count i : ℕ) (old now : Reader) : Type 0 where
+  pub left : ℕ
+  pub all : i + left ≡ count
+  pub moved : now ≡ at_position old now.position
+  pub forward : old.position ≤ now.position
+  pub read : (new : Reader) → Reads (IsMany P left) (Ok tt) now new → Reads (IsMany P count) (Ok tt) old new
+  pub refused : (e : Error) → IsRefusal (IsMany P left) e now → IsRefusal (IsMany P count) e old
+  pub fault : (m : Message) (offset : ℕ) → ManyFault P Fault left m now offset → ManyFault P Fault count m old offset
+
+module _ {X : Type 0} (P : List ℕ → X → Type 0) (Fault : Message → Reader → ℕ → Type 0) where
+  pub way_begins : (count : ℕ) (old : Reader) → IsOnTheWay P Fault count 0 old old
+  way_begins count old =
+      record {
+        left = count;
+        all = omega arith;
+        moved = refl;
+        forward = omega arith;
+        read = λ new h. h;
+        refused = λ e h. h;
+        fault = λ m offset h. h;
+      }
+
+  -- what is left, where there is one more
+  one_less : (count i left : ℕ) → i + left ≡ count → i < count → (k : ℕ) × (left ≡ suc k)
+  one_less count i zero all more = absurd (omega (arith, all, more))
+  one_less count i (suc k) all more = (k, refl)
+
+  abbrev Left : ℕ → ℕ → Reader → Reader → Type 0
+  Left count left old now =
+      ((new : Reader) → Reads (IsMany P left) (Ok tt) now new → Reads (IsMany P count) (Ok tt) old new)
+      × ((e : Error) → IsRefusal (IsMany P left) e now → IsRefusal (IsMany P count) e old)
+      × ((m : Message) (offset : ℕ) → ManyFault P Fault left m now offset → ManyFault P Fault count m old offset)
+
+  left_at : (count i : ℕ) (old now : Reader) (w : IsOnTheWay P Fault count i old now) (k : ℕ) → w.left ≡ k → Left count k old now
+  left_at count i old now w k same = subst (λ n. Left count n old now) same (w.read, w.refused, w.fault)
+
+  pub way_goes_on : PrefixCode P → (count i : ℕ) (old now new : Reader) (x : X) → i < count → IsOnTheWay P Fault count i old now → Reads P (Ok x) now new →
+      IsOnTheWay P Fault count (i + 1) old new
+  way_goes_on code count i old now new x more w h =
+      let less = one_less count i w.left w.all more in
+      let k = less.0 in
+      let here = left_at count i old now w (suc k) less.1 in
+      let step : new.position ≡ now.position + length h.0 = ap (λ (r : Reader). r.position) h.2.moved in
+      let forward = w.forward in
+      let all = w.all in
+      let same = less.1 in
+      record {
+        left = k;
+        all = omega (arith, all, same);
+        moved = h.2.moved ∙ ap (λ r. at_position r (now.position + length h.0)) w.moved ∙ ap (at_position old) (sym step);
+        forward = omega (arith, forward, step);
+        read = λ last q. here.0 last (then_read P (λ v. IsMany P k) now new last x tt h q);
+        refused = λ e q. here.1 e (then_refused P (λ v. IsMany P k) code e now new x h q);
+        fault = λ m offset f. here.2 m offset (inr (x, new, h, f));
+      }
+
+  pub way_ends : (count i : ℕ) (old now : Reader) → count ≤ i → IsOnTheWay P Fault count i old now → Reads (IsMany P count) (Ok tt) old now
+  way_ends count i old now none w =
+      let all = w.all in
+      let here = left_at count i old now w zero (omega (arith, all, none)) in
+      here.0 now ([], refl, takes_none now)
+
+  pub way_refused : (count i : ℕ) (old now same new : Reader) (e : Error) (position : ℕ) → i < count → IsOnTheWay P Fault count i old now →
+      Reads P (Err e) now same → position ≡ old.position → new ≡ at_position same position → Reads (IsMany P count) (Err e) old new
+  way_refused count i old now same new e position more w h at went =
+      let less = one_less count i w.left w.all more in
+      let here = left_at count i old now w (suc less.0) less.1 in (
+        went ∙ ap (λ r. at_position r position) (h.0 ∙ w.moved) ∙ ap (at_position old) at,
+        here.1 e (then_first P (λ v. IsMany P less.0) e now same h).1,
+      )
+
+  pub way_fault : (count i : ℕ) (old now same : Reader) (e : Error) → i < count → IsOnTheWay P Fault count i old now → Reads P (Err e) now same →
+      Fault e.message now e.offset → ManyFault P Fault count e.message old e.offset
+  way_fault count i old now same e more w h f =
+      let less = one_less count i w.left w.all more in
+      (left_at count i old now w (suc less.0) less.1).2 e.message e.offset (inl (refused_now P e now h.1, f))
+
+  pub counted_read : (count : ℕ) (old new : Reader) → Reads (IsMany P count) (Ok tt) old new → Reads (EncodesCounted P count) (Ok count) old new
+  counted_read count old new (a, p, t) = (a, (refl, p), t)
+
+  pub counted_refused : (count : ℕ) (e : Error) (old new : Reader) → Reads (IsMany P count) (Err e) old new → Reads (EncodesCounted P count) (Err e) old new
+  counted_refused count = refused_as (IsMany P count) (EncodesCounted P count) (λ text n b. (tt, b.1))
+
+  module _ (code : PrefixCode P) where
+    many_code : (n : ℕ) → PrefixCode (IsMany P n)
+    many_code zero = λ a b x y m k p q e. (p ∙ sym q, refl)
+    many_code (suc n) = then_code P (λ v. IsMany P n) code (λ v. many_code n)
+
+    counted_code : (count : ℕ) → PrefixCode (EncodesCounted P count)
+    counted_code count a b x y m n p q e = ((many_code count a b x y tt tt p.1 q.1 e).0, p.0 ∙ sym q.0)
+
+    pub length_code : PrefixCode (EncodesUnsigned 32) → PrefixCode (EncodesLength P)
+    length_code numbers = then_code (EncodesUnsigned 32) (EncodesCounted P) numbers counted_code
+
+    many_determines : DeterminesRefusal Fault → (n : ℕ) → DeterminesRefusal (ManyFault P Fault n)
+    many_determines item zero = λ m k r a b p q. absurd p
+    many_determines item (suc n) = then_determines P Fault (λ v. ManyFault P Fault n) code item (λ v. many_determines item n)
+
+    pub length_determines : PrefixCode (EncodesUnsigned 32) → DeterminesRefusal U32Fault → DeterminesRefusal Fault → DeterminesRefusal (LengthFault P Fault)
+    length_determines numbers small item = then_determines (EncodesUnsigned 32) U32Fault (ManyFault P Fault) numbers small (many_determines item)

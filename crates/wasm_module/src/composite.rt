@@ -1,0 +1,312 @@
+//! Types.
+ghost use Rattle.std.specs.Prelude.{◌≡◌, ◌↔◌, IsTrue, Ok, IfErr};
+ghost use Rattle.wasm_below.specs.Fault.{ManyFault};
+ghost use Rattle.wasm_below.specs.Number.{EncodesUnsigned};
+ghost use Rattle.wasm_below.specs.Source.{Reads, BeginsWith, U32Fault, rest};
+ghost use Rattle.wasm_below.specs.TypeEncoding.{EncodesValType, ValTypeFault};
+ghost use Rattle.wasm_module.specs.Types.{IsMany, EncodesValueTypes, ValueTypesFault, EncodesSignature, SignatureFault, EncodesBehind, BehindFault, EncodesComposite, CompositeFault, EncodesIndices, IndicesFault, EncodesBelow, BelowFault, EncodesSubBehind, SubBehindFault, EncodesSubType, SubTypeFault, EncodesGroup, GroupFault};
+
+use crate::field::{count_fields, skip_field};
+use crate::module_laws::types;
+use std::alloc::Global;
+use wasm_below::byte_laws::unsigned_numbers;
+use wasm_below::type_laws::value_types;
+use wasm_below::{BinaryReader, FromReader, MemoryUse, Never, Result, UsesMemory, ValType};
+
+/// The first byte of an array type.
+const ARRAY: u8 = 0x5e;
+
+/// The first byte of a struct type.
+const STRUCT: u8 = 0x5f;
+
+/// The first byte of a function type.
+const FUNCTION: u8 = 0x60;
+
+/// The first byte of a final type whose supertypes are named.
+const FINAL: u8 = 0x4f;
+
+/// The first byte of another type whose supertypes are named.
+const OPEN: u8 = 0x50;
+
+/// The first byte of a recursive type that is a list.
+const GROUP: u8 = 0x4e;
+
+/// This many value types.
+fn skip_value_types(reader: &mut BinaryReader<'_>, count: u32) -> Result<()>
+    ensures reads { Reads (IsMany EncodesValType count) result reader.old reader.new }
+    ensures fault { IfErr result (λ e.
+        ManyFault EncodesValType ValTypeFault count e.message reader.old e.offset) }
+{
+    value_types();
+    let start = reader.current_position();
+    for _value in 0..count {
+        match ValType::read(reader) {
+            Ok(_) => {}
+            Err(e) => {
+                reader.rewind(start);
+                return Err(e);
+            }
+        }
+    }
+    Ok(())
+}
+
+/// A list of value types, and how many they are.
+fn count_value_types(reader: &mut BinaryReader<'_>) -> Result<u32>
+    ensures reads { Reads EncodesValueTypes result reader.old reader.new }
+    ensures fault { IfErr result (λ e. ValueTypesFault e.message reader.old e.offset) }
+{
+    unsigned_numbers();
+    let start = reader.current_position();
+    let count = match reader.read_var_u32() {
+        Ok(count) => count,
+        Err(e) => return Err(e),
+    };
+    match skip_value_types(reader, count) {
+        Ok(()) => Ok(count),
+        Err(e) => {
+            reader.rewind(start);
+            Err(e)
+        }
+    }
+}
+
+/// How many parameters and results there are.
+fn read_signature(reader: &mut BinaryReader<'_>) -> Result<(u32, u32)>
+    ensures reads { Reads EncodesSignature result reader.old reader.new }
+    ensures fault { IfErr result (λ e. SignatureFault e.message reader.old e.offset) }
+{
+    unsigned_numbers();
+    value_types();
+    let start = reader.current_position();
+    let parameters = match count_value_types(reader) {
+        Ok(parameters) => parameters,
+        Err(e) => return Err(e),
+    };
+    match count_value_types(reader) {
+        Ok(results) => Ok((parameters, results)),
+        Err(e) => {
+            reader.rewind(start);
+            Err(e)
+        }
+    }
+}
+
+/// This many indices.
+fn skip_indices(reader: &mut BinaryReader<'_>, count: u32) -> Result<()>
+    ensures reads { Reads (IsMany (EncodesUnsigned 32) count) result reader.old reader.new }
+    ensures fault { IfErr result (λ e.
+        ManyFault (EncodesUnsigned 32) U32Fault count e.message reader.old e.offset) }
+{
+    unsigned_numbers();
+    let start = reader.current_position();
+    for _index in 0..count {
+        match reader.read_var_u32() {
+            Ok(_) => {}
+            Err(e) => {
+                reader.rewind(start);
+                return Err(e);
+            }
+        }
+    }
+    Ok(())
+}
+
+/// A list of indices, and how many they are.
+fn count_indices(reader: &mut BinaryReader<'_>) -> Result<u32>
+    ensures reads { Reads EncodesIndices result reader.old reader.new }
+    ensures fault { IfErr result (λ e. IndicesFault e.message reader.old e.offset) }
+{
+    unsigned_numbers();
+    let start = reader.current_position();
+    let count = match reader.read_var_u32() {
+        Ok(count) => count,
+        Err(e) => return Err(e),
+    };
+    match skip_indices(reader, count) {
+        Ok(()) => Ok(count),
+        Err(e) => {
+            reader.rewind(start);
+            Err(e)
+        }
+    }
+}
+
+/// A composite type. Composite Types.
+#[derive(Clone, Copy, Debug, PartialEq, Eq)]
+pub enum CompositeType {
+    /// A function type.
+    Function {
+        /// How many parameters it has.
+        parameters: u32,
+        /// How many results it has.
+        results: u32,
+    },
+    /// A struct type.
+    Struct {
+        /// How many fields it has.
+        fields: u32,
+    },
+    /// An array type.
+    Array,
+    /// The first byte of what is none of the standard's composite types. Nothing else is read of it.
+    Other(u8),
+}
+
+/// What stands behind this first byte.
+fn read_behind(reader: &mut BinaryReader<'_>, kind: u8) -> Result<CompositeType>
+    ensures reads { Reads (EncodesBehind kind) result reader.old reader.new }
+    ensures fault { IfErr result (λ e. BehindFault kind e.message reader.old e.offset) }
+{
+    match kind {
+        FUNCTION => match read_signature(reader) {
+            Ok((parameters, results)) => Ok(CompositeType::Function {
+                parameters,
+                results,
+            }),
+            Err(e) => Err(e),
+        },
+        STRUCT => match count_fields(reader) {
+            Ok(fields) => Ok(CompositeType::Struct { fields }),
+            Err(e) => Err(e),
+        },
+        ARRAY => match skip_field(reader) {
+            Ok(()) => Ok(CompositeType::Array),
+            Err(e) => Err(e),
+        },
+        _ => Ok(CompositeType::Other(kind)),
+    }
+}
+
+/// A composite type by itself.
+fn read_composite(reader: &mut BinaryReader<'_>) -> Result<CompositeType>
+    ensures reads { Reads EncodesComposite result reader.old reader.new }
+    ensures fault { IfErr result (λ e. CompositeFault e.message reader.old e.offset) }
+{
+    let start = reader.current_position();
+    let kind = match reader.read_u8() {
+        Ok(kind) => kind,
+        Err(e) => return Err(e),
+    };
+    match read_behind(reader, kind) {
+        Ok(ty) => Ok(ty),
+        Err(e) => {
+            reader.rewind(start);
+            Err(e)
+        }
+    }
+}
+
+/// The indices of supertypes, and the composite type behind them.
+fn read_below(reader: &mut BinaryReader<'_>) -> Result<CompositeType>
+    ensures reads { Reads EncodesBelow result reader.old reader.new }
+    ensures fault { IfErr result (λ e. BelowFault e.message reader.old e.offset) }
+{
+    unsigned_numbers();
+    let start = reader.current_position();
+    match count_indices(reader) {
+        Ok(_) => {}
+        Err(e) => return Err(e),
+    }
+    match read_composite(reader) {
+        Ok(ty) => Ok(ty),
+        Err(e) => {
+            reader.rewind(start);
+            Err(e)
+        }
+    }
+}
+
+/// What stands behind this first byte of a sub type.
+fn read_sub_behind(reader: &mut BinaryReader<'_>, kind: u8) -> Result<CompositeType>
+    ensures reads { Reads (EncodesSubBehind kind) result reader.old reader.new }
+    ensures fault { IfErr result (λ e. SubBehindFault kind e.message reader.old e.offset) }
+{
+    match kind {
+        FINAL | OPEN => read_below(reader),
+        _ => read_behind(reader, kind),
+    }
+}
+
+impl CompositeType {
+    /// The composite type of a sub type. Recursive Types.
+    ///
+    /// Behind a byte that is none of the standard's nothing is read. Refused as the part that is not
+    /// there: `EndOfData`, or as a number or a type.
+    pub fn read(reader: &mut BinaryReader<'_>) -> Result<CompositeType>
+        ensures reads { Reads EncodesSubType result reader.old reader.new }
+        ensures fault { IfErr result (λ e. SubTypeFault e.message reader.old e.offset) }
+    {
+        let start = reader.current_position();
+        let kind = match reader.read_u8() {
+            Ok(kind) => kind,
+            Err(e) => return Err(e),
+        };
+        match read_sub_behind(reader, kind) {
+            Ok(ty) => Ok(ty),
+            Err(e) => {
+                reader.rewind(start);
+                Err(e)
+            }
+        }
+    }
+}
+
+/// Whether a recursive type stands next that is a list.
+fn is_group_next(reader: &BinaryReader<'_>) -> bool
+    ensures { IsTrue result ↔ BeginsWith GROUP (rest reader.now) }
+{
+    matches!(reader.remaining_buffer(), [GROUP, ..])
+}
+
+/// How many sub types the recursive type has that begins here: where it is a list, its first byte and
+/// that number, which are taken; else one, and nothing is taken. The sub types stand behind. Recursive
+/// Types.
+///
+/// Refused as `read_var_u32` behind the byte.
+pub fn read_group_len(reader: &mut BinaryReader<'_>) -> Result<u32>
+    ensures group { BeginsWith GROUP (rest reader.old)
+        → Reads EncodesGroup result reader.old reader.new }
+    ensures one { ¬ BeginsWith GROUP (rest reader.old)
+        → (result ≡ Ok 1) × (reader.new ≡ reader.old) }
+    ensures fault { IfErr result (λ e. GroupFault e.message reader.old e.offset) }
+{
+    if !is_group_next(reader) {
+        return Ok(1);
+    }
+    let start = reader.current_position();
+    match reader.read_u8() {
+        Ok(_) => {}
+        Err(e) => return Err(e),
+    }
+    match reader.read_var_u32() {
+        Ok(count) => Ok(count),
+        Err(e) => {
+            reader.rewind(start);
+            Err(e)
+        }
+    }
+}
+
+impl UsesMemory for CompositeType {
+    type Memory = Never;
+}
+
+impl<'a> FromReader<'a> for CompositeType {
+    ghost encodes = { λ features text ty. EncodesSubType text ty };
+
+    ghost fault = { λ m r offset. SubTypeFault m r offset };
+
+    /// As `CompositeType::read`.
+    fn from_reader(_alloc: Global, reader: &mut BinaryReader<'a>) -> Result<CompositeType> {
+        CompositeType::read(reader)
+    }
+
+    fn is_prefix_code() {
+        types();
+    }
+
+    fn determines_refusal() {
+        types();
+    }
+}

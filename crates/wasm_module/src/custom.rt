@@ -1,0 +1,56 @@
+//! Custom sections.
+ghost use Rattle.std.specs.Prelude.{◌≡◌, Ok, IfOk, IfErr};
+ghost use Rattle.wasm_below.specs.Source.{Reads, IsRefusal};
+ghost use Rattle.wasm_module.specs.Names.{EncodesName, NameFault};
+
+use crate::name::Name;
+use std::marker::Model;
+use wasm_below::{BinaryReader, Result};
+
+/// What a custom section has: its name, and a reader of what stands behind that.
+#[derive(Debug, Drop)]
+pub struct CustomSection<'a> {
+    name: Name<'a>,
+    contents: BinaryReader<'a>,
+}
+
+impl<'a> Model for CustomSection<'a> {
+    ghost use Rattle.wasm_module.specs.Names.{CustomParts};
+
+    ghost Value = { CustomParts };
+
+    ghost view = { λ s. record { name = s.name; contents = s.contents } };
+}
+
+impl<'a> CustomSection<'a> {
+    /// What the contents of a section with the number 0 are: reads the name. Custom Section.
+    ///
+    /// Refused as `Name::read`.
+    pub fn new(mut reader: BinaryReader<'a>) -> Result<CustomSection<'a>>
+        ensures name { IfOk result (λ s. Reads EncodesName (Ok s.name) reader.entry s.contents) }
+        ensures refused { IfErr result (λ e. IsRefusal EncodesName e reader.entry) }
+        ensures fault { IfErr result (λ e. NameFault e.message reader.entry e.offset) }
+    {
+        match Name::read(&mut reader) {
+            Ok(name) => Ok(CustomSection {
+                name,
+                contents: reader,
+            }),
+            Err(e) => Err(e),
+        }
+    }
+
+    /// The bytes of the name, which says what the section has.
+    pub fn name(&self) -> &'a [u8]
+        ensures { result.now ≡ self.now.name }
+    {
+        self.name.bytes()
+    }
+
+    /// A reader of what stands behind the name, with the offsets of the module.
+    pub fn contents(&self) -> BinaryReader<'a>
+        ensures { result ≡ self.now.contents }
+    {
+        self.contents.clone()
+    }
+}

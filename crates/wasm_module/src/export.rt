@@ -1,0 +1,129 @@
+//! Exports.
+ghost use Rattle.std.specs.Prelude.{◌≡◌, ⊤, false, IfOk, IfErr};
+ghost use Rattle.wasm_below.specs.bytes.features.WasmFeatures.{WasmFeatures};
+ghost use Rattle.wasm_below.specs.Fault.{HasFault, DeterminesRefusal};
+ghost use Rattle.wasm_below.specs.FromReader.{ReadsValue};
+ghost use Rattle.wasm_below.specs.Sequence.{PrefixCode};
+ghost use Rattle.wasm_below.specs.Source.{Reads};
+ghost use Rattle.wasm_module.specs.Exports.{EncodesExternIndex, ExternIndexFault, EncodesExport, ExportFault};
+
+use crate::module_laws::exports;
+use crate::name::Name;
+use std::alloc::Global;
+use std::marker::Model;
+use wasm_below::byte_laws::unsigned_numbers;
+use wasm_below::{BinaryReader, FromReader, MemoryUse, Never, Result, UsesMemory};
+
+/// The byte of a kind, and an index.
+fn read_extern_index(reader: &mut BinaryReader<'_>) -> Result<(u8, u32)>
+    ensures reads { Reads EncodesExternIndex result reader.old reader.new }
+    ensures fault { IfErr result (λ e. ExternIndexFault e.message reader.old e.offset) }
+{
+    let start = reader.current_position();
+    let kind = match reader.read_u8() {
+        Ok(kind) => kind,
+        Err(e) => return Err(e),
+    };
+    match reader.read_var_u32() {
+        Ok(index) => Ok((kind, index)),
+        Err(e) => {
+            reader.rewind(start);
+            Err(e)
+        }
+    }
+}
+
+/// An export: a name for something of the module.
+///
+/// Contracts see the bytes of the name, the byte of the kind, and the index.
+#[derive(Debug, Drop)]
+pub struct Export<'a> {
+    name: Name<'a>,
+    kind: u8,
+    index: u32,
+}
+
+impl<'a> Model for Export<'a> {
+    ghost use Rattle.wasm_module.specs.Exports.{ExportParts};
+
+    ghost Value = { ExportParts };
+
+    ghost view = { λ export. record { name = export.name; kind = export.kind; index = export.index } };
+}
+
+impl<'a> Export<'a> {
+    /// The bytes of the name.
+    pub fn name(&self) -> &'a [u8]
+        ensures { result.now ≡ self.now.name }
+    {
+        self.name.bytes()
+    }
+
+    /// The byte of the kind: 0 of a function, 1 of a table, 2 of a memory, 3 of a global, 4 of a tag.
+    /// No other is one of the standard's.
+    pub fn kind(&self) -> u8
+        ensures { result ≡ self.now.kind }
+    {
+        self.kind
+    }
+
+    /// Which one of that kind.
+    pub fn index(&self) -> u32
+        ensures { result ≡ self.now.index }
+    {
+        self.index
+    }
+
+    /// An export: its name, the byte of its kind, and an index, whatever the byte. Export Section.
+    ///
+    /// Refused as the part that is not there: `EndOfData`, or as a number.
+    pub fn read(reader: &mut BinaryReader<'a>) -> Result<Export<'a>>
+        ensures reads { Reads EncodesExport result reader.old reader.new }
+        ensures fault { IfErr result (λ e. ExportFault e.message reader.old e.offset) }
+    {
+        unsigned_numbers();
+        let start = reader.current_position();
+        let name = match Name::read(reader) {
+            Ok(name) => name,
+            Err(e) => return Err(e),
+        };
+        match read_extern_index(reader) {
+            Ok((kind, index)) => Ok(Export { name, kind, index }),
+            Err(e) => {
+                reader.rewind(start);
+                Err(e)
+            }
+        }
+    }
+}
+
+impl<'a> UsesMemory for Export<'a> {
+    type Memory = Never;
+}
+
+impl<'a> FromReader<'a> for Export<'a> {
+    ghost encodes = { λ features text export. EncodesExport text export };
+
+    ghost fault = { λ m r offset. ExportFault m r offset };
+
+    /// As `Export::read`.
+    fn from_reader(_alloc: Global, reader: &mut BinaryReader<'a>) -> Result<Export<'a>>
+        ensures reads { ReadsValue EncodesExport false result reader.old reader.new }
+        ensures fault { IfErr result (λ e. HasFault ExportFault e reader.old) }
+        ensures placed { IfOk result (λ value. ⊤) }
+    {
+        Export::read(reader)
+    }
+
+    fn is_prefix_code()
+        ensures { (features : WasmFeatures) → PrefixCode EncodesExport }
+    {
+        exports();
+    }
+
+    fn determines_refusal()
+        ensures { DeterminesRefusal ExportFault }
+    {
+        exports();
+    }
+}

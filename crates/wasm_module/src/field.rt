@@ -1,0 +1,109 @@
+//! Steps over fields of structs and arrays.
+ghost use Rattle.std.specs.Prelude.{◌↔◌, IsTrue, IfErr};
+ghost use Rattle.wasm_below.specs.Fault.{ManyFault};
+ghost use Rattle.wasm_below.specs.Source.{Reads, rest};
+ghost use Rattle.wasm_below.specs.TypeEncoding.{LedBy, ValTypeFault};
+ghost use Rattle.wasm_module.specs.Types.{IsMany, IsPackedByte, IsStorage, IsField, FieldFault, EncodesFields, FieldsFault};
+
+use wasm_below::byte_laws::unsigned_numbers;
+use wasm_below::type_laws::value_types;
+use wasm_below::{BinaryReader, Result, ValType};
+
+/// The byte of the packed type of 16 bits.
+const I16: u8 = 0x77;
+
+/// The byte of the packed type of 8 bits.
+const I8: u8 = 0x78;
+
+/// Whether a packed type stands next.
+fn is_packed_next(reader: &BinaryReader<'_>) -> bool
+    ensures { IsTrue result ↔ LedBy IsPackedByte (rest reader.now) }
+{
+    matches!(reader.remaining_buffer(), [I16 | I8, ..])
+}
+
+/// A packed type, which stands next.
+fn skip_packed(reader: &mut BinaryReader<'_>) -> Result<()>
+    requires { LedBy IsPackedByte (rest reader.old) }
+    ensures reads { Reads IsStorage result reader.old reader.new }
+    ensures fault { IfErr result (λ e. ValTypeFault e.message reader.old e.offset) }
+{
+    match reader.read_u8() {
+        Ok(_) => Ok(()),
+        Err(e) => Err(e),
+    }
+}
+
+/// A storage type.
+fn skip_storage(reader: &mut BinaryReader<'_>) -> Result<()>
+    ensures reads { Reads IsStorage result reader.old reader.new }
+    ensures fault { IfErr result (λ e. ValTypeFault e.message reader.old e.offset) }
+{
+    if is_packed_next(reader) {
+        return skip_packed(reader);
+    }
+    match ValType::read(reader) {
+        Ok(_) => Ok(()),
+        Err(e) => Err(e),
+    }
+}
+
+/// A field.
+pub fn skip_field(reader: &mut BinaryReader<'_>) -> Result<()>
+    ensures reads { Reads IsField result reader.old reader.new }
+    ensures fault { IfErr result (λ e. FieldFault e.message reader.old e.offset) }
+{
+    value_types();
+    let start = reader.current_position();
+    match skip_storage(reader) {
+        Ok(()) => {}
+        Err(e) => return Err(e),
+    }
+    match reader.read_u8() {
+        Ok(_) => Ok(()),
+        Err(e) => {
+            reader.rewind(start);
+            Err(e)
+        }
+    }
+}
+
+/// This many fields.
+fn skip_fields(reader: &mut BinaryReader<'_>, count: u32) -> Result<()>
+    ensures reads { Reads (IsMany IsField count) result reader.old reader.new }
+    ensures fault { IfErr result (λ e.
+        ManyFault IsField FieldFault count e.message reader.old e.offset) }
+{
+    value_types();
+    let start = reader.current_position();
+    for _field in 0..count {
+        match skip_field(reader) {
+            Ok(()) => {}
+            Err(e) => {
+                reader.rewind(start);
+                return Err(e);
+            }
+        }
+    }
+    Ok(())
+}
+
+/// A list of fields, and how many they are.
+pub fn count_fields(reader: &mut BinaryReader<'_>) -> Result<u32>
+    ensures reads { Reads EncodesFields result reader.old reader.new }
+    ensures fault { IfErr result (λ e. FieldsFault e.message reader.old e.offset) }
+{
+    unsigned_numbers();
+    let start = reader.current_position();
+    let count = match reader.read_var_u32() {
+        Ok(count) => count,
+        Err(e) => return Err(e),
+    };
+    match skip_fields(reader, count) {
+        Ok(()) => Ok(count),
+        Err(e) => {
+            reader.rewind(start);
+            Err(e)
+        }
+    }
+}

@@ -1,0 +1,147 @@
+//! Names, and the names of indices.
+ghost use Rattle.std.specs.Prelude.{◌≡◌, ⊤, false, IfOk, IfErr};
+ghost use Rattle.wasm_below.specs.bytes.features.WasmFeatures.{WasmFeatures};
+ghost use Rattle.wasm_below.specs.Fault.{HasFault, DeterminesRefusal};
+ghost use Rattle.wasm_below.specs.FromReader.{ReadsValue};
+ghost use Rattle.wasm_below.specs.Sequence.{PrefixCode};
+ghost use Rattle.wasm_below.specs.Source.{Reads};
+ghost use Rattle.wasm_module.specs.Names.{EncodesName, NameFault, EncodesNameAssociation, NameAssociationFault};
+
+use crate::module_laws::names;
+use std::alloc::Global;
+use std::marker::Model;
+use wasm_below::byte_laws::unsigned_numbers;
+use wasm_below::{BinaryReader, FromReader, MemoryUse, Never, Result, UsesMemory};
+
+/// A name. That its bytes are UTF-8 is not asked.
+///
+/// Contracts see the bytes.
+#[derive(Debug, Drop)]
+pub struct Name<'a> {
+    bytes: &'a [u8],
+}
+
+impl<'a> Model for Name<'a> {
+    ghost use Rattle.std.specs.Prelude.{ℕ, List};
+
+    ghost Value = { List ℕ };
+
+    ghost view = { λ name. name.bytes.now };
+}
+
+impl<'a> Name<'a> {
+    /// The bytes.
+    pub fn bytes(&self) -> &'a [u8]
+        ensures { result.now ≡ self.now }
+    {
+        self.bytes
+    }
+
+    /// A name: a number of 32 bits, and that many bytes. Names.
+    ///
+    /// Refused as `read_var_u32`; `EndOfData` where the bytes begin.
+    pub fn read(reader: &mut BinaryReader<'a>) -> Result<Name<'a>>
+        ensures reads { Reads EncodesName result reader.old reader.new }
+        ensures fault { IfErr result (λ e. NameFault e.message reader.old e.offset) }
+    {
+        unsigned_numbers();
+        let start = reader.current_position();
+        let length = match reader.read_var_u32() {
+            Ok(length) => length,
+            Err(e) => return Err(e),
+        };
+        match reader.read_bytes(length as usize) {
+            Ok(bytes) => Ok(Name { bytes }),
+            Err(e) => {
+                reader.rewind(start);
+                Err(e)
+            }
+        }
+    }
+}
+
+/// The name of an index, of a function for example.
+///
+/// Contracts see the index and the bytes of the name.
+#[derive(Debug, Drop)]
+pub struct NameAssociation<'a> {
+    index: u32,
+    name: Name<'a>,
+}
+
+impl<'a> Model for NameAssociation<'a> {
+    ghost use Rattle.wasm_module.specs.Names.{NameParts};
+
+    ghost Value = { NameParts };
+
+    ghost view = { λ a. record { index = a.index; name = a.name } };
+}
+
+impl<'a> NameAssociation<'a> {
+    /// What is named.
+    pub fn index(&self) -> u32
+        ensures { result ≡ self.now.index }
+    {
+        self.index
+    }
+
+    /// The bytes of its name.
+    pub fn name(&self) -> &'a [u8]
+        ensures { result.now ≡ self.now.name }
+    {
+        self.name.bytes()
+    }
+
+    /// An index, and its name. Name Section, Name Maps.
+    ///
+    /// Refused as `read_var_u32`; then as `Name::read`.
+    pub fn read(reader: &mut BinaryReader<'a>) -> Result<NameAssociation<'a>>
+        ensures reads { Reads EncodesNameAssociation result reader.old reader.new }
+        ensures fault { IfErr result (λ e. NameAssociationFault e.message reader.old e.offset) }
+    {
+        unsigned_numbers();
+        let start = reader.current_position();
+        let index = match reader.read_var_u32() {
+            Ok(index) => index,
+            Err(e) => return Err(e),
+        };
+        match Name::read(reader) {
+            Ok(name) => Ok(NameAssociation { index, name }),
+            Err(e) => {
+                reader.rewind(start);
+                Err(e)
+            }
+        }
+    }
+}
+
+impl<'a> UsesMemory for NameAssociation<'a> {
+    type Memory = Never;
+}
+
+impl<'a> FromReader<'a> for NameAssociation<'a> {
+    ghost encodes = { λ features text a. EncodesNameAssociation text a };
+
+    ghost fault = { λ m r offset. NameAssociationFault m r offset };
+
+    /// As `NameAssociation::read`.
+    fn from_reader(_alloc: Global, reader: &mut BinaryReader<'a>) -> Result<NameAssociation<'a>>
+        ensures reads { ReadsValue EncodesNameAssociation false result reader.old reader.new }
+        ensures fault { IfErr result (λ e. HasFault NameAssociationFault e reader.old) }
+        ensures placed { IfOk result (λ value. ⊤) }
+    {
+        NameAssociation::read(reader)
+    }
+
+    fn is_prefix_code()
+        ensures { (features : WasmFeatures) → PrefixCode EncodesNameAssociation }
+    {
+        names();
+    }
+
+    fn determines_refusal()
+        ensures { DeterminesRefusal NameAssociationFault }
+    {
+        names();
+    }
+}

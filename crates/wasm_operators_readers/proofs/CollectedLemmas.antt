@@ -1,0 +1,44 @@
+-- Lists to which operators were added, one after another.
+use Rattle.std.proofs.Common.{◌≡◌, ℕ, List, [], ◌∷◌, ◌++◌, Result, refl, sym, subst, ap, ◌∙◌, append_assoc}
+use Rattle.wasm_decode.specs.instr.declared.operator.Operator.{Operator}
+use Rattle.wasm_operators_readers.specs.Expression.{Placed}
+use Rattle.wasm_operators_readers.specs.Collecting.{CollectsOne, AreMade, Collects}
+use Rattle.wasm_decode.specs.below.bytes.error.Error.{Error}
+use Rattle.wasm_operators_readers.specs.Reading.{Taking, Refusing, Allocating, State, Adds, RunsToEnd}
+
+made_push : {T : Type 0} (holds : Operator → T → Type 0) (placed : Placed) (items : List (T × ℕ)) (op : Operator) (at : ℕ) (made : T) → AreMade holds placed items →
+    holds op made → AreMade holds (placed ++ (op, at) ∷ []) (items ++ (made, at) ∷ [])
+made_push {T} holds [] items op at made none held = (made, [], ap (λ (x : List (T × ℕ)). x ++ (made, at) ∷ []) none, held, refl)
+made_push {T} holds (p ∷ ps) items op at made (first, others, same, one, more) held =
+    (first, others ++ (made, at) ∷ [], ap (λ (x : List (T × ℕ)). x ++ (made, at) ∷ []) same, one, made_push holds ps others op at made more held)
+
+-- One operator more.
+pub collected_push : {T : Type 0} (holds : Operator → T → Type 0) (old mid new : List (T × ℕ)) (placed : Placed) (op : Operator) (at : ℕ) → Collects holds old mid placed →
+    CollectsOne holds at mid op new → Collects holds old new (placed ++ (op, at) ∷ [])
+collected_push {T} holds old mid new placed op at (items, are, same) (made, held, one) = (
+  items ++ (made, at) ∷ [],
+  made_push holds placed items op at made are held,
+  one ∙ ap (λ (x : List (T × ℕ)). x ++ (made, at) ∷ []) same ∙ append_assoc old items ((made, at) ∷ []),
+)
+
+-- Nothing yet.
+pub collected_none : {T : Type 0} (holds : Operator → T → Type 0) (old : List (T × ℕ)) → Collects holds old old []
+collected_none {T} holds old = ([], refl, sym (append_none old))
+  where
+    append_none : (x : List (T × ℕ)) → x ++ [] ≡ x
+    append_none [] = refl
+    append_none (y ∷ ys) = ap (λ (z : List (T × ℕ)). y ∷ z) (append_none ys)
+
+-- Items that are the operators themselves.
+made_same : (placed items : Placed) → AreMade (λ op made. made ≡ op) placed items → items ≡ placed
+made_same [] items none = none
+made_same (p ∷ ps) items (first, others, same, one, more) =
+    same ∙ ap (λ (x : Operator). (x, p.1) ∷ others) one ∙ ap (λ (x : Placed). p ∷ x) (made_same ps others more)
+
+pub collected_adds : (old new placed : Placed) → Collects (λ op made. made ≡ op) old new placed → Adds old new placed
+collected_adds old new placed (items, are, same) = same ∙ ap (λ (x : Placed). old ++ x) (made_same placed items are)
+
+-- So reading to the end adds operators, where it collects them.
+pub collected_runs : {X : Type 0} (Encodes : Taking) (Fault : Refusing) (Allocates : Allocating) (result : Result X Error) (start end : State) (old new : Placed) →
+    RunsToEnd (Collects (λ op made. made ≡ op) old new) Encodes Fault Allocates result start end → RunsToEnd (Adds old new) Encodes Fault Allocates result start end
+collected_runs Encodes Fault Allocates result start end old new (placed, collects, takes, ends) = (placed, collected_adds old new placed collects, takes, ends)

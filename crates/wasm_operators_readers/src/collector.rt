@@ -1,0 +1,42 @@
+//! The visitor that adds operators to a list.
+ghost use Rattle.std.specs.Prelude.{◌<◌, vec_capacity, vec_len};
+ghost use Rattle.wasm_decode.specs.instr.declared.operator.Operator.{Operator};
+ghost use Rattle.wasm_operators_readers.specs.Collecting.{CollectsOne};
+
+use wasm_decode::instr::{BrTable, Operator};
+use wasm_decode::visitors::{
+    HoldOperator, HoldTable, VisitGroups, VisitOperator, VisitSimdOperator, Visitor,
+};
+
+/// Adds what is made of each operator to a list, with the offset that was set before the visit.
+///
+/// So the operator is made where it is added, and no answer is copied into the list.
+#[derive(Drop)]
+pub struct Collector<T> {
+    pub items: Vec<(T, u64)>,
+    pub offset: u64,
+}
+
+impl<T: HoldOperator + Drop> Visitor for Collector<T> {
+    type Output = ();
+
+    // Where the list has room it has one more, made of the operator.
+    ghost visits = { λ before op answer after. vec_len before.items < vec_capacity before.items
+        → CollectsOne T.holds before.offset before.items.items op after.items.items };
+
+    #[inline(always)]
+    fn visit_any(&mut self, op: Operator<'static>) {
+        let _ = self.items.push((T::hold_operator(op), self.offset));
+    }
+}
+
+impl<T: HoldOperator + Drop> VisitGroups for Collector<T> {}
+
+impl<'a, T: HoldTable<'a> + Drop> VisitOperator<'a> for Collector<T> {
+    #[inline(always)]
+    fn visit_br_table(&mut self, targets: BrTable<'a>) {
+        let _ = self.items.push((T::hold_table(targets), self.offset));
+    }
+}
+
+impl<T: HoldOperator + Drop> VisitSimdOperator for Collector<T> {}

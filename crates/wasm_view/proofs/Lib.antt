@@ -1,0 +1,3 @@
+pub mod ByNumber
+pub mod Immediates
+pub mod Determined

@@ -1,0 +1,17 @@
+-- Operators that their plain data determines.
+use Rattle.std.specs.Prelude.{FitsSigned}
+use Rattle.std.specs.Int.{w64}
+use Rattle.wasm_instr.specs.declared.operator.Operator.{Operator}
+use Rattle.wasm_instr.specs.declared.operator.Operator.TheVariants as operator
+
+-- The operator carries no list, of which plain data has the count alone, and an integer that it has fits in 64 bits.
+abbrev pub IsWhole : Operator → Type 0
+IsWhole (operator.BrTable _) = ⊥
+IsWhole (operator.TypedSelectMulti _) = ⊥
+IsWhole (operator.TryTable _) = ⊥
+IsWhole (operator.Resume _ _) = ⊥
+IsWhole (operator.ResumeThrow _ _ _) = ⊥
+IsWhole (operator.ResumeThrowRef _ _) = ⊥
+IsWhole (operator.I32Const n) = FitsSigned w64 n
+IsWhole (operator.I64Const n) = FitsSigned w64 n
+IsWhole _ = Unit {0}

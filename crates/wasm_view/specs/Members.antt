@@ -1,0 +1,32 @@
+-- The members of lists as plain data.
+-- WebAssembly Core Specification 3.0: Binary Format, Instructions, Control Instructions and Parametric Instructions; proposal stack switching (clauses).
+use Rattle.std.specs.Prelude.{ℕ}
+use Rattle.wasm_instr.specs.below.declared.types.ValType.{ValType}
+use Rattle.wasm_instr.specs.imm.control.handlers.Catch.{Catch}
+use Rattle.wasm_instr.specs.imm.control.handlers.Catch.TheVariants as clause
+use Rattle.wasm_instr.specs.imm.control.handlers.Handle.{Handle}
+use Rattle.wasm_instr.specs.imm.control.handlers.Handle.TheVariants as handle
+use Rattle.wasm_instr.specs.imm.Handlers.{catch_byte, handle_byte}
+use Rattle.wasm_view.specs.Numbers.{value_kind, value_index}
+use Rattle.wasm_view.specs.declared.members.WasmType.{WasmType}
+use Rattle.wasm_view.specs.declared.members.WasmHandler.{WasmHandler}
+
+-- A value type: its kind and its index.
+abbrev pub type_of : ValType → WasmType
+type_of ty = record { kind = value_kind ty; index = value_index ty }
+
+-- A byte, a tag and a label.
+abbrev pub handler : ℕ → ℕ → ℕ → WasmHandler
+handler kind tag label = record { kind = kind; tag = tag; label = label }
+
+-- A catch: the byte that it begins with, its tag if it has one, and its label.
+abbrev pub catch_of : Catch → WasmHandler
+catch_of (clause.One tag label) = handler (catch_byte (clause.One tag label)) tag label
+catch_of (clause.OneRef tag label) = handler (catch_byte (clause.OneRef tag label)) tag label
+catch_of (clause.All label) = handler (catch_byte (clause.All label)) 0 label
+catch_of (clause.AllRef label) = handler (catch_byte (clause.AllRef label)) 0 label
+
+-- A clause: likewise, with its tag, and its label if it has one.
+abbrev pub handle_of : Handle → WasmHandler
+handle_of (handle.OnLabel tag label) = handler (handle_byte (handle.OnLabel tag label)) tag label
+handle_of (handle.OnSwitch tag) = handler (handle_byte (handle.OnSwitch tag)) tag 0
