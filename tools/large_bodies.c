@@ -1,32 +1,70 @@
 /* Visits one large body that is made here, by the library of crates/wasm_bench, and prints how many operators
-   were visited: large_bodies nested|alternating|nops N. */
+   were visited: large_bodies nested|alternating|nops|targets N. With a number of rounds behind these it prints
+   also how many bytes the body has, and how many nanoseconds the shortest visit took. */
 #include <stdint.h>
 #include <stdio.h>
 #include <stdlib.h>
 #include <string.h>
+#include <time.h>
 
 uint64_t wasm_bench_count_any(const uint8_t *body, size_t size);
 
-/* A body without locals: so many times the operators before, so many times those behind, and an end. */
-static uint8_t *body_of(size_t n, const char *before, size_t each, const char *behind, size_t after, size_t *size) {
-    *size = 1 + n * (each + after) + 1;
-    uint8_t *body = malloc(*size), *at = body;
+/* A round visits at least so many bytes, so that a short body is visited many times. */
+static const size_t LEAST = 1 << 20;
+
+/* A body without locals: a beginning, so many times the operators before, so many times those behind, and an end. */
+static uint8_t *body_of(const char *begin, size_t head, size_t n, const char *before, size_t each, const char *behind,
+                        size_t after, size_t *size) {
+    *size = head + n * (each + after) + 1;
+    uint8_t *body = malloc(*size), *at = body + head;
     if (!body) exit(1);
-    *at++ = 0;
+    memcpy(body, begin, head);
     for (size_t i = 0; i < n; i++, at += each) memcpy(at, before, each);
     for (size_t i = 0; i < n; i++, at += after) memcpy(at, behind, after);
     *at = 0x0b;
     return body;
 }
 
+/* A branch table with so many targets and the default one. */
+static uint8_t *table_of(size_t n, size_t *size) {
+    char begin[12] = {0, 0x0e};
+    size_t head = 2;
+    for (size_t left = n;; left >>= 7) {
+        begin[head++] = (char)(left < 0x80 ? left : left % 0x80 + 0x80);
+        if (left < 0x80) break;
+    }
+    return body_of(begin, head, n + 1, "", 1, "", 0, size);
+}
+
+/* The nanoseconds of one visit, of as many as a round has. */
+static double visit_time(const uint8_t *body, size_t size, uint64_t *operators) {
+    size_t visits = size < LEAST ? LEAST / size : 1;
+    struct timespec begin, end;
+    clock_gettime(CLOCK_MONOTONIC, &begin);
+    for (size_t i = 0; i < visits; i++) *operators = wasm_bench_count_any(body, size);
+    clock_gettime(CLOCK_MONOTONIC, &end);
+    return ((double)(end.tv_sec - begin.tv_sec) * 1e9 + (double)(end.tv_nsec - begin.tv_nsec)) / (double)visits;
+}
+
 int main(int count, char **words) {
-    if (count != 3) return 2;
+    if (count != 3 && count != 4) return 2;
     size_t n = strtoull(words[2], 0, 10), size;
+    uint64_t operators;
     uint8_t *body;
-    if (!strcmp(words[1], "nested")) body = body_of(n, "\x02\x40", 2, "\x0b", 1, &size);
-    else if (!strcmp(words[1], "alternating")) body = body_of(n, "\x02\x40\x0b", 3, "", 0, &size);
-    else if (!strcmp(words[1], "nops")) body = body_of(n, "\x01", 1, "", 0, &size);
+    if (!strcmp(words[1], "nested")) body = body_of("", 1, n, "\x02\x40", 2, "\x0b", 1, &size);
+    else if (!strcmp(words[1], "alternating")) body = body_of("", 1, n, "\x02\x40\x0b", 3, "", 0, &size);
+    else if (!strcmp(words[1], "nops")) body = body_of("", 1, n, "\x01", 1, "", 0, &size);
+    else if (!strcmp(words[1], "targets")) body = table_of(n, &size);
     else return 2;
-    printf("%llu\n", (unsigned long long)wasm_bench_count_any(body, size));
+    if (count == 3) {
+        printf("%llu\n", (unsigned long long)wasm_bench_count_any(body, size));
+        return 0;
+    }
+    double best = visit_time(body, size, &operators);
+    for (long rounds = strtol(words[3], 0, 10); rounds > 1; rounds--) {
+        double next = visit_time(body, size, &operators);
+        if (next < best) best = next;
+    }
+    printf("%llu %zu %.1f\n", (unsigned long long)operators, size, best);
     return 0;
 }

@@ -1,0 +1,112 @@
+#!/usr/bin/env python3
+"""Measures how the time and the memory of visiting grow with the bytes, and draws it.
+
+    tools/growth.py [--rounds N] [--figure FILE]
+
+Bodies of `nop`, of blocks within each other and of one branch table are made and visited by `count_any` of
+crates/wasm_bench (`rt lib` there), by way of large_bodies.c, each at several sizes, the best of N rounds (20 if
+left out). It prints a table of nanoseconds an operator, for branch tables a byte, and of the memory that the
+visit took beside the body, and writes the figure, docs/growth.svg if left out.
+"""
+
+import math
+import os
+import subprocess
+import sys
+import tempfile
+from html import escape
+from pathlib import Path
+
+sys.path.insert(0, str(Path(__file__).resolve().parent))
+import large_bodies
+
+FIGURE = large_bodies.TOP / "docs" / "growth.svg"
+ROUNDS = 20
+# The bodies: what one is called, what its time is divided by, and its sizes.
+BODIES = {
+    "nops": ("`nop`", "operator", (1_000, 10_000, 100_000, 1_000_000, 10_000_000, 100_000_000)),
+    "nested": ("blocks within each other", "operator", (1, 10, 100, 1_000, 10_000, 100_000, 1_000_000)),
+    "targets": ("targets of a branch table", "byte", (1, 10, 100, 1_000, 10_000, 100_000, 1_000_000, 7_654_321)),
+}
+COLOURS = ("#1f5fa8", "#b3541e", "#2f7d4f")
+# The drawing, and the margins of its axes.
+WIDTH, HEIGHT, LEFT, RIGHT, TOP, BOTTOM = 720, 360, 60, 20, 20, 50
+
+
+class Measured:
+    """A body that was visited: its size, its bytes, the nanoseconds by the unit, and the KiB beside it."""
+
+    def __init__(self, size, line, memory, unit):
+        operators, length, nanoseconds = line.split()
+        self.size, self.bytes = size, int(length)
+        self.time = float(nanoseconds) / (int(operators) if unit == "operator" else self.bytes)
+        self.memory = memory - self.bytes // 1024
+
+
+def measured(driver, name, rounds):
+    """The visits of a body at its sizes. The memory is that of a run with one visit."""
+    _, unit, sizes = BODIES[name]
+    found = []
+    for size in sizes:
+        line = subprocess.run([driver, name, str(size), str(rounds)], capture_output=True, text=True, check=True).stdout
+        found.append(Measured(size, line, large_bodies.Ran([driver, name, str(size)], b"").memory, unit))
+    return found
+
+
+def rows(name, found):
+    """A row of the table for each size."""
+    title, unit, _ = BODIES[name]
+    least = min(it.memory for it in found)
+    return [f"| {it.size:,} {title} | {it.bytes:,} | {it.time:.2f} ns by the {unit} | {max(0, it.memory - least):,} KiB |" for it in found]
+
+
+def ticks(most):
+    """The marks of the axis of times: at most eight of them."""
+    step = 1
+    while most / step > 8:
+        step *= 2 if str(step)[0] in "15" else 2.5
+    return [int(step * at) for at in range(int(most / step) + 2)]
+
+
+def figure(series):
+    """The drawing of the times over the bytes, which are on a logarithmic axis."""
+    marks = ticks(max(it.time for found in series.values() for it in found))
+    most = math.ceil(math.log10(max(it.bytes for found in series.values() for it in found)))
+    across = lambda size: LEFT + (WIDTH - LEFT - RIGHT) * math.log10(max(size, 1)) / most
+    up = lambda time: HEIGHT - BOTTOM - (HEIGHT - TOP - BOTTOM) * time / marks[-1]
+    out = [f'<svg xmlns="http://www.w3.org/2000/svg" viewBox="0 0 {WIDTH} {HEIGHT}" font-family="sans-serif" font-size="12">', f'<rect width="{WIDTH}" height="{HEIGHT}" fill="#ffffff"/>']
+    for mark in marks:
+        out.append(f'<line x1="{LEFT}" x2="{WIDTH - RIGHT}" y1="{up(mark):.1f}" y2="{up(mark):.1f}" stroke="#dddddd"/>')
+        out.append(f'<text x="{LEFT - 8}" y="{up(mark) + 4:.1f}" text-anchor="end">{mark}</text>')
+    for power in range(most + 1):
+        out.append(f'<text x="{across(10**power):.1f}" y="{HEIGHT - BOTTOM + 18}" text-anchor="middle">{10**power:,}</text>')
+    out.append(f'<text x="{(LEFT + WIDTH - RIGHT) / 2}" y="{HEIGHT - 10}" text-anchor="middle">bytes of the body</text>')
+    out.append(f'<text transform="rotate(-90 16 {HEIGHT / 2})" x="16" y="{HEIGHT / 2}" text-anchor="middle">nanoseconds</text>')
+    for at, (name, found) in enumerate(series.items()):
+        title, unit, _ = BODIES[name]
+        points = " ".join(f"{across(it.bytes):.1f},{up(it.time):.1f}" for it in found)
+        out.append(f'<polyline points="{points}" fill="none" stroke="{COLOURS[at]}" stroke-width="2"/>')
+        label = escape(f"{title.replace('`', '')}, by the {unit}")
+        out.append(f'<text x="{WIDTH - RIGHT - 10}" y="{TOP + 14 + 16 * at}" text-anchor="end" fill="{COLOURS[at]}">{label}</text>')
+    return "\n".join([*out, "</svg>", ""])
+
+
+def main():
+    words, given = sys.argv[1:], {"--rounds": str(ROUNDS), "--figure": str(FIGURE)}
+    while words[1:] and words[0] in given:
+        given[words[0]], words = words[1], words[2:]
+    if words:
+        print(__doc__)
+        sys.exit(words not in (["--help"], ["-h"]))
+    if not large_bodies.LIBRARY.exists():
+        sys.exit(f"{large_bodies.LIBRARY}: no library is built: run rt lib in crates/wasm_bench")
+    with tempfile.TemporaryDirectory() as folder:
+        driver = large_bodies.built_driver(folder)
+        series = {name: measured(driver, name, int(given["--rounds"])) for name in BODIES}
+    print("| Body | Bytes | Time | Memory beside it |\n|---|---|---|---|")
+    print("\n".join(row for name, found in series.items() for row in rows(name, found)))
+    Path(given["--figure"]).write_text(figure(series), encoding="utf-8")
+
+
+if __name__ == "__main__":
+    main()
