@@ -15,7 +15,7 @@ extern "C" {
 #endif
 
 /* The version of the structs and calls. wasm_operators_version() answers that of the library. */
-#define WASM_OPERATORS_VERSION 1u
+#define WASM_OPERATORS_VERSION 2u
 
 /* The features, of which any may be joined. */
 enum wasm_feature {
@@ -115,7 +115,9 @@ enum wasm_refused {
   WASM_REFUSED_INVALID_TYPE = 24,
   WASM_REFUSED_DATA_AFTER_SECTION = 25,
   WASM_REFUSED_UNKNOWN_FEATURES = 100,
-  WASM_REFUSED_PAST_OFFSETS = 101
+  WASM_REFUSED_PAST_OFFSETS = 101,
+  WASM_REFUSED_NO_ROOM = 102,
+  WASM_REFUSED_NOT_A_READER = 103
 };
 
 /* The operators: the opcode; behind a prefix byte the subopcode, and 65536 times that byte. A select with
@@ -807,6 +809,21 @@ typedef struct wasm_operator {
   uint8_t bytes[16];
 } wasm_operator;
 
+/* A reader of operators, which may be copied: 32 bytes without gaps. wasm_open fills it in, and the calls
+ * that read move it on; to go back to where it stood, keep a copy of it and of the frames. */
+typedef struct wasm_reader {
+  /* The offset of the first byte. */
+  uint64_t offset;
+  /* How many bytes were read. */
+  uint64_t position;
+  /* How many frames are open: as many bytes of the array of frames are in use. */
+  uint64_t depth;
+  /* The features. */
+  uint32_t features;
+  /* 0. */
+  uint32_t reserved;
+} wasm_reader;
+
 /* A refusal: 24 bytes without gaps. */
 typedef struct wasm_refusal {
   /* The offset of what is refused; where nothing is, that of the end of the bytes. */
@@ -837,9 +854,43 @@ uint32_t wasm_operators_version(void);
 uint32_t wasm_read_body(const uint8_t *bytes, size_t bytes_length, uint64_t offset, uint32_t features,
                         wasm_operator *out, size_t out_length, size_t *count, wasm_refusal *refusal);
 
-/* The text of a refusal in UTF-8, as much of it as there is room for, without a byte 0 behind it. Answers
- * its whole length in bytes; 0 where the numbers are those of no refusal, or where memory is refused. */
+/* The text of a refusal in ASCII, as much of it as there is room for, without a byte 0 behind it. Answers
+ * its whole length in bytes; 0 where the numbers are those of no refusal. */
 size_t wasm_refusal_text(const wasm_refusal *refusal, uint8_t *text, size_t text_length);
+
+/* How many frames may be open at once along so many bytes: an array of this many has always room. */
+size_t wasm_frames_needed(size_t bytes_length);
+
+/* Opens the expression `bytes`; the first byte has this offset. `frames` is room for the open frames, a byte
+ * each, which the calls that read use. Answers 0.
+ *
+ * WASM_REFUSED_UNKNOWN_FEATURES and WASM_REFUSED_PAST_OFFSETS as wasm_read_body, WASM_REFUSED_NO_ROOM where
+ * there is no room for a frame: nothing changes then but `*refusal`. */
+uint32_t wasm_open(const uint8_t *bytes, size_t bytes_length, uint64_t offset, uint32_t features,
+                   uint8_t *frames, size_t frames_length, wasm_reader *reader, wasm_refusal *refusal);
+
+/* Opens the expression of the function body `bytes`, behind its locals, which are read and may be refused. */
+uint32_t wasm_open_body(const uint8_t *bytes, size_t bytes_length, uint64_t offset, uint32_t features,
+                        uint8_t *frames, size_t frames_length, wasm_reader *reader, wasm_refusal *refusal);
+
+/* Reads the next operator, from the bytes and under the frames that the reader was opened with, and answers
+ * 0. Else the number of the refusal, and nothing changes but `*refusal`: that of what stands there;
+ * WASM_REFUSED_NO_ROOM where it opens a frame for which there is no room; or WASM_REFUSED_NOT_A_READER where
+ * the reader is none of these bytes and frames, whatever is in them. */
+uint32_t wasm_next(const uint8_t *bytes, size_t bytes_length, uint8_t *frames, size_t frames_length,
+                   wasm_reader *reader, wasm_operator *op, wasm_refusal *refusal);
+
+/* Reads operators into `out`, one after another as wasm_next, until it is full or all bytes are read, and
+ * answers 0; or until one is not read, and answers why. `*count` is how many were read; `out` is unchanged
+ * behind them. */
+uint32_t wasm_read(const uint8_t *bytes, size_t bytes_length, uint8_t *frames, size_t frames_length,
+                   wasm_reader *reader, wasm_operator *out, size_t out_length, size_t *count,
+                   wasm_refusal *refusal);
+
+/* Whether an expression ends where the reader stands: answers 0 where no frame is open and all bytes are
+ * read, else the number of the refusal. */
+uint32_t wasm_finish(const uint8_t *bytes, size_t bytes_length, const uint8_t *frames, size_t frames_length,
+                     const wasm_reader *reader, wasm_refusal *refusal);
 
 /* The name of an operator; null where the number is that of none. */
 static inline const char *wasm_operator_name(const wasm_operator *op) {

@@ -2,7 +2,8 @@
  *
  * ANSWERS is crates/wasm_tests_replay/stdin. Of each body the number, the offset and the text of the
  * refusal, the count of operators and the fingerprint of their lines are compared; with less room for the
- * operators, that the others are the same and nothing is written behind them. CALLS is how many calls on
+ * operators, that the others are the same and nothing is written behind them; and by one call an operator,
+ * and by batches, the same operators and the same end. CALLS is how many calls on
  * random bytes, features, offsets and rooms are made, whose answers are looked at as far as they say what
  * they are by themselves. */
 #include "wasm_operators.h"
@@ -66,6 +67,70 @@ static void look_with_room(const uint8_t *bytes, size_t length, uint32_t feature
   free(some);
 }
 
+/* The same operators and the same end by one call an operator. Every third step is made twice, from a copy
+ * of the reader and of the frames. */
+static void look_step_by_step(const uint8_t *bytes, size_t length, uint32_t features, const wasm_operator *all,
+                              size_t count, const wasm_refusal *refusal) {
+  size_t room = wasm_frames_needed(length);
+  uint8_t *frames = room_for(room, 1);
+  uint8_t *kept = room_for(room, 1);
+  wasm_reader reader;
+  wasm_refusal other;
+  size_t found = 0;
+  uint32_t answer = wasm_open_body(bytes, length, 0, features, frames, room, &reader, &other);
+  while (answer == 0 && reader.position < length) {
+    wasm_reader copy = reader;
+    wasm_operator op;
+    if (found % 3 == 0) {
+      memcpy(kept, frames, room);
+      answer = wasm_next(bytes, length, frames, room, &reader, &op, &other);
+      memcpy(frames, kept, room);
+      reader = copy;
+    }
+    memset(&op, 0xa5, sizeof op);
+    answer = wasm_next(bytes, length, frames, room, &reader, &op, &other);
+    if (answer != 0) {
+      LOOK(memcmp(&reader, &copy, sizeof copy) == 0 && ((uint8_t *)&op)[sizeof op - 1] == 0xa5, "step %zu", found);
+      break;
+    }
+    LOOK(found < count && memcmp(&op, &all[found], sizeof op) == 0, "step %zu", found);
+    found++;
+  }
+  if (answer == 0) answer = wasm_finish(bytes, length, frames, room, &reader, &other);
+  LOOK(found == count, "%zu steps, not %zu", found, count);
+  LOOK(answer == other.number && memcmp(refusal, &other, sizeof other) == 0, "%" PRIu32 " at %" PRIu64, other.number, other.offset);
+  free(frames);
+  free(kept);
+}
+
+/* The same by batches. */
+static void look_by_batches(const uint8_t *bytes, size_t length, uint32_t features, size_t batch,
+                            const wasm_operator *all, size_t count, const wasm_refusal *refusal) {
+  size_t room = wasm_frames_needed(length);
+  uint8_t *frames = room_for(room, 1);
+  wasm_operator *some = room_for(batch + 1, sizeof *some);
+  wasm_reader reader;
+  wasm_refusal other;
+  size_t found = 0;
+  uint32_t answer = wasm_open_body(bytes, length, 0, features, frames, room, &reader, &other);
+  while (answer == 0 && reader.position < length) {
+    size_t read = batch + 2;
+    memset(some, 0xa5, (batch + 1) * sizeof *some);
+    answer = wasm_read(bytes, length, frames, room, &reader, some, batch, &read, &other);
+    LOOK(read <= batch && (answer != 0 || read == batch || reader.position == length), "batch of %zu: %zu", batch, read);
+    LOOK(found + read <= count && memcmp(some, all + found, read * sizeof *some) == 0, "batch of %zu at %zu", batch, found);
+    for (size_t i = read * sizeof *some; i < (batch + 1) * sizeof *some; i++) {
+      LOOK(((uint8_t *)some)[i] == 0xa5, "byte %zu of a batch of %zu", i, batch);
+    }
+    found += read;
+  }
+  if (answer == 0) answer = wasm_finish(bytes, length, frames, room, &reader, &other);
+  LOOK(found == count, "%zu by batches of %zu, not %zu", found, batch, count);
+  LOOK(answer == other.number && memcmp(refusal, &other, sizeof other) == 0, "%" PRIu32 " at %" PRIu64, other.number, other.offset);
+  free(frames);
+  free(some);
+}
+
 /* One row of the answers. */
 static void look_at(char *const *cells) {
   size_t length = strlen(cells[HEX]) / 2;
@@ -90,6 +155,8 @@ static void look_at(char *const *cells) {
     look_with_room(bytes, length, features, 0, operators, count, &refusal);
     look_with_room(bytes, length, features, count / 2, operators, count, &refusal);
     look_with_room(bytes, length, features, count + 3, operators, count, &refusal);
+    look_step_by_step(bytes, length, features, operators, count, &refusal);
+    look_by_batches(bytes, length, features, 1 + count % 7, operators, count, &refusal);
   }
   char text[128];
   size_t told = wasm_refusal_text(&refusal, (uint8_t *)text, sizeof text - 1);
@@ -143,6 +210,28 @@ static void look_at_random(void) {
       LOOK(i == 0 || operators[i - 1].offset < operators[i].offset, "%zu", i);
     }
   }
+  /* A reader that is not opened, is overwritten, or is of other bytes and frames. */
+  uint8_t frames[6];
+  size_t few = random_number() % (sizeof frames + 1);
+  for (size_t i = 0; i < sizeof frames; i++) frames[i] = random_number() % 3 ? (uint8_t)random_number() % 9 : (uint8_t)random_number();
+  wasm_reader reader = {offset, random_number() % (length + 2), random_number() % (few + 2), features, 0};
+  if (random_number() % 4 == 0) wasm_open(bytes, length, offset, features, frames, few, &reader, &refusal);
+  for (int steps = 0; steps < 8; steps++) {
+    wasm_reader before = reader;
+    wasm_operator op;
+    uint32_t next = wasm_next(bytes, length, frames, few, &reader, &op, &refusal);
+    LOOK(next == refusal.number, "%" PRIu32, next);
+    int was = features < 64 && offset <= UINT64_MAX - length && before.position <= length && before.depth <= few;
+    LOOK(was == (next != WASM_REFUSED_NOT_A_READER), "%" PRIu32, next);
+    if (next == 0) {
+      LOOK(op.offset == offset + before.position && reader.position > before.position && reader.position <= length, "%" PRIu64, op.offset);
+      LOOK(reader.depth <= few && reader.depth <= before.depth + 1 && before.depth <= reader.depth + 1, "%" PRIu64, reader.depth);
+    } else {
+      LOOK(memcmp(&before, &reader, sizeof reader) == 0, "%" PRIu32, next);
+      break;
+    }
+  }
+  wasm_finish(bytes, length, frames, few, &reader, &refusal);
   wasm_refusal other = {random_number(), (uint32_t)random_number() % 27, (uint32_t)random_number() % 40, (uint32_t)random_number() % 300, 0};
   uint8_t text[8];
   wasm_refusal_text(&other, text, random_number() % 9);

@@ -25,7 +25,7 @@ pub use types::{
     V128, ValType,
 };
 
-use native::Refusal;
+use native::{PlainReader, Refusal};
 use operator::operator_of;
 use std::fmt;
 use std::ops::BitOr;
@@ -103,6 +103,12 @@ impl Error {
     }
 }
 
+impl From<Refusal> for Error {
+    fn from(refusal: Refusal) -> Error {
+        Error { refusal, message: native::refusal_text(&refusal) }
+    }
+}
+
 impl fmt::Display for Error {
     fn fmt(&self, f: &mut fmt::Formatter<'_>) -> fmt::Result {
         write!(f, "{} (at offset 0x{:x})", self.message, self.refusal.offset)
@@ -126,7 +132,7 @@ impl<'a> Body<'a> {
     /// What is refused, or where the offset of the end does not fit in 64 bits, [`error`](Body::error) says.
     pub fn read(bytes: &'a [u8], offset: u64, features: WasmFeatures) -> Body<'a> {
         let (operators, refusal) = native::read_body(bytes, offset, features.bits());
-        let end = (refusal.number != 0).then(|| Error { refusal, message: native::refusal_text(&refusal) });
+        let end = (refusal.number != 0).then(|| Error::from(refusal));
         Body { bytes, offset, operators, end }
     }
 
@@ -163,5 +169,60 @@ impl<'a> Body<'a> {
     /// All operators with their offsets, where the bytes are a body.
     pub fn read_all(&self) -> Result<Vec<(Operator<'a>, u64)>> {
         self.iter().collect()
+    }
+}
+
+/// Reads the operators of an expression one after another. A clone goes on from where it was made.
+///
+/// ```
+/// use wasm_operators::{Operator, OperatorsReader, WasmFeatures};
+///
+/// let mut reader = OperatorsReader::new(&[0x41, 0x05, 0x0b], 0, WasmFeatures::all())?;
+/// assert_eq!(reader.read()?, Operator::I32Const { value: 5 });
+/// assert_eq!(reader.read()?, Operator::End);
+/// assert!(reader.eof());
+/// reader.finish()?;
+/// # Ok::<(), wasm_operators::Error>(())
+/// ```
+#[derive(Clone, Debug)]
+pub struct OperatorsReader<'a> {
+    bytes: &'a [u8],
+    reader: PlainReader,
+    frames: Vec<u8>,
+}
+
+impl<'a> OperatorsReader<'a> {
+    /// A reader of the expression that the bytes encode; the first byte has this offset.
+    pub fn new(bytes: &'a [u8], offset: u64, features: WasmFeatures) -> Result<OperatorsReader<'a>> {
+        let (reader, frames) = native::open(bytes, offset, features.bits(), false)?;
+        Ok(OperatorsReader { bytes, reader, frames })
+    }
+
+    /// A reader of the expression of a function body, behind its locals.
+    pub fn of_body(bytes: &'a [u8], offset: u64, features: WasmFeatures) -> Result<OperatorsReader<'a>> {
+        let (reader, frames) = native::open(bytes, offset, features.bits(), true)?;
+        Ok(OperatorsReader { bytes, reader, frames })
+    }
+
+    /// Whether no byte is left.
+    pub fn eof(&self) -> bool {
+        self.reader.position == self.bytes.len() as u64
+    }
+
+    /// The offset of the next byte.
+    pub fn original_position(&self) -> u64 {
+        self.reader.offset + self.reader.position
+    }
+
+    /// The next operator. Where it is refused, nothing changes.
+    pub fn read(&mut self) -> Result<Operator<'a>> {
+        let at = self.reader.position as usize;
+        let plain = native::next(self.bytes, &mut self.frames, &mut self.reader)?;
+        Ok(operator_of(&plain, &self.bytes[at..]).expect("the library has the operators of this crate"))
+    }
+
+    /// Whether all frames are closed and all bytes are read.
+    pub fn finish(&self) -> Result<()> {
+        Ok(native::finish(self.bytes, &self.frames, &self.reader)?)
     }
 }

@@ -3,7 +3,7 @@
 use crate::types::{BlockType, MemArg, MemArgOrdering, MemArgTarget, Ordering, val_type};
 
 /// The version of the structs and calls.
-const VERSION: u32 = 1;
+const VERSION: u32 = 2;
 
 /// `wasm_operator` of the header.
 #[repr(C)]
@@ -37,8 +37,57 @@ pub struct Refusal {
     pub reserved: u32,
 }
 
+/// `wasm_reader` of the header.
+#[repr(C)]
+#[derive(Clone, Copy, Debug, Default, PartialEq, Eq)]
+pub struct PlainReader {
+    pub offset: u64,
+    pub position: u64,
+    pub depth: u64,
+    pub features: u32,
+    pub reserved: u32,
+}
+
 unsafe extern "C" {
     safe fn wasm_operators_version() -> u32;
+    safe fn wasm_frames_needed(bytes_length: usize) -> usize;
+    fn wasm_open(
+        bytes: *const u8,
+        bytes_length: usize,
+        offset: u64,
+        features: u32,
+        frames: *mut u8,
+        frames_length: usize,
+        reader: *mut PlainReader,
+        refusal: *mut Refusal,
+    ) -> u32;
+    fn wasm_open_body(
+        bytes: *const u8,
+        bytes_length: usize,
+        offset: u64,
+        features: u32,
+        frames: *mut u8,
+        frames_length: usize,
+        reader: *mut PlainReader,
+        refusal: *mut Refusal,
+    ) -> u32;
+    fn wasm_next(
+        bytes: *const u8,
+        bytes_length: usize,
+        frames: *mut u8,
+        frames_length: usize,
+        reader: *mut PlainReader,
+        op: *mut PlainOperator,
+        refusal: *mut Refusal,
+    ) -> u32;
+    fn wasm_finish(
+        bytes: *const u8,
+        bytes_length: usize,
+        frames: *const u8,
+        frames_length: usize,
+        reader: *const PlainReader,
+        refusal: *mut Refusal,
+    ) -> u32;
     fn wasm_read_body(
         bytes: *const u8,
         bytes_length: usize,
@@ -77,6 +126,56 @@ pub fn read_body(bytes: &[u8], offset: u64, features: u32) -> (Vec<PlainOperator
     }
     out.truncate(count);
     (out, refusal)
+}
+
+/// A reader of an expression, or of that of a body behind its locals, with its frames; or the refusal.
+pub fn open(bytes: &[u8], offset: u64, features: u32, is_body: bool) -> Result<(PlainReader, Vec<u8>), Refusal> {
+    assert_eq!(wasm_operators_version(), VERSION, "libwasm_c.a has another version than this crate");
+    let mut frames = vec![0; wasm_frames_needed(bytes.len())];
+    let mut reader = PlainReader::default();
+    let mut refusal = Refusal::default();
+    let call = if is_body { wasm_open_body } else { wasm_open };
+    // SAFETY: as in `read_body`: the library reads within `bytes` and writes within `frames`, `reader` and `refusal`.
+    let answer = unsafe {
+        call(
+            bytes.as_ptr(),
+            bytes.len(),
+            offset,
+            features,
+            frames.as_mut_ptr(),
+            frames.len(),
+            &mut reader,
+            &mut refusal,
+        )
+    };
+    if answer == 0 { Ok((reader, frames)) } else { Err(refusal) }
+}
+
+/// The next operator of a reader; or the refusal, and then nothing changes.
+pub fn next(bytes: &[u8], frames: &mut [u8], reader: &mut PlainReader) -> Result<PlainOperator, Refusal> {
+    let mut operator = PlainOperator::default();
+    let mut refusal = Refusal::default();
+    // SAFETY: as in `read_body`.
+    let answer = unsafe {
+        wasm_next(
+            bytes.as_ptr(),
+            bytes.len(),
+            frames.as_mut_ptr(),
+            frames.len(),
+            reader,
+            &mut operator,
+            &mut refusal,
+        )
+    };
+    if answer == 0 { Ok(operator) } else { Err(refusal) }
+}
+
+/// Whether an expression ends where a reader stands.
+pub fn finish(bytes: &[u8], frames: &[u8], reader: &PlainReader) -> Result<(), Refusal> {
+    let mut refusal = Refusal::default();
+    // SAFETY: as in `read_body`.
+    let answer = unsafe { wasm_finish(bytes.as_ptr(), bytes.len(), frames.as_ptr(), frames.len(), reader, &mut refusal) };
+    if answer == 0 { Ok(()) } else { Err(refusal) }
 }
 
 /// What the library answers where the offset of the end does not fit in 64 bits.

@@ -1,6 +1,6 @@
 //! The answers of the original on 8,561 bodies, and its two samples of each operator.
 
-use wasm_operators::{Body, WasmFeatures};
+use wasm_operators::{Body, Error, OperatorsReader, WasmFeatures};
 
 const ANSWERS: &str = include_str!("../../../crates/wasm_tests_replay/stdin");
 
@@ -39,6 +39,39 @@ fn bodies() {
         count += 1;
     }
     assert_eq!(count, 8561);
+}
+
+/// What one read after another answers, each also of a clone.
+fn one_by_one(bytes: &[u8], features: WasmFeatures) -> (Vec<String>, Result<(), Error>) {
+    let mut found = Vec::new();
+    let mut read = || {
+        let mut reader = OperatorsReader::of_body(bytes, 0, features)?;
+        while !reader.eof() {
+            let offset = reader.original_position();
+            let again = reader.clone().read();
+            let operator = reader.read();
+            assert_eq!(operator, again);
+            found.push(format!("{offset} {:?}", operator?));
+        }
+        reader.finish()
+    };
+    let end = read();
+    (found, end)
+}
+
+#[test]
+fn readers() {
+    let rows = ANSWERS.lines().skip(1).take_while(|line| !line.starts_with("name\t"));
+    for row in rows {
+        let cells: Vec<&str> = row.split('\t').collect();
+        let bytes = bytes_of(cells[2]);
+        let features = WasmFeatures::from_bits(cells[1].parse().unwrap()).unwrap();
+        let body = Body::read(&bytes, 0, features);
+        let (found, end) = one_by_one(&bytes, features);
+        let wanted: Vec<String> = body.iter().flatten().map(|(operator, offset)| format!("{offset} {operator:?}")).collect();
+        assert_eq!(found, wanted, "{row}");
+        assert_eq!(end.err().as_ref(), body.error(), "{row}");
+    }
 }
 
 #[test]

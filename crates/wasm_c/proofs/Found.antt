@@ -1,20 +1,38 @@
 -- What was found in two steps, as in one; and behind the locals of a body.
-use Rattle.std.proofs.Common.{◌≡◌, ℕ, ◌+◌, List, [], ◌++◌, length, Result, Ok, Err, refl, sym, ap, subst, ◌∙◌, arith, inl, inr}
+use Rattle.std.proofs.Common.{◌≡◌, ℕ, ◌+◌, ◌≤◌, List, [], ◌++◌, length, length-append, length-drop, Result, Ok, Err, refl, sym, ap, subst, ◌∙◌, arith, inl, inr}
 use Rattle.wasm_operators.specs.below.bytes.error.Error.{Error}
 use Rattle.wasm_operators.specs.below.bytes.features.WasmFeatures.{WasmFeatures}
 use Rattle.wasm_operators.specs.below.Source.{Source, Reader, rest, offset_of, source_of, end_of}
 use Rattle.wasm_operators.specs.opcodes.Allowed.{EncodesAllowed}
 use Rattle.wasm_operators.specs.opcodes.OperatorFaults.{OperatorFault}
 use Rattle.wasm_operators.specs.Body.{source_behind, EncodesBody, OpensBody, StopsBody}
-use Rattle.wasm_operators.specs.Expression.{Placed, operators, IsAny, EncodesExpression}
+use Rattle.wasm_operators.specs.Expression.{Placed, OfPlaced, operators, IsAny, LaidOut, EncodesExpression}
 use Rattle.wasm_operators.specs.Locals.{Declaration, IsPastLocals, RefusesLocals}
-use Rattle.wasm_operators.specs.Reading.{State, Adds, Anywhere}
+use Rattle.wasm_operators.specs.Reading.{State, Adds, Anywhere, StopsRun}
+use Rattle.wasm_operators.specs.Next.{NextMayAllocate}
+use Rattle.wasm_operators.specs.instr.declared.operator.Operator.{Operator}
 use Rattle.wasm_operators.specs.Headline.{ReadsRest, ReadsBeginning}
-use Rattle.wasm_view.specs.declared.view.WasmOperator.{WasmOperator}
-use Rattle.wasm_c.specs.Reads.{EndsBody, EndsOperators, EndsPlain, FindsBody, FindsPlain, StandsBehind}
-use Rattle.wasm_c.specs.Refused.{no_refusal, refusal_at}
-use Rattle.wasm_c.specs.declared.refusal.WasmRefusal.{WasmRefusal}
+use Rattle.wasm_c.specs.Reads.{EndsBody, EndsOperators, StandsBehind}
 use Rattle.wasm_c.proofs.Behind.{OneBeginning, OneLayout, whole_behind, beginning_behind}
+
+anywhere : (e : Error) (s : State) → StopsRun EncodesAllowed OperatorFault (NextMayAllocate EncodesAllowed) e s →
+    StopsRun EncodesAllowed OperatorFault Anywhere e s
+anywhere e s (inl left) = inl left
+anywhere e s (inr (some, inl none)) = inr (some, inl none)
+anywhere e s (inr (some, inr (inl there))) = inr (some, inr (inl there))
+anywhere e s (inr (some, inr (inr memory))) = inr (some, inr (inr (memory.0, memory.1, tt)))
+
+stops_anywhere : (before : List Operator) (e : Error) (old new : State) (placed : Placed) →
+    ReadsBeginning IsAny EncodesAllowed OperatorFault (NextMayAllocate EncodesAllowed) before e old new placed →
+    ReadsBeginning IsAny EncodesAllowed OperatorFault Anywhere before e old new placed
+stops_anywhere before e old new placed b = record {
+  at = b.at;
+  text = b.text;
+  takes = b.takes;
+  laid = b.laid;
+  stood = b.stood;
+  stops = anywhere e new b.stops;
+}
 
 -- The operators that were found before, and those that were read to the end behind them.
 pub ends_joined : {X : Type 0} (result : Result X Error) (opened old new : State) (found more : Placed) → OneBeginning opened.reader.features →
@@ -27,6 +45,35 @@ ends_joined (Err e) opened old new found more begins same h reads =
     let came = reads.beginning in
     subst (λ list. (stopped : State) × ReadsBeginning IsAny EncodesAllowed OperatorFault Anywhere [] e opened stopped (found ++ list)) (sym came.1)
     (new, beginning_behind e opened old new found came.0 begins same h came.2)
+
+-- The same of those that were visited.
+pub ends_visited : {X : Type 0} (Happened : OfPlaced) (result : Result X Error) (opened old new : State) (found : Placed) →
+    OneBeginning opened.reader.features → OneLayout opened.reader.features → StandsBehind opened old found →
+    ReadsRest Happened IsAny EncodesAllowed OperatorFault (NextMayAllocate EncodesAllowed) (operators found) result old new →
+    (more : Placed) × Happened more × EndsOperators result opened (found ++ more)
+ends_visited Happened (Ok x) opened old new found begins same h reads =
+    let came = reads.tree in
+    (came.0, came.1, whole_behind opened old found came.0 h came.2.encodes)
+ends_visited Happened (Err e) opened old new found begins same h reads =
+    let came = reads.beginning in
+    let b = stops_anywhere (operators found) e old new came.0 came.2 in
+    (came.0, came.1, (new, beginning_behind e opened old new found came.0 begins same h b))
+
+-- What the law `layouts` says of lengths.
+abbrev pub Lengths : WasmFeatures → Type 0
+Lengths f = (offset : ℕ) (placed : Placed) (bytes : List ℕ) → LaidOut f offset placed bytes → length placed ≤ length bytes
+
+-- They are no more than the bytes.
+pub ends_few : {X : Type 0} (result : Result X Error) (opened : State) (placed : Placed) → Lengths opened.reader.features →
+    EndsOperators result opened placed → length placed ≤ end_of opened.reader
+ends_few (Ok x) opened placed lengths h =
+    let few = lengths (offset_of opened.reader) placed (rest opened.reader) h.0 in
+    omega (arith, few, length-drop opened.reader.position opened.reader.buffer)
+ends_few (Err e) opened placed lengths h =
+    let b = h.1 in
+    let few = lengths (offset_of opened.reader) placed b.text b.laid in
+    let sum : length (rest opened.reader) ≡ length b.text + length (rest h.0.reader) = ap length b.takes.parts ∙ length-append b.text (rest h.0.reader) in
+    omega (arith, few, sum, length-drop opened.reader.position opened.reader.buffer)
 
 abbrev source : WasmFeatures → ℕ → List ℕ → Source
 source features offset bytes = record { features = features; offset = offset; bytes = bytes }
@@ -60,16 +107,6 @@ ends_body (Err e) body opened placed opens h = inr (record { opened = opened; op
 pub refused_locals : (e : Error) (body : Reader) → RefusesLocals e body → StopsBody e body []
 refused_locals e body h = inl (record { refused = h; nothing = refl })
 
-ends_plain : {X : Type 0} (result : Result X Error) (input : Reader) (end : ℕ) (placed : Placed) → end ≡ end_of input → EndsBody result input placed →
-    EndsPlain (refusal_at result end) input placed
-ends_plain (Ok x) input end placed at h = inl (ap no_refusal at, h)
-ends_plain (Err e) input end placed at h = inr (e, refl, h)
-
--- The same, with the refusal as plain data.
-pub finds_plain : {X : Type 0} (result : Result X Error) (input : Reader) (end count : ℕ) (r : WasmRefusal) (old new : List WasmOperator) (placed : Placed) →
-    end ≡ end_of input → r ≡ refusal_at result end → FindsBody result input count old new placed → FindsPlain r input count old new placed
-finds_plain result input end count r old new placed at is h = record {
-  ends = subst (λ s. EndsPlain s input placed) (sym is) (ends_plain result input end placed at h.ends);
-  counted = h.counted;
-  in_array = h.in_array;
-}
+-- The bytes behind the locals end where those of the body do.
+pub opened_end : (body : Reader) (opened : State) → OpensBody (Ok opened) body → end_of opened.reader ≡ end_of body
+opened_end body opened ((declarations, (text, encodes, takes)), fresh) = ap end_of takes.moved

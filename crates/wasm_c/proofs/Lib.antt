@@ -3,3 +3,10 @@ pub mod Behind
 pub mod Found
 pub mod Written
 pub mod Filled
+pub mod Counted
+pub mod Puts
+pub mod Digits
+pub mod Told
+pub mod Stepped
+pub mod Steps
+pub mod Batch

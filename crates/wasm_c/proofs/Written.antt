@@ -15,17 +15,17 @@ written_none [] = refl
 written_none (x ∷ xs) = refl
 
 -- Those that have room first, and the others behind them.
-written_behind : {X : Type 0} (first more old : List X) → length first ≤ length old →
+pub written_behind : {X : Type 0} (first more old : List X) → length first ≤ length old →
     written (first ++ more) old ≡ first ++ written more (drop (length first) old)
 written_behind [] more old fits = refl
 written_behind (x ∷ xs) more [] fits = absurd (omega (arith, fits))
 written_behind (x ∷ xs) more (y ∷ ys) fits = ap (λ list. x ∷ list) (written_behind xs more ys (omega (arith, fits)))
 
-views_join : (first second : Placed) → views (first ++ second) ≡ views first ++ views second
+pub views_join : (first second : Placed) → views (first ++ second) ≡ views first ++ views second
 views_join [] second = refl
 views_join (p ∷ ps) second = ap (λ list. view_of p ∷ list) (views_join ps second)
 
-views_length : (placed : Placed) → length (views placed) ≡ length placed
+pub views_length : (placed : Placed) → length (views placed) ≡ length placed
 views_length [] = refl
 views_length (p ∷ ps) = ap suc (views_length ps)
 

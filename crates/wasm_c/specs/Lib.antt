@@ -1,2 +1,5 @@
 pub mod Refused
 pub mod Reads
+pub mod Texts
+pub mod Frames
+pub mod Steps

@@ -1,6 +1,6 @@
 -- What reading a body as plain data promises.
 -- WebAssembly Core Specification 3.0: Binary Format, Modules, Code Section.
-use Rattle.std.specs.Prelude.{◌≡◌, ℕ, ◌+◌, ◌^◌, ◌<◌, List, [], ◌∷◌, length, Result, Ok, Err, ◌⊎◌}
+use Rattle.std.specs.Prelude.{◌≡◌, ℕ, ◌+◌, ◌^◌, ◌<◌, List, [], ◌∷◌, length, Result, Ok, Err}
 use Rattle.wasm_operators.specs.below.bytes.error.Error.{Error}
 use Rattle.wasm_operators.specs.below.Source.{Reader, source_of, offset_of, end_of, Takes}
 use Rattle.wasm_operators.specs.Body.{EncodesBody, StopsBody}
@@ -13,7 +13,7 @@ use Rattle.wasm_operators.specs.Reading.{State, Anywhere}
 use Rattle.wasm_view.specs.View.{views}
 use Rattle.wasm_view.specs.declared.view.WasmOperator.{WasmOperator}
 use Rattle.wasm_c.specs.declared.refusal.WasmRefusal.{WasmRefusal}
-use Rattle.wasm_c.specs.Refused.{refusal_of, no_refusal}
+use Rattle.wasm_c.specs.Refused.{refusal_at}
 
 -- The second list with the first in place of its beginning, as far as it has room.
 abbrev pub written : {X : Type 0} → List X → List X → List X
@@ -37,16 +37,10 @@ pub record FindsBody {X : Type 0} (result : Result X Error) (input : Reader) (co
   pub counted : count ≡ length placed
   pub in_array : new ≡ written (views placed) old
 
--- The same, with the refusal as plain data.
-abbrev pub EndsPlain : WasmRefusal → Reader → Placed → Type 0
-EndsPlain r input placed =
-    ((r ≡ no_refusal (end_of input)) × ((declarations : List Declaration) × EncodesBody (source_of input) declarations placed))
-    ⊎ ((e : Error) × (r ≡ refusal_of e) × StopsBody e input placed)
-
-pub record FindsPlain (r : WasmRefusal) (input : Reader) (count : ℕ) (old new : List WasmOperator) (placed : Placed) : Type 0 where
-  pub ends : EndsPlain r input placed
-  pub counted : count ≡ length placed
-  pub in_array : new ≡ written (views placed) old
+-- The same, with how it ended as plain data.
+abbrev pub FindsPlain : WasmRefusal → Reader → ℕ → List WasmOperator → List WasmOperator → Placed → Type 0
+FindsPlain r input count old new placed =
+    (result : Result (Unit {0}) Error) × (r ≡ refusal_at result (end_of input)) × FindsBody result input count old new placed
 
 -- The operators that were found since the reader was opened are laid out in what was taken of it, and stand before where it is now.
 pub record StandsBehind (opened now : State) (found : Placed) : Type 0 where

@@ -1,11 +1,12 @@
 //! A whole body, as plain data into an array.
-ghost use Rattle.std.specs.Prelude.{◌≡◌, ◌≤◌, [], ◌++◌, length, take, drop};
-ghost use Rattle.wasm_operators.specs.below.Source.{reader_of};
+ghost use Rattle.std.specs.Prelude.{◌≡◌, ◌≤◌, ◌<◌, ◌^◌, [], ◌++◌, length, take, drop};
+ghost use Rattle.wasm_operators.specs.below.Source.{reader_of, end_of};
 ghost use Rattle.wasm_operators.specs.Expression.{Placed};
 ghost use Rattle.wasm_operators.specs.Headline.{StoodBefore};
 ghost use Rattle.wasm_view.specs.View.{views};
 ghost use Rattle.wasm_c.specs.Reads.{written, IsWithin, FindsBody, FindsOperators, StandsBehind};
 
+use crate::counter::Counter;
 use std::alloc::Global;
 use wasm_operators::{
     BinaryReader, FunctionBody, Operator, OperatorsReader, Result, WasmFeatures, expression_laws,
@@ -55,10 +56,10 @@ fn place(more: &[(Operator<'_>, u64)], at: usize, out: &mut [WasmOperator])
 }
 
 /// Reads the operators of a new reader to the end of the data or a refusal. As many of them as the
-/// array has room for are placed there.
+/// array has room for are placed there, and the others are counted.
 ///
-/// Those that have no room are read into memory, and counted: so the count is that of the whole
-/// expression whatever the room.
+/// Where reading stops before the array is full, it goes on once: behind a refusal for memory
+/// operators may come, which are placed too.
 fn read_operators(
     alloc: Global,
     features: WasmFeatures,
@@ -67,15 +68,25 @@ fn read_operators(
 ) -> Found
     requires stood { StoodBefore [] operators.old }
     requires features { operators.old.reader.features ≡ features }
+    requires within { end_of operators.old.reader < 2 ^ 64 }
     ensures { (placed : Placed) × FindsOperators result.end operators.old result.count out.old out.new placed }
 {
     expression_laws::one_layout(features);
+    expression_laws::layouts(features);
     let placed = fill(operators, out);
-    let mut rest = Vec::new(alloc);
-    let end = operators.read_all(&mut rest);
-    place(rest.as_slice(), placed, out);
-    let count = placed + rest.len();
-    Found { count, end }
+    if placed < out.len() {
+        let mut rest = Vec::new(alloc);
+        let end = operators.read_all(&mut rest);
+        place(rest.as_slice(), placed, out);
+        let count = placed + rest.len();
+        return Found { count, end };
+    }
+    let mut counter = Counter { count: placed };
+    let end = operators.visit_all_simd(&mut counter);
+    Found {
+        count: counter.count,
+        end,
+    }
 }
 
 /// Reads the operators of a body, with an array for their plain data. They are those of the one body

@@ -2,36 +2,41 @@
 //! caller's. No call has a `requires`: any bytes, offsets, features and lengths are answered.
 #![tactic(auto)]
 
-ghost use Rattle.std.specs.Prelude.{◌≡◌, ◌<◌, ◌≤◌, ◌+◌, ◌^◌, length};
+ghost use Rattle.std.specs.Prelude.{◌≡◌, ◌<◌, ◌≤◌, ◌+◌, ◌^◌, ◌/◌, length, Some, List, ℕ};
 ghost use Rattle.wasm_operators.specs.below.Features.{features_of};
-ghost use Rattle.wasm_operators.specs.below.Source.{reader_of};
+ghost use Rattle.wasm_operators.specs.below.Source.{reader_of, Takes};
+ghost use Rattle.wasm_operators.specs.below.bytes.error.Error.{Error};
 ghost use Rattle.wasm_operators.specs.Expression.{Placed};
+ghost use Rattle.wasm_operators.specs.Headline.{IsWithinDepth};
+ghost use Rattle.wasm_operators.specs.Reading.{State, IsFresh};
 ghost use Rattle.wasm_c.specs.Reads.{IsWithin, FindsPlain};
-ghost use Rattle.wasm_c.specs.Refused.{misuse};
+ghost use Rattle.wasm_c.specs.Refused.{misuse, refusal_of};
+ghost use Rattle.wasm_c.specs.Steps.{AnswersNext, ReadsBatch, FinishesPlain, OpensExpression, OpensPlain};
+ghost use Rattle.wasm_c.specs.Texts.{message_text, text_told, AnswersText};
 
 mod body;
+mod counter;
+mod frames;
+mod reader;
 mod refusal;
+mod text;
+mod viewer;
 
 use crate::body::read_body;
-use crate::refusal::WasmRefusal;
+use crate::reader::WasmReader;
+use crate::refusal::{PAST_OFFSETS, UNKNOWN_FEATURES, WasmRefusal};
 use std::alloc::Global;
 use wasm_operators::WasmFeatures;
 use wasm_view::WasmOperator;
 
 /// The version of the structs and calls, which is that of `wasm_operators.h`.
-const VERSION: u32 = 1;
-
-/// What is answered where a bit of the features is that of none.
-const UNKNOWN_FEATURES: u32 = 100;
-
-/// What is answered where the bytes reach past the largest offset.
-const PAST_OFFSETS: u32 = 101;
+const VERSION: u32 = 2;
 
 /// The version of the structs and calls. A header with another `WASM_OPERATORS_VERSION` is not this
 /// library's.
 #[unsafe(no_mangle)]
 pub extern "C" fn wasm_operators_version() -> u32
-    ensures { result ≡ 1 }
+    ensures { result ≡ 2 }
 {
     VERSION
 }
@@ -79,22 +84,125 @@ pub extern "C" fn wasm_read_body(
 }
 
 /// The text of a refusal, as much of it as there is room for, without a byte 0 behind it. Answers its
-/// whole length in bytes; 0 where the numbers are those of no refusal, or where memory is refused.
+/// whole length in bytes; 0 where the numbers are those of no refusal.
 #[unsafe(no_mangle)]
-pub extern "C" fn wasm_refusal_text(
+pub extern "C" fn wasm_refusal_text(refusal: &WasmRefusal, text: &mut [u8]) -> usize
+    ensures told { (e : Error) → refusal.now ≡ refusal_of e
+        → AnswersText (Some (message_text e.message)) text.old result text.new }
+    ensures numbers { AnswersText (text_told refusal.now) text.old result text.new }
+{
+    text::write_text(refusal.number, refusal.name, refusal.value, text)
+}
+
+/// Opens an expression: a reader that has read none of the bytes, the first of which has this offset,
+/// and the frame of the expression as the first of `frames`. Answers 0.
+///
+/// 100 where a bit of `features` is that of no feature; then 101 where the offset of the end does not
+/// fit in 64 bits; then 102 where `frames` has no room. Nothing changes then but `refusal`.
+#[unsafe(no_mangle)]
+pub extern "C" fn wasm_open(
+    bytes: &[u8],
+    offset: u64,
+    features: u32,
+    frames: &mut [u8],
+    reader: &mut WasmReader,
+    refusal: &mut WasmRefusal,
+) -> u32
+    ensures answer { result ≡ refusal.new.number }
+    ensures opens { OpensExpression refusal.new bytes.now offset features reader.old reader.new frames.old frames.new }
+{
+    *refusal = reader.open(bytes, offset, features, frames);
+    refusal.number
+}
+
+/// Opens the expression of a function body: as `wasm_open`, behind the locals, which are read and
+/// whose refusal may be answered.
+#[unsafe(no_mangle)]
+pub extern "C" fn wasm_open_body(
+    bytes: &[u8],
+    offset: u64,
+    features: u32,
+    frames: &mut [u8],
+    reader: &mut WasmReader,
+    refusal: &mut WasmRefusal,
+) -> u32
+    ensures answer { result ≡ refusal.new.number }
+    ensures opens { OpensPlain refusal.new bytes.now offset features reader.old reader.new frames.old frames.new }
+{
+    *refusal = reader.open_body(bytes, offset, features, frames);
+    refusal.number
+}
+
+/// Reads the next operator, from the bytes and under the frames that the reader was opened with, and
+/// answers 0: `operator` is its plain data, and the reader stands behind it.
+///
+/// Else the number of the refusal, and nothing changes but `refusal`: that of the operator, or 102
+/// where it opens a frame and `frames` has no room for it. 103 where the reader is none of these bytes
+/// and frames: one that was not opened, or was overwritten.
+#[unsafe(no_mangle)]
+pub extern "C" fn wasm_next(
     alloc: Global,
-    refusal: &WasmRefusal,
-    text: &mut [u8],
-) -> usize {
-    let Some(message) = refusal.message() else {
-        return 0;
+    bytes: &[u8],
+    frames: &mut [u8],
+    reader: &mut WasmReader,
+    operator: &mut WasmOperator,
+    refusal: &mut WasmRefusal,
+) -> u32
+    ensures answer { result ≡ refusal.new.number }
+    ensures next { AnswersNext refusal.new bytes.now reader.old reader.new frames.old frames.new operator.old operator.new }
+{
+    *refusal = match reader.read_next(alloc, bytes, frames) {
+        Ok(view) => {
+            *operator = view;
+            WasmRefusal::none(reader.offset + reader.position)
+        }
+        Err(refused) => refused,
     };
-    let Ok(made) = format!(in alloc; "{message}") else {
-        return 0;
-    };
-    let from = made.as_bytes();
-    for (to, byte) in text.iter_mut().zip(from) {
-        *to = *byte;
-    }
-    from.len()
+    refusal.number
+}
+
+/// Reads operators into an array, one after another as `wasm_next`, until it is full or all bytes are
+/// read, and answers 0; or until one is not read, and answers why. `count` is how many stand in
+/// `out`, the first of them first; what is behind them stays as it was.
+#[unsafe(no_mangle)]
+pub extern "C" fn wasm_read(
+    alloc: Global,
+    bytes: &[u8],
+    frames: &mut [u8],
+    reader: &mut WasmReader,
+    out: &mut [WasmOperator],
+    count: &mut usize,
+    refusal: &mut WasmRefusal,
+) -> u32
+    ensures answer { result ≡ refusal.new.number }
+    ensures batch { ReadsBatch refusal.new count.new bytes.now reader.old reader.new frames.old frames.new out.old out.new }
+{
+    *refusal = reader.read_many(alloc, bytes, frames, out, count);
+    refusal.number
+}
+
+/// Whether an expression ends where the reader stands: answers 0 where no frame is open and all bytes
+/// are read, else the number of the refusal.
+#[unsafe(no_mangle)]
+pub extern "C" fn wasm_finish(
+    bytes: &[u8],
+    frames: &[u8],
+    reader: &WasmReader,
+    refusal: &mut WasmRefusal,
+) -> u32
+    ensures answer { result ≡ refusal.new.number }
+    ensures finishes { FinishesPlain refusal.new bytes.now reader.now frames.now }
+{
+    *refusal = reader.finish(bytes, frames);
+    refusal.number
+}
+
+/// How many frames may be open at once along so many bytes: an array of this many has always room.
+#[unsafe(no_mangle)]
+pub extern "C" fn wasm_frames_needed(bytes_length: usize) -> usize
+    ensures is { result ≡ bytes_length / 2 + 1 }
+    ensures enough { (opened now : State) (text : List ℕ) → IsFresh opened → Takes opened.reader now.reader text
+        → IsWithinDepth opened now → length text ≤ bytes_length → length now.frames ≤ result }
+{
+    bytes_length / 2 + 1
 }

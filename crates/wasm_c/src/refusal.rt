@@ -1,11 +1,24 @@
 //! Refusals as plain data.
 ghost use Rattle.std.specs.Prelude.{◌≡◌};
+ghost use Rattle.wasm_c.specs.Texts.{instruction_told, frame_told, number_told, size_told, leading_told, type_told};
 ghost use Rattle.wasm_c.specs.Refused.{told, refusal_of, no_refusal, misuse, refusal_at, instruction_number, number_name_number, size_number, frame_number, leading_number, type_number};
 
 use wasm_operators::{
     Error, FrameName, InstructionName, LeadingByteName, Message, NumberName, Result, SizeName,
     TypeName,
 };
+
+/// What is answered where a bit of the features is that of none.
+pub const UNKNOWN_FEATURES: u32 = 100;
+
+/// What is answered where the bytes reach past the largest offset.
+pub const PAST_OFFSETS: u32 = 101;
+
+/// What is answered where a frame more finds no room in the array.
+pub const NO_ROOM: u32 = 102;
+
+/// What is answered where plain data is not that of a reader of these bytes and frames.
+pub const NOT_A_READER: u32 = 103;
 
 /// A refusal as plain data: 24 bytes, of which the last four are 0.
 #[repr(C)]
@@ -104,59 +117,6 @@ impl WasmRefusal {
             Message::DataAfterSection => told(offset, 25, 0, 0),
         }
     }
-
-    /// The message of these numbers, if it is one.
-    pub fn message(&self) -> Option<Message> {
-        let message = match self.number {
-            1 => Message::EndOfData,
-            2 => Message::FeatureRequired(instruction_name(self.name)?),
-            3 => Message::OutOfMemory,
-            4 => integer_message(self.name)?,
-            5 => Message::SizeOutOfBounds(size_name(self.name)?),
-            6 => Message::InvalidFunctionType,
-            7 => Message::WrongFrame(
-                instruction_name(self.name % 16)?,
-                frame_name(self.name / 16)?,
-            ),
-            8 => Message::OperatorsRemaining,
-            9 => Message::FramesRemain,
-            10 => Message::FramesRemainConst,
-            11 => Message::UnexpectedData,
-            12 => Message::IllegalOpcode(byte(self.value)?),
-            13 => Message::UnknownSubopcode(byte(self.name)?, self.value),
-            14 => Message::UnexpectedSimd,
-            15 => Message::ZeroByteExpected,
-            16 => Message::NonzeroAfterFence,
-            17 => Message::MemoryAndArray,
-            18 => Message::OrderingOnPlain,
-            19 => Message::InvalidOrdering {
-                byte: byte(self.value)?,
-                hex: self.name == 1,
-            },
-            20 => Message::ReservedFlags,
-            21 => Message::InvalidCastFlags(byte(self.value)?),
-            22 => Message::InvalidLeadingByte(byte(self.value)?, leading_name(self.name)?),
-            23 => Message::TooManyLocals,
-            24 => Message::InvalidType(type_name(self.name)?),
-            25 => Message::DataAfterSection,
-            _ => return None,
-        };
-        Some(message)
-    }
-}
-
-/// The message of a number that does not fit: too long below 16, too large from there on.
-fn integer_message(name: u32) -> Option<Message> {
-    match number_name(name % 16) {
-        Some(kind) if name < 16 => Some(Message::IntegerTooLong(kind)),
-        Some(kind) if name < 32 => Some(Message::IntegerTooLarge(kind)),
-        _ => None,
-    }
-}
-
-/// A number as a byte, if it is one.
-fn byte(value: u32) -> Option<u8> {
-    u8::try_from(value).ok()
 }
 
 fn instruction_number(name: InstructionName) -> u32
@@ -171,7 +131,9 @@ fn instruction_number(name: InstructionName) -> u32
     }
 }
 
-fn instruction_name(number: u32) -> Option<InstructionName> {
+pub fn instruction_name(number: u32) -> Option<InstructionName>
+    ensures { result ≡ instruction_told number }
+{
     match number {
         0 => Some(InstructionName::Else),
         1 => Some(InstructionName::Try),
@@ -191,7 +153,9 @@ fn frame_number(name: FrameName) -> u32
     }
 }
 
-fn frame_name(number: u32) -> Option<FrameName> {
+pub fn frame_name(number: u32) -> Option<FrameName>
+    ensures { result ≡ frame_told number }
+{
     match number {
         0 => Some(FrameName::If),
         1 => Some(FrameName::LegacyTry),
@@ -211,7 +175,9 @@ fn number_name_number(name: NumberName) -> u32
     }
 }
 
-fn number_name(number: u32) -> Option<NumberName> {
+pub fn number_name(number: u32) -> Option<NumberName>
+    ensures { result ≡ number_told number }
+{
     match number {
         0 => Some(NumberName::VarU32),
         1 => Some(NumberName::VarU64),
@@ -233,7 +199,9 @@ fn size_number(name: SizeName) -> u32
     }
 }
 
-fn size_name(number: u32) -> Option<SizeName> {
+pub fn size_name(number: u32) -> Option<SizeName>
+    ensures { result ≡ size_told number }
+{
     match number {
         0 => Some(SizeName::BrTable),
         1 => Some(SizeName::SelectTypes),
@@ -252,7 +220,9 @@ fn leading_number(name: LeadingByteName) -> u32
     }
 }
 
-fn leading_name(number: u32) -> Option<LeadingByteName> {
+pub fn leading_name(number: u32) -> Option<LeadingByteName>
+    ensures { result ≡ leading_told number }
+{
     match number {
         0 => Some(LeadingByteName::Catch),
         1 => Some(LeadingByteName::OnClause),
@@ -270,7 +240,9 @@ fn type_number(name: TypeName) -> u32
     }
 }
 
-fn type_name(number: u32) -> Option<TypeName> {
+pub fn type_name(number: u32) -> Option<TypeName>
+    ensures { result ≡ type_told number }
+{
     match number {
         0 => Some(TypeName::ValueType),
         1 => Some(TypeName::ReferenceType),

@@ -7,12 +7,14 @@ use Rattle.wasm_operators.specs.Headline.{ReadsRest}
 use Rattle.wasm_view.specs.View.{views}
 use Rattle.wasm_c.specs.Reads.{written}
 use Rattle.wasm_c.proofs.Behind.{OneBeginning, OneLayout}
-use Rattle.wasm_c.proofs.Found.{ends_joined}
+use Rattle.wasm_c.specs.declared.counter.Counter.{Counter}
+use Rattle.wasm_c.proofs.Counted.{counted_on, array_full}
+use Rattle.wasm_c.proofs.Found.{Lengths, ends_joined, ends_visited, ends_few}
 use Rattle.wasm_c.proofs.Written.{array_joined}
 use Rattle.wasm_c.proofs.body.read_operators.Goals as goal
 
-pub returns : goal.returns
-returns c =
+pub returns-then-placed-out : goal.returns-then-placed-out
+returns-then-placed-out c =
     let f = c.fill-placed.ensures in
     let more = c.read_all-end.new.out.items in
     let begins = subst OneBeginning (sym c.requires.features) c.one_layout.ensures.beginning in
@@ -28,5 +30,24 @@ returns c =
         ends = ends_joined c.read_all-end.result c.args.operators.now c.fill-placed.new.operators c.read_all-end.new.self f.0 more begins same f.1 reads;
         counted = omega (arith, f.2, c.len.ensures, c.as_slice.ensures.len, ap length c.as_slice.ensures.value, length-append f.0 more);
         in_array = array_joined f.0 more c.args.out.now c.fill-placed.new.out c.place.new.out c.fill-placed.result f.2 f.3 f.4 placed;
+      },
+    )
+
+pub returns : goal.returns
+returns c =
+    let f = c.fill-placed.ensures in
+    let features = c.args.operators.now.reader.features in
+    let begins = subst OneBeginning (sym c.requires.features) c.one_layout.ensures.beginning in
+    let same = subst OneLayout (sym c.requires.features) c.one_layout.ensures.same in
+    let result = c.visit_all_simd-end.result in
+    let end =
+    ends_visited _ result c.args.operators.now c.fill-placed.new.operators c.visit_all_simd-end.new.self f.0 begins same f.1
+    (c.visit_all_simd-end.ensures.rest (operators f.0) f.1.stood) in
+    let few = ends_few result c.args.operators.now (f.0 ++ end.0) (subst Lengths (sym c.requires.features) c.layouts.ensures.length) end.2 in (
+      f.0 ++ end.0,
+      record {
+        ends = end.2;
+        counted = counted_on (λ (s : Counter). s.count) f.0 end.0 _ c.visit_all_simd-end.new.v end.1 f.2 (omega (arith, few, c.requires.within));
+        in_array = array_full f.0 end.0 c.args.out.now c.fill-placed.new.out (omega (arith, f.2, f.3, c.if-placed-out.false, c.fill-placed.auto.out)) f.4;
       },
     )

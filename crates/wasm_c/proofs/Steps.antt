@@ -1,0 +1,219 @@
+-- One operator that is read under frames in an array, as by a reader of operators.
+use Rattle.std.proofs.Common.{◌≡◌, ℕ, ◌+◌, ◌<◌, ◌≤◌, List, [], ◌∷◌, ◌++◌, length, length-append, length-drop, take, zero, suc, Some, Ok, Err, refl, sym, ap, subst, ◌∙◌, arith, inl, inr, ◌⊎◌}
+use Rattle.wasm_operators.specs.below.bytes.error.Error.{Error}
+use Rattle.wasm_operators.specs.below.bytes.message.Message.{Message}
+use Rattle.wasm_operators.specs.below.bytes.message.Message.TheVariants as message
+use Rattle.wasm_operators.specs.below.Source.{Reader, rest, offset_of, at_position, Takes}
+use Rattle.wasm_operators.specs.grammar.declared.frame_kind.FrameKind.{FrameKind}
+use Rattle.wasm_operators.specs.grammar.Frames.{frames_after, innermost}
+use Rattle.wasm_operators.specs.grammar.Role.{Role, plain, opens, opens_if, opens_try, turns_else, turns_catch, turns_catch_all, delegates, ends}
+use Rattle.wasm_operators.specs.instr.declared.operator.Operator.{Operator}
+use Rattle.wasm_operators.specs.instr.Roles.{role_of}
+use Rattle.wasm_operators.specs.opcodes.Allowed.{EncodesAllowed}
+use Rattle.wasm_operators.specs.opcodes.Decoding.{RefusesOperator}
+use Rattle.wasm_operators.specs.opcodes.OperatorFaults.{OperatorFault}
+use Rattle.wasm_operators.specs.Openings.{opened_by_role}
+use Rattle.wasm_operators.specs.Next.{ListMayAllocate}
+use Rattle.wasm_operators.specs.Reading.{State, TakesOperator, StopsRead, StopsFinish}
+use Rattle.wasm_c.specs.declared.frames.FrameChange.{FrameChange}
+use Rattle.wasm_c.specs.declared.reader.WasmReader.{WasmReader}
+use Rattle.wasm_c.specs.Frames.{kinds, change_of, frames_changed, OpensFrame}
+use Rattle.wasm_view.specs.View.{view_of}
+use Rattle.wasm_view.specs.declared.view.WasmOperator.{WasmOperator}
+use Rattle.wasm_c.specs.declared.refusal.WasmRefusal.{WasmRefusal}
+use Rattle.wasm_c.specs.Refused.{refusal_of, refusal_at, misuse}
+use Rattle.wasm_c.specs.Steps.{IsReader, reader_at, state_at, FindsNoRoom, TakesPlain, StopsPlain, FinishesPlain}
+use Rattle.wasm_c.proofs.Stepped.{frames_stepped, last_innermost}
+
+is_memory : (m : Message) → (m ≡ message.OutOfMemory) ⊎ (m ≡ message.OutOfMemory → ⊥)
+is_memory message.OutOfMemory = inl refl
+is_memory _ = inr (λ e. cc e)
+
+-- What is refused inside the innermost frame stops a read.
+pub stops_inside : (e : Error) (s : State) (new : Reader) (kind : FrameKind) → innermost s.frames ≡ Some kind →
+    RefusesOperator (EncodesAllowed s.reader.features kind) (OperatorFault s.reader.features kind) e s.reader new →
+    StopsRead EncodesAllowed OperatorFault (ListMayAllocate EncodesAllowed) e s
+stops_inside e s new kind inside (same, refused, fault) = elim (is_memory e.message) [
+  | inl is ↦
+      let memory = refused.memory is in
+      inr (inr (is, memory.0, (kind, inside, memory.1)))
+  | inr other ↦
+      inr (inl (record { kind = kind; open_frame = inside; refuses = refused.refuses; ahead = refused.ahead; fault = fault other }))
+]
+
+-- Where no frame is open no operator is read.
+pub stops_outside : (e : Error) (bytes frames : List ℕ) (r : WasmReader) → r.depth ≡ 0 → e.message ≡ message.OperatorsRemaining →
+    e.offset ≡ offset_of (reader_at bytes r) → StopsRead EncodesAllowed OperatorFault (ListMayAllocate EncodesAllowed) e (state_at bytes r frames)
+stops_outside e bytes frames r none is at = inl (ap (λ n. kinds (take n frames)) none, is, at)
+
+-- An operator opens a frame exactly where it does so to the frames of the array.
+pub opened_or_not : {A : Type 0} (role : Role A) →
+    (OpensFrame (change_of role) × (opened_by_role role ≡ 1)) ⊎ ((OpensFrame (change_of role) → ⊥) × (opened_by_role role ≡ 0))
+opened_or_not (plain a) = inr (λ h. h, refl)
+opened_or_not (opens nest a) = inl (tt, refl)
+opened_or_not (opens_if a) = inl (tt, refl)
+opened_or_not (opens_try a) = inl (tt, refl)
+opened_or_not turns_else = inr (λ h. h, refl)
+opened_or_not (turns_catch tag) = inr (λ h. h, refl)
+opened_or_not turns_catch_all = inr (λ h. h, refl)
+opened_or_not (delegates depth) = inr (λ h. h, refl)
+opened_or_not ends = inr (λ h. h, refl)
+
+kinds_length : (list : List ℕ) (n : ℕ) → n ≤ length list → length (kinds (take n list)) ≡ n
+kinds_length list zero within = refl
+kinds_length [] (suc n) within = absurd (omega (arith, within))
+kinds_length (x ∷ xs) (suc n) within = ap suc (kinds_length xs n (omega (arith, within)))
+
+-- Where a reader stands that took a text of another.
+pub moved_to : (r ahead : Reader) (text : List ℕ) → Takes r ahead text → at_position r ahead.position ≡ ahead
+moved_to r ahead text takes = ap (λ (a : Reader). at_position r a.position) takes.moved ∙ sym takes.moved
+
+pub within_taken : (r ahead : Reader) (text : List ℕ) → Takes r ahead text → r.position ≤ length r.buffer → ahead.position ≤ length r.buffer
+within_taken r ahead text takes within =
+    let place : ahead.position ≡ r.position + length text = ap (λ (a : Reader). a.position) takes.moved in
+    let sum : length (rest r) ≡ length text + length (rest ahead) = ap length takes.parts ∙ length-append text (rest ahead) in
+    omega (arith, place, sum, within, length-drop r.position r.buffer)
+
+-- An operator that the innermost frame allows, and the change of the frames that it makes.
+pub takes_inside : (bytes : List ℕ) (old new : WasmReader) (frames_old frames_new : List ℕ) (ahead : Reader) (kind : FrameKind) (op : Operator) (text : List ℕ)
+    (change : FrameChange) → 0 < old.depth → old.depth ≤ length frames_old → innermost (kinds (take old.depth frames_old)) ≡ Some kind →
+    EncodesAllowed (reader_at bytes old).features kind text op → Takes (reader_at bytes old) ahead text → change ≡ change_of (role_of op) →
+    ((outer : List FrameKind) (k : FrameKind) → kinds (take old.depth frames_old) ≡ outer ++ k ∷ [] → kinds (take new.depth frames_new) ≡ frames_changed outer k change) →
+    new.depth ≤ length frames_old → new.depth ≤ old.depth + 1 → ((OpensFrame change → ⊥) → new.depth ≤ old.depth) →
+    length frames_new ≡ length frames_old → reader_at bytes new ≡ ahead →
+    TakesOperator EncodesAllowed op (state_at bytes old frames_old) (state_at bytes new frames_new)
+takes_inside bytes old new frames_old frames_new ahead kind op text change some within inside encodes takes is changed fits most others same stands =
+    let last = last_innermost (kinds (take old.depth frames_old)) kind inside in
+    let behind : kinds (take new.depth frames_new) ≡ frames_changed last.0 kind (change_of (role_of op)) =
+    changed last.0 kind last.1 ∙ ap (frames_changed last.0 kind) is in
+    let before : length (kinds (take old.depth frames_old)) ≡ old.depth = kinds_length frames_old old.depth within in
+    let after : length (kinds (take new.depth frames_new)) ≡ new.depth = kinds_length frames_new new.depth (omega (arith, fits, same)) in
+    record {
+      kind = kind;
+      open_frame = inside;
+      text = text;
+      encodes = encodes;
+      takes = subst (λ r. Takes (reader_at bytes old) r text) (sym stands) takes;
+      frames = ap (λ frames. frames_after frames (role_of op)) last.1 ∙ frames_stepped last.0 kind (role_of op) encodes.1 ∙ ap Some (sym behind);
+      room = elim (opened_or_not (role_of op)) [
+        | inl it ↦ omega (arith, it.1, some, within, fits, most, same)
+        | inr stays ↦
+            let fewer : new.depth ≤ old.depth = others (λ h. stays.0 (subst OpensFrame is h)) in
+            omega (arith, stays.1, fewer, fits, same)
+      ];
+      memory = omega (arith, before, after, some, within, fits, same);
+    }
+
+-- One that opens a frame for which there is no room.
+pub finds_no_room : (bytes : List ℕ) (r : WasmReader) (frames : List ℕ) (ahead : Reader) (kind : FrameKind) (op : Operator) (text : List ℕ)
+    (change : FrameChange) → innermost (kinds (take r.depth frames)) ≡ Some kind → EncodesAllowed (reader_at bytes r).features kind text op →
+    Takes (reader_at bytes r) ahead text → change ≡ change_of (role_of op) → OpensFrame change → r.depth ≡ length frames →
+    FindsNoRoom (state_at bytes r frames)
+finds_no_room bytes r frames ahead kind op text change inside encodes takes is opened full = record {
+  kind = kind;
+  open_frame = inside;
+  op = op;
+  text = text;
+  more = rest ahead;
+  encodes = encodes;
+  there = takes.parts;
+  opens = elim (opened_or_not (role_of op)) [ inl it ↦ it.1 | inr stays ↦ absurd (stays.0 (subst OpensFrame is opened)) ];
+  full = omega (arith, full);
+}
+
+-- An operator inside this frame, its plain data and its change of the frames, and where the reader stands behind it.
+abbrev pub Viewed : Reader → FrameKind → Reader → WasmOperator → FrameChange → Type 0
+Viewed r kind ahead view change = (op : Operator) × (text : List ℕ) × EncodesAllowed r.features kind text op × Takes r ahead text ×
+    (view ≡ view_of (op, offset_of r)) × (change ≡ change_of (role_of op))
+
+-- One that is taken.
+pub takes_plain : (bytes : List ℕ) (old new : WasmReader) (frames_old frames_new : List ℕ) (start ahead : Reader) (kind : FrameKind) (view : WasmOperator)
+    (change : FrameChange) → IsReader bytes (length frames_old) old → start ≡ reader_at bytes old → Viewed start kind ahead view change → 0 < old.depth →
+    innermost (kinds (take old.depth frames_old)) ≡ Some kind →
+    ((outer : List FrameKind) (k : FrameKind) → kinds (take old.depth frames_old) ≡ outer ++ k ∷ [] → kinds (take new.depth frames_new) ≡ frames_changed outer k change) →
+    new.depth ≤ length frames_old → new.depth ≤ old.depth + 1 → ((OpensFrame change → ⊥) → new.depth ≤ old.depth) →
+    length frames_new ≡ length frames_old → new.position ≡ ahead.position → new.offset ≡ old.offset → new.features ≡ old.features →
+    TakesPlain bytes old new frames_old frames_new view
+takes_plain bytes old new frames_old frames_new start ahead kind view change was same viewed some inside changed fits most others room moved offset features =
+    let v = subst (λ r. Viewed r kind ahead view change) same viewed in
+    let r = reader_at bytes old in
+    let stands : reader_at bytes new ≡ ahead =
+    ap (λ o. reader_at bytes (record new { offset = o })) offset ∙
+    ap (λ f. reader_at bytes (record new { offset = old.offset; features = f })) features ∙ ap (at_position r) moved ∙ moved_to r ahead v.1 v.3 in
+    let place = within_taken r ahead v.1 v.3 was.position in
+    record {
+      op = v.0;
+      was = was;
+      takes = takes_inside bytes old new frames_old frames_new ahead kind v.0 v.1 change some was.depth inside v.2 v.3 v.5 changed fits most others room
+          stands;
+      view_is = v.4;
+      still = record {
+        features = omega (arith, features, was.features);
+        offsets = omega (arith, offset, was.offsets);
+        position = omega (arith, moved, place);
+        depth = omega (arith, fits, room);
+      };
+      same_room = room;
+    }
+
+-- One that finds no room.
+pub no_room_plain : (bytes frames : List ℕ) (r : WasmReader) (start ahead : Reader) (kind : FrameKind) (view : WasmOperator) (change : FrameChange) (offset : ℕ)
+    (refusal : WasmRefusal) → IsReader bytes (length frames) r → start ≡ reader_at bytes r → Viewed start kind ahead view change →
+    innermost (kinds (take r.depth frames)) ≡ Some kind → OpensFrame change → r.depth ≡ length frames → offset ≡ offset_of start →
+    refusal ≡ misuse 102 offset → StopsPlain refusal bytes r frames
+no_room_plain bytes frames r start ahead kind view change offset refusal was same viewed inside opened full at is =
+    let v = subst (λ r. Viewed r kind ahead view change) same viewed in
+    let place : offset ≡ offset_of (reader_at bytes r) = at ∙ ap offset_of same in
+    inr (inl (was, is ∙ ap (misuse 102) place, finds_no_room bytes r frames ahead kind v.0 v.1 change inside v.2 v.3 v.5 opened full))
+
+-- One that is refused.
+pub refused_plain : (bytes frames : List ℕ) (r : WasmReader) (start ahead : Reader) (kind : FrameKind) (e : Error) (refusal : WasmRefusal) →
+    IsReader bytes (length frames) r → start ≡ reader_at bytes r → innermost (kinds (take r.depth frames)) ≡ Some kind →
+    RefusesOperator (EncodesAllowed start.features kind) (OperatorFault start.features kind) e start ahead → refusal ≡ refusal_of e →
+    StopsPlain refusal bytes r frames
+refused_plain bytes frames r start ahead kind e refusal was same inside refuses is =
+    let there =
+    subst (λ (s : Reader). RefusesOperator (EncodesAllowed s.features kind) (OperatorFault s.features kind) e s ahead) same refuses in
+    inl (was, e, is, stops_inside e (state_at bytes r frames) ahead kind inside there)
+
+-- An expression does not end where frames are open.
+pub frames_left : (bytes frames : List ℕ) (r : WasmReader) (start : Reader) (e : Error) (offset : ℕ) (refusal : WasmRefusal) →
+    IsReader bytes (length frames) r → start ≡ reader_at bytes r → 0 < r.depth → e.message ≡ message.FramesRemain → e.offset ≡ offset →
+    offset ≡ offset_of start → refusal ≡ refusal_of e → FinishesPlain refusal bytes r frames
+frames_left bytes frames r start e offset refusal was same some is at place told =
+    let still : kinds (take r.depth frames) ≡ [] → ⊥ =
+    λ none. let n = kinds_length frames r.depth was.depth in let zero = ap length none in absurd (omega (arith, some, n, zero)) in
+    inl (
+      was,
+      Err e,
+      told,
+      (
+        at ∙ place ∙ ap offset_of same,
+        subst (λ m. StopsFinish m (kinds (take r.depth frames) ≡ []) (reader_at bytes r)) (sym is) still,
+      ),
+    )
+
+-- Nor where data is left.
+pub data_left : (bytes frames : List ℕ) (r : WasmReader) (start : Reader) (e : Error) (offset : ℕ) (refusal : WasmRefusal) →
+    IsReader bytes (length frames) r → start ≡ reader_at bytes r → r.depth ≡ 0 → (rest start ≡ [] → ⊥) → e.message ≡ message.UnexpectedData →
+    e.offset ≡ offset → offset ≡ offset_of start → refusal ≡ refusal_of e → FinishesPlain refusal bytes r frames
+data_left bytes frames r start e offset refusal was same none more is at place told =
+    let closed : kinds (take r.depth frames) ≡ [] = ap (λ n. kinds (take n frames)) none in
+    let left : rest (reader_at bytes r) ≡ [] → ⊥ = λ all. more (ap rest same ∙ all) in
+    inl (
+      was,
+      Err e,
+      told,
+      (
+        at ∙ place ∙ ap offset_of same,
+        subst (λ m. StopsFinish m (kinds (take r.depth frames) ≡ []) (reader_at bytes r)) (sym is) (closed, left),
+      ),
+    )
+
+-- Else it does.
+pub finished : (bytes frames : List ℕ) (r : WasmReader) (start : Reader) (offset : ℕ) (refusal : WasmRefusal) →
+    IsReader bytes (length frames) r → start ≡ reader_at bytes r → r.depth ≡ 0 → rest start ≡ [] → offset ≡ offset_of start →
+    refusal ≡ refusal_at {X = Unit {0}} (Ok tt) offset → FinishesPlain refusal bytes r frames
+finished bytes frames r start offset refusal was same none all place told =
+    let closed : kinds (take r.depth frames) ≡ [] = ap (λ n. kinds (take n frames)) none in
+    inl (was, Ok tt, told ∙ ap (refusal_at {X = Unit {0}} (Ok tt)) (place ∙ ap offset_of same), (closed, ap rest (sym same) ∙ all))

@@ -1,0 +1,8 @@
+use Rattle.std.proofs.Common.{◌++◌}
+use Rattle.wasm_c.proofs.Puts.{puts_both, puts_text}
+use Rattle.wasm_c.proofs.text.write_two.Goals as goal
+
+pub returns : goal.returns
+returns c =
+    puts_text (c.args.first.now ++ c.args.second.now) c.put.result c.args.text.now c.put.new.text
+    (puts_both c.args.first.now c.args.second.now 0 c.put-at.result c.put.result c.args.text.now c.put-at.new.text c.put.new.text c.put-at.ensures c.put.ensures)

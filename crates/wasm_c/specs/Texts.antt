@@ -1,0 +1,162 @@
+-- The texts of refusals. docs/REFUSALS.md has the table.
+use Rattle.std.specs.Prelude.{◌≡◌, ◌==◌, ℕ, ◌+◌, ◌-◌, ◌/◌, ◌%◌, List, [], ◌∷◌, ◌++◌, length, map, true, false, if◌then◌else◌, nat_lt, Option, Some, None, codes}
+use Rattle.std.specs.Option.{option_map, option_and_then}
+use Rattle.std.specs.Fmt.{digits, decimal}
+use Rattle.wasm_operators.specs.below.bytes.message.Message.{Message}
+use Rattle.wasm_operators.specs.below.bytes.message.Message.TheVariants as message
+use Rattle.wasm_operators.specs.below.bytes.message.FrameName.{FrameName}
+use Rattle.wasm_operators.specs.below.bytes.message.FrameName.TheVariants as frame_name
+use Rattle.wasm_operators.specs.below.bytes.message.InstructionName.{InstructionName}
+use Rattle.wasm_operators.specs.below.bytes.message.InstructionName.TheVariants as instruction_name
+use Rattle.wasm_operators.specs.below.bytes.message.LeadingByteName.{LeadingByteName}
+use Rattle.wasm_operators.specs.below.bytes.message.LeadingByteName.TheVariants as leading_name
+use Rattle.wasm_operators.specs.below.bytes.message.NumberName.{NumberName}
+use Rattle.wasm_operators.specs.below.bytes.message.NumberName.TheVariants as number_name
+use Rattle.wasm_operators.specs.below.bytes.message.SizeName.{SizeName}
+use Rattle.wasm_operators.specs.below.bytes.message.SizeName.TheVariants as size_name
+use Rattle.wasm_operators.specs.below.bytes.message.TypeName.{TypeName}
+use Rattle.wasm_operators.specs.below.bytes.message.TypeName.TheVariants as type_name
+use Rattle.wasm_operators.specs.below.Refusal.{number_name_text, size_name_text, instruction_name_text, leading_byte_name_text, type_name_text}
+use Rattle.wasm_c.specs.Reads.{written}
+use Rattle.wasm_c.specs.declared.refusal.WasmRefusal.{WasmRefusal}
+
+abbrev pub frame_name_text : FrameName → List ℕ
+frame_name_text frame_name.If = codes "If"
+frame_name_text frame_name.LegacyTry = codes "LegacyTry"
+
+-- The lowest eight binary digits, the highest of these first.
+abbrev pub eight_digits : ℕ → List ℕ
+eight_digits n = map (λ place. 48 + (n / place) % 2) (128 ∷ 64 ∷ 32 ∷ 16 ∷ 8 ∷ 4 ∷ 2 ∷ []) ++ (48 + n % 2) ∷ []
+
+-- Lower-case hexadecimal.
+abbrev pub hexadecimal : ℕ → List ℕ
+hexadecimal n = digits 16 false n
+
+-- The text of a message.
+abbrev pub message_text : Message → List ℕ
+message_text message.EndOfData = codes "unexpected end-of-file"
+message_text (message.FeatureRequired name) = codes "legacy_exceptions feature required for " ++ (instruction_name_text name ++ codes " instruction")
+message_text message.OutOfMemory = codes "out of memory"
+message_text (message.IntegerTooLong name) = codes "invalid " ++ (number_name_text name ++ codes ": integer representation too long")
+message_text (message.IntegerTooLarge name) = codes "invalid " ++ (number_name_text name ++ codes ": integer too large")
+message_text (message.SizeOutOfBounds name) = size_name_text name ++ codes " size is out of bounds"
+message_text message.InvalidFunctionType = codes "invalid function type"
+message_text (message.WrongFrame name frame) =
+    codes "`" ++ (instruction_name_text name ++ (codes "` found outside `" ++ (frame_name_text frame ++ codes "` block")))
+message_text message.OperatorsRemaining = codes "operators remaining after end of function body or expression"
+message_text message.FramesRemain = codes "control frames remain at end of function body or expression"
+message_text message.FramesRemainConst = codes "control frames remain at end of expression"
+message_text message.UnexpectedData = codes "unexpected data at the end of operators"
+message_text (message.IllegalOpcode code) = codes "illegal opcode: 0x" ++ hexadecimal code
+message_text (message.UnknownSubopcode prefix code) = codes "unknown 0x" ++ (hexadecimal prefix ++ (codes " subopcode: 0x" ++ hexadecimal code))
+message_text message.UnexpectedSimd = codes "unexpected SIMD opcode: 0xfd"
+message_text message.ZeroByteExpected = codes "zero byte expected"
+message_text message.NonzeroAfterFence = codes "nonzero byte after `atomic.fence`"
+message_text message.MemoryAndArray = codes "cannot specify both memory and array index"
+message_text message.OrderingOnPlain = codes "cannot specify atomic ordering on non-atomic instruction"
+message_text (message.InvalidOrdering byte true) = codes "invalid atomic consistency ordering 0x" ++ hexadecimal byte
+message_text (message.InvalidOrdering byte false) = codes "invalid atomic consistency ordering " ++ decimal byte
+message_text message.ReservedFlags = codes "malformed memop: reserved flags bits set"
+message_text (message.InvalidCastFlags flags) = codes "invalid cast flags: " ++ eight_digits flags
+message_text (message.InvalidLeadingByte byte name) =
+    codes "invalid leading byte (0x" ++ (hexadecimal byte ++ (codes ") for " ++ leading_byte_name_text name))
+message_text message.TooManyLocals = codes "too many locals"
+message_text (message.InvalidType name) = codes "invalid " ++ type_name_text name
+message_text message.DataAfterSection = codes "unexpected data at the end of the section"
+
+-- The name of a number, of each list.
+abbrev pub instruction_told : ℕ → Option InstructionName
+instruction_told n =
+    if n == 0 then Some instruction_name.Else else (
+    if n == 1 then Some instruction_name.Try else (
+    if n == 2 then Some instruction_name.Catch else (
+    if n == 3 then Some instruction_name.CatchAll else (
+    if n == 4 then Some instruction_name.Delegate else None))))
+
+abbrev pub frame_told : ℕ → Option FrameName
+frame_told n = if n == 0 then Some frame_name.If else (if n == 1 then Some frame_name.LegacyTry else None)
+
+abbrev pub number_told : ℕ → Option NumberName
+number_told n =
+    if n == 0 then Some number_name.VarU32 else (
+    if n == 1 then Some number_name.VarU64 else (
+    if n == 2 then Some number_name.VarI32 else (
+    if n == 3 then Some number_name.VarS33 else (
+    if n == 4 then Some number_name.VarI64 else None))))
+
+abbrev pub size_told : ℕ → Option SizeName
+size_told n =
+    if n == 0 then Some size_name.BrTable else (
+    if n == 1 then Some size_name.SelectTypes else (
+    if n == 2 then Some size_name.Catches else (
+    if n == 3 then Some size_name.ResumeTable else None)))
+
+abbrev pub leading_told : ℕ → Option LeadingByteName
+leading_told n = if n == 0 then Some leading_name.Catch else (if n == 1 then Some leading_name.OnClause else None)
+
+abbrev pub type_told : ℕ → Option TypeName
+type_told n =
+    if n == 0 then Some type_name.ValueType else (
+    if n == 1 then Some type_name.ReferenceType else (
+    if n == 2 then Some type_name.HeapType else None))
+
+-- The message of a number that does not fit: too long below 16, too large from there on.
+abbrev pub integer_told : ℕ → Option Message
+integer_told name =
+    if nat_lt name 16 then option_map message.IntegerTooLong (number_told name) else option_map message.IntegerTooLarge (number_told (name - 16))
+
+-- The message of a frame: the instruction, and 16 times the frame that it wants.
+abbrev pub frames_told : ℕ → Option Message
+frames_told name =
+    option_and_then (λ instruction. option_map (λ frame. message.WrongFrame instruction frame) (frame_told (name / 16))) (instruction_told (name % 16))
+
+abbrev pub ordering_told : ℕ → ℕ → Option Message
+ordering_told name value =
+    if name == 0 then Some (message.InvalidOrdering value false) else (if name == 1 then Some (message.InvalidOrdering value true) else None)
+
+-- The message of the numbers of those that tell nothing.
+abbrev pub bare_told : ℕ → Option Message
+bare_told number =
+    if number == 1 then Some message.EndOfData else (
+    if number == 3 then Some message.OutOfMemory else (
+    if number == 6 then Some message.InvalidFunctionType else (
+    if number == 8 then Some message.OperatorsRemaining else (
+    if number == 9 then Some message.FramesRemain else (
+    if number == 10 then Some message.FramesRemainConst else (
+    if number == 11 then Some message.UnexpectedData else (
+    if number == 14 then Some message.UnexpectedSimd else (
+    if number == 15 then Some message.ZeroByteExpected else (
+    if number == 16 then Some message.NonzeroAfterFence else (
+    if number == 17 then Some message.MemoryAndArray else (
+    if number == 18 then Some message.OrderingOnPlain else (
+    if number == 20 then Some message.ReservedFlags else (
+    if number == 23 then Some message.TooManyLocals else (
+    if number == 25 then Some message.DataAfterSection else None))))))))))))))
+
+-- The message of these numbers. What a text does not tell is not looked at.
+abbrev pub message_told : ℕ → ℕ → ℕ → Option Message
+message_told number name value =
+    if number == 2 then option_map message.FeatureRequired (instruction_told name) else (
+    if number == 4 then integer_told name else (
+    if number == 5 then option_map message.SizeOutOfBounds (size_told name) else (
+    if number == 7 then frames_told name else (
+    if number == 12 then Some (message.IllegalOpcode value) else (
+    if number == 13 then Some (message.UnknownSubopcode name value) else (
+    if number == 19 then ordering_told name value else (
+    if number == 21 then Some (message.InvalidCastFlags value) else (
+    if number == 22 then option_map (λ n. message.InvalidLeadingByte value n) (leading_told name) else (
+    if number == 24 then option_map message.InvalidType (type_told name) else bare_told number)))))))))
+
+-- The text of what a refusal as plain data tells.
+abbrev pub text_told : WasmRefusal → Option (List ℕ)
+text_told r = option_map message_text (message_told r.number r.name r.value)
+
+-- A call that writes this text into an array, as much of it as there is room for, and answers its whole length; where there is none it writes nothing, and answers 0.
+abbrev pub AnswersText : Option (List ℕ) → List ℕ → ℕ → List ℕ → Type 0
+AnswersText None old result new = (result ≡ 0) × (new ≡ old)
+AnswersText (Some text) old result new = (result ≡ length text) × (new ≡ written text old)
+
+-- The same of a piece that stands behind as many bytes as `at`, whatever they are; and where the next one stands.
+abbrev pub PutsPiece : List ℕ → ℕ → List ℕ → ℕ → List ℕ → Type 0
+PutsPiece piece at old result new =
+    (result ≡ at + length piece) × ((before room : List ℕ) → at ≡ length before → old ≡ written before room → new ≡ written (before ++ piece) room)

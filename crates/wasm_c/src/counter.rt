@@ -1,0 +1,33 @@
+//! The visitor that counts operators.
+ghost use Rattle.std.specs.Prelude.{◌≡◌, ◌+◌, ◌-◌, ◌^◌, ◌<◌};
+
+use wasm_operators::{BrTable, Operator, VisitGroups, VisitOperator, VisitSimdOperator, Visitor};
+
+/// How many operators were visited.
+#[derive(Debug, Drop)]
+pub struct Counter {
+    pub count: usize,
+}
+
+impl Visitor for Counter {
+    type Output = ();
+
+    // A visit counts one more.
+    ghost visits = { λ before op answer after. before.count < 2 ^ 64 - 1 → after.count ≡ before.count + 1 };
+
+    #[inline(always)]
+    fn visit_any(&mut self, _op: Operator<'static>) {
+        self.count = self.count.saturating_add(1);
+    }
+}
+
+impl VisitGroups for Counter {}
+
+impl<'a> VisitOperator<'a> for Counter {
+    #[inline(always)]
+    fn visit_br_table(&mut self, _targets: BrTable<'a>) {
+        self.count = self.count.saturating_add(1);
+    }
+}
+
+impl VisitSimdOperator for Counter {}

@@ -1,0 +1,243 @@
+//! Readers of operators as plain data, under frames in an array of the caller's.
+ghost use Rattle.std.specs.Prelude.{◌≡◌, ◌≤◌, length, IfSome, IfNone, IfOk, IfErr, List, ℕ};
+ghost use Rattle.wasm_operators.specs.below.Source.{reader_of, offset_of, at_position, Takes};
+ghost use Rattle.wasm_operators.specs.instr.declared.operator.Operator.{Operator};
+ghost use Rattle.wasm_operators.specs.instr.Roles.{role_of};
+ghost use Rattle.wasm_operators.specs.opcodes.Allowed.{EncodesAllowed};
+ghost use Rattle.wasm_operators.specs.opcodes.Decoding.{RefusesOperator};
+ghost use Rattle.wasm_operators.specs.opcodes.OperatorFaults.{OperatorFault};
+ghost use Rattle.wasm_view.specs.View.{view_of};
+ghost use Rattle.wasm_operators.specs.Locals.{ReadsPastLocals};
+ghost use Rattle.wasm_c.specs.Frames.{change_of};
+ghost use Rattle.wasm_c.specs.Reads.{IsWithin};
+ghost use Rattle.wasm_c.specs.Steps.{IsReader, reader_at, ReadsPlain, ReadsBatch, FinishesPlain, OpensExpression, OpensPlain, fresh_reader};
+
+use crate::frames::{BLOCK, FrameChange, change_frames, innermost};
+use crate::refusal::{NO_ROOM, NOT_A_READER, PAST_OFFSETS, UNKNOWN_FEATURES, WasmRefusal};
+use crate::viewer::Viewer;
+use std::alloc::Global;
+use wasm_operators::{
+    BinaryReader, Error, FrameKind, FunctionBody, Message, ReadSimdVisits, Result, WasmFeatures,
+};
+use wasm_view::WasmOperator;
+
+/// A reader of operators as plain data: 32 bytes without gaps.
+#[repr(C)]
+#[derive(Clone, Copy, Debug, PartialEq, Eq)]
+pub struct WasmReader {
+    /// The offset of the first byte.
+    pub offset: u64,
+    /// How many bytes were read.
+    pub position: u64,
+    /// How many frames are open.
+    pub depth: u64,
+    /// The features.
+    pub features: u32,
+    /// 0.
+    pub reserved: u32,
+}
+
+/// An operator that was read.
+#[derive(Debug, Drop)]
+struct Viewed {
+    view: WasmOperator,
+    change: FrameChange,
+}
+
+/// Reads an operator inside this frame.
+fn read_operator(alloc: Global, reader: &mut BinaryReader<'_>, frame: FrameKind) -> Result<Viewed>
+    ensures taken { IfOk result (λ viewed. (op : Operator) × (text : List ℕ)
+        × EncodesAllowed reader.old.features frame text op × Takes reader.old reader.new text
+        × (viewed.view ≡ view_of (op, offset_of reader.old)) × (viewed.change ≡ change_of (role_of op))) }
+    ensures refused { IfErr result (λ e. RefusesOperator (EncodesAllowed reader.old.features frame)
+        (OperatorFault reader.old.features frame) e reader.old reader.new) }
+{
+    let offset = reader.original_position();
+    let mut viewer = Viewer {
+        frame,
+        offset,
+        view: WasmOperator::bare(offset, 0, 0),
+        change: FrameChange::Stays,
+    };
+    match reader.visit_operator_simd(alloc, &mut viewer) {
+        Ok(()) => Ok(Viewed {
+            view: viewer.view,
+            change: viewer.change,
+        }),
+        Err(error) => Err(error),
+    }
+}
+
+/// A reader of what stands behind the locals of a body.
+fn past_locals<'a>(bytes: &'a [u8], offset: u64, features: WasmFeatures) -> Result<BinaryReader<'a>>
+    requires { IsWithin offset bytes.now }
+    ensures { ReadsPastLocals result (reader_of features offset bytes.now) }
+{
+    let body = FunctionBody::new(BinaryReader::new_features(bytes, offset, features));
+    body.get_binary_reader_for_operators()
+}
+
+impl WasmReader {
+    /// The bytes where this stands, if it is a reader of them and of an array of so many frames.
+    fn bytes_ahead<'a>(&self, bytes: &'a [u8], room: usize) -> Option<BinaryReader<'a>>
+        ensures ahead { IfSome result (λ ahead. IsReader bytes.now room self.now × (ahead ≡ reader_at bytes.now self.now)) }
+        ensures none { IfNone result (IsReader bytes.now room self.now → ⊥) }
+    {
+        let Some(features) = WasmFeatures::from_bits(self.features) else {
+            return None;
+        };
+        let length = bytes.len() as u64;
+        if length > u64::MAX - self.offset || self.position > length || self.depth > room as u64 {
+            return None;
+        }
+        let mut ahead = BinaryReader::new_features(bytes, self.offset, features);
+        match ahead.read_bytes(self.position as usize) {
+            Ok(_) => Some(ahead),
+            Err(_) => None,
+        }
+    }
+
+    /// Reads one operator more.
+    pub fn read_next(
+        &mut self,
+        alloc: Global,
+        bytes: &[u8],
+        frames: &mut [u8],
+    ) -> std::result::Result<WasmOperator, WasmRefusal>
+        ensures { ReadsPlain result bytes.now self.old self.new frames.old frames.new }
+    {
+        let Some(mut ahead) = self.bytes_ahead(bytes, frames.len()) else {
+            return Err(WasmRefusal::misuse(NOT_A_READER, self.offset));
+        };
+        let depth = self.depth as usize;
+        let offset = ahead.original_position();
+        if depth == 0 {
+            return Err(WasmRefusal::of(&Error::new(Message::OperatorsRemaining, offset)));
+        }
+        match read_operator(alloc, &mut ahead, innermost(depth, frames)) {
+            Ok(viewed) => {
+                if viewed.change.opens() && depth == frames.len() {
+                    return Err(WasmRefusal::misuse(NO_ROOM, offset));
+                }
+                self.depth = change_frames(viewed.change, depth, frames) as u64;
+                self.position = ahead.current_position() as u64;
+                Ok(viewed.view)
+            }
+            Err(error) => Err(WasmRefusal::of(&error)),
+        }
+    }
+
+    /// Reads operators into an array, up to its end, the end of the data or a refusal.
+    pub fn read_many(
+        &mut self,
+        alloc: Global,
+        bytes: &[u8],
+        frames: &mut [u8],
+        out: &mut [WasmOperator],
+        count: &mut usize,
+    ) -> WasmRefusal
+        ensures { ReadsBatch result count.new bytes.now self.old self.new frames.old frames.new out.old out.new }
+    {
+        let mut found: usize = 0;
+        'places: while found < out.len() && self.position < bytes.len() as u64 {
+            match self.read_next(alloc, bytes, frames) {
+                Ok(view) => {
+                    out[found] = view;
+                    found += 1;
+                }
+                Err(refused) => {
+                    *count = found;
+                    return refused;
+                }
+            }
+        }
+        *count = found;
+        match self.bytes_ahead(bytes, frames.len()) {
+            Some(ahead) => WasmRefusal::none(ahead.original_position()),
+            None => WasmRefusal::misuse(NOT_A_READER, self.offset),
+        }
+    }
+
+    /// Whether an expression ends here.
+    pub fn finish(&self, bytes: &[u8], frames: &[u8]) -> WasmRefusal
+        ensures { FinishesPlain result bytes.now self.now frames.now }
+    {
+        let Some(ahead) = self.bytes_ahead(bytes, frames.len()) else {
+            return WasmRefusal::misuse(NOT_A_READER, self.offset);
+        };
+        let offset = ahead.original_position();
+        if self.depth > 0 {
+            return WasmRefusal::of(&Error::new(Message::FramesRemain, offset));
+        }
+        if !ahead.eof() {
+            return WasmRefusal::of(&Error::new(Message::UnexpectedData, offset));
+        }
+        WasmRefusal::none(offset)
+    }
+
+    /// A reader that has read so many bytes, with the frame of the expression alone.
+    fn fresh(offset: u64, features: u32, position: u64) -> WasmReader
+        ensures { result ≡ fresh_reader offset features position }
+    {
+        WasmReader {
+            offset,
+            position,
+            depth: 1,
+            features,
+            reserved: 0,
+        }
+    }
+
+    /// Opens the expression that the bytes are to encode.
+    pub fn open(
+        &mut self,
+        bytes: &[u8],
+        offset: u64,
+        features: u32,
+        frames: &mut [u8],
+    ) -> WasmRefusal
+        ensures { OpensExpression result bytes.now offset features self.old self.new frames.old frames.new }
+    {
+        if WasmFeatures::from_bits(features).is_none() {
+            return WasmRefusal::misuse(UNKNOWN_FEATURES, offset);
+        }
+        if bytes.len() as u64 > u64::MAX - offset {
+            return WasmRefusal::misuse(PAST_OFFSETS, offset);
+        }
+        if frames.is_empty() {
+            return WasmRefusal::misuse(NO_ROOM, offset);
+        }
+        frames[0] = BLOCK;
+        *self = WasmReader::fresh(offset, features, 0);
+        WasmRefusal::none(offset)
+    }
+
+    /// Opens the expression behind the locals of the body that the bytes are to encode.
+    pub fn open_body(
+        &mut self,
+        bytes: &[u8],
+        offset: u64,
+        features: u32,
+        frames: &mut [u8],
+    ) -> WasmRefusal
+        ensures { OpensPlain result bytes.now offset features self.old self.new frames.old frames.new }
+    {
+        let Some(known) = WasmFeatures::from_bits(features) else {
+            return WasmRefusal::misuse(UNKNOWN_FEATURES, offset);
+        };
+        if bytes.len() as u64 > u64::MAX - offset {
+            return WasmRefusal::misuse(PAST_OFFSETS, offset);
+        }
+        if frames.is_empty() {
+            return WasmRefusal::misuse(NO_ROOM, offset);
+        }
+        match past_locals(bytes, offset, known) {
+            Ok(behind) => {
+                frames[0] = BLOCK;
+                *self = WasmReader::fresh(offset, features, behind.current_position() as u64);
+                WasmRefusal::none(behind.original_position())
+            }
+            Err(error) => WasmRefusal::of(&error),
+        }
+    }
+}

@@ -1,0 +1,60 @@
+//! The visitor that makes the plain data of an operator, and tells what it does to the frames.
+ghost use Rattle.std.specs.Prelude.{◌≡◌};
+ghost use Rattle.wasm_operators.specs.instr.Roles.{role_of};
+ghost use Rattle.wasm_view.specs.View.{view_of};
+ghost use Rattle.wasm_c.specs.Frames.{change_of};
+
+use crate::frames::{FrameChange, change_of};
+use wasm_operators::{
+    BrTable, FrameKind, FrameStack, Operator, VisitGroups, VisitOperator, VisitSimdOperator,
+    Visitor,
+};
+use wasm_view::{WasmOperator, view_of};
+
+/// The innermost frame, the offset of the next operator, and of the one that was visited the plain
+/// data and what it does to the frames.
+#[derive(Debug, Drop)]
+pub struct Viewer {
+    pub frame: FrameKind,
+    pub offset: u64,
+    pub view: WasmOperator,
+    pub change: FrameChange,
+}
+
+impl FrameStack for Viewer {
+    ghost use Rattle.std.specs.Prelude.{Some};
+
+    ghost frame = { λ viewer. Some viewer.frame };
+
+    #[inline(always)]
+    fn current_frame(&self) -> Option<FrameKind> {
+        Some(self.frame)
+    }
+}
+
+impl Visitor for Viewer {
+    type Output = ();
+
+    // The plain data is that of the operator at this offset.
+    ghost visits = { λ before op answer after. (after.view ≡ view_of (op, before.offset))
+        × (after.change ≡ change_of (role_of op)) };
+
+    #[inline(always)]
+    fn visit_any(&mut self, op: Operator<'static>) {
+        self.view = view_of(&op, self.offset);
+        self.change = change_of(&op);
+    }
+}
+
+impl VisitGroups for Viewer {}
+
+impl<'a> VisitOperator<'a> for Viewer {
+    #[inline(always)]
+    fn visit_br_table(&mut self, targets: BrTable<'a>) {
+        let op = Operator::BrTable { targets };
+        self.view = view_of(&op, self.offset);
+        self.change = FrameChange::Stays;
+    }
+}
+
+impl VisitSimdOperator for Viewer {}
