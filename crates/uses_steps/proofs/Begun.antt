@@ -1,0 +1,66 @@
+-- What reading a fresh reader to the end says of the bytes.
+use Rattle.std.proofs.Common.{◌≡◌, ◌≢◌, ℕ, ◌+◌, List, [], length, refl, sym, ap, subst, arith, append-nil}
+use Rattle.wasm_operators.specs.below.bytes.error.Error.{Error}
+use Rattle.wasm_operators.specs.below.bytes.features.WasmFeatures.{WasmFeatures}
+use Rattle.wasm_operators.specs.below.bytes.message.Message.{Message}
+use Rattle.wasm_operators.specs.below.bytes.message.Message.TheVariants as message
+use Rattle.wasm_operators.specs.below.Source.{Reader, rest, offset_of, source_of, reader_of, Takes}
+use Rattle.wasm_operators.specs.grammar.OpenPath.{OpenPath}
+use Rattle.wasm_operators.specs.instr.Roles.{roles_of}
+use Rattle.wasm_operators.specs.Expression.{Placed, OfPlaced, operators, LaidOut, EncodesExpression, IsLongestOf}
+use Rattle.wasm_operators.specs.Headline.{BeginningAt, ReadsBeginning, CutFault}
+use Rattle.wasm_operators.specs.Reading.{State, Taking, Refusing, Allocating}
+use Rattle.uses_steps.specs.Begun.{BeginsExpression}
+use Rattle.uses_steps.specs.Input.{input}
+
+-- What more bytes would complete is refused by the end of the data alone.
+pub cut_at_end : (m : Message) (left : List ℕ) → m ≢ message.OutOfMemory → m ≢ message.FramesRemain → m ≢ message.EndOfData → ¬ CutFault m left
+cut_at_end message.OutOfMemory left memory frames data_end cut = memory refl
+cut_at_end message.FramesRemain left memory frames data_end cut = frames refl
+cut_at_end message.EndOfData left memory frames data_end cut = data_end refl
+cut_at_end _ left memory frames data_end cut = cut
+
+-- The list that came where anything but memory is refused.
+pub longest_at : (Kept : OfPlaced) (m : Message) (r : Reader) (placed : Placed) → m ≢ message.OutOfMemory → BeginningAt Kept m [] r placed →
+    IsLongestOf Kept [] (source_of r) placed
+longest_at Kept message.OutOfMemory r placed other h = absurd (other refl)
+longest_at Kept _ r placed other h = h
+
+-- A reading that began where this one did.
+pub begins_alike : (Kept : OfPlaced) (Encodes : Taking) (Fault : Refusing) (Allocates : Allocating) (e : Error) (old other new : State) (placed : Placed) →
+    other.reader ≡ old.reader → ReadsBeginning Kept Encodes Fault Allocates [] e other new placed → ReadsBeginning Kept Encodes Fault Allocates [] e old new placed
+begins_alike Kept Encodes Fault Allocates e old other new placed same h = record {
+  at = subst (λ r. BeginningAt Kept e.message [] r placed) same h.at;
+  text = h.text;
+  takes = subst (λ r. Takes r new.reader h.text) same h.takes;
+  laid = subst (λ (r : Reader). LaidOut r.features (offset_of r) placed h.text) same h.laid;
+  stood = h.stood;
+  stops = h.stops;
+}
+
+-- All of the bytes are an expression.
+pub begins_whole : (features : WasmFeatures) (bytes : List ℕ) (placed : Placed) → EncodesExpression (input features bytes) placed →
+    BeginsExpression (input features bytes) (length bytes)
+begins_whole features bytes placed encodes = record {
+  text = bytes;
+  more = [];
+  parts = sym (append-nil bytes);
+  size = refl;
+  placed = placed;
+  encodes = encodes;
+}
+
+-- What was taken is one, where no frame is open behind it.
+pub begins_closed : (features : WasmFeatures) (bytes text : List ℕ) (new : State) (placed : Placed) (n : ℕ) →
+    Takes (reader_of features 0 bytes) new.reader text → LaidOut features 0 placed text → OpenPath (roles_of (operators placed)) new.frames →
+    new.frames ≡ [] → n ≡ new.reader.position → BeginsExpression (input features bytes) n
+begins_closed features bytes text new placed n takes laid path closed is =
+    let place : new.reader.position ≡ 0 + length text = ap (λ (r : Reader). r.position) takes.moved in
+    record {
+      text = text;
+      more = rest new.reader;
+      parts = takes.parts;
+      size = omega (arith, is, place);
+      placed = placed;
+      encodes = (laid, subst (λ frames. OpenPath (roles_of (operators placed)) frames) closed path);
+    }

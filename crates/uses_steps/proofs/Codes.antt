@@ -1,0 +1,43 @@
+-- What a reading says where a caller knows what stands there: no encoding is a proper prefix of another, and a fault determines the refusal.
+use Rattle.std.proofs.Common.{◌≡◌, ◌≢◌, ℕ, ◌+◌, List, [], ◌++◌, length, Result, Ok, Err, IfErr, refl, sym, ap, ◌∙◌, append-nil}
+use Rattle.wasm_operators.specs.below.bytes.error.Error.{Error}
+use Rattle.wasm_operators.specs.below.bytes.message.Message.{Message}
+use Rattle.wasm_operators.specs.below.bytes.message.Message.TheVariants as message
+use Rattle.wasm_operators.specs.below.Fault.{DeterminesRefusal, HasFault}
+use Rattle.wasm_operators.specs.below.Refusal.{IsReadFault}
+use Rattle.wasm_operators.specs.below.Sequence.{PrefixCode, PrefixCodeUpTo}
+use Rattle.wasm_operators.specs.below.Source.{Reader, rest, Takes, Reads, MayFollow}
+
+nothing_follows : (m : Message) → IsReadFault m → MayFollow m []
+nothing_follows message.EndOfData fault = refl
+nothing_follows message.OutOfMemory fault = fault
+nothing_follows _ fault = tt
+
+-- What stands there is read.
+pub reads_known : {X : Type 0} (Encodes : List ℕ → X → Type 0) (result : Result X Error) (old new : Reader) (x : X) (text more : List ℕ) →
+    PrefixCode Encodes → Reads Encodes result old new → rest old ≡ text ++ more → Encodes text x → result ≡ Ok x
+reads_known Encodes (Ok y) old new x text more code (taken, encodes, takes) parts known =
+    ap (λ v. Ok v) (code taken text (rest new) more y x encodes known (sym takes.parts ∙ parts)).1
+reads_known Encodes (Err e) old new x text more code (same, refusal) parts known =
+    absurd (refusal.refuses [] (nothing_follows e.message refusal.fault) text more x known (append-nil (rest old) ∙ parts))
+
+-- As many bytes are taken as the encoding has that stands there.
+pub takes_known : {X : Type 0} (same : X → X → Type 0) (Encodes : List ℕ → X → Type 0) (old new : Reader) (x y : X) (taken text more : List ℕ) →
+    PrefixCodeUpTo same Encodes → Encodes taken y → Takes old new taken → rest old ≡ text ++ more → Encodes text x →
+    new.position ≡ old.position + length text
+takes_known same Encodes old new x y taken text more code encodes takes parts known =
+    ap (λ (r : Reader). r.position) takes.moved ∙
+    ap (λ t. old.position + length t) (code taken text (rest new) more y x encodes known (sym takes.parts ∙ parts)).0
+
+-- What is known to be wrong is what is refused.
+pub fault_known : {X : Type 0} (Fault : Message → Reader → ℕ → Type 0) (result : Result X Error) (r : Reader) (m : Message) (offset : ℕ) →
+    DeterminesRefusal Fault → IfErr result (λ e. Fault e.message r e.offset) → Fault m r offset → IfErr result (λ e. (e.message ≡ m) × (e.offset ≡ offset))
+fault_known Fault (Ok x) r m offset determines is known = tt
+fault_known Fault (Err e) r m offset determines is known = determines e.message m r e.offset offset is known
+
+-- The same, memory aside.
+pub value_fault_known : {X : Type 0} (Fault : Message → Reader → ℕ → Type 0) (result : Result X Error) (r : Reader) (m : Message) (offset : ℕ) →
+    DeterminesRefusal Fault → IfErr result (λ e. HasFault Fault e r) → Fault m r offset →
+    IfErr result (λ e. e.message ≢ message.OutOfMemory → (e.message ≡ m) × (e.offset ≡ offset))
+value_fault_known Fault (Ok x) r m offset determines is known = tt
+value_fault_known Fault (Err e) r m offset determines is known = λ other. determines e.message m r e.offset offset (is other) known

@@ -1,0 +1,29 @@
+-- What a reader read of which nothing was known.
+use Rattle.std.proofs.Common.{◌≡◌, ℕ, List, ◌++◌, Result, Ok, Err, IfOk, Some, sym, ap, subst, ◌∙◌, append-nil}
+use Rattle.wasm_operators.specs.below.bytes.error.Error.{Error}
+use Rattle.wasm_operators.specs.below.bytes.features.WasmFeatures.{WasmFeatures}
+use Rattle.wasm_operators.specs.below.Source.{rest, offset_of}
+use Rattle.wasm_operators.specs.opcodes.Allowed.{EncodesAllowed}
+use Rattle.wasm_operators.specs.opcodes.OperatorFaults.{OperatorFault}
+use Rattle.wasm_operators.specs.Expression.{Placed, operators, LaidOut, AreEncoded}
+use Rattle.wasm_operators.specs.Reading.{State, RunsToEnd, Adds, Anywhere}
+use Rattle.uses_steps.specs.Rest.{AddsRest}
+
+-- What the law `layouts` says.
+abbrev pub IsEncoded : WasmFeatures → Type 0
+IsEncoded f = (offset : ℕ) (placed : Placed) (bytes : List ℕ) → LaidOut f offset placed bytes → AreEncoded f (operators placed)
+
+pub adds_rest : {X : Type 0} (result : Result X Error) (old new : State) (before after : Placed) → IsEncoded old.reader.features →
+    RunsToEnd (Adds before after) EncodesAllowed OperatorFault Anywhere result old new → IfOk result (λ _. AddsRest old before after)
+adds_rest (Ok x) old new before after encoded (placed, added, taken, (closed, nothing)) =
+    let all : rest old.reader ≡ taken.text = taken.takes.parts ∙ ap (λ t. taken.text ++ t) nothing ∙ append-nil taken.text in
+    record {
+      placed = placed;
+      added = added;
+      closes = (
+        subst (λ bytes. LaidOut old.reader.features (offset_of old.reader) placed bytes) (sym all) taken.laid,
+        taken.frames ∙ ap (λ frames. Some frames) closed,
+      );
+      encoded = encoded (offset_of old.reader) placed taken.text taken.laid;
+    }
+adds_rest (Err e) old new before after encoded run = tt

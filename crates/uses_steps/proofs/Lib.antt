@@ -1,0 +1,13 @@
+pub mod Begun
+pub mod Codes
+pub mod Counted
+pub mod Declared
+pub mod Items
+pub mod Left
+pub mod Ranges
+pub mod Scalars
+pub mod Singles
+pub mod Skipped
+pub mod Splits
+pub mod Steps
+pub mod Tallied

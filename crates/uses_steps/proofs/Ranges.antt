@@ -1,0 +1,47 @@
+-- Where the operators of a list end.
+use Rattle.std.proofs.Common.{◌≡◌, ℕ, ◌+◌, ◌≤◌, List, [], ◌∷◌, ◌++◌, length, refl, sym, ap, subst, ◌∙◌, arith, length-append}
+use Rattle.wasm_operators.specs.below.bytes.features.WasmFeatures.{WasmFeatures}
+use Rattle.wasm_operators.specs.instr.declared.operator.Operator.{Operator}
+use Rattle.wasm_operators.specs.Expression.{Placed, LaidOut, EndsAt}
+use Rattle.uses_steps.specs.Places.{IsRangeOf}
+use Rattle.uses_steps.proofs.Splits.{SplitsAt, SplitsInto}
+
+-- What the law `ranges` says.
+abbrev pub EndsAtNext : WasmFeatures → Type 0
+EndsAtNext f = (offset : ℕ) (before after : Placed) (p q : Operator × ℕ) (bytes : List ℕ) → LaidOut f offset (before ++ p ∷ q ∷ after) bytes → EndsAt f p q.1
+
+abbrev pub EndsAtLast : WasmFeatures → Type 0
+EndsAtLast f = (offset : ℕ) (before : Placed) (p : Operator × ℕ) (bytes : List ℕ) → LaidOut f offset (before ++ p ∷ []) bytes →
+    EndsAt f p (offset + length bytes)
+
+none_left : {X : Type 0} (xs : List X) → length xs ≡ 0 → xs ≡ []
+none_left [] none = refl
+none_left (x ∷ xs) none = absurd (omega arith)
+
+range_is : (f : WasmFeatures) (list before after : Placed) (p : Operator × ℕ) (index start end : ℕ) → list ≡ before ++ p ∷ after → length before ≡ index →
+    start ≡ p.1 → EndsAt f p end → IsRangeOf f list index start end
+range_is f list before after p index start end parts place start_is ends = record {
+  before = before;
+  op = p.0;
+  after = after;
+  parts = parts ∙ ap (λ at. before ++ (p.0, at) ∷ after) (sym start_is);
+  place = place;
+  ends = subst (λ at. EndsAt f (p.0, at) end) (sym start_is) ends;
+}
+
+-- The last one.
+pub range_last : (f : WasmFeatures) (list : Placed) (p : Operator × ℕ) (index start end offset : ℕ) (bytes : List ℕ) → EndsAtLast f → SplitsAt list index p →
+    start ≡ p.1 → length list ≤ index + 1 → LaidOut f offset list bytes → end ≡ offset + length bytes → IsRangeOf f list index start end
+range_last f list p index start end offset bytes law split start_is last laid end_is =
+    let all = ap length split.parts in
+    let none : split.after ≡ [] = none_left split.after (omega (arith, all, length-append split.before (p ∷ split.after), split.place)) in
+    let parts = split.parts ∙ ap (λ others. split.before ++ p ∷ others) none in
+    let ends = law offset split.before p bytes (subst (λ l. LaidOut f offset l bytes) parts laid) in
+    range_is f list split.before [] p index start end parts split.place start_is (subst (EndsAt f p) (sym end_is) ends)
+
+-- Another one.
+pub range_next : (f : WasmFeatures) (list : Placed) (p q : Operator × ℕ) (index start end offset : ℕ) (bytes : List ℕ) → EndsAtNext f →
+    SplitsInto list index p q → start ≡ p.1 → end ≡ q.1 → LaidOut f offset list bytes → IsRangeOf f list index start end
+range_next f list p q index start end offset bytes law split start_is end_is laid =
+    let ends = law offset split.before split.after p q bytes (subst (λ l. LaidOut f offset l bytes) split.parts laid) in
+    range_is f list split.before (q ∷ split.after) p index start end split.parts split.place start_is (subst (EndsAt f p) (sym end_is) ends)

@@ -1,0 +1,86 @@
+-- What one read says.
+use Rattle.std.proofs.Common.{◌≡◌, ◌≢◌, ℕ, ◌+◌, ◌<◌, List, [], ◌∷◌, ◌++◌, length, inl, inr, Some, Result, Ok, Err, IfOk, IfErr, refl, ap, subst, ◌∙◌, arith}
+use Rattle.std.specs.Result.{result_err}
+use Rattle.wasm_operators.specs.below.bytes.error.Error.{Error}
+use Rattle.wasm_operators.specs.below.bytes.features.WasmFeatures.{WasmFeatures}
+use Rattle.wasm_operators.specs.below.bytes.message.Message.{Message}
+use Rattle.wasm_operators.specs.below.bytes.message.Message.TheVariants as message
+use Rattle.wasm_operators.specs.below.Source.{Reader, rest, offset_of, source_of, reader_of, Takes, BeginsWith}
+use Rattle.wasm_operators.specs.grammar.declared.frame_kind.FrameKind.{FrameKind}
+use Rattle.wasm_operators.specs.grammar.Frames.{innermost}
+use Rattle.wasm_operators.specs.instr.declared.operator.Operator.{Operator}
+use Rattle.wasm_operators.specs.instr.Encoding.{EncodesOperator}
+use Rattle.wasm_operators.specs.opcodes.Allowed.{EncodesAllowed}
+use Rattle.wasm_operators.specs.opcodes.OperatorFaults.{OperatorFault}
+use Rattle.wasm_operators.specs.opcodes.Refused.{LeadsList}
+use Rattle.wasm_operators.specs.Expression.{Placed, LaidOut, EncodesRest, EncodesExpression}
+use Rattle.wasm_operators.specs.Next.{NextMayAllocate, ReadsNext, StopsNext}
+use Rattle.wasm_operators.specs.Reading.{State, TakesOperator, StopsRead, StopsFinish}
+use Rattle.uses_steps.specs.Complaints.{IsRefusal}
+use Rattle.uses_steps.specs.Input.{input}
+
+-- The fault of what stands there, where a frame is inner and memory was not refused.
+pub fault_there : (e : Error) (s : State) (frame : FrameKind) → innermost s.frames ≡ Some frame → e.message ≢ message.OutOfMemory →
+    StopsRead EncodesAllowed OperatorFault (NextMayAllocate EncodesAllowed) e s → OperatorFault s.reader.features frame e.message s.reader e.offset
+fault_there e s frame inner other (inl (closed, said, at)) =
+    let none : innermost [] ≡ Some frame = subst (λ frames. innermost frames ≡ Some frame) closed inner in
+    absurd (cc none)
+fault_there e s frame inner other (inr (inl there)) =
+    let same : there.kind ≡ frame = cc (there.open_frame, inner) in
+    subst (λ kind. OperatorFault s.reader.features kind e.message s.reader e.offset) same there.fault
+fault_there e s frame inner other (inr (inr (memory, at, may))) = absurd (other memory)
+
+list_leads : (s : State) → 0 < s.room → NextMayAllocate EncodesAllowed s → (byte : ℕ) × LeadsList byte × BeginsWith byte (rest s.reader)
+list_leads s some (inl (kind, inner, byte, begins, leads, none)) = absurd (omega arith)
+list_leads s some (inr (kind, inner, may)) = may.leads
+
+-- An expression does not end where finishing is refused.
+pub ends_nowhere : (m : Message) (Closed : Type 0) (r : Reader) → StopsFinish m Closed r → ¬ (Closed × (rest r ≡ []))
+ends_nowhere message.FramesRemain Closed r stops (closed, all) = stops closed
+ends_nowhere message.UnexpectedData Closed r (there, left) (closed, all) = left all
+ends_nowhere _ Closed r stops both = stops
+
+-- An operator, and behind it the rest of the expression.
+pub first_then : (features : WasmFeatures) (bytes : List ℕ) (old mid : State) (op : Operator) (placed : Placed) → old.reader ≡ reader_of features 0 bytes →
+    TakesOperator EncodesAllowed op old mid → EncodesRest (op ∷ []) (source_of mid.reader) placed →
+    EncodesExpression (input features bytes) ((op, 0) ∷ placed)
+first_then features bytes old mid op placed fresh taken (laid, walk) =
+    let takes : Takes (reader_of features 0 bytes) mid.reader taken.text = subst (λ r. Takes r mid.reader taken.text) fresh taken.takes in
+    let encodes : EncodesOperator features op taken.text = subst (λ (r : Reader). EncodesOperator r.features op taken.text) fresh taken.encodes.0 in
+    let same : mid.reader.features ≡ features = ap (λ (r : Reader). r.features) takes.moved in
+    let place : offset_of mid.reader ≡ 0 + length taken.text = ap offset_of takes.moved ∙ omega arith in
+    let there = subst (λ o. LaidOut features o placed (rest mid.reader)) place (subst (λ f. LaidOut f (offset_of mid.reader) placed (rest mid.reader)) same laid) in
+    ((refl, taken.text, rest mid.reader, takes.parts, encodes, there), walk)
+
+-- The same where it stood before the read.
+pub fault_before : (e : Error) (old new : State) (frame : FrameKind) → innermost old.frames ≡ Some frame → e.message ≢ message.OutOfMemory →
+    StopsNext EncodesAllowed OperatorFault e old new → OperatorFault old.reader.features frame e.message old.reader e.offset
+fault_before e old new frame inner other (unchanged, stops) =
+    let there = fault_there e new frame (ap innermost unchanged.1 ∙ inner) other stops in
+    subst (λ (r : Reader). OperatorFault r.features frame e.message r e.offset) unchanged.0 there
+
+-- The refusal of a read.
+pub refusal_of : (result : Result Operator Error) (old new : State) → ReadsNext result old new → IsRefusal (result_err result) old new
+refusal_of (Ok op) old new taken = (op, taken)
+refusal_of (Err e) old new stopped = stopped
+
+-- The first operator that was read.
+pub first_read : (result : Result Operator Error) (r : Reader) (old new : State) → old.reader ≡ r → ReadsNext result old new →
+    IfOk result (λ op. (text more : List ℕ) × (rest r ≡ text ++ more) × EncodesOperator r.features op text)
+first_read (Ok op) r old new same taken =
+    subst (λ (s : Reader). (text more : List ℕ) × (rest s ≡ text ++ more) × EncodesOperator s.features op text) same
+    (taken.text, rest new.reader, taken.takes.parts, taken.encodes.0)
+first_read (Err e) r old new same stopped = tt
+
+-- What the law `memory_asked` says.
+abbrev pub IsAsked : Type 0
+IsAsked = (e : Error) (s : State) → StopsRead EncodesAllowed OperatorFault (NextMayAllocate EncodesAllowed) e s → e.message ≡ message.OutOfMemory →
+    NextMayAllocate EncodesAllowed s
+
+-- With room for a frame, memory is refused only to a list.
+pub first_memory : (result : Result Operator Error) (r : Reader) (old new : State) → IsAsked → old.reader ≡ r → 0 < old.room → ReadsNext result old new →
+    IfErr result (λ e. e.message ≡ message.OutOfMemory → (byte : ℕ) × LeadsList byte × BeginsWith byte (rest r))
+first_memory (Ok op) r old new asked same some taken = tt
+first_memory (Err e) r old new asked same some (unchanged, stops) =
+    λ memory. subst (λ s. (byte : ℕ) × LeadsList byte × BeginsWith byte (rest s)) (unchanged.0 ∙ same)
+    (list_leads new (omega (arith, some, unchanged.2)) (asked e new stops memory))

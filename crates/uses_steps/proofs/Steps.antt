@@ -1,0 +1,85 @@
+-- Operators that an iterator gave, one after another.
+use Rattle.std.proofs.Common.{◌≡◌, ℕ, ◌+◌, List, [], ◌∷◌, ◌++◌, length, false, Some, inl, inr, IsSome, refl, sym, ap, subst, ◌∙◌, arith, append_assoc, append-nil, length-append}
+use Rattle.std.proofs.lemmas.Bool.{false≢true}
+use Rattle.wasm_operators.specs.below.bytes.features.WasmFeatures.{WasmFeatures}
+use Rattle.wasm_operators.specs.below.Source.{Reader, rest, offset_of, source_of, at_position, Takes}
+use Rattle.wasm_operators.specs.grammar.declared.frame_kind.FrameKind.TheVariants as frame
+use Rattle.wasm_operators.specs.grammar.Frames.{frames_along}
+use Rattle.wasm_operators.specs.instr.declared.operator.Operator.{Operator}
+use Rattle.wasm_operators.specs.instr.Roles.{roles_of}
+use Rattle.wasm_operators.specs.opcodes.Allowed.{EncodesAllowed}
+use Rattle.wasm_operators.specs.Expression.{Placed, operators, LaidOut}
+use Rattle.wasm_operators.specs.Headline.{StoodBefore}
+use Rattle.wasm_operators.specs.Iterating.{Iterating, HasEnded, iterating_over}
+use Rattle.wasm_operators.specs.Reading.{State, TakesOperator}
+use Rattle.uses_steps.specs.Iterated.{AreAllAllowed}
+
+-- What the laws `layouts` and `one_operator` say.
+abbrev pub IsJoined : WasmFeatures → Type 0
+IsJoined f = (offset : ℕ) (first second : Placed) (a b : List ℕ) → LaidOut f offset first a → LaidOut f (offset + length a) second b →
+    LaidOut f offset (first ++ second) (a ++ b)
+
+abbrev pub StandsNext : Type 0
+StandsNext = (before : List Operator) (op : Operator) (old new : State) → TakesOperator EncodesAllowed op old new → StoodBefore before old →
+    StoodBefore (before ++ op ∷ []) new
+
+-- These operators were given since this reader, and stand before where the iterator is.
+pub record HasGiven (r : Reader) (items : Iterating) (found : Placed) : Type 0 where
+  pub text : List ℕ
+  pub takes : Takes r items.reader.reader text
+  pub laid : LaidOut r.features (offset_of r) found text
+  pub stood : StoodBefore (operators found) items.reader
+  pub goes_on : items.refused ≡ false
+
+operators_more : (found : Placed) (op : Operator) (at : ℕ) → operators (found ++ (op, at) ∷ []) ≡ operators found ++ op ∷ []
+operators_more [] op at = refl
+operators_more (p ∷ ps) op at = ap (λ ops. p.0 ∷ ops) (operators_more ps op at)
+
+-- Before the first.
+pub gives_none : (r : Reader) (s : State) → s.reader ≡ r → StoodBefore [] s → HasGiven r (iterating_over s) []
+gives_none r s same stood =
+    let place : r.position ≡ r.position + 0 = omega arith in
+    record {
+      text = [];
+      takes = record { moved = same ∙ ap (at_position r) place; parts = ap rest (sym same) };
+      laid = refl;
+      stood = stood;
+      goes_on = refl;
+    }
+
+-- One more.
+pub gives_one : (r : Reader) (old new : Iterating) (found : Placed) (op : Operator) (at : ℕ) → IsJoined r.features → StandsNext → HasGiven r old found →
+    TakesOperator EncodesAllowed op old.reader new.reader → at ≡ offset_of old.reader.reader → new.refused ≡ false →
+    HasGiven r new (found ++ (op, at) ∷ [])
+gives_one r old new found op at joined stands h taken is goes_on =
+    let mid = old.reader.reader in
+    let text = h.text ++ taken.text in
+    let sum = length-append h.text taken.text in
+    let features : mid.features ≡ r.features = ap (λ (s : Reader). s.features) h.takes.moved in
+    let offset : offset_of mid ≡ offset_of r + length h.text = ap offset_of h.takes.moved ∙ omega arith in
+    let encodes = subst (λ f. EncodesAllowed f taken.kind taken.text op) features taken.encodes in
+    let one : LaidOut r.features (offset_of r + length h.text) ((op, at) ∷ []) taken.text =
+    (is ∙ offset, taken.text, [], sym (append-nil taken.text), encodes.0, refl) in
+    let place : mid.position + length taken.text ≡ r.position + length text =
+    ap (λ (s : Reader). s.position + length taken.text) h.takes.moved ∙ omega (arith, sum) in
+    record {
+      text = text;
+      takes = record {
+        moved = taken.takes.moved ∙ ap (λ (s : Reader). at_position s (mid.position + length taken.text)) h.takes.moved ∙ ap (at_position r) place;
+        parts = h.takes.parts ∙ ap (λ t. h.text ++ t) taken.takes.parts ∙ sym (append_assoc h.text taken.text (rest new.reader.reader));
+      };
+      laid = joined (offset_of r) found ((op, at) ∷ []) h.text taken.text h.laid one;
+      stood = subst (λ ops. StoodBefore ops new.reader) (sym (operators_more found op at)) (stands (operators found) op old.reader new.reader taken h.stood);
+      goes_on = goes_on;
+    }
+
+-- Behind the last.
+pub gives_all : (r : Reader) (items : Iterating) (found : Placed) → HasGiven r items found → HasEnded items →
+    frames_along (frame.Block ∷ []) (roles_of (operators found)) ≡ Some items.reader.frames → AreAllAllowed (source_of r) found
+gives_all r items found h (inl refused) along = absurd (false≢true (sym h.goes_on ∙ refused))
+gives_all r items found h (inr nothing) along =
+    let all : rest r ≡ h.text = h.takes.parts ∙ ap (λ t. h.text ++ t) nothing ∙ append-nil h.text in
+    record {
+      laid = subst (λ bytes. LaidOut r.features (offset_of r) found bytes) (sym all) h.laid;
+      allowed = subst IsSome (sym along) refl;
+    }

@@ -1,0 +1,14 @@
+use Rattle.wasm_operators.specs.imm.BlockTypes.{EncodesBlockType}
+use Rattle.wasm_operators.specs.imm.BlockTypeFaults.{BlockTypeFault}
+use Rattle.uses_steps.proofs.Codes.{reads_known, fault_known}
+use Rattle.uses_steps.proofs.numbers.peek_block_type.Goals as goal
+
+pub returns-clause-reads : goal.returns-clause-reads
+returns-clause-reads c = λ ty text more parts known.
+    let reads = rw c.clone.ensures at c.read.ensures.reads in
+    reads_known EncodesBlockType c.read.result c.args.reader.now _ ty text more c.block_types.ensures reads parts known
+
+pub returns-clause-refused : goal.returns-clause-refused
+returns-clause-refused c = λ m offset known.
+    let fault = rw c.clone.ensures at c.read.ensures.fault in
+    fault_known BlockTypeFault c.read.result c.args.reader.now m offset c.control_refusals.ensures.block fault known

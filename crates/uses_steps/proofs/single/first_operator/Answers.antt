@@ -1,0 +1,12 @@
+use Rattle.std.proofs.Common.{◌<◌, subst, sym}
+use Rattle.uses_steps.proofs.Singles.{first_read, first_memory}
+use Rattle.uses_steps.proofs.single.first_operator.Goals as goal
+
+pub returns : goal.returns
+returns c =
+    let s = c.new_with_allocs in
+    let some : 0 < s.result.room = subst (λ room. 0 < room) (sym s.ensures.room) c.requires in
+    record {
+      reads = first_read c.read.result c.args.reader s.result c.read.new.self s.ensures.reader c.read.ensures;
+      memory = first_memory c.read.result c.args.reader s.result c.read.new.self c.memory_asked.ensures.read s.ensures.reader some c.read.ensures;
+    }

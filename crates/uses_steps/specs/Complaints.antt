@@ -1,0 +1,28 @@
+-- Which operators get which complaint.
+-- WebAssembly Core Specification 3.0: Binary Format, Instructions, Control Instructions. Proposal legacy exception handling.
+use Rattle.std.specs.Prelude.{◌≡◌, Option, Some, None}
+use Rattle.wasm_operators.specs.below.bytes.error.Error.{Error}
+use Rattle.wasm_operators.specs.grammar.declared.frame_kind.FrameKind.{FrameKind}
+use Rattle.wasm_operators.specs.grammar.Frames.{Allows, innermost}
+use Rattle.wasm_operators.specs.instr.declared.operator.Operator.{Operator}
+use Rattle.wasm_operators.specs.opcodes.Allowed.{EncodesAllowed}
+use Rattle.wasm_operators.specs.opcodes.declared.guard.Guard.{Guard}
+use Rattle.wasm_operators.specs.opcodes.Entry.{role_behind}
+use Rattle.wasm_operators.specs.opcodes.OperatorFaults.{LacksFeature, OperatorFault}
+use Rattle.wasm_operators.specs.readers.Guarded.{BeginsGuarded}
+use Rattle.wasm_operators.specs.Next.{StopsNext}
+use Rattle.wasm_operators.specs.Reading.{State, TakesOperator}
+use Rattle.uses_steps.specs.declared.single.Complaint.{Complaint}
+use Rattle.uses_steps.specs.declared.single.Complaint.TheVariants as complaint
+
+-- The next operator is refused so; or it was taken.
+abbrev pub IsRefusal : Option Error → State → State → Type 0
+IsRefusal (Some e) old new = StopsNext EncodesAllowed OperatorFault e old new
+IsRefusal None old new = (op : Operator) × TakesOperator EncodesAllowed op old new
+
+-- An operator of the legacy exceptions stands there, which are off; or one that the innermost frame does not allow.
+abbrev pub IsComplaint : State → Complaint → Type 0
+IsComplaint s complaint.Feature = (g : Guard) × BeginsGuarded g s.reader × LacksFeature s.reader.features g
+IsComplaint s complaint.Frame =
+    (g : Guard) × (kind : FrameKind) × BeginsGuarded g s.reader × (innermost s.frames ≡ Some kind) × ¬ Allows kind (role_behind g)
+IsComplaint s complaint.Other = Unit {0}

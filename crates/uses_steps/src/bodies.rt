@@ -1,0 +1,59 @@
+//! Bodies of functions.
+ghost use Rattle.std.specs.Prelude.{◌≡◌, ◌↔◌, List, length, IsTrue, IfOk};
+ghost use Rattle.wasm_operators.specs.Body.{EncodesBody};
+ghost use Rattle.wasm_operators.specs.Expression.{Placed};
+ghost use Rattle.wasm_operators.specs.Locals.{Declaration};
+ghost use Rattle.uses_steps.specs.Bodies.{IsBody, BeginsWithDeclaration};
+ghost use Rattle.uses_steps.specs.Input.{input};
+
+use std::alloc::Global;
+use wasm_operators::{
+    BinaryReader, FunctionBody, Message, Result, ValType, WasmFeatures, body_laws,
+};
+
+/// Whether the bytes are a body.
+///
+/// What was opened and read to the end is one: the law `opened_bodies`. What is refused is none: the
+/// laws `refused_locals` and `stopped_bodies`.
+pub fn is_body(alloc: Global, features: WasmFeatures, bytes: &[u8]) -> Result<bool>
+    ensures { IfOk result (λ answer. IsTrue answer ↔ IsBody (input features bytes.now)) }
+{
+    body_laws::opened_bodies();
+    body_laws::refused_locals();
+    body_laws::stopped_bodies();
+    let body = FunctionBody::new(BinaryReader::new_features(bytes, 0, features));
+    let mut reader = match body.get_operators_reader(alloc) {
+        Ok(reader) => reader,
+        Err(_) => return Ok(false),
+    };
+    let mut found = Vec::new(alloc);
+    match reader.read_all(&mut found) {
+        Ok(()) => Ok(true),
+        Err(error) => match error.message() {
+            Message::OutOfMemory => Err(error),
+            _ => Ok(false),
+        },
+    }
+}
+
+/// How many operators a body has.
+///
+/// The law `one_body` says that the bytes are no other body.
+pub fn body_len(alloc: Global, features: WasmFeatures, bytes: &[u8]) -> Result<usize>
+    ensures { (declarations : List Declaration) (placed : Placed)
+        → EncodesBody (input features bytes.now) declarations placed → IfOk result (λ count. count ≡ length placed) }
+{
+    body_laws::opened_bodies();
+    body_laws::one_body();
+    let body = FunctionBody::new(BinaryReader::new_features(bytes, 0, features));
+    let mut found = Vec::new(alloc);
+    body.get_operators_reader(alloc)?.read_all(&mut found)?;
+    Ok(found.len())
+}
+
+/// The first declaration of a body's locals.
+pub fn first_declaration(body: &FunctionBody<'_>) -> Result<(u32, ValType)>
+    ensures { IfOk result (λ declaration. BeginsWithDeclaration body.now declaration) }
+{
+    body.get_locals_reader()?.read()
+}

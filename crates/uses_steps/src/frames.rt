@@ -1,0 +1,29 @@
+//! Frames of the caller's own.
+ghost use Rattle.std.specs.Prelude.{◌≡◌, ◌↔◌, [], IsTrue, None};
+ghost use Rattle.wasm_operators.specs.below.Source.{rest};
+
+use wasm_operators::{BinaryReader, FrameKind, FrameStack, ReadOperators};
+
+/// The frame of which one is inside, if one is open.
+#[derive(Clone, Copy, Debug, PartialEq, Eq)]
+pub struct Inside {
+    pub kind: Option<FrameKind>,
+}
+
+impl FrameStack for Inside {
+    ghost frame = { λ inside. inside.kind };
+
+    fn current_frame(&self) -> Option<FrameKind> {
+        self.kind
+    }
+}
+
+/// Whether an expression ends here.
+pub fn is_over(reader: &BinaryReader<'_>, inside: &Inside) -> bool
+    ensures { IsTrue result ↔ ((inside.now.kind ≡ None) × (rest reader.now ≡ [])) }
+{
+    match reader.finish_expression(inside) {
+        Ok(()) => true,
+        Err(_) => false,
+    }
+}

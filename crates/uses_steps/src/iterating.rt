@@ -1,0 +1,37 @@
+//! Operators by an iterator.
+ghost use Rattle.std.specs.Prelude.{IfOk};
+ghost use Rattle.uses_steps.specs.Input.{input};
+ghost use Rattle.uses_steps.specs.Iterated.{AreAllAllowed};
+
+use std::alloc::Global;
+use wasm_operators::{
+    BinaryReader, Error, Message, Operator, OperatorsReader, Result, WasmFeatures, expression_laws,
+    grammar_laws, run_laws,
+};
+
+/// All operators that the bytes encode, each with the offset of its first byte: each is allowed where
+/// it stands. Whether frames are open behind them is not asked.
+///
+/// Each step of the iterator is one read, and the law `one_operator` says that its operator stands
+/// before the next then; `path_is_run` says the same by the frames.
+pub fn iterated<'a>(
+    alloc: Global,
+    features: WasmFeatures,
+    bytes: &'a [u8],
+) -> Result<Vec<(Operator<'a>, u64)>>
+    ensures { IfOk result (λ found. AreAllAllowed (input features bytes.now) found.items) }
+{
+    run_laws::one_operator();
+    expression_laws::layouts(features);
+    grammar_laws::path_is_run::<Operator<'a>>();
+    let reader = OperatorsReader::new(alloc, BinaryReader::new_features(bytes, 0, features));
+    let mut items = reader.into_iter_with_offsets();
+    let mut found = Vec::new(alloc);
+    'operators: while let Some(item) = items.next() {
+        let placed = item?;
+        if found.push(placed).is_err() {
+            return Err(Error::new(Message::OutOfMemory, 0));
+        }
+    }
+    Ok(found)
+}

@@ -1,0 +1,41 @@
+//! Proved callers of `wasm_operators` that go one operator, number or item at a time, and callers of
+//! whole expressions for what those of `uses` leave out: each shows how a conclusion follows from
+//! public contracts and laws alone.
+#![tactic(auto)]
+
+mod beginnings;
+mod bodies;
+mod constants;
+mod frames;
+mod iterating;
+mod numbers;
+mod operators;
+mod places;
+mod rest;
+mod sections;
+mod single;
+mod skipping;
+mod tally;
+mod vectors;
+
+pub use beginnings::{
+    Wanted, allowed_operators, beginning_len, expression_size, refused_twice, wanted_behind,
+};
+pub use bodies::{body_len, first_declaration, is_body};
+pub use constants::constant_size;
+pub use frames::{Inside, is_over};
+pub use iterating::iterated;
+pub use numbers::{
+    peek_block_type, peek_f64, peek_index, peek_memory_argument, read_limits, value_size,
+};
+pub use operators::{copy_plain, opcode};
+pub use places::{bytes_before_refusal, range_of, read_ranged, refusal_distance};
+pub use rest::read_rest;
+pub use sections::read_indices;
+pub use single::{
+    Complaint, asked_twice, first_and_rest, first_operator, is_whole, next_refusal, operator_size,
+    read_in_step, why_refused,
+};
+pub use skipping::skip_operators;
+pub use tally::{Tally, tally_list, tally_next, tally_next_scalar, tally_owned, tally_scalar};
+pub use vectors::{count_before_vectors, has_vectors};

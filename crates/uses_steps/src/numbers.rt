@@ -1,0 +1,95 @@
+//! Numbers, types and immediates.
+ghost use Rattle.std.specs.Prelude.{◌≡◌, ◌≢◌, ◌++◌, ℕ, List, length, Ok, IfOk, IfErr};
+ghost use Rattle.std.specs.Int.{w64};
+ghost use Rattle.wasm_operators.specs.below.bytes.message.Message.{Message};
+ghost use Rattle.wasm_operators.specs.below.Number.{EncodesUnsigned, EncodesFixed};
+ghost use Rattle.wasm_operators.specs.below.Source.{rest, Takes, U32Fault};
+ghost use Rattle.wasm_operators.specs.imm.control.block_type.BlockType.{BlockType};
+ghost use Rattle.wasm_operators.specs.imm.BlockTypes.{EncodesBlockType};
+ghost use Rattle.wasm_operators.specs.imm.BlockTypeFaults.{BlockTypeFault};
+ghost use Rattle.wasm_operators.specs.imm.declared.memory_argument.MemArg.{MemArg};
+ghost use Rattle.wasm_operators.specs.imm.MemoryArgument.{EncodesMemArg};
+
+use std::alloc::Global;
+use wasm_operators::{
+    BinaryReader, BlockType, FromReader, Ieee64, MemArg, MemArgKind, Message, ReadImmediates,
+    Result, byte_laws, control_laws, memory_laws,
+};
+
+/// The number of 32 bits that stands next, and stays there.
+///
+/// `Reads` says that it is read wherever one stands, and the law `unsigned_numbers` that no other one
+/// does; `number_refusals`, that what a caller knows to be wrong is what is refused.
+pub fn peek_index(reader: &BinaryReader<'_>) -> Result<u32>
+    ensures reads { (n : ℕ) (text more : List ℕ) → rest reader.now ≡ text ++ more → EncodesUnsigned 32 text n
+        → result ≡ Ok n }
+    ensures refused { (m : Message) (offset : ℕ) → U32Fault m reader.now offset
+        → IfErr result (λ e. (e.message ≡ m) × (e.offset ≡ offset)) }
+{
+    byte_laws::unsigned_numbers();
+    byte_laws::number_refusals();
+    reader.clone().read_var_u32()
+}
+
+/// Two numbers of 32 bits, one behind the other, as the limits of a memory. Where one is refused,
+/// nothing is taken.
+pub fn read_limits(reader: &mut BinaryReader<'_>) -> Result<(u32, u32)>
+    ensures taken { IfOk result (λ limits. (first second : List ℕ) × Takes reader.old reader.new (first ++ second)
+        × EncodesUnsigned 32 first limits.0 × EncodesUnsigned 32 second limits.1) }
+    ensures nothing { IfErr result (λ e. reader.new ≡ reader.old) }
+{
+    let mut ahead = reader.clone();
+    let least = ahead.read_var_u32()?;
+    let most = ahead.read_var_u32()?;
+    *reader = ahead;
+    Ok((least, most))
+}
+
+/// How many bytes the value of a type has that stands next, and stays there.
+///
+/// The laws that each such type has say that no other text is a value, and that what a caller knows to
+/// be wrong is what is refused.
+pub fn value_size<'a, T: FromReader<'a>>(alloc: Global, reader: &BinaryReader<'a>) -> Result<usize>
+    ensures size { (value : T) (text more : List ℕ) → rest reader.now ≡ text ++ more
+        → T.encodes reader.now.features text value → IfOk result (λ size. size ≡ length text) }
+    ensures refused { (m : Message) (offset : ℕ) → T.fault m reader.now offset
+        → IfErr result (λ e. e.message ≢ Message.OutOfMemory → (e.message ≡ m) × (e.offset ≡ offset)) }
+{
+    T::is_prefix_code();
+    T::determines_refusal();
+    let mut ahead = reader.clone();
+    let _value: T = ahead.read(alloc)?;
+    Ok(ahead.current_position() - reader.current_position())
+}
+
+/// The block type that stands next, and stays there. The laws are `block_types` and
+/// `control_refusals`.
+pub fn peek_block_type(reader: &BinaryReader<'_>) -> Result<BlockType>
+    ensures reads { (ty : BlockType) (text more : List ℕ) → rest reader.now ≡ text ++ more → EncodesBlockType text ty
+        → result ≡ Ok ty }
+    ensures refused { (m : Message) (offset : ℕ) → BlockTypeFault m reader.now offset
+        → IfErr result (λ e. (e.message ≡ m) × (e.offset ≡ offset)) }
+{
+    control_laws::block_types();
+    control_laws::control_refusals();
+    BlockType::read(&mut reader.clone())
+}
+
+/// The argument of a plain access of memory that stands next, and stays there. The law is
+/// `memory_arguments`.
+pub fn peek_memory_argument(reader: &BinaryReader<'_>, max_align: u8) -> Result<MemArg>
+    ensures { (argument : MemArg) (text more : List ℕ) → rest reader.now ≡ text ++ more
+        → EncodesMemArg reader.now.features MemArgKind.Plain max_align text argument → result ≡ Ok argument }
+{
+    memory_laws::memory_arguments(reader.features(), MemArgKind::Plain, max_align);
+    MemArg::read(&mut reader.clone(), max_align, MemArgKind::Plain)
+}
+
+/// The number of `f64.const` that stands next, and stays there. The law is `fixed_numbers`.
+pub fn peek_f64(reader: &BinaryReader<'_>) -> Result<Ieee64>
+    ensures { (bits : Ieee64) (text more : List ℕ) → rest reader.now ≡ text ++ more → EncodesFixed w64 text bits
+        → result ≡ Ok bits }
+{
+    byte_laws::fixed_numbers();
+    reader.clone().read_f64()
+}

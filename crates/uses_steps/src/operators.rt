@@ -1,0 +1,29 @@
+//! Operators by themselves.
+ghost use Rattle.std.specs.Prelude.{◌≡◌, ◌++◌, List, ℕ};
+ghost use Rattle.wasm_operators.specs.below.bytes.features.WasmFeatures.{WasmFeatures};
+ghost use Rattle.wasm_operators.specs.instr.Encoding.{EncodesOperator, EncodesOpcode};
+ghost use Rattle.wasm_operators.specs.instr.Kinds.{HoldsList};
+
+use std::alloc::Global;
+use wasm_operators::Operator;
+
+/// The prefix byte of an operator, if it has one, and its opcode or subopcode: with these each of its
+/// encodings begins.
+pub fn opcode(op: &Operator<'_>) -> (Option<u8>, u32)
+    ensures { (features : WasmFeatures) (text : List ℕ) → EncodesOperator features op.now text
+        → (head behind : List ℕ) × (text ≡ head ++ behind) × EncodesOpcode result.0 result.1 head }
+{
+    let row = op.info();
+    (row.prefix, row.code)
+}
+
+/// A copy of an operator that holds no list: it takes no memory, and always succeeds.
+pub fn copy_plain<'a>(alloc: Global, op: &Operator<'a>) -> Operator<'a>
+    requires { ¬ HoldsList op.now }
+    ensures { result ≡ op.now }
+{
+    match op.clone(alloc) {
+        Ok(copy) => copy,
+        Err(_) => unreachable!(),
+    }
+}

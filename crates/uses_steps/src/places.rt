@@ -1,0 +1,91 @@
+//! Where operators and refusals stand in the bytes.
+ghost use Rattle.std.specs.Prelude.{◌≡◌, ◌+◌, ◌<◌, ◌≤◌, ℕ, List, length, Some, IfOk, IfSome, IfNone};
+ghost use Rattle.wasm_operators.specs.below.bytes.error.Error.{Error};
+ghost use Rattle.wasm_operators.specs.below.Source.{rest, offset_of};
+ghost use Rattle.wasm_operators.specs.Expression.{Placed, LaidOut, EndsAt, EncodesExpression, IsBeginningOf};
+ghost use Rattle.uses_steps.specs.Complaints.{IsRefusal};
+ghost use Rattle.uses_steps.specs.Input.{input};
+ghost use Rattle.uses_steps.specs.Places.{IsRangeOf};
+
+use crate::single::next_refusal;
+use std::alloc::Global;
+use std::ops::Range;
+use wasm_operators::{
+    BinaryReader, Error, Operator, OperatorsReader, Result, WasmFeatures, expression_laws,
+    position_laws,
+};
+
+/// The bytes before the place where they are refused as an expression, with that refusal; all of them
+/// where they are one.
+///
+/// That the offset of the refusal is one of the bytes, or just behind them, the laws
+/// `refusals_ahead` and `taken_within` say: so they can be cut there.
+pub fn bytes_before_refusal<'a>(
+    alloc: Global,
+    features: WasmFeatures,
+    bytes: &'a [u8],
+) -> (&'a [u8], Option<Error>)
+    ensures part { IsBeginningOf result.0.now bytes.now }
+    ensures place { IfSome result.1 (λ e. length result.0.now ≡ e.offset) }
+    ensures whole { IfNone result.1
+        ((result.0.now ≡ bytes.now) × ((placed : Placed) × EncodesExpression (input features bytes.now) placed)) }
+{
+    position_laws::refusals_ahead();
+    position_laws::taken_within();
+    let mut found = Vec::new(alloc);
+    let mut reader = OperatorsReader::new(alloc, BinaryReader::new_features(bytes, 0, features));
+    match reader.read_all(&mut found) {
+        Ok(()) => (bytes, None),
+        Err(error) => (&bytes[..error.offset() as usize], Some(error)),
+    }
+}
+
+/// How far ahead of the reader the next operator is refused; `None` where it is read.
+///
+/// The law `within`, a call, says that the reader stands within its data, and `refusals_ahead` that
+/// the offset of the refusal lies in what is left, or just behind it.
+pub fn refusal_distance(operators: &mut OperatorsReader<'_>) -> Option<u64>
+    ensures ahead { IfSome result (λ distance. distance ≤ length (rest operators.new.reader)) }
+    ensures refused { IfSome result (λ distance. (e : Error) × IsRefusal (Some e) operators.old operators.new
+        × (e.offset ≡ offset_of operators.new.reader + distance)) }
+{
+    position_laws::refusals_ahead();
+    let Some(error) = next_refusal(operators) else {
+        return None;
+    };
+    position_laws::within(&operators.get_binary_reader());
+    Some(error.offset() - operators.original_position())
+}
+
+/// The offsets of the bytes of one operator of a list that was read up to the offset `end`.
+///
+/// It ends where the next begins, and the last at `end`: the law `ranges`.
+pub fn range_of(
+    features: WasmFeatures,
+    list: &[(Operator<'_>, u64)],
+    index: usize,
+    end: u64,
+) -> Range<u64>
+    requires { index < length list.now }
+    ensures { (offset : ℕ) (bytes : List ℕ) → LaidOut features offset list.now bytes → end ≡ offset + length bytes
+        → IsRangeOf features list.now index result.start result.end }
+{
+    expression_laws::ranges(features);
+    let start = list[index].1;
+    if index + 1 < list.len() {
+        return start..list[index + 1].1;
+    }
+    start..end
+}
+
+/// The next operator, with the offsets of its bytes.
+pub fn read_ranged<'a>(operators: &mut OperatorsReader<'a>) -> Result<(Operator<'a>, Range<u64>)>
+    ensures start { IfOk result (λ found. found.1.start ≡ offset_of operators.old.reader) }
+    ensures end { IfOk result (λ found. EndsAt operators.old.reader.features (found.0, found.1.start) found.1.end) }
+{
+    let start = operators.original_position();
+    match operators.read() {
+        Ok(operator) => Ok((operator, start..operators.original_position())),
+        Err(error) => Err(error),
+    }
+}

@@ -1,0 +1,25 @@
+//! A reader that is handed over, of which nothing is known.
+ghost use Rattle.std.specs.Prelude.{◌≡◌, ◌+◌, ◌*◌, ◌<◌, ◌≤◌, ◌⊎◌, length, IfOk, IfErr, vec_capacity, vec_len};
+ghost use Rattle.wasm_operators.specs.below.Source.{rest};
+ghost use Rattle.wasm_operators.specs.opcodes.Allowed.{EncodesAllowed};
+ghost use Rattle.wasm_operators.specs.Next.{NextMayAllocate};
+ghost use Rattle.uses_steps.specs.Rest.{AddsRest};
+
+use wasm_operators::{Message, Operator, OperatorsReader, Result, expression_laws};
+
+/// Reads what is left of an expression that another began to read, and adds it to the list.
+///
+/// The clause `runs` of `read_all` says which operators came, and `depth` and `memory` what frames and
+/// memory they took; the law `layouts` says that each has an encoding.
+pub fn read_rest<'a>(
+    operators: &mut OperatorsReader<'a>,
+    list: &mut Vec<(Operator<'a>, u64)>,
+) -> Result<()>
+    ensures adds { IfOk result (λ _. AddsRest operators.old list.old.items list.new.items) }
+    ensures few { 2 * length operators.new.frames ≤ 2 * length operators.old.frames + length (rest operators.old.reader) }
+    ensures memory { IfErr result (λ e. e.message ≡ Message.OutOfMemory
+        → NextMayAllocate EncodesAllowed operators.new ⊎ (vec_capacity list.new < vec_len list.new + 1)) }
+{
+    expression_laws::layouts(operators.get_binary_reader().features());
+    operators.read_all(list)
+}

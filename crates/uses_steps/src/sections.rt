@@ -1,0 +1,28 @@
+//! Sections that are lists.
+ghost use Rattle.std.specs.Prelude.{IfOk};
+ghost use Rattle.wasm_operators.specs.below.Number.{EncodesUnsigned};
+ghost use Rattle.wasm_operators.specs.below.Sequence.{Then};
+ghost use Rattle.wasm_operators.specs.below.Source.{rest};
+ghost use Rattle.wasm_operators.specs.imm.Lists.{EncodesMany};
+
+use std::alloc::Global;
+use wasm_operators::{BinaryReader, Error, Message, Result, SectionLimited};
+
+/// The indices of a section that is a list of them, as the function section is one of types.
+///
+/// `SectionLimited::new` reads how many they are, each step of its iterator one of them, and nothing
+/// is left behind the last.
+pub fn read_indices(alloc: Global, reader: BinaryReader<'_>) -> Result<Vec<u32>>
+    ensures { IfOk result (λ indices. Then (EncodesUnsigned 32) (EncodesMany (EncodesUnsigned 32)) (rest reader.entry) indices.items) }
+{
+    let section: SectionLimited<'_, u32> = SectionLimited::new(alloc, reader)?;
+    let mut items = section.into_iter();
+    let mut indices = Vec::new(alloc);
+    'items: while let Some(item) = items.next() {
+        let index = item?;
+        if indices.push(index).is_err() {
+            return Err(Error::new(Message::OutOfMemory, 0));
+        }
+    }
+    Ok(indices)
+}

@@ -1,0 +1,177 @@
+//! One operator after another.
+ghost use Rattle.std.specs.Prelude.{◌≡◌, ◌≢◌, ◌↔◌, ◌<◌, ℕ, List, [], ◌∷◌, ◌++◌, length, IsTrue, IfOk, IfErr, IfSome};
+ghost use Rattle.wasm_operators.specs.below.Source.{rest, BeginsWith};
+ghost use Rattle.wasm_operators.specs.instr.declared.operator.Operator.{Operator};
+ghost use Rattle.wasm_operators.specs.instr.Encoding.{EncodesOperator};
+ghost use Rattle.wasm_operators.specs.opcodes.declared.guard.Guard.{Guard};
+ghost use Rattle.wasm_operators.specs.opcodes.OperatorFaults.{LacksFeature};
+ghost use Rattle.wasm_operators.specs.opcodes.Refused.{LeadsList};
+ghost use Rattle.wasm_operators.specs.Expression.{EncodesExpression};
+ghost use Rattle.wasm_operators.specs.readers.Guarded.{BeginsGuarded};
+ghost use Rattle.wasm_operators.specs.Reading.{StandAlike};
+ghost use Rattle.uses_steps.specs.Complaints.{IsRefusal, IsComplaint};
+ghost use Rattle.uses_steps.specs.Input.{input};
+
+use std::alloc::Global;
+use wasm_operators::{
+    BinaryReader, Error, FrameStack, Message, Operator, OperatorsReader,
+    OperatorsReaderAllocations, Result, WasmFeatures, decoder_laws, decoding_laws, operator_laws,
+    reading_laws, run_laws,
+};
+
+/// Why an operator that stands there is not read.
+#[derive(Clone, Copy, Debug, PartialEq, Eq)]
+pub enum Complaint {
+    /// It belongs to the legacy exceptions, which are off.
+    Feature,
+    /// It has to stand in another frame.
+    Frame,
+    /// Anything else.
+    Other,
+}
+
+/// Reads the next operator, and answers its refusal alone, if it is refused.
+pub fn next_refusal(operators: &mut OperatorsReader<'_>) -> Option<Error>
+    ensures { IsRefusal result operators.old operators.new }
+{
+    operators.read().err()
+}
+
+/// Why the next operator is not read, where it is not; `None` where it is, where no frame is open
+/// and where memory was refused.
+///
+/// The laws `features_required` and `wrong_frames` say which operators get these refusals. That the
+/// one of which a caller knows is the one that was answered, `operator_refusals` says.
+pub fn why_refused(operators: &mut OperatorsReader<'_>) -> Option<Complaint>
+    ensures why { IfSome result (λ why. IsComplaint operators.old why) }
+    ensures feature { (g : Guard) → BeginsGuarded g operators.old.reader → LacksFeature operators.old.reader.features g
+        → IfSome result (λ why. why ≡ Complaint.Feature) }
+{
+    let Some(frame) = operators.current_frame() else {
+        return None;
+    };
+    let features = operators.get_binary_reader().features();
+    decoding_laws::features_required(features, frame);
+    decoding_laws::wrong_frames(features, frame);
+    decoder_laws::operator_refusals(features, Some(frame));
+    let Some(error) = next_refusal(operators) else {
+        return None;
+    };
+    match error.message() {
+        Message::OutOfMemory => None,
+        Message::FeatureRequired(_) => Some(Complaint::Feature),
+        Message::WrongFrame(_, _) => Some(Complaint::Frame),
+        _ => Some(Complaint::Other),
+    }
+}
+
+/// The refusal of the next operator, asked for twice: where it was not for memory, the operator is
+/// not read afterwards, and a second refusal is the first.
+///
+/// The law `not_taken` says that the call which can't happen does not, and `refused_again` the rest.
+pub fn asked_twice(operators: &mut OperatorsReader<'_>) -> Option<(Error, Error)>
+    ensures { IfSome result (λ both. both.1.message ≢ Message.OutOfMemory
+        → (both.0.message ≡ both.1.message) × (both.0.offset ≡ both.1.offset)) }
+{
+    reading_laws::refused_again();
+    reading_laws::not_taken();
+    let Some(first) = next_refusal(operators) else {
+        return None;
+    };
+    if let Message::OutOfMemory = first.message() {
+        return None;
+    }
+    match next_refusal(operators) {
+        Some(second) => Some((first, second)),
+        None => unreachable!(),
+    }
+}
+
+/// The next operator of two readers that stand alike, as a reader and its clone do: the same one, and
+/// they stand alike behind it.
+///
+/// The law `same_answer` says so.
+pub fn read_in_step<'a>(
+    first: &mut OperatorsReader<'a>,
+    second: &mut OperatorsReader<'a>,
+) -> Result<(Operator<'a>, Operator<'a>)>
+    requires { StandAlike first.old second.old }
+    ensures same { IfOk result (λ both. both.0 ≡ both.1) }
+    ensures alike { IfOk result (λ both. StandAlike first.new second.new) }
+{
+    reading_laws::same_answer();
+    match first.read() {
+        Ok(operator) => match second.read() {
+            Ok(other) => Ok((operator, other)),
+            Err(error) => Err(error),
+        },
+        Err(error) => Err(error),
+    }
+}
+
+/// The first operator of an expression, where there is room for the frame that it may open: so memory
+/// is refused only to an operator that may own a list.
+///
+/// The law `memory_asked` says where memory may be refused.
+pub fn first_operator<'a>(
+    alloc: Global,
+    reader: BinaryReader<'a>,
+    allocs: OperatorsReaderAllocations,
+) -> Result<Operator<'a>>
+    requires { 0 < allocs }
+    ensures reads { IfOk result (λ op. (text more : List ℕ) × (rest reader.entry ≡ text ++ more)
+        × EncodesOperator reader.entry.features op text) }
+    ensures memory { IfErr result (λ e. e.message ≡ Message.OutOfMemory
+        → (byte : ℕ) × LeadsList byte × BeginsWith byte (rest reader.entry)) }
+{
+    decoding_laws::memory_asked();
+    OperatorsReader::new_with_allocs(alloc, reader, allocs).read()
+}
+
+/// How many bytes the next operator has.
+///
+/// The law `operators` says that it is the only one which a prefix of the bytes encodes.
+pub fn operator_size(operators: &mut OperatorsReader<'_>) -> Result<usize>
+    ensures { (op : Operator) (text more : List ℕ) → rest operators.old.reader ≡ text ++ more
+        → EncodesOperator operators.old.reader.features op text → IfOk result (λ size. size ≡ length text) }
+{
+    let before = operators.get_binary_reader();
+    operator_laws::operators(before.features());
+    let _operator = operators.read()?;
+    Ok(operators.get_binary_reader().current_position() - before.current_position())
+}
+
+/// Whether all of an expression was read.
+pub fn is_whole(operators: &OperatorsReader<'_>) -> bool
+    ensures { IsTrue result ↔ ((operators.now.frames ≡ []) × (rest operators.now.reader ≡ [])) }
+{
+    match operators.finish() {
+        Ok(()) => true,
+        Err(_) => false,
+    }
+}
+
+/// The first operator of an expression, and then the others.
+///
+/// The law `one_operator` says that the first stands before the reader then, so that what `read_all`
+/// promises is of the expression that begins with it.
+pub fn first_and_rest<'a>(
+    alloc: Global,
+    features: WasmFeatures,
+    bytes: &'a [u8],
+) -> Result<(Operator<'a>, Vec<(Operator<'a>, u64)>)>
+    ensures { IfOk result (λ found. EncodesExpression (input features bytes.now) ((found.0, 0) ∷ found.1.items)) }
+{
+    run_laws::one_operator();
+    let mut reader = OperatorsReader::new(alloc, BinaryReader::new_features(bytes, 0, features));
+    match reader.read() {
+        Ok(first) => {
+            let mut others = Vec::new(alloc);
+            match reader.read_all(&mut others) {
+                Ok(()) => Ok((first, others)),
+                Err(error) => Err(error),
+            }
+        }
+        Err(error) => Err(error),
+    }
+}
