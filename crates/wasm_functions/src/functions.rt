@@ -117,6 +117,11 @@ impl<'a> Functions<'a> {
         self.imported.saturating_add(place)
     }
 
+    /// Whether the function with this index is one of the module's own.
+    pub fn has(&self, index: u32) -> bool {
+        index >= self.imported && ((index - self.imported) as usize) < self.types.len()
+    }
+
     /// How many parameters it has, where its type is known and that of a function.
     pub fn parameters(&self, place: u32) -> u32 {
         match self.types.get(place as usize) {
