@@ -12,7 +12,7 @@ these columns, parted by tabs:
                as in \\xff, with which no text begins
     input      standard input, in hexadecimal; `unreadable` where a folder stands in its place
     status     the exit status
-    output     what the program writes, with \\n for a line feed; `unwritable` where the device is full
+    output     what the program writes, with \\n for a line feed and \\t for a tab; `unwritable` where the device is full
     complaint  what it writes to standard error, with a line feed behind it
 """
 
@@ -66,7 +66,7 @@ def ended(program, case):
         ran = subprocess.run(words, env=env, stderr=subprocess.PIPE, timeout=SECONDS)
         wrote = b"unwritable" if taken == "/dev/full" else Path(taken).read_bytes()
     texts = [wrote.decode(errors="replace"), ran.stderr.decode(errors="replace")]
-    wrote, complained = [text.replace("\n", "\\n") for text in texts]
+    wrote, complained = [text.replace("\n", "\\n").replace("\t", "\\t") for text in texts]
     return str(ran.returncode), wrote, complained.removesuffix("\\n")
 
 

@@ -1,0 +1,239 @@
+-- How the text of a function is put together, and where only memory is refused.
+use Rattle.std.proofs.Common.{◌≡◌, ◌≢◌, ℕ, ◌+◌, inl, inr, List, [], ◌∷◌, ◌++◌, length, Result, Ok, Err, refl, sym, subst, ap, ◌∙◌, append_assoc, append-nil, length-append, arith}
+use Rattle.std.proofs.lemmas.List.{length-map}
+use Rattle.wasm_operators.specs.below.bytes.error.Error.{Error}
+use Rattle.wasm_operators.specs.below.bytes.message.Message.TheVariants as message
+use Rattle.wasm_operators.specs.below.Number.{EncodesUnsigned}
+use Rattle.wasm_operators.specs.below.Refusal.{IsReadFault}
+use Rattle.wasm_operators.specs.below.Sequence.{PrefixCode}
+use Rattle.wasm_operators.specs.below.Source.{Reader, rest, offset_of, source_of, at_position, Takes}
+use Rattle.wasm_operators.specs.opcodes.Allowed.{EncodesAllowed}
+use Rattle.wasm_operators.specs.opcodes.OperatorFaults.{OperatorFault}
+use Rattle.wasm_operators.specs.Headline.{ReadsRest}
+use Rattle.wasm_operators.specs.Reading.{State, IsFresh, Adds, Anywhere}
+use Rattle.wasm_lines.specs.Lines.{lines_of}
+use Rattle.wasm_lines.specs.text.Operands.{text_of}
+use Rattle.wasm_operators.specs.imm.Lists.{EncodesEach, EncodesMany}
+use Rattle.wasm_operators.specs.Body.{EncodesBody}
+use Rattle.wasm_operators.specs.Expression.{Placed, IsAny, EncodesExpression}
+use Rattle.wasm_operators.specs.Locals.{Declaration, EncodesDeclaration, Locals, OpensLocals, IsPastLocals}
+use Rattle.wasm_disassembly.specs.LocalLines.{PlacedLocals, declarations_of, LaidOutLocals, ListsDeclarations}
+use Rattle.wasm_disassembly.specs.Disassembly.{Heading, header, local_lines, operator_lines, ReadsLocals, Disassembles, ListsOperators}
+use Rattle.wasm_disassembly.proofs.Declared.{takes_both, ends_here, cancel}
+
+laid_each : (offset : ℕ) (placed : PlacedLocals) (text : List ℕ) → LaidOutLocals offset placed text →
+    EncodesEach EncodesDeclaration text (declarations_of placed)
+laid_each offset [] text none = none
+laid_each offset (p ∷ ps) text (is, t, m, parts, encodes, laid) = (t, m, parts, encodes, laid_each (offset + length t) ps m laid)
+
+-- All declarations that were announced were read: the reader stands behind the locals.
+pub locals_past : (body : Reader) (unread read : Locals) (locals : PlacedLocals) → ReadsLocals body unread read locals → length locals ≡ unread.count →
+    IsPastLocals (declarations_of locals) body read.reader
+locals_past body unread read locals h all =
+    let o = h.opens in
+    let t = h.takes in (
+      o.0 ++ t.text,
+      (
+        o.0,
+        t.text,
+        unread.count,
+        refl,
+        o.1,
+        (length-map locals (λ p. p.0) ∙ all, laid_each (offset_of unread.reader) locals t.text t.laid),
+      ),
+      takes_both body unread.reader read.reader o.0 t.text o.2 t.takes,
+    )
+
+-- What stands before the operators was written.
+pub record IsListedTo (h : Heading) (body reader : Reader) (before listed : List ℕ) : Type 0 where
+  pub unread : Locals
+  pub read : Locals
+  pub locals : PlacedLocals
+  pub reads : ReadsLocals body unread read locals
+  pub all : length locals ≡ unread.count
+  pub stands : reader ≡ read.reader
+  pub is : listed ≡ before ++ (header h (source_of body) ++ local_lines h (source_of body) locals (offset_of read.reader))
+
+joined : (before a b now after : List ℕ) → now ≡ before ++ a → after ≡ now ++ b → after ≡ before ++ (a ++ b)
+joined before a b now after first second = second ∙ ap (λ t. t ++ b) first ∙ append_assoc before a b
+
+pub listed_to : (h : Heading) (x : Unit {0}) (body reader : Reader) (unread read : Locals) (before headed listed : List ℕ) → OpensLocals (Ok unread) body →
+    reader ≡ read.reader → headed ≡ before ++ header h (source_of body) →
+    ListsDeclarations (offset_of body) (rest body) h.parameters (Ok x) unread read headed listed → IsListedTo h body reader before listed
+listed_to h x body reader unread read before headed listed opens stands begins (placed, all, writes) =
+    record {
+      unread = unread;
+      read = read;
+      locals = placed;
+      reads = record { opens = opens; takes = writes.takes };
+      all = all;
+      stands = stands;
+      is = joined before (header h (source_of body)) (local_lines h (source_of body) placed (offset_of read.reader)) headed listed begins writes.written;
+    }
+
+-- What is so of the offset of a body and of its bytes.
+pub at_body : (P : ℕ → List ℕ → Type 0) (start : ℕ) (bytes : List ℕ) (body : Reader) → start ≡ offset_of body → bytes ≡ rest body → P start bytes →
+    P (offset_of body) (rest body)
+at_body P start bytes body s b h = subst (λ n. P n (rest body)) s (subst (λ t. P start t) b h)
+
+-- Nothing but the header was written,
+pub stopped_at_count : (h : Heading) (e : Error) (body : Reader) (before headed : List ℕ) → OpensLocals (Err e) body →
+    headed ≡ before ++ header h (source_of body) → Disassembles {X = Unit {0}} h (Err e) body before headed
+stopped_at_count h e body before headed opens begins = λ other. (header h (source_of body), begins, inl (opens, refl))
+
+-- or some declarations were.
+pub stopped_at_locals : (h : Heading) (e : Error) (body : Reader) (unread read : Locals) (before headed listed : List ℕ) → OpensLocals (Ok unread) body →
+    headed ≡ before ++ header h (source_of body) →
+    ListsDeclarations {X = Unit {0}} (offset_of body) (rest body) h.parameters (Err e) unread read headed listed →
+    Disassembles {X = Unit {0}} h (Err e) body before listed
+stopped_at_locals h e body unread read before headed listed opens begins lists =
+    λ other.
+    let placed = (lists other).0 in
+    let more = (lists other).1 in
+    let writes = (lists other).2 in
+    let refused = (lists other).3 in
+    let lines = local_lines h (source_of body) placed (offset_of read.reader) in (
+      header h (source_of body) ++ lines,
+      joined before (header h (source_of body)) lines headed listed begins writes.written,
+      inr (inl (record {
+        unread = unread;
+        read = read;
+        locals = placed;
+        reads = record { opens = opens; takes = writes.takes };
+        more = more;
+        refused = refused;
+        is = refl;
+      })),
+    )
+
+-- What the law `past_locals` says of the locals of a body and an expression behind them.
+abbrev pub IsBodyBehind : Type 0
+IsBodyBehind = (body r : Reader) (declarations : List Declaration) (placed : Placed) → IsPastLocals declarations body r → EncodesExpression (source_of r) placed →
+    EncodesBody (source_of body) declarations placed
+
+same_end : (a b : Reader) (text : List ℕ) → Takes a b text → offset_of b + length (rest b) ≡ offset_of a + length (rest a)
+same_end a b text t =
+    let long : length (rest a) ≡ length text + length (rest b) = ap length t.parts ∙ length-append text (rest b) in
+    let place : offset_of b ≡ offset_of a + length text = ap offset_of t.moved ∙ omega arith in
+    omega (arith, long, place)
+
+whole_joined : (before a b c listed after : List ℕ) → listed ≡ before ++ (a ++ b) → after ≡ listed ++ c → after ≡ before ++ (a ++ (b ++ c))
+whole_joined before a b c listed after first second =
+    joined before (a ++ b) c listed after first second ∙ ap (λ t. before ++ t) (append_assoc a b c)
+
+-- The operators were read to their end, or not.
+pub operators_ended : (h : Heading) (r : Result (Unit {0}) Error) (body reader : Reader) (before listed after : List ℕ) → IsBodyBehind →
+    IsListedTo h body reader before listed → ListsOperators (offset_of body) (rest body) r reader listed after → Disassembles h r body before after
+operators_ended h (Ok x) body reader before listed after law to (placed, encodes, is) =
+    let past = locals_past body to.unread to.read to.locals to.reads to.all in
+    let s = source_of body in
+    let there : EncodesExpression (source_of to.read.reader) placed = subst (λ z. EncodesExpression (source_of z) placed) to.stands encodes in
+    let end : offset_of reader + length (rest reader) ≡ offset_of body + length (rest body) =
+    ap (λ (z : Reader). offset_of z + length (rest z)) to.stands ∙ same_end body to.read.reader past.0 past.2 in
+    let locals = local_lines h s to.locals (offset_of to.read.reader) in
+    let ops = operator_lines s placed (offset_of body + length (rest body)) in
+    let wrote : after ≡ listed ++ ops = is ∙ ap (λ n. listed ++ operator_lines s placed n) end in (
+      header h s ++ (locals ++ ops),
+      whole_joined before (header h s) locals ops listed after to.is wrote,
+      record {
+        unread = to.unread;
+        read = to.read;
+        locals = to.locals;
+        reads = to.reads;
+        all = to.all;
+        placed = placed;
+        encodes = law body to.read.reader (declarations_of to.locals) placed past there;
+        is = refl;
+      },
+    )
+operators_ended h (Err e) body reader before listed after law to lists =
+    λ other.
+    let opened = (lists other).0 in
+    let stopped = (lists other).1 in
+    let same = (lists other).2 in
+    let fresh = (lists other).3 in
+    let placed = (lists other).4 in
+    let reads = (lists other).5 in
+    let is = (lists other).6 in
+    let past = locals_past body to.unread to.read to.locals to.reads to.all in
+    let s = source_of body in
+    let locals = local_lines h s to.locals (offset_of to.read.reader) in
+    let ops = operator_lines s placed (offset_of stopped.reader) in (
+      header h s ++ (locals ++ ops),
+      whole_joined before (header h s) locals ops listed after to.is is,
+      inr (inr (record {
+        unread = to.unread;
+        read = to.read;
+        locals = to.locals;
+        reads = to.reads;
+        all = to.all;
+        placed = placed;
+        stops = record {
+          opened = opened;
+          opens = ((declarations_of to.locals, subst (λ z. IsPastLocals (declarations_of to.locals) body z) (sym (same ∙ to.stands)) past), fresh);
+          stopped = stopped;
+          reads = reads;
+        };
+        is = refl;
+      })),
+    )
+
+-- The operators were read into an empty list, and their lines written.
+pub operators_listed : (r : Result (Unit {0}) Error) (reader : Reader) (opened stopped : State) (first items shown : Placed) (start : ℕ) (bytes : List ℕ)
+    (end : ℕ) (before after : List ℕ) → opened.reader ≡ reader → IsFresh opened →
+    ReadsRest (Adds first items) IsAny EncodesAllowed OperatorFault Anywhere [] r opened stopped → first ≡ [] → shown ≡ items →
+    end ≡ offset_of stopped.reader → after ≡ before ++ lines_of text_of start bytes end shown → ListsOperators start bytes r reader before after
+operators_listed (Ok x) reader opened stopped first items shown start bytes end before after same fresh h none shows stands wrote =
+    let placed = h.tree.0 in
+    let tree = h.tree.2 in
+    let is : shown ≡ placed = shows ∙ h.tree.1 ∙ ap (λ f. f ++ placed) none in
+    let behind : end ≡ offset_of reader + length (rest reader) = stands ∙ ap offset_of tree.takes.moved ∙
+    ap (λ (z : Reader). offset_of (at_position z (z.position + length (rest z)))) same ∙ omega arith in (
+      placed,
+      subst (λ z. EncodesExpression (source_of z) placed) same tree.encodes,
+      wrote ∙ ap (λ ps. before ++ lines_of text_of start bytes end ps) is ∙ ap (λ n. before ++ lines_of text_of start bytes n placed) behind,
+    )
+operators_listed (Err e) reader opened stopped first items shown start bytes end before after same fresh h none shows stands wrote =
+    λ other.
+    let placed = h.beginning.0 in
+    let is : shown ≡ placed = shows ∙ h.beginning.1 ∙ ap (λ f. f ++ placed) none in (
+      opened,
+      stopped,
+      same,
+      fresh,
+      placed,
+      h.beginning.2,
+      wrote ∙ ap (λ ps. before ++ lines_of text_of start bytes end ps) is ∙ ap (λ n. before ++ lines_of text_of start bytes n placed) stands,
+    )
+
+-- ---- where the bytes encode a body
+
+-- The number of the declarations is not refused,
+pub count_stands : (P : Type 0) (e : Error) (body : Reader) (declarations : List Declaration) (placed : Placed) → OpensLocals (Err e) body →
+    EncodesBody (source_of body) declarations placed → P
+count_stands P e body declarations placed (refused, fault) h =
+    let l = h.encodes_locals in
+    let other : e.message ≢ message.OutOfMemory = λ is. absurd (subst IsReadFault is refused.fault) in
+    let there : rest body ≡ l.0 ++ (l.1 ++ h.expression) = h.parts ∙ ap (λ z. z ++ h.expression) l.3 ∙ append_assoc l.0 l.1 h.expression in
+    absurd (refused.refuses [] (ends_here e.message other) l.0 (l.1 ++ h.expression) l.2 l.4 (append-nil (rest body) ∙ there))
+
+-- and behind it as many stand.
+pub record AreAnnounced (unread : Locals) (declarations : List Declaration) : Type 0 where
+  pub text : List ℕ
+  pub more : List ℕ
+  pub each : EncodesMany EncodesDeclaration unread.count text declarations
+  pub stands : rest unread.reader ≡ text ++ more
+
+pub announced : (body : Reader) (unread : Locals) (declarations : List Declaration) (placed : Placed) → PrefixCode (EncodesUnsigned 32) →
+    OpensLocals (Ok unread) body → EncodesBody (source_of body) declarations placed → AreAnnounced unread declarations
+announced body unread declarations placed code (number, encodes, takes, none) h =
+    let l = h.encodes_locals in
+    let there : number ++ rest unread.reader ≡ l.0 ++ (l.1 ++ h.expression) = sym takes.parts ∙ h.parts ∙ ap (λ z. z ++ h.expression) l.3 ∙
+    append_assoc l.0 l.1 h.expression in
+    let one = code number l.0 (rest unread.reader) (l.1 ++ h.expression) unread.count l.2 encodes l.4 there in
+    record {
+      text = l.1;
+      more = h.expression;
+      each = subst (λ n. EncodesMany EncodesDeclaration n l.1 declarations) (sym one.1) l.5;
+      stands = cancel number (rest unread.reader) (l.1 ++ h.expression) (there ∙ ap (λ z. z ++ (l.1 ++ h.expression)) (sym one.0));
+    }

@@ -1,0 +1,74 @@
+use Rattle.std.proofs.Common.{◌+◌, ◌≤◌, ◌++◌, ap, ◌∙◌, sym, subst, string_bytes, Ok, Err, arith}
+use Rattle.wasm_operators.specs.below.Source.{offset_of, source_of}
+use Rattle.wasm_operators.specs.Expression.{EncodesExpression}
+use Rattle.wasm_operators.specs.Locals.{max_locals}
+use Rattle.wasm_lines.specs.Lines.{header_of}
+use Rattle.wasm_disassembly.specs.LocalLines.{declarations_of, locals_in, ListsDeclarations}
+use Rattle.wasm_disassembly.specs.Disassembly.{Heading, ListsOperators}
+use Rattle.wasm_disassembly.proofs.Listed.{listed_to, at_body, stopped_at_count, stopped_at_locals, operators_ended, locals_past, count_stands, announced}
+use Rattle.wasm_disassembly.proofs.function.disassemble.Goals as goal
+
+pub returns-in-Err-get_locals_reader-clause-text : goal.returns-in-Err-get_locals_reader-clause-text
+returns-in-Err-get_locals_reader-clause-text c =
+    let body = c.args.body.now in
+    let h : Heading = record { index = c.args.index; name = c.args.name.now; parameters = c.args.parameters } in
+    let start = c.original_position-start.ensures ∙ ap offset_of c.get_binary_reader.ensures in
+    let headed = c.in-Ok.ensures ∙ ap (λ n. string_bytes c.args.out.now ++ header_of n c.args.index c.args.name.now) start in
+    stopped_at_count h c.in-Err-get_locals_reader.e body (string_bytes c.args.out.now) (string_bytes c.write_header.new.out) c.in-Err-get_locals_reader.ensures headed
+
+pub returns-in-Err-get_locals_reader-clause-whole : goal.returns-in-Err-get_locals_reader-clause-whole
+returns-in-Err-get_locals_reader-clause-whole c =
+    λ declarations placed encodes few. count_stands _ c.in-Err-get_locals_reader.e c.args.body.now declarations placed c.in-Err-get_locals_reader.ensures encodes
+
+pub returns-in-Err-write_declarations-clause-text : goal.returns-in-Err-write_declarations-clause-text
+returns-in-Err-write_declarations-clause-text c =
+    let body = c.args.body.now in
+    let h : Heading = record { index = c.args.index; name = c.args.name.now; parameters = c.args.parameters } in
+    let start = c.original_position-start.ensures ∙ ap offset_of c.get_binary_reader.ensures in
+    let headed = c.in-Ok.ensures ∙ ap (λ n. string_bytes c.args.out.now ++ header_of n c.args.index c.args.name.now) start in
+    let unread = c.in-Ok-get_locals_reader.locals in
+    let e = c.in-Err-write_declarations.e in
+    let now = string_bytes c.write_header.new.out in
+    let new = string_bytes c.write_declarations.new.out in
+    let lists = at_body (λ n t. ListsDeclarations {X = Unit {0}} n t c.args.parameters (Err e) unread c.write_declarations.new.locals now new)
+    c.original_position-start.result c.as_bytes.result.now body start c.as_bytes.ensures c.in-Err-write_declarations.ensures.lists in
+    stopped_at_locals h e body unread c.write_declarations.new.locals (string_bytes c.args.out.now) now new c.in-Ok-get_locals_reader.ensures headed lists
+
+pub returns-in-Err-write_declarations-clause-whole : goal.returns-in-Err-write_declarations-clause-whole
+returns-in-Err-write_declarations-clause-whole c =
+    λ declarations placed encodes few.
+    let a = announced c.args.body.now c.in-Ok-get_locals_reader.locals declarations placed (c.unsigned_numbers.ensures 32)
+    c.in-Ok-get_locals_reader.ensures encodes in
+    let none = c.in-Ok-get_locals_reader.ensures.3 in
+    let fits : c.in-Ok-get_locals_reader.locals.total + locals_in declarations ≤ max_locals = omega (arith, none, few) in
+    c.in-Err-write_declarations.ensures.whole declarations a.text a.more a.each a.stands fits
+
+pub returns-clause-text : goal.returns-clause-text
+returns-clause-text c =
+    let body = c.args.body.now in
+    let h : Heading = record { index = c.args.index; name = c.args.name.now; parameters = c.args.parameters } in
+    let start = c.original_position-start.ensures ∙ ap offset_of c.get_binary_reader.ensures in
+    let headed = c.in-Ok.ensures ∙ ap (λ n. string_bytes c.args.out.now ++ header_of n c.args.index c.args.name.now) start in
+    let unread = c.in-Ok-get_locals_reader.locals in
+    let read = c.write_declarations.new.locals in
+    let now = string_bytes c.write_header.new.out in
+    let new = string_bytes c.write_declarations.new.out in
+    let lists = at_body (λ n t. ListsDeclarations {X = Unit {0}} n t c.args.parameters (Ok tt) unread read now new)
+    c.original_position-start.result c.as_bytes.result.now body start c.as_bytes.ensures c.in-Ok-write_declarations.ensures.lists in
+    let to = listed_to h tt body c.get_binary_reader-2.result unread read (string_bytes c.args.out.now) now new c.in-Ok-get_locals_reader.ensures
+    c.get_binary_reader-2.ensures headed lists in
+    let ends = at_body (λ n t. ListsOperators n t c.write_operators.result c.get_binary_reader-2.result new (string_bytes c.write_operators.new.out))
+    c.original_position-start.result c.as_bytes-2.result.now body start c.as_bytes-2.ensures c.write_operators.ensures.lists in
+    operators_ended h c.write_operators.result body c.get_binary_reader-2.result (string_bytes c.args.out.now) new (string_bytes c.write_operators.new.out)
+    c.past_locals.ensures.body to ends
+
+pub returns-clause-whole : goal.returns-clause-whole
+returns-clause-whole c =
+    let body = c.args.body.now in
+    let unread = c.in-Ok-get_locals_reader.locals in
+    let read = c.write_declarations.new.locals in
+    let lists = c.in-Ok-write_declarations.ensures.lists in
+    let past = locals_past body unread read lists.0 (record { opens = c.in-Ok-get_locals_reader.ensures; takes = lists.2.takes }) lists.1 in
+    λ declarations placed encodes few.
+    let expression = (c.past_locals.ensures.expression body read.reader (declarations_of lists.0) declarations placed past encodes).1 in
+    c.write_operators.ensures.whole placed (subst (λ r. EncodesExpression (source_of r) placed) (sym c.get_binary_reader-2.ensures) expression)

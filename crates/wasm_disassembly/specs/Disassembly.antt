@@ -1,0 +1,95 @@
+-- The text of a function: its header, the lines of its locals, and the lines of its operators.
+-- WebAssembly Core Specification 3.0: Binary Format, Modules, Code Section.
+use Rattle.std.specs.Prelude.{◌≡◌, ◌≢◌, ◌<◌, ◌⊎◌, ℕ, ◌+◌, List, [], ◌++◌, length, Result, Ok, Err}
+use Rattle.wasm_operators.specs.below.bytes.error.Error.{Error}
+use Rattle.wasm_operators.specs.below.bytes.message.Message.TheVariants as message
+use Rattle.wasm_operators.specs.below.Source.{Source, Reader, rest, offset_of, source_of}
+use Rattle.wasm_operators.specs.opcodes.Allowed.{EncodesAllowed}
+use Rattle.wasm_operators.specs.opcodes.OperatorFaults.{OperatorFault}
+use Rattle.wasm_operators.specs.Body.{EncodesBody, NoExpression}
+use Rattle.wasm_operators.specs.Expression.{Placed, IsAny, EncodesExpression}
+use Rattle.wasm_operators.specs.Headline.{ReadsBeginning}
+use Rattle.wasm_operators.specs.Locals.{Locals, OpensLocals, ReadsDeclaration}
+use Rattle.wasm_operators.specs.Reading.{State, IsFresh, Anywhere}
+use Rattle.wasm_lines.specs.Lines.{header_of, lines_of}
+use Rattle.wasm_lines.specs.text.Operands.{text_of}
+use Rattle.wasm_disassembly.specs.LocalLines.{PlacedLocals, declarations_of, TakesDeclarations, declaration_lines}
+
+-- What is told of a function beside its body: its index, its name, which is empty where it has none, and how many parameters it has: they are its first locals.
+pub record Heading : Type 0 where
+  pub index : ℕ
+  pub name : List ℕ
+  pub parameters : ℕ
+
+abbrev pub header : Heading → Source → List ℕ
+header h body = header_of body.offset h.index h.name
+
+-- The lines of the locals of a body, the last of which ends at `behind`,
+abbrev pub local_lines : Heading → Source → PlacedLocals → ℕ → List ℕ
+local_lines h body locals behind = declaration_lines body.offset body.bytes behind h.parameters locals
+
+-- and those of its operators, the last of which ends at `end`.
+abbrev pub operator_lines : Source → Placed → ℕ → List ℕ
+operator_lines body placed end = lines_of text_of body.offset body.bytes end placed
+
+-- These declarations of a body were read of those that it announces.
+pub record ReadsLocals (body : Reader) (unread read : Locals) (locals : PlacedLocals) : Type 0 where
+  pub opens : OpensLocals (Ok unread) body
+  pub takes : TakesDeclarations unread read locals
+
+-- The text of a body that the bytes encode.
+pub record IsWhole (h : Heading) (body : Reader) (text : List ℕ) : Type 0 where
+  pub unread : Locals
+  pub read : Locals
+  pub locals : PlacedLocals
+  pub reads : ReadsLocals body unread read locals
+  pub all : length locals ≡ unread.count
+  pub placed : Placed
+  pub encodes : EncodesBody (source_of body) (declarations_of locals) placed
+  pub is : text ≡ header h (source_of body) ++ (local_lines h (source_of body) locals (offset_of read.reader) ++
+      operator_lines (source_of body) placed (offset_of body + length (rest body)))
+
+-- The number of the declarations is refused: the header stands alone.
+abbrev pub StopsAtCount : Heading → Error → Reader → List ℕ → Type 0
+StopsAtCount h e body text = OpensLocals (Err e) body × (text ≡ header h (source_of body))
+
+-- A declaration is refused, behind these: it is none, or with it there are too many locals.
+pub record StopsAtLocals (h : Heading) (e : Error) (body : Reader) (text : List ℕ) : Type 0 where
+  pub unread : Locals
+  pub read : Locals
+  pub locals : PlacedLocals
+  pub reads : ReadsLocals body unread read locals
+  pub more : length locals < unread.count
+  pub refused : ReadsDeclaration (Err e) read read
+  pub is : text ≡ header h (source_of body) ++ local_lines h (source_of body) locals (offset_of read.reader)
+
+-- Behind the locals stands no expression: these operators are the longest beginning of one, and what stands behind it is refused.
+pub record StopsAtOperators (h : Heading) (e : Error) (body : Reader) (text : List ℕ) : Type 0 where
+  pub unread : Locals
+  pub read : Locals
+  pub locals : PlacedLocals
+  pub reads : ReadsLocals body unread read locals
+  pub all : length locals ≡ unread.count
+  pub placed : Placed
+  pub stops : NoExpression e body placed
+  pub is : text ≡ header h (source_of body) ++ (local_lines h (source_of body) locals (offset_of read.reader) ++
+      operator_lines (source_of body) placed (offset_of stops.stopped.reader))
+
+-- The text of a function, and how it ended. Where memory was refused nothing is said of it.
+abbrev pub IsText : {X : Type 0} → Heading → Result X Error → Reader → List ℕ → Type 0
+IsText h (Ok x) body text = IsWhole h body text
+IsText h (Err e) body text = StopsAtCount h e body text ⊎ (StopsAtLocals h e body text ⊎ StopsAtOperators h e body text)
+
+abbrev pub Disassembles : {X : Type 0} → Heading → Result X Error → Reader → List ℕ → List ℕ → Type 0
+Disassembles h (Ok x) body before after = (text : List ℕ) × (after ≡ before ++ text) × IsWhole h body text
+Disassembles h (Err e) body before after = e.message ≢ message.OutOfMemory → (text : List ℕ) × (after ≡ before ++ text) × IsText {X = Unit {0}} h (Err e) body text
+
+-- Reading the operators of an expression, and writing their lines: `bytes` are those of the body or of more, from the offset `start` on.
+abbrev pub ListsOperators : {X : Type 0} → ℕ → List ℕ → Result X Error → Reader → List ℕ → List ℕ → Type 0
+ListsOperators start bytes (Ok x) reader before after =
+    (placed : Placed) × EncodesExpression (source_of reader) placed ×
+    (after ≡ before ++ lines_of text_of start bytes (offset_of reader + length (rest reader)) placed)
+ListsOperators start bytes (Err e) reader before after = e.message ≢ message.OutOfMemory →
+    (opened stopped : State) × (opened.reader ≡ reader) × IsFresh opened × (placed : Placed) ×
+    ReadsBeginning IsAny EncodesAllowed OperatorFault Anywhere [] e opened stopped placed ×
+    (after ≡ before ++ lines_of text_of start bytes (offset_of stopped.reader) placed)

@@ -1,0 +1,83 @@
+//! The lines of the declarations of a body's locals.
+ghost use Rattle.std.specs.Prelude.{◌≡◌, ◌++◌, ◌+◌, ◌^◌, ◌<◌, ◌≤◌, ℕ, List, OnOk, IfErr, string_bytes, length};
+ghost use Rattle.wasm_operators.specs.below.Source.{rest};
+ghost use Rattle.wasm_operators.specs.imm.Lists.{EncodesMany};
+ghost use Rattle.wasm_operators.specs.Locals.{Declaration, EncodesDeclaration, max_locals};
+ghost use Rattle.wasm_lines.specs.Rows.{line_of};
+ghost use Rattle.wasm_disassembly.specs.LocalLines.{type_name, declaration_text, locals_in, ListsDeclarations};
+
+use std::alloc::Global;
+use wasm_lines::text::{Written, write_value_type};
+use wasm_lines::{begin_line, bytes_between, end_line, write_indices};
+use wasm_operators::{Error, LocalsReader, Message, Result, ValType, body_laws};
+
+/// Writes a type, without the space before it.
+fn write_type_name(alloc: Global, out: &mut String, ty: ValType) -> Written
+    ensures { OnOk result (string_bytes out.new ≡ string_bytes out.old ++ type_name ty) }
+{
+    let mut spaced = String::new(alloc);
+    write_value_type(&mut spaced, ty)?;
+    match spaced.as_str().strip_prefix(' ') {
+        Some(name) => out.push_str(name),
+        None => out.push_str(spaced.as_str()),
+    }
+}
+
+/// Writes the lines of a declaration that stands at an offset. The first of its locals has the index
+/// `first`.
+fn write_declaration(
+    alloc: Global,
+    out: &mut String,
+    offset: u64,
+    bytes: &[u8],
+    first: u64,
+    declaration: (u32, ValType),
+) -> Written
+    requires fits { offset + length bytes.now < 2 ^ 64 }
+    requires few { first + declaration.0 < 2 ^ 64 }
+    ensures { OnOk result
+        (string_bytes out.new ≡ string_bytes out.old ++ line_of 0 offset bytes.now (declaration_text first declaration)) }
+{
+    begin_line(out, 0, offset, bytes)?;
+    write_indices(out, first, declaration.0)?;
+    write_type_name(alloc, out, declaration.1)?;
+    end_line(out, offset, bytes)
+}
+
+/// Reads the declarations that were announced, and writes their lines. `bytes` are those of the body,
+/// from the offset `start` on, and `parameters` of the function are its first locals.
+///
+/// Refused as `LocalsReader::read`; the lines of the declarations before are then written.
+pub fn write_declarations(
+    alloc: Global,
+    out: &mut String,
+    bytes: &[u8],
+    start: u64,
+    parameters: u32,
+    locals: &mut LocalsReader<'_>,
+) -> Result<()>
+    ensures lists { ListsDeclarations start bytes.now parameters result locals.old locals.new
+        (string_bytes out.old) (string_bytes out.new) }
+    // Where the declarations stand, and are not too many, only memory is refused.
+    ensures whole { (declarations : List Declaration) → (text more : List ℕ)
+        → EncodesMany EncodesDeclaration locals.old.count text declarations → rest locals.old.reader ≡ text ++ more
+        → locals.old.total + locals_in declarations ≤ max_locals → IfErr result (λ e. e.message ≡ Message.OutOfMemory) }
+{
+    body_laws::declarations();
+    let mut first = u64::from(parameters);
+    for _declaration in 0..locals.get_count() {
+        let offset = locals.original_position();
+        let declaration = match locals.read() {
+            Ok(declaration) => declaration,
+            Err(e) => return Err(e),
+        };
+        let number = declaration.0;
+        let shown = bytes_between(bytes, start, offset, locals.original_position());
+        match write_declaration(alloc, out, offset, shown, first, declaration) {
+            Ok(()) => {}
+            Err(_) => return Err(Error::new(Message::OutOfMemory, offset)),
+        }
+        first += u64::from(number);
+    }
+    Ok(())
+}

@@ -1,0 +1,13 @@
+//! A function of a module, disassembled: its header, the declarations of its locals, its operators.
+//!
+//! The theorem stands on [`disassemble`].
+#![tactic(auto)]
+
+mod declarations;
+mod function;
+#[cfg(test)]
+mod tests;
+
+pub use function::disassemble;
+pub use wasm_lines as lines;
+pub use wasm_operators as operators;

@@ -1,0 +1,26 @@
+-- Items of a section one behind the other, and one more.
+use Rattle.std.proofs.Common.{◌≡◌, ℕ, ◌+◌, List, [], ◌∷◌, ◌++◌, length, Ok, refl, sym, subst, length-append, arith, cond}
+use Rattle.std.specs.Prelude.{◌==◌}
+use Rattle.wasm_module.specs.below.Source.{Reader, Reads}
+use Rattle.wasm_module.specs.below.Number.{EncodesUnsigned}
+use Rattle.wasm_module.specs.Imports.{ImportParts}
+use Rattle.wasm_functions.specs.Items.{ItemsStand, IsList}
+use Rattle.wasm_functions.specs.Table.{functions_in}
+
+pub item_more : {X : Type 0} (P : List ℕ → X → Type 0) (r : Reader) (xs : List X) (mid new : Reader) (x : X) → ItemsStand P r xs mid →
+    Reads P (Ok x) mid new → ItemsStand P r (xs ++ x ∷ []) new
+item_more P r [] mid new x same reads = (new, subst (λ z. Reads P (Ok x) z new) same reads, refl)
+item_more P r (y ∷ ys) mid new x (next, first, others) reads = (next, first, item_more P next ys mid new x others reads)
+
+pub one_longer : {X : Type 0} (xs : List X) (x : X) → length (xs ++ x ∷ []) ≡ length xs + 1
+one_longer xs x = length-append xs (x ∷ [])
+
+-- all items stand there
+pub all_stand : {X : Type 0} (P : List ℕ → X → Type 0) (contents first end : Reader) (xs : List X) (n : ℕ) → Reads (EncodesUnsigned 32) (Ok n) contents first →
+    ItemsStand P first xs end → length xs ≡ n → IsList P contents xs
+all_stand P contents first end xs n counted stand all =
+    record { first = first; count = subst (λ k. Reads (EncodesUnsigned 32) (Ok k) contents first) (sym all) counted; end = end; stand = stand }
+
+pub functions_more : (is : List ImportParts) (i : ImportParts) → functions_in (is ++ i ∷ []) ≡ functions_in is + cond (i.kind == 0) 1 0
+functions_more [] i = omega arith
+functions_more (j ∷ js) i = let others = functions_more js i in omega (arith, others)

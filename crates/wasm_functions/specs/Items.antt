@@ -1,0 +1,17 @@
+-- Sections that are a list of items.
+-- WebAssembly Core Specification 3.0, Binary Format: Conventions, Lists.
+use Rattle.std.specs.Prelude.{◌≡◌, ℕ, List, [], ◌∷◌, length, Ok}
+use Rattle.wasm_module.specs.below.Number.{EncodesUnsigned}
+use Rattle.wasm_module.specs.below.Source.{Reader, Reads}
+
+-- These items stand one behind the other, from the first reader to the second.
+abbrev pub ItemsStand : {X : Type 0} → (List ℕ → X → Type 0) → Reader → List X → Reader → Type 0
+ItemsStand Encodes r [] end = end ≡ r
+ItemsStand Encodes r (x ∷ xs) end = (mid : Reader) × Reads Encodes (Ok x) r mid × ItemsStand Encodes mid xs end
+
+-- The contents of a section begin with a list of these items: how many they are, and each.
+pub record IsList {X : Type 0} (Encodes : List ℕ → X → Type 0) (contents : Reader) (items : List X) : Type 0 where
+  pub first : Reader
+  pub count : Reads (EncodesUnsigned 32) (Ok (length items)) contents first
+  pub end : Reader
+  pub stand : ItemsStand Encodes first items end

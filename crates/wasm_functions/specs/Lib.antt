@@ -1,0 +1,4 @@
+pub mod Sections
+pub mod Items
+pub mod Table
+pub use Rattle.wasm_module.specs as of_module

@@ -1,0 +1,43 @@
+-- What the sections of a module tell of its functions.
+-- WebAssembly Core Specification 3.0, Binary Format, Modules: Indices, Import Section, Function Section.
+use Rattle.std.specs.Prelude.{◌≡◌, ◌==◌, ◌+◌, ◌^◌, ◌-◌, ℕ, List, [], ◌∷◌, Option, Some, None, min, if◌then◌else◌}
+use Rattle.wasm_module.specs.below.Number.{EncodesUnsigned}
+use Rattle.wasm_module.specs.below.Source.{Reader}
+use Rattle.wasm_module.specs.Imports.{ImportParts, EncodesImport}
+use Rattle.wasm_functions.specs.Items.{IsList}
+use Rattle.wasm_functions.specs.Sections.{IsSection}
+
+-- How many of these imports are functions.
+abbrev pub functions_in : List ImportParts → ℕ
+functions_in [] = 0
+functions_in (i ∷ is) = (if i.kind == 0 then 1 else 0) + functions_in is
+
+-- What is known of the functions of a module: how many are imported; how many parameters each type has; and of its own functions the types and the names.
+pub record Table : Type 0 where
+  pub imported : ℕ
+  pub parameters : List ℕ
+  pub types : List ℕ
+  pub names : List (List ℕ)
+
+-- So many functions are imported, where the section of imports is this.
+abbrev pub CountsImports : Option Reader → ℕ → Type 0
+CountsImports None n = n ≡ 0
+CountsImports (Some contents) n = (imports : List ImportParts) × IsList EncodesImport contents imports × (n ≡ functions_in imports)
+
+-- These are the types of the module's own functions, where the section of functions is this.
+abbrev pub ListsTypes : Option Reader → List ℕ → Type 0
+ListsTypes None types = types ≡ []
+ListsTypes (Some contents) types = IsList (EncodesUnsigned 32) contents types
+
+-- The imports and the types of a module's functions are these.
+pub record IsTableOf (whole : Reader) (t : Table) : Type 0 where
+  pub imports : Option Reader
+  pub section_of_imports : IsSection whole 2 imports
+  pub imported : CountsImports imports t.imported
+  pub functions : Option Reader
+  pub section_of_functions : IsSection whole 3 functions
+  pub types : ListsTypes functions t.types
+
+-- The index of the own function at a place: those that are imported come first.
+abbrev pub index_of : Table → ℕ → ℕ
+index_of t place = min (t.imported + place) (2 ^ 32 - 1)

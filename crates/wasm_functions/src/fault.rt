@@ -1,0 +1,62 @@
+//! Why the functions of a module are not known.
+
+use std::alloc::{AllocError, AllocFailed};
+use std::fmt;
+use wasm_module::PreambleKind;
+use wasm_module::below::{Error, Message};
+
+/// Why the functions of a module are not known.
+#[derive(Clone, Copy, Debug, PartialEq, Eq)]
+pub enum ModuleFault {
+    /// The bytes begin as no module does.
+    NotModule(PreambleKind),
+    /// The preamble, a section or an item of one is refused.
+    Refused(Error),
+    /// An import is of none of the five kinds: the byte, and the offset of the import.
+    ImportKind(u8, u64),
+    /// A type is of none of the three sorts: its byte, and its offset.
+    TypeKind(u8, u64),
+    /// Memory was refused.
+    Memory,
+}
+
+impl From<Error> for ModuleFault {
+    fn from(error: Error) -> ModuleFault {
+        match error.message() {
+            Message::OutOfMemory => ModuleFault::Memory,
+            _ => ModuleFault::Refused(error),
+        }
+    }
+}
+
+impl From<AllocError> for ModuleFault {
+    fn from(_error: AllocError) -> ModuleFault {
+        ModuleFault::Memory
+    }
+}
+
+impl<T: Drop> From<AllocFailed<T>> for ModuleFault {
+    fn from(_failed: AllocFailed<T>) -> ModuleFault {
+        ModuleFault::Memory
+    }
+}
+
+impl fmt::Display for ModuleFault {
+    fn fmt<W: fmt::Write>(&self, f: &mut fmt::Formatter<W>) -> fmt::Result {
+        match self {
+            ModuleFault::NotModule(kind) => write!(f, "error: {kind}"),
+            ModuleFault::Refused(error) => {
+                let offset = error.offset();
+                let message = error.message();
+                write!(f, "error at {offset}: {message}")
+            }
+            ModuleFault::ImportKind(kind, offset) => {
+                write!(f, "error at {offset}: unknown kind of import: 0x{kind:x}")
+            }
+            ModuleFault::TypeKind(kind, offset) => {
+                write!(f, "error at {offset}: unknown type: 0x{kind:x}")
+            }
+            ModuleFault::Memory => f.write_str("out of memory"),
+        }
+    }
+}
