@@ -7,6 +7,7 @@ ghost use Rattle.wasm_view.specs.View.{views};
 ghost use Rattle.wasm_c.specs.Reads.{written, IsWithin, FindsBody, FindsOperators, StandsBehind};
 
 use crate::counter::Counter;
+use crate::viewer::Viewer;
 use std::alloc::Global;
 use wasm_operators::{
     BinaryReader, FunctionBody, Operator, OperatorsReader, Result, WasmFeatures, expression_laws,
@@ -29,12 +30,13 @@ fn fill(operators: &mut OperatorsReader<'_>, out: &mut [WasmOperator]) -> usize
         × (length found ≤ length out.old) × (out.new ≡ views found ++ drop (length found) out.old) }
 {
     run_laws::one_operator();
+    let mut viewer = Viewer::new();
     let mut count: usize = 0;
     'places: while count < out.len() && !operators.eof() {
-        let offset = operators.original_position();
-        match operators.read() {
-            Ok(operator) => {
-                out[count] = view_of(&operator, offset);
+        viewer.offset = operators.original_position();
+        match operators.visit_operator_simd(&mut viewer) {
+            Ok(()) => {
+                out[count] = viewer.view;
                 count += 1;
             }
             Err(_) => return count,

@@ -21,6 +21,18 @@ pub struct Viewer {
     pub change: FrameChange,
 }
 
+impl Viewer {
+    /// Before the first operator.
+    pub fn new() -> Viewer {
+        Viewer {
+            frame: FrameKind::Block,
+            offset: 0,
+            view: WasmOperator::bare(0, 0, 0),
+            change: FrameChange::Stays,
+        }
+    }
+}
+
 impl FrameStack for Viewer {
     ghost use Rattle.std.specs.Prelude.{Some};
 
