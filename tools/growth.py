@@ -36,20 +36,20 @@ WIDTH, HEIGHT, LEFT, RIGHT, TOP, BOTTOM = 720, 360, 60, 20, 20, 50
 class Measured:
     """A body that was visited: its size, its bytes, the nanoseconds by the unit, and the KiB beside it."""
 
-    def __init__(self, size, line, memory, unit):
-        operators, length, nanoseconds = line.split()
+    def __init__(self, size, line, unit):
+        operators, length, nanoseconds, memory = line.split()
         self.size, self.bytes = size, int(length)
         self.time = float(nanoseconds) / (int(operators) if unit == "operator" else self.bytes)
-        self.memory = memory - self.bytes // 1024
+        self.memory = int(memory) - self.bytes // 1024
 
 
 def measured(driver, name, rounds):
-    """The visits of a body at its sizes. The memory is that of a run with one visit."""
+    """The visits of a body at its sizes."""
     _, unit, sizes = BODIES[name]
     found = []
     for size in sizes:
         line = subprocess.run([driver, name, str(size), str(rounds)], capture_output=True, text=True, check=True).stdout
-        found.append(Measured(size, line, large_bodies.Ran([driver, name, str(size)], b"").memory, unit))
+        found.append(Measured(size, line, unit))
     return found
 
 

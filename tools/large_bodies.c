@@ -1,6 +1,7 @@
 /* Visits one large body that is made here, by the library of crates/wasm_bench, and prints how many operators
    were visited: large_bodies nested|alternating|nops|targets N. With a number of rounds behind these it prints
-   also how many bytes the body has, and how many nanoseconds the shortest visit took. */
+   also how many bytes the body has, how many nanoseconds the shortest visit took, and the most KiB that the
+   process had. */
 #include <stdint.h>
 #include <stdio.h>
 #include <stdlib.h>
@@ -46,6 +47,16 @@ static double visit_time(const uint8_t *body, size_t size, uint64_t *operators) 
     return ((double)(end.tv_sec - begin.tv_sec) * 1e9 + (double)(end.tv_nsec - begin.tv_nsec)) / (double)visits;
 }
 
+/* The most KiB that this process had, as Linux tells. */
+static long most_memory(void) {
+    char line[128];
+    long found = 0;
+    FILE *status = fopen("/proc/self/status", "r");
+    while (status && fgets(line, sizeof line, status)) sscanf(line, "VmHWM: %ld", &found);
+    if (status) fclose(status);
+    return found;
+}
+
 int main(int count, char **words) {
     if (count != 3 && count != 4) return 2;
     size_t n = strtoull(words[2], 0, 10), size;
@@ -65,6 +76,6 @@ int main(int count, char **words) {
         double next = visit_time(body, size, &operators);
         if (next < best) best = next;
     }
-    printf("%llu %zu %.1f\n", (unsigned long long)operators, size, best);
+    printf("%llu %zu %.1f %ld\n", (unsigned long long)operators, size, best, most_memory());
     return 0;
 }

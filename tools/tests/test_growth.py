@@ -10,12 +10,12 @@ class Growth(unittest.TestCase):
     """What is made of the driver's lines."""
 
     def test_by_the_unit(self):
-        self.assertEqual(growth.Measured(4, "9 14 90.0\n", 2000, "operator").time, 10.0)
-        self.assertEqual(growth.Measured(4, "2 2048 1024.0\n", 2000, "byte").time, 0.5)
-        self.assertEqual(growth.Measured(4, "2 2048 1024.0\n", 2000, "byte").memory, 1998)
+        self.assertEqual(growth.Measured(4, "9 14 90.0 2000\n", "operator").time, 10.0)
+        self.assertEqual(growth.Measured(4, "2 2048 1024.0 2000\n", "byte").time, 0.5)
+        self.assertEqual(growth.Measured(4, "2 2048 1024.0 2000\n", "byte").memory, 1998)
 
     def test_rows(self):
-        found = [growth.Measured(n, f"{n + 1} {n + 2} {3.0 * (n + 1)}\n", 1500 + n, "operator") for n in (1000, 2000)]
+        found = [growth.Measured(n, f"{n + 1} {n + 2} {3.0 * (n + 1)} {1500 + n}\n", "operator") for n in (1000, 2000)]
         self.assertEqual(growth.rows("nops", found)[0], "| 1,000 `nop` | 1,002 | 3.00 ns by the operator | 0 KiB |")
         self.assertIn("| 999 KiB |", growth.rows("nops", found)[1])
 
@@ -24,7 +24,7 @@ class Growth(unittest.TestCase):
         self.assertEqual(growth.ticks(30), [0, 5, 10, 15, 20, 25, 30, 35])
 
     def test_figure(self):
-        series = {name: [growth.Measured(n, f"{n} {n} {2.0 * n}\n", 0, "operator") for n in (10, 1000)] for name in growth.BODIES}
+        series = {name: [growth.Measured(n, f"{n} {n} {2.0 * n} 0\n", "operator") for n in (10, 1000)] for name in growth.BODIES}
         root = xml.etree.ElementTree.fromstring(growth.figure(series))
         lines = [it for it in root if it.tag.endswith("polyline")]
         self.assertEqual(len(lines), len(growth.BODIES))
