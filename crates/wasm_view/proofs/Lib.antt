@@ -1,3 +1,5 @@
 pub mod ByNumber
 pub mod Immediates
 pub mod Determined
+pub mod Placed
+pub mod Targets

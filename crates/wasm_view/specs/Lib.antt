@@ -2,3 +2,4 @@ pub mod Numbers
 pub mod View
 pub mod Members
 pub mod Determined
+pub mod Lists

@@ -3,6 +3,7 @@
 #![tactic(auto)]
 
 pub mod laws;
+mod lists;
 mod members;
 mod numbers;
 mod opcodes;
@@ -10,6 +11,7 @@ mod shapes;
 mod view;
 mod views;
 
+pub use lists::{catches_of, handles_of, targets_of, types_of};
 pub use members::{WasmHandler, WasmType, catch_of, handle_of, type_of};
 pub use view::WasmOperator;
 pub use views::view_of;

@@ -1,0 +1,116 @@
+-- Lists whose members are placed in an array, one behind the other.
+use Rattle.std.proofs.Common.{◌≡◌, ℕ, ◌-◌, ◌≤◌, ◌<◌, List, [], ◌∷◌, ◌++◌, length, map, drop, set, get_or, take, zero, suc, refl, sym, ap, subst, ◌∙◌, arith, length-append, Some}
+use Rattle.wasm_instr.specs.below.declared.types.ValType.{ValType}
+use Rattle.wasm_instr.specs.declared.operator.Operator.{Operator}
+use Rattle.wasm_instr.specs.declared.operator.Operator.TheVariants as operator
+use Rattle.wasm_view.specs.Members.{type_of}
+use Rattle.wasm_view.specs.declared.members.WasmType.{WasmType}
+use Rattle.wasm_view.specs.Lists.{written, types_of, PlacesOne, PlacesMembers, AnswersMembers}
+
+pub written_none : {X : Type 0} (old : List X) → written [] old ≡ old
+written_none [] = refl
+written_none (x ∷ xs) = refl
+
+written_length : {X : Type 0} (items room : List X) → length (written items room) ≡ length room
+written_length items [] = refl
+written_length [] (y ∷ ys) = refl
+written_length (x ∷ xs) (y ∷ ys) = ap suc (written_length xs ys)
+
+written_one : {X : Type 0} (items room : List X) (x : X) → length items < length room →
+    set (written items room) (length items) x ≡ written (items ++ x ∷ []) room
+written_one items [] x fits = absurd (omega (arith, fits))
+written_one [] (y ∷ ys) x fits = ap (λ list. x ∷ list) (sym (written_none ys))
+written_one (i ∷ is) (y ∷ ys) x fits = ap (λ list. i ∷ list) (written_one is ys x (omega (arith, fits)))
+
+written_full : {X : Type 0} (items room : List X) (x : X) → length room ≤ length items → written items room ≡ written (items ++ x ∷ []) room
+written_full items [] x full = refl
+written_full [] (y ∷ ys) x full = absurd (omega (arith, full))
+written_full (i ∷ is) (y ∷ ys) x full = ap (λ list. i ∷ list) (written_full is ys x (omega (arith, full)))
+
+-- What is left behind an index at or before the end, with one more.
+drop_more : {X : Type 0} (seen : List X) (x : X) (from : ℕ) → from ≤ length seen → drop from (seen ++ x ∷ []) ≡ drop from seen ++ x ∷ []
+drop_more seen x zero within = refl
+drop_more [] x (suc n) within = absurd (omega (arith, within))
+drop_more (y ∷ ys) x (suc n) within = drop_more ys x n (omega (arith, within))
+
+drop_length : {X : Type 0} (seen : List X) (from : ℕ) → from ≤ length seen → length (drop from seen) ≡ length seen - from
+drop_length seen zero within = omega arith
+drop_length [] (suc n) within = absurd (omega (arith, within))
+drop_length (y ∷ ys) (suc n) within = omega (arith, drop_length ys n (omega (arith, within)), within)
+
+drop_all : {X : Type 0} (seen : List X) (from : ℕ) → length seen ≤ from → drop from seen ≡ []
+drop_all [] zero past = refl
+drop_all [] (suc n) past = refl
+drop_all (y ∷ ys) zero past = absurd (omega (arith, past))
+drop_all (y ∷ ys) (suc n) past = drop_all ys n (omega (arith, past))
+
+-- A member that was set where it has a place.
+pub member_set : {X : Type 0} (member : X) (index from place : ℕ) (old new : List X) → from ≤ index → place ≡ index - from → place < length old →
+    new ≡ set old place member → PlacesOne member index from old new
+member_set member index from place old new behind at within put seen base is placed =
+    let there : from ≤ length seen = omega (arith, behind, is) in
+    let n : place ≡ length (drop from seen) = omega (arith, at, is, drop_length seen from there) in
+    let fits : length (drop from seen) < length base = omega (arith, within, n, ap length placed, written_length (drop from seen) base) in
+    put ∙ ap (λ list. set list place member) placed ∙ ap (λ m. set (written (drop from seen) base) m member) n ∙
+    written_one (drop from seen) base member fits ∙ ap (λ list. written list base) (sym (drop_more seen member from there))
+
+-- One behind the room.
+pub member_behind : {X : Type 0} (member : X) (index from place : ℕ) (old : List X) → from ≤ index → place ≡ index - from → length old ≤ place →
+    PlacesOne member index from old old
+member_behind member index from place old behind at full seen base is placed =
+    let there : from ≤ length seen = omega (arith, behind, is) in
+    let past : length base ≤ length (drop from seen) =
+    omega (arith, full, at, is, drop_length seen from there, ap length placed, written_length (drop from seen) base) in
+    placed ∙ written_full (drop from seen) base member past ∙ ap (λ list. written list base) (sym (drop_more seen member from there))
+
+-- One before those that are wanted.
+pub member_before : {X : Type 0} (member : X) (index from : ℕ) (old : List X) → index < from → PlacesOne member index from old old
+member_before member index from old before seen base is placed =
+    let more : length (seen ++ member ∷ []) ≤ from = omega (arith, before, is, length-append seen (member ∷ [])) in
+    placed ∙ ap (λ list. written list base) (drop_all seen from (omega (arith, before, is)) ∙ sym (drop_all (seen ++ member ∷ []) from more))
+
+next_mapped : {X Y : Type 0} (f : X → Y) (list : List X) (n : ℕ) (x : X) → n < length list → x ≡ get_or list n x →
+    map f (take (suc n) list) ≡ map f (take n list) ++ f x ∷ []
+next_mapped f [] n x within is = absurd (omega (arith, within))
+next_mapped f (y ∷ ys) zero x within is = ap (λ z. f z ∷ []) (sym is)
+next_mapped f (y ∷ ys) (suc n) x within is = ap (λ list. f y ∷ list) (next_mapped f ys n x (omega (arith, within)) is)
+
+mapped_length : {X Y : Type 0} (f : X → Y) (list : List X) (n : ℕ) → n ≤ length list → length (map f (take n list)) ≡ n
+mapped_length f list zero within = refl
+mapped_length f [] (suc n) within = absurd (omega (arith, within))
+mapped_length f (x ∷ xs) (suc n) within = ap suc (mapped_length f xs n (omega (arith, within)))
+
+taken_all : {X : Type 0} (list : List X) (n : ℕ) → length list ≤ n → take n list ≡ list
+taken_all [] zero past = refl
+taken_all [] (suc n) past = refl
+taken_all (x ∷ xs) zero past = absurd (omega (arith, past))
+taken_all (x ∷ xs) (suc n) past = ap (λ list. x ∷ list) (taken_all xs n (omega (arith, past)))
+
+-- The next member of a list, as plain data.
+pub next_placed : {X Y : Type 0} (f : X → Y) (list : List X) (index after from : ℕ) (x : X) (y : Y) (base old new : List Y) →
+    PlacesOne y index from old new → index < length list → x ≡ get_or list index x → y ≡ f x → after ≡ suc index →
+    old ≡ written (drop from (map f (take index list))) base → new ≡ written (drop from (map f (take after list))) base
+next_placed f list index after from x y base old new one within is same next placed =
+    let few = sym (mapped_length f list index (omega (arith, within))) in
+    one (map f (take index list)) base few placed ∙ ap (λ z. written (drop from (map f (take index list) ++ z ∷ [])) base) same ∙
+    ap (λ list. written (drop from list) base) (sym (next_mapped f list index x within is) ∙ ap (λ n. map f (take n list)) (sym next))
+
+-- All of them.
+pub all_placed : {X Y : Type 0} (f : X → Y) (list : List X) (n count from : ℕ) (base new : List Y) → count ≡ length list → count ≤ n →
+    new ≡ written (drop from (map f (take n list))) base → PlacesMembers (map f list) from base count new
+all_placed f list n count from base new is end placed = (
+  is ∙ sym (ap length (ap (map f) (sym (taken_all list (length list) (omega arith)))) ∙ mapped_length f list (length list) (omega arith)),
+  placed ∙ ap (λ l. written (drop from (map f l)) base) (taken_all list n (omega (arith, is, end))),
+)
+
+-- None yet.
+pub none_placed : {X : Type 0} (from : ℕ) (base : List X) → base ≡ written (drop from []) base
+none_placed zero base = sym (written_none base)
+none_placed (suc n) base = sym (written_none base)
+
+-- The type of a select that stands by itself.
+pub lone_placed : (op : Operator) (ty : ValType) (from : ℕ) (plain : WasmType) (base new : List WasmType) → op ≡ operator.TypedSelect ty → plain ≡ type_of ty →
+    PlacesOne plain 0 from base new → AnswersMembers (types_of op) from base (Some 1) new
+lone_placed op ty from plain base new is same one =
+    let placed = one [] base refl (none_placed from base) ∙ ap (λ p. written (drop from (p ∷ [])) base) same in
+    subst (λ o. AnswersMembers (types_of o) from base (Some 1) new) (sym is) (1, refl, (refl, placed))

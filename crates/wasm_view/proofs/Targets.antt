@@ -1,0 +1,80 @@
+-- The targets of a branch table, as its bytes encode them and as an iterator answers them.
+use Rattle.std.proofs.Common.{◌≡◌, ℕ, ◌+◌, ◌-◌, ◌*◌, ◌<◌, ◌≤◌, ◌^◌, List, [], ◌∷◌, ◌++◌, Result, Ok, Err, length, map, drop, refl, sym, ap, subst, ◌∙◌, append_assoc, append-nil, length-append, arith}
+use Rattle.std.proofs.lemmas.Bool.{le-ltb, lt-ltb}
+use Rattle.wasm_instr.specs.below.bytes.error.Error.{Error}
+use Rattle.wasm_instr.specs.below.Number.{EncodesUnsigned}
+use Rattle.wasm_instr.specs.imm.Lists.{EncodesEach}
+use Rattle.wasm_instr.specs.imm.BranchTables.{before_number, with_byte, numbers_of}
+use Rattle.wasm_view.specs.Lists.{written, PlacesMembers}
+
+with_last : (byte : ℕ) (numbers : List ℕ) → byte < 128 → with_byte byte numbers ≡ byte ∷ numbers
+with_last byte [] lt = refl
+with_last byte (n ∷ numbers) lt = ap (λ t. before_number t byte n numbers) (lt-ltb byte 128 lt)
+
+with_more : (byte n : ℕ) (numbers : List ℕ) → 128 ≤ byte → with_byte byte (n ∷ numbers) ≡ (128 * n + (byte - 128)) ∷ numbers
+with_more byte n numbers le = ap (λ t. before_number t byte n numbers) (le-ltb byte 128 le)
+
+first_number : (width : ℕ) (text behind : List ℕ) (n : ℕ) → EncodesUnsigned width text n → numbers_of (text ++ behind) ≡ n ∷ numbers_of behind
+first_number width [] behind n p = absurd p
+first_number width (c ∷ []) behind n p = with_last c (numbers_of behind) p.0 ∙ ap (λ z. z ∷ numbers_of behind) (sym p.1)
+first_number width (c ∷ d ∷ text) behind n (w, le, lt, high, sum, p) =
+    let below = first_number (width - 7) (d ∷ text) behind high p in
+    let value : 128 * high + (c - 128) ≡ n = omega arith in
+    ap (with_byte c) below ∙ with_more c high (numbers_of behind) le ∙ ap (λ z. z ∷ numbers_of behind) value
+
+-- bytes that encode numbers are read back as these
+pub numbers_are : (text : List ℕ) (numbers : List ℕ) → EncodesEach (EncodesUnsigned 32) text numbers → numbers_of text ≡ numbers
+numbers_are text [] p = ap numbers_of p
+numbers_are text (n ∷ numbers) (first, behind, e, p, ps) =
+    ap numbers_of e ∙ first_number 32 first behind n p ∙ ap (λ z. n ∷ z) (numbers_are behind numbers ps)
+
+-- ---- the targets that an iterator has left, each of which it answers as `Ok`
+
+abbrev oks : List ℕ → List (Result ℕ Error)
+oks ns = map Ok ns
+
+abbrev answered : Result ℕ Error → ℕ
+answered (Ok n) = n
+answered (Err e) = 0
+
+all_answered : (ns : List ℕ) → map answered (oks ns) ≡ ns
+all_answered [] = refl
+all_answered (n ∷ ns) = ap (λ ms. n ∷ ms) (all_answered ns)
+
+pub first_answered : (old new : List ℕ) (target : Result ℕ Error) (label : ℕ) → oks old ≡ target ∷ oks new → target ≡ Ok label → old ≡ label ∷ new
+first_answered old new target label e is =
+    sym (all_answered old) ∙ ap (map answered) e ∙ ap (λ ns. answered target ∷ ns) (all_answered new) ∙ ap (λ t. answered t ∷ new) is
+
+none_answered : (old : List ℕ) → oks old ≡ [] → old ≡ []
+none_answered old e = sym (all_answered old) ∙ ap (map answered) e
+
+abbrev IsFirstOk : List (Result ℕ Error) → Type 0
+IsFirstOk (Err e ∷ rs) = ⊥
+IsFirstOk _ = Unit {0}
+
+firsts_ok : (ns : List ℕ) → IsFirstOk (oks ns)
+firsts_ok [] = tt
+firsts_ok (n ∷ ns) = tt
+
+pub never_refused : (old new : List ℕ) (target : Result ℕ Error) (e : Error) → oks old ≡ target ∷ oks new → target ≡ Err e → ⊥
+never_refused old new target e steps is = subst (λ t. IsFirstOk (t ∷ oks new)) is (subst IsFirstOk steps (firsts_ok old))
+
+-- ---- the targets that were placed, and those that are left
+
+-- One is left or more, so that the index is below the count.
+pub fits_below : (all seen old left : List ℕ) (label index count : ℕ) → old ≡ label ∷ left → all ≡ seen ++ old → index ≡ length seen → count ≡ length all →
+    count < 2 ^ 32 → index + 1 < 2 ^ 64
+fits_below all seen old left label index count is parts at n few =
+    omega (arith, at, n, few, ap length parts, ap length is, length-append seen old)
+
+pub one_fewer : (all seen old left : List ℕ) (label : ℕ) → old ≡ label ∷ left → all ≡ seen ++ old → all ≡ (seen ++ label ∷ []) ++ left
+one_fewer all seen old left label is parts = parts ∙ ap (λ list. seen ++ list) is ∙ sym (append_assoc seen (label ∷ []) left)
+
+pub one_further : (seen : List ℕ) (label index : ℕ) → index ≡ length seen → index + 1 ≡ length (seen ++ label ∷ [])
+one_further seen label index at = omega (arith, at, length-append seen (label ∷ []))
+
+pub none_left : (all seen old base new : List ℕ) (count from : ℕ) → oks old ≡ [] → all ≡ seen ++ old → count ≡ length all →
+    new ≡ written (drop from seen) base → PlacesMembers all from base count new
+none_left all seen old base new count from end parts n placed =
+    let whole : seen ≡ all = sym (append-nil seen) ∙ ap (λ list. seen ++ list) (sym (none_answered old end)) ∙ sym parts in
+    (n, placed ∙ ap (λ list. written (drop from list) base) whole)

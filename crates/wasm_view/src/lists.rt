@@ -1,0 +1,117 @@
+//! The members of the list that an operator carries, into an array.
+ghost use Rattle.std.specs.Prelude.{◌≡◌, [], ◌∷◌, ◌<◌, ◌^◌, map, length};
+ghost use Rattle.wasm_instr.specs.imm.BranchTables.{numbers_of};
+ghost use Rattle.wasm_view.specs.Members.{type_of, catch_of, handle_of};
+ghost use Rattle.wasm_view.specs.Lists.{targets_of, types_of, catches_of, handles_of, PlacesMembers, AnswersMembers, PlacesOne};
+
+use crate::members::{WasmHandler, WasmType, catch_of, handle_of, type_of};
+use wasm_instr::below::ValType;
+use wasm_instr::{BrTable, Catch, Handle, Operator};
+
+/// Places the member of this index, if it is one of those from `from` on and there is room for it.
+fn place<T: Copy>(member: T, index: usize, from: usize, out: &mut [T])
+    ensures { PlacesOne member index from out.old out.new }
+{
+    if index >= from && index - from < out.len() {
+        out[index - from] = member;
+    }
+}
+
+/// Places the targets of a branch table.
+fn place_targets(table: &BrTable<'_>, from: usize, out: &mut [u32]) -> usize
+    ensures { PlacesMembers (numbers_of table.now.targets) from out.old result out.new }
+{
+    let count = table.len() as usize;
+    let mut index: usize = 0;
+    for target in table.targets() {
+        if let Ok(label) = target {
+            place(label, index, from, out);
+            index += 1;
+        }
+    }
+    count
+}
+
+/// Places types.
+fn place_types(types: &[ValType], from: usize, out: &mut [WasmType]) -> usize
+    ensures { PlacesMembers (map type_of types.now) from out.old result out.new }
+{
+    let count = types.len();
+    'types: for index in 0..count {
+        place(type_of(&types[index]), index, from, out);
+    }
+    count
+}
+
+/// Places catches.
+fn place_catches(catches: &[Catch], from: usize, out: &mut [WasmHandler]) -> usize
+    ensures { PlacesMembers (map catch_of catches.now) from out.old result out.new }
+{
+    let count = catches.len();
+    'catches: for index in 0..count {
+        place(catch_of(&catches[index]), index, from, out);
+    }
+    count
+}
+
+/// Places clauses.
+fn place_handles(handles: &[Handle], from: usize, out: &mut [WasmHandler]) -> usize
+    ensures { PlacesMembers (map handle_of handles.now) from out.old result out.new }
+{
+    let count = handles.len();
+    'handles: for index in 0..count {
+        place(handle_of(&handles[index]), index, from, out);
+    }
+    count
+}
+
+/// The targets of a `br_table` from this index on, without the default one, as many as there is room
+/// for; and how many it has. `None` of all other operators, and nothing changes.
+pub fn targets_of(op: &Operator<'_>, from: usize, out: &mut [u32]) -> Option<usize>
+    ensures { AnswersMembers (targets_of op.now) from out.old result out.new }
+{
+    match op {
+        Operator::BrTable { targets } => Some(place_targets(targets, from, out)),
+        _ => None,
+    }
+}
+
+/// The types of a `select` that has them, likewise.
+pub fn types_of(op: &Operator<'_>, from: usize, out: &mut [WasmType]) -> Option<usize>
+    ensures { AnswersMembers (types_of op.now) from out.old result out.new }
+{
+    match op {
+        Operator::TypedSelect { ty } => {
+            place(type_of(ty), 0, from, out);
+            Some(1)
+        }
+        Operator::TypedSelectMulti { tys } => Some(place_types(tys.as_slice(), from, out)),
+        _ => None,
+    }
+}
+
+/// The catches of a `try_table`, likewise.
+pub fn catches_of(op: &Operator<'_>, from: usize, out: &mut [WasmHandler]) -> Option<usize>
+    ensures { AnswersMembers (catches_of op.now) from out.old result out.new }
+{
+    match op {
+        Operator::TryTable { try_table } => {
+            Some(place_catches(try_table.catches.as_slice(), from, out))
+        }
+        _ => None,
+    }
+}
+
+/// The clauses of a `resume`, a `resume_throw` or a `resume_throw_ref`, likewise.
+pub fn handles_of(op: &Operator<'_>, from: usize, out: &mut [WasmHandler]) -> Option<usize>
+    ensures { AnswersMembers (handles_of op.now) from out.old result out.new }
+{
+    match op {
+        Operator::Resume { resume_table, .. }
+        | Operator::ResumeThrow { resume_table, .. }
+        | Operator::ResumeThrowRef { resume_table, .. } => {
+            Some(place_handles(resume_table.handlers.as_slice(), from, out))
+        }
+        _ => None,
+    }
+}
