@@ -1,6 +1,6 @@
 """The plain data of operators (crates/wasm_view): the number of each, and the fields of each shape."""
 
-from table import ENUMS, HEAD, PREFIXES, held
+from table import ENUMS, HEAD, PREFIXES, SHARED, held
 
 # The function of src/shapes.rt that makes the plain data of operators with these immediates.
 SHAPES = {
@@ -31,6 +31,8 @@ SHAPES = {
     ("unsigned", "resume_table"): "resume",
     ("unsigned", "unsigned", "resume_table"): "resume_throw",
 }
+# The number of the shape of a select with one type.
+ONE_TYPE = 19
 # The types that are passed by reference.
 BORROWED = ("BlockType", "ValType", "BrTable<'a>", "SelectTypes", "TryTable", "ResumeTable")
 # The names that the fields of a shape are bound to, one after another.
@@ -177,10 +179,92 @@ def views_source(ops):
     return "\n".join(lines) + "\n"
 
 
+# How many names a function tells.
+NAMES_EACH = 48
+
+
+def names_in_parts(ops):
+    """The names by their numbers, in parts, each with a name of its own. Of the two that share a number the first stands there."""
+    parts = []
+    for group in ["Own", *[enum.group for enum in held()]]:
+        those = [op for op in ops if op.group == group and op.name != SHARED[1]]
+        for at in range(0, len(those), NAMES_EACH):
+            parts.append((f"{group.lower()}_names_{at // NAMES_EACH}", those[at : at + NAMES_EACH]))
+    return parts
+
+
+def names_spec(ops):
+    """The definitions of the names."""
+    parts = names_in_parts(ops)
+    lines = [
+        f"-- {HEAD}",
+        "-- The names of operators by their numbers.",
+        "-- WebAssembly Core Specification 3.0: Appendix, Index of Instructions.",
+        "use Rattle.std.specs.Prelude.{◌==◌, ℕ, List, [], codes, if◌then◌else◌}",
+        "",
+        "-- The name of the operator of this number, or nothing.",
+    ]
+    for at in range(len(parts) - 1, -1, -1):
+        name, those = parts[at]
+        lines += [f"abbrev pub {name} : ℕ → List ℕ", f"{name} number ="]
+        lines += [f'    if number == 0x{number(op):x} then codes "{op.name}" else (' for op in those]
+        behind = f"{parts[at + 1][0]} number" if at + 1 < len(parts) else "[]"
+        lines[-1] = lines[-1][: -len("(")] + "(" + behind + ")" * len(those)
+        lines.append("")
+    first, second = [next(op for op in ops if op.name == name) for name in SHARED]
+    lines += [
+        "-- The same of an operator's plain data. Two operators have one number, and the first of them has a shape of its own.",
+        "abbrev pub name_at : ℕ → ℕ → List ℕ",
+        "name_at number shape =",
+        f'    if number == 0x{number(first):x} then (if shape == {ONE_TYPE} then codes "{first.name}" else codes "{second.name}") else {parts[0][0]} number',
+    ]
+    return "\n".join(lines) + "\n"
+
+
+def names_source(ops):
+    """The file of the names."""
+    parts = names_in_parts(ops)
+    first, second = [next(op for op in ops if op.name == name) for name in SHARED]
+    words = ", ".join(sorted(name for name, _ in parts))
+    lines = [
+        f"//! The name of each operator, by its number. {HEAD}",
+        "ghost use Rattle.std.specs.Prelude.{◌≡◌};",
+        f"ghost use Rattle.wasm_view.specs.Names.{{{words}, name_at}};",
+        "",
+        "/// The name of the operator of this number, which is the subopcode and 65536 times the prefix byte",
+        "/// where it has one, and of this shape; nothing where the number is that of none.",
+        "pub fn name_at(number: u32, shape: u8) -> &'static str",
+        "    ensures { result.now ≡ name_at number shape }",
+        "{",
+        f"if number == 0x{number(first):x} {{",
+        f'return if shape == {ONE_TYPE} {{ "{first.name}" }} else {{ "{second.name}" }};',
+        "}",
+        f"{parts[0][0]}(number)",
+        "}",
+    ]
+    for at, (name, those) in enumerate(parts):
+        behind = f"{parts[at + 1][0]}(number)" if at + 1 < len(parts) else '""'
+        lines += [
+            "",
+            "/// The name of one of these, or of those behind them.",
+            f"fn {name}(number: u32) -> &'static str",
+            f"    ensures {{ result.now ≡ {name} number }}",
+            "{",
+            "match number {",
+            *[f'0x{number(op):x} => "{op.name}",' for op in those],
+            f"_ => {behind},",
+            "}",
+            "}",
+        ]
+    return "\n".join(lines) + "\n"
+
+
 def plain_files(ops):
     """The files of the crate that are lists over the operators which have a shape."""
     ops = [op for op in ops if kinds(op) in SHAPES]
     return {
+        "crates/wasm_view/src/names.rt": names_source(ops),
+        "crates/wasm_view/specs/Names.antt": names_spec(ops),
         "crates/wasm_view/src/opcodes.rt": opcodes_source(ops),
         "crates/wasm_view/src/views.rt": views_source(ops),
     }

@@ -3,3 +3,4 @@ pub mod Immediates
 pub mod Determined
 pub mod Placed
 pub mod Targets
+pub mod Named

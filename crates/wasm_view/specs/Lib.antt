@@ -3,3 +3,4 @@ pub mod View
 pub mod Members
 pub mod Determined
 pub mod Lists
+pub mod Names

@@ -5,6 +5,7 @@
 pub mod laws;
 mod lists;
 mod members;
+mod names;
 mod numbers;
 mod opcodes;
 mod shapes;
@@ -13,5 +14,6 @@ mod views;
 
 pub use lists::{catches_of, handles_of, targets_of, types_of};
 pub use members::{WasmHandler, WasmType, catch_of, handle_of, type_of};
+pub use names::name_at;
 pub use view::WasmOperator;
 pub use views::view_of;
