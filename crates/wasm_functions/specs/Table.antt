@@ -1,6 +1,7 @@
 -- What the sections of a module tell of its functions.
 -- WebAssembly Core Specification 3.0, Binary Format, Modules: Indices, Import Section, Function Section.
-use Rattle.std.specs.Prelude.{◌≡◌, ◌==◌, ◌+◌, ◌^◌, ◌-◌, ℕ, List, [], ◌∷◌, Option, Some, None, min, if◌then◌else◌}
+use Rattle.std.specs.Prelude.{◌≡◌, ◌==◌, ◌+◌, ◌^◌, ◌-◌, ◌<◌, ◌≤◌, ℕ, List, [], ◌∷◌, Option, Some, None, min, length, slice_get, slice_index_or, if◌then◌else◌}
+use Rattle.std.specs.Str.{is_utf8}
 use Rattle.wasm_module.specs.below.Number.{EncodesUnsigned}
 use Rattle.wasm_module.specs.below.Source.{Reader}
 use Rattle.wasm_module.specs.Imports.{ImportParts, EncodesImport}
@@ -41,3 +42,24 @@ pub record IsTableOf (whole : Reader) (t : Table) : Type 0 where
 -- The index of the own function at a place: those that are imported come first.
 abbrev pub index_of : Table → ℕ → ℕ
 index_of t place = min (t.imported + place) (2 ^ 32 - 1)
+
+-- The function with this index is one of the module's own.
+abbrev pub IsOwn : Table → ℕ → Type 0
+IsOwn t index = (t.imported ≤ index) × (index < t.imported + length t.types)
+
+-- How many parameters a type has, where it is known; else none.
+abbrev pub parameters_of_type : List ℕ → Option ℕ → ℕ
+parameters_of_type parameters None = 0
+parameters_of_type parameters (Some ty) = slice_index_or parameters ty 0
+
+-- How many parameters the own function at a place has: those of its type.
+abbrev pub parameters_at : Table → ℕ → ℕ
+parameters_at t place = parameters_of_type t.parameters (slice_get t.types place)
+
+-- A name as text: it is empty where its bytes are no UTF-8.
+abbrev pub text_of_name : List ℕ → List ℕ
+text_of_name name = if is_utf8 name then name else []
+
+-- The name of the own function at a place, which is empty where it has none.
+abbrev pub name_at : Table → ℕ → List ℕ
+name_at t place = text_of_name (slice_index_or t.names place [])

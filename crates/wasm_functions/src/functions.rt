@@ -1,7 +1,7 @@
 //! The functions of a module.
-ghost use Rattle.std.specs.Prelude.{◌≡◌, IfOk};
+ghost use Rattle.std.specs.Prelude.{◌≡◌, ◌↔◌, IsTrue, IfOk};
 ghost use Rattle.wasm_module.specs.below.Source.{reader_of};
-ghost use Rattle.wasm_functions.specs.Table.{CountsImports, ListsTypes, IsTableOf, index_of};
+ghost use Rattle.wasm_functions.specs.Table.{CountsImports, ListsTypes, IsTableOf, IsOwn, index_of, parameters_at, text_of_name, name_at};
 
 use crate::fault::ModuleFault;
 use crate::imports::imported_functions;
@@ -118,12 +118,16 @@ impl<'a> Functions<'a> {
     }
 
     /// Whether the function with this index is one of the module's own.
-    pub fn has(&self, index: u32) -> bool {
+    pub fn has(&self, index: u32) -> bool
+        ensures { IsTrue result ↔ IsOwn self.now index }
+    {
         index >= self.imported && ((index - self.imported) as usize) < self.types.len()
     }
 
     /// How many parameters it has, where its type is known and that of a function.
-    pub fn parameters(&self, place: u32) -> u32 {
+    pub fn parameters(&self, place: u32) -> u32
+        ensures { result ≡ parameters_at self.now place }
+    {
         match self.types.get(place as usize) {
             Some(ty) => self.parameters.get(*ty as usize).copied().unwrap_or(0),
             None => 0,
@@ -131,7 +135,9 @@ impl<'a> Functions<'a> {
     }
 
     /// Its name, which is empty where it has none, or one that is no text.
-    pub fn name(&self, place: u32) -> &'a str {
+    pub fn name(&self, place: u32) -> &'a str
+        ensures { result.now ≡ name_at self.now place }
+    {
         match self.names.get(place as usize) {
             Some(name) => text_of(name),
             None => "",
@@ -139,9 +145,15 @@ impl<'a> Functions<'a> {
     }
 }
 
+#[tactic(auto, using(crate::proofs::Texts::name_is_text, crate::proofs::Texts::name_is_none))]
 /// The text of a name, which is empty where its bytes are none.
-fn text_of<'a>(name: &'a [u8]) -> &'a str {
-    from_utf8(name).unwrap_or("")
+fn text_of<'a>(name: &'a [u8]) -> &'a str
+    ensures { result.now ≡ text_of_name name.now }
+{
+    match from_utf8(name) {
+        Ok(text) => text,
+        Err(_) => "",
+    }
 }
 
 /// The name of a module, which is empty where it has none, or one that is no text.
