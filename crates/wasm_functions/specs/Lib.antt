@@ -1,4 +1,6 @@
 pub mod Sections
 pub mod Items
+pub mod Parameters
+pub mod Names
 pub mod Table
 pub use Rattle.wasm_module.specs as of_module

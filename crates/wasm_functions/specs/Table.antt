@@ -1,11 +1,13 @@
 -- What the sections of a module tell of its functions.
 -- WebAssembly Core Specification 3.0, Binary Format, Modules: Indices, Import Section, Function Section.
-use Rattle.std.specs.Prelude.{◌≡◌, ◌==◌, ◌+◌, ◌^◌, ◌-◌, ◌<◌, ◌≤◌, ℕ, List, [], ◌∷◌, Option, Some, None, min, length, slice_get, slice_index_or, if◌then◌else◌}
+use Rattle.std.specs.Prelude.{◌≡◌, ◌==◌, ◌+◌, ◌^◌, ◌-◌, ◌<◌, ◌≤◌, ℕ, List, [], ◌∷◌, Option, Some, None, min, length, replicate, slice_get, slice_index_or, if◌then◌else◌}
 use Rattle.std.specs.Str.{is_utf8}
 use Rattle.wasm_module.specs.below.Number.{EncodesUnsigned}
 use Rattle.wasm_module.specs.below.Source.{Reader}
 use Rattle.wasm_module.specs.Imports.{ImportParts, EncodesImport}
 use Rattle.wasm_functions.specs.Items.{IsList}
+use Rattle.wasm_functions.specs.Names.{NamesExported, NamesGiven, HasNames, GivesModule}
+use Rattle.wasm_functions.specs.Parameters.{CountsParameters}
 use Rattle.wasm_functions.specs.Sections.{IsSection}
 
 -- How many of these imports are functions.
@@ -30,7 +32,7 @@ abbrev pub ListsTypes : Option Reader → List ℕ → Type 0
 ListsTypes None types = types ≡ []
 ListsTypes (Some contents) types = IsList (EncodesUnsigned 32) contents types
 
--- The imports and the types of a module's functions are these.
+-- This is what the sections of a module tell of its functions. Of two names that a function has, that of the section of names is kept.
 pub record IsTableOf (whole : Reader) (t : Table) : Type 0 where
   pub imports : Option Reader
   pub section_of_imports : IsSection whole 2 imports
@@ -38,6 +40,16 @@ pub record IsTableOf (whole : Reader) (t : Table) : Type 0 where
   pub functions : Option Reader
   pub section_of_functions : IsSection whole 3 functions
   pub types : ListsTypes functions t.types
+  pub signatures : Option Reader
+  pub section_of_types : IsSection whole 1 signatures
+  pub parameters : CountsParameters signatures t.parameters
+  pub exports : Option Reader
+  pub section_of_exports : IsSection whole 7 exports
+  pub exported : List (List ℕ)
+  pub names_of_exports : NamesExported t.imported exports (replicate (length t.types) []) exported
+  pub given : Option Reader
+  pub section_of_names : HasNames whole given
+  pub names : NamesGiven t.imported given exported t.names
 
 -- The index of the own function at a place: those that are imported come first.
 abbrev pub index_of : Table → ℕ → ℕ
@@ -63,3 +75,7 @@ text_of_name name = if is_utf8 name then name else []
 -- The name of the own function at a place, which is empty where it has none.
 abbrev pub name_at : Table → ℕ → List ℕ
 name_at t place = text_of_name (slice_index_or t.names place [])
+
+-- The name of a module as text, which is empty where it has none.
+abbrev pub NamesModule : Reader → List ℕ → Type 0
+NamesModule whole text = (found : Option Reader) × HasNames whole found × (name : List ℕ) × GivesModule found name × (text ≡ text_of_name name)

@@ -1,7 +1,11 @@
 //! The functions of a module.
-ghost use Rattle.std.specs.Prelude.{◌≡◌, ◌↔◌, IsTrue, IfOk};
+ghost use Rattle.std.specs.Prelude.{◌≡◌, ◌↔◌, [], List, replicate, IsTrue, IfOk};
 ghost use Rattle.wasm_module.specs.below.Source.{reader_of};
-ghost use Rattle.wasm_functions.specs.Table.{CountsImports, ListsTypes, IsTableOf, IsOwn, index_of, parameters_at, text_of_name, name_at};
+ghost use Rattle.wasm_module.specs.Module.{SectionParts};
+ghost use Rattle.wasm_functions.specs.Names.{bytes_of, NamesExported, NamesGiven};
+ghost use Rattle.wasm_functions.specs.Parameters.{CountsParameters};
+ghost use Rattle.wasm_functions.specs.Sections.{IsModule};
+ghost use Rattle.wasm_functions.specs.Table.{CountsImports, ListsTypes, IsTableOf, IsOwn, index_of, parameters_at, text_of_name, name_at, NamesModule};
 
 use crate::fault::ModuleFault;
 use crate::imports::imported_functions;
@@ -32,16 +36,18 @@ pub struct Functions<'a> {
 }
 
 impl<'a> Model for Functions<'a> {
-    ghost use Rattle.std.specs.Prelude.{map};
+    ghost use Rattle.wasm_functions.specs.Names.{bytes_of};
     ghost use Rattle.wasm_functions.specs.Table.{Table};
 
     ghost Value = { Table };
 
-    ghost view = { λ f. record { imported = f.imported; parameters = f.parameters.items; types = f.types.items; names = map (λ name. name.now) f.names.items } };
+    ghost view = { λ f. record { imported = f.imported; parameters = f.parameters.items; types = f.types.items; names = bytes_of f.names.items } };
 }
 
 /// A name for each function, which has no byte.
-fn no_names<'a>(alloc: Global, count: usize) -> Result<Vec<&'a [u8]>, ModuleFault> {
+fn no_names<'a>(alloc: Global, count: usize) -> Result<Vec<&'a [u8]>, ModuleFault>
+    ensures { IfOk result (λ names. bytes_of names.items ≡ replicate count []) }
+{
     let mut names: Vec<&'a [u8]> = Vec::new(alloc);
     for _function in 0..count {
         if names.push(&[]).is_err() {
@@ -52,10 +58,9 @@ fn no_names<'a>(alloc: Global, count: usize) -> Result<Vec<&'a [u8]>, ModuleFaul
 }
 
 /// How many parameters each type has, where a section of types is there.
-fn parameters_of(
-    alloc: Global,
-    contents: Option<BinaryReader<'_>>,
-) -> Result<Vec<u32>, ModuleFault> {
+fn parameters_of(alloc: Global, contents: Option<BinaryReader<'_>>) -> Result<Vec<u32>, ModuleFault>
+    ensures { IfOk result (λ counts. CountsParameters contents.entry counts.items) }
+{
     match contents {
         Some(contents) => parameter_counts(alloc, contents),
         None => Ok(Vec::new(alloc)),
@@ -82,6 +87,30 @@ fn types_of(alloc: Global, contents: Option<BinaryReader<'_>>) -> Result<Vec<u32
     }
 }
 
+/// Names the functions that are exported, where a section of exports is there.
+fn exported<'a>(
+    contents: Option<BinaryReader<'a>>,
+    imported: u32,
+    names: &mut Vec<&'a [u8]>,
+) -> Result<(), ModuleFault>
+    ensures { IfOk result (λ done. NamesExported imported contents.entry (bytes_of names.old.items) (bytes_of names.new.items)) }
+{
+    match contents {
+        Some(contents) => name_exports(contents, imported, names),
+        None => Ok(()),
+    }
+}
+
+/// Names the functions that a section of names names, where one is there.
+fn given<'a>(contents: Option<BinaryReader<'a>>, imported: u32, names: &mut Vec<&'a [u8]>)
+    ensures { NamesGiven imported contents.entry (bytes_of names.old.items) (bytes_of names.new.items) }
+{
+    match contents {
+        Some(contents) => name_functions(contents, imported, names),
+        None => {}
+    }
+}
+
 impl<'a> Functions<'a> {
     /// What the sections of a module tell. Of two names that a function has, that of the custom
     /// section is kept; of two exports, the last. A custom section that is refused names no more.
@@ -96,12 +125,12 @@ impl<'a> Functions<'a> {
         let imported = imports_of(find_section(features, bytes, IMPORTS)?)?;
         let types = types_of(alloc, find_section(features, bytes, FUNCTIONS)?)?;
         let mut names = no_names(alloc, types.len())?;
-        if let Some(contents) = find_section(features, bytes, EXPORTS)? {
-            name_exports(contents, imported, &mut names)?;
-        }
-        if let Some(contents) = find_names(features, bytes)? {
-            let _ = name_functions(contents, imported, &mut names);
-        }
+        exported(
+            find_section(features, bytes, EXPORTS)?,
+            imported,
+            &mut names,
+        )?;
+        given(find_names(features, bytes)?, imported, &mut names);
         Ok(Functions {
             imported,
             parameters,
@@ -157,12 +186,13 @@ fn text_of<'a>(name: &'a [u8]) -> &'a str
 }
 
 /// The name of a module, which is empty where it has none, or one that is no text.
-pub fn module_name<'a>(features: WasmFeatures, bytes: &'a [u8]) -> &'a str {
+pub fn module_name<'a>(features: WasmFeatures, bytes: &'a [u8]) -> &'a str
+    ensures { (sections : List SectionParts) → IsModule (reader_of features 0 bytes.now) sections
+        → NamesModule (reader_of features 0 bytes.now) result.now }
+{
     match find_names(features, bytes) {
-        Ok(Some(contents)) => match name_of_module(contents) {
-            Ok(name) => text_of(name),
-            Err(_) => "",
-        },
-        _ => "",
+        Ok(Some(contents)) => text_of(name_of_module(contents)),
+        Ok(None) => "",
+        Err(_) => "",
     }
 }

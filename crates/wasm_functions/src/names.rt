@@ -1,7 +1,12 @@
 //! The names of functions: those under which they are exported, and those of the custom section `name`.
+ghost use Rattle.std.specs.Prelude.{◌≡◌, ◌∷◌, [], List, Some, IfOk};
+ghost use Rattle.wasm_module.specs.Exports.{ExportParts, EncodesExport};
+ghost use Rattle.wasm_module.specs.Names.{NameParts, EncodesNameAssociation};
+ghost use Rattle.wasm_functions.specs.Items.{IsList};
+ghost use Rattle.wasm_functions.specs.Names.{bytes_of, with_name, with_exports, with_names, ReadsItems, GivesNames, GivesModule};
 
 use crate::fault::ModuleFault;
-use wasm_module::below::{BinaryReader, Result};
+use wasm_module::below::BinaryReader;
 use wasm_module::{Export, Name, NameAssociation, read_section};
 
 /// The byte of the kind of functions.
@@ -14,7 +19,9 @@ const MODULE_NAME: u8 = 0;
 const FUNCTION_NAMES: u8 = 1;
 
 /// Names the function with this index, where it is one of the module's own.
-fn set_name<'a>(names: &mut Vec<&'a [u8]>, imported: u32, index: u32, name: &'a [u8]) {
+fn set_name<'a>(names: &mut Vec<&'a [u8]>, imported: u32, index: u32, name: &'a [u8])
+    ensures { bytes_of names.new.items ≡ with_name imported (bytes_of names.old.items) index name.now }
+{
     if index < imported {
         return;
     }
@@ -24,23 +31,32 @@ fn set_name<'a>(names: &mut Vec<&'a [u8]>, imported: u32, index: u32, name: &'a 
     }
 }
 
+/// Names the function that an export exports, where it is one.
+fn set_exported<'a>(names: &mut Vec<&'a [u8]>, imported: u32, export: &Export<'a>)
+    ensures { bytes_of names.new.items ≡ with_exports imported (bytes_of names.old.items) (export.now ∷ []) }
+{
+    if export.kind() == FUNCTION {
+        set_name(names, imported, export.index(), export.name());
+    }
+}
+
 /// Names the functions that a section of exports exports. Of two names the last one is kept.
 pub fn name_exports<'a>(
-    mut contents: BinaryReader<'a>,
+    contents: BinaryReader<'a>,
     imported: u32,
     names: &mut Vec<&'a [u8]>,
-) -> std::result::Result<(), ModuleFault> {
-    let count = match contents.read_var_u32() {
+) -> Result<(), ModuleFault>
+    ensures { IfOk result (λ done. (exports : List ExportParts) × IsList EncodesExport contents.entry exports
+        × (bytes_of names.new.items ≡ with_exports imported (bytes_of names.old.items) exports)) }
+{
+    let mut reader = contents;
+    let count = match reader.read_var_u32() {
         Ok(count) => count,
         Err(e) => return Err(ModuleFault::from(e)),
     };
     for _export in 0..count {
-        match Export::read(&mut contents) {
-            Ok(export) => {
-                if export.kind() == FUNCTION {
-                    set_name(names, imported, export.index(), export.name());
-                }
-            }
+        match Export::read(&mut reader) {
+            Ok(export) => set_exported(names, imported, &export),
             Err(e) => return Err(ModuleFault::from(e)),
         }
     }
@@ -48,58 +64,55 @@ pub fn name_exports<'a>(
 }
 
 /// Names the functions of a subsection of names, up to a refusal.
-fn name_associations<'a>(
-    mut contents: BinaryReader<'a>,
-    imported: u32,
-    names: &mut Vec<&'a [u8]>,
-) -> Result<()> {
-    let count = match contents.read_var_u32() {
+fn name_associations<'a>(contents: BinaryReader<'a>, imported: u32, names: &mut Vec<&'a [u8]>)
+    ensures { (given : List NameParts) × ReadsItems EncodesNameAssociation contents.entry given
+        × (bytes_of names.new.items ≡ with_names imported (bytes_of names.old.items) given) }
+{
+    let mut reader = contents;
+    let count = match reader.read_var_u32() {
         Ok(count) => count,
-        Err(e) => return Err(e),
+        Err(_) => return,
     };
     for _name in 0..count {
-        match NameAssociation::read(&mut contents) {
+        match NameAssociation::read(&mut reader) {
             Ok(named) => set_name(names, imported, named.index(), named.name()),
-            Err(e) => return Err(e),
+            Err(_) => return,
         }
     }
-    Ok(())
 }
 
 /// Names the functions that the custom section `name` names, up to a refusal.
-pub fn name_functions<'a>(
-    mut contents: BinaryReader<'a>,
-    imported: u32,
-    names: &mut Vec<&'a [u8]>,
-) -> Result<()> {
-    let bytes = contents.bytes_remaining();
-    for _section in 0..bytes {
-        if contents.eof() {
-            return Ok(());
-        }
-        match read_section(&mut contents) {
-            Ok(section) => {
-                if section.id() == FUNCTION_NAMES {
-                    return name_associations(section.contents(), imported, names);
-                }
-            }
-            Err(e) => return Err(e),
+pub fn name_functions<'a>(contents: BinaryReader<'a>, imported: u32, names: &mut Vec<&'a [u8]>)
+    ensures { (given : List NameParts) × GivesNames contents.entry given
+        × (bytes_of names.new.items ≡ with_names imported (bytes_of names.old.items) given) }
+{
+    let mut reader = contents;
+    'sections: while !reader.eof() {
+        let section = match read_section(&mut reader) {
+            Ok(section) => section,
+            Err(_) => return,
+        };
+        if section.id() == FUNCTION_NAMES {
+            name_associations(section.contents(), imported, names);
+            return;
         }
     }
-    Ok(())
 }
 
-/// The name of the module, where the custom section `name` begins with it.
-pub fn name_of_module<'a>(mut contents: BinaryReader<'a>) -> Result<&'a [u8]> {
-    let section = match read_section(&mut contents) {
+/// The name of the module, where the custom section `name` begins with it; else none.
+pub fn name_of_module<'a>(contents: BinaryReader<'a>) -> &'a [u8]
+    ensures { GivesModule (Some contents.entry) result.now }
+{
+    let mut reader = contents;
+    let section = match read_section(&mut reader) {
         Ok(section) => section,
-        Err(e) => return Err(e),
+        Err(_) => return &[],
     };
     if section.id() != MODULE_NAME {
-        return Ok(&[]);
+        return &[];
     }
     match Name::read(&mut section.contents()) {
-        Ok(name) => Ok(name.bytes()),
-        Err(e) => Err(e),
+        Ok(name) => name.bytes(),
+        Err(_) => &[],
     }
 }

@@ -1,16 +1,22 @@
 //! The sections of a module.
-ghost use Rattle.std.specs.Prelude.{◌≡◌, IfOk};
-ghost use Rattle.wasm_module.specs.below.Source.{reader_of};
-ghost use Rattle.wasm_functions.specs.Sections.{BeginsModule, IsSection, or_first};
+ghost use Rattle.std.specs.Prelude.{◌≡◌, ◌++◌, ◌∷◌, [], List, IfOk, IfErr, MatchOption};
+ghost use Rattle.wasm_module.specs.below.Source.{Reader, reader_of};
+ghost use Rattle.wasm_module.specs.Module.{SectionParts};
+ghost use Rattle.wasm_functions.specs.Names.{IsNames, LastNames, HasNames};
+ghost use Rattle.wasm_functions.specs.Sections.{BeginsModule, IsModule, IsSection, or_first};
 
 use crate::fault::ModuleFault;
+use wasm_module::below::byte_laws::{fixed_numbers, unsigned_numbers};
 use wasm_module::below::{BinaryReader, WasmFeatures};
+use wasm_module::module_laws::names;
 use wasm_module::{CustomSection, PreambleKind, Section, read_preamble, read_section};
 
 /// A reader of a module's sections, behind its preamble.
 fn open_module<'a>(features: WasmFeatures, bytes: &'a [u8]) -> Result<BinaryReader<'a>, ModuleFault>
-    ensures { IfOk result (λ behind. BeginsModule (reader_of features 0 bytes.now) behind) }
+    ensures ok { IfOk result (λ behind. BeginsModule (reader_of features 0 bytes.now) behind) }
+    ensures refused { IfErr result (λ fault. (behind : Reader) → BeginsModule (reader_of features 0 bytes.now) behind → ⊥) }
 {
+    fixed_numbers();
     let mut reader = BinaryReader::new_features(bytes, 0, features);
     let preamble = match read_preamble(&mut reader) {
         Ok(preamble) => preamble,
@@ -51,9 +57,15 @@ pub fn find_section<'a>(
     bytes: &'a [u8],
     id: u8,
 ) -> Result<Option<BinaryReader<'a>>, ModuleFault>
-    ensures { IfOk result (λ found. IsSection (reader_of features 0 bytes.now) id found) }
+    ensures ok { IfOk result (λ found. IsSection (reader_of features 0 bytes.now) id found) }
+    ensures refused { IfErr result (λ fault. (sections : List SectionParts) → IsModule (reader_of features 0 bytes.now) sections → ⊥) }
 {
-    let mut reader = open_module(features, bytes)?;
+    unsigned_numbers();
+    fixed_numbers();
+    let mut reader = match open_module(features, bytes) {
+        Ok(reader) => reader,
+        Err(fault) => return Err(fault),
+    };
     let mut found = None;
     'sections: while !reader.eof() {
         let section = match read_section(&mut reader) {
@@ -66,7 +78,10 @@ pub fn find_section<'a>(
 }
 
 /// The contents of a custom section behind its name, where that is `name`.
-fn names_of<'a>(section: &Section<'a>) -> Option<BinaryReader<'a>> {
+fn names_of<'a>(section: &Section<'a>) -> Option<BinaryReader<'a>>
+    ensures { MatchOption result ((contents : Reader) → IsNames section.now contents → ⊥) (λ contents. IsNames section.now contents) }
+{
+    names();
     if section.id() != 0 {
         return None;
     }
@@ -82,27 +97,39 @@ fn names_of<'a>(section: &Section<'a>) -> Option<BinaryReader<'a>> {
     }
 }
 
+/// The contents of the section where it is one of names, or else what was found.
+fn or_last<'a>(found: Option<BinaryReader<'a>>, section: &Section<'a>) -> Option<BinaryReader<'a>>
+    ensures { (sections : List SectionParts) → LastNames sections found.entry → LastNames (sections ++ section.now ∷ []) result }
+{
+    match names_of(section) {
+        Some(names) => Some(names),
+        None => found,
+    }
+}
+
 /// The contents of a module's last custom section of names, where there is one.
 ///
 /// Refused as `find_section`.
 pub fn find_names<'a>(
     features: WasmFeatures,
     bytes: &'a [u8],
-) -> Result<Option<BinaryReader<'a>>, ModuleFault> {
-    let mut reader = open_module(features, bytes)?;
+) -> Result<Option<BinaryReader<'a>>, ModuleFault>
+    ensures ok { IfOk result (λ found. HasNames (reader_of features 0 bytes.now) found) }
+    ensures refused { IfErr result (λ fault. (sections : List SectionParts) → IsModule (reader_of features 0 bytes.now) sections → ⊥) }
+{
+    unsigned_numbers();
+    fixed_numbers();
+    let mut reader = match open_module(features, bytes) {
+        Ok(reader) => reader,
+        Err(fault) => return Err(fault),
+    };
     let mut found = None;
-    for _section in 0..bytes.len() {
-        if reader.eof() {
-            return Ok(found);
-        }
-        match read_section(&mut reader) {
-            Ok(section) => {
-                if let Some(names) = names_of(&section) {
-                    found = Some(names);
-                }
-            }
+    'customs: while !reader.eof() {
+        let section = match read_section(&mut reader) {
+            Ok(section) => section,
             Err(e) => return Err(ModuleFault::Refused(e)),
-        }
+        };
+        found = or_last(found, &section);
     }
     Ok(found)
 }

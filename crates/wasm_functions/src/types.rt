@@ -1,41 +1,73 @@
 //! The types of functions.
-ghost use Rattle.std.specs.Prelude.{IfOk};
+ghost use Rattle.std.specs.Prelude.{◌≡◌, ◌++◌, List, length, map, IfOk};
 ghost use Rattle.wasm_module.specs.below.Number.{EncodesUnsigned};
-ghost use Rattle.wasm_functions.specs.Items.{IsList};
+ghost use Rattle.wasm_module.specs.Types.{EncodesSubType};
+ghost use Rattle.wasm_module.specs.declared.composite.CompositeType.{CompositeType};
+ghost use Rattle.wasm_functions.specs.Items.{IsList, ItemsStand};
+ghost use Rattle.wasm_functions.specs.Parameters.{parameter_count, parameters_in, AreTypes};
 
 use crate::fault::ModuleFault;
 use std::alloc::Global;
 use wasm_module::below::BinaryReader;
 use wasm_module::{CompositeType, read_group_len};
 
-/// How many parameters each of this many types has, none of one that is no function's.
+/// How many parameters a type has, none where it is no function's.
+fn parameter_count(ty: CompositeType) -> u32
+    ensures { result ≡ parameter_count ty }
+{
+    match ty {
+        CompositeType::Function { parameters, .. } => parameters,
+        _ => 0,
+    }
+}
+
+/// How many parameters each of this many types has.
 fn read_group(
     reader: &mut BinaryReader<'_>,
     len: u32,
     counts: &mut Vec<u32>,
-) -> Result<(), ModuleFault> {
+) -> Result<(), ModuleFault>
+    ensures { IfOk result (λ done. (types : List CompositeType) × (length types ≡ len) × ItemsStand EncodesSubType reader.old types reader.new
+        × (counts.new.items ≡ counts.old.items ++ map parameter_count types)) }
+{
     for _ty in 0..len {
         let offset = reader.original_position();
-        let parameters = match CompositeType::read(reader)? {
-            CompositeType::Function { parameters, .. } => parameters,
-            CompositeType::Other(kind) => return Err(ModuleFault::TypeKind(kind, offset)),
-            _ => 0,
+        let ty = match CompositeType::read(reader) {
+            Ok(ty) => ty,
+            Err(e) => return Err(ModuleFault::from(e)),
         };
-        counts.push(parameters)?;
+        if let CompositeType::Other(kind) = ty {
+            return Err(ModuleFault::TypeKind(kind, offset));
+        }
+        if counts.push(parameter_count(ty)).is_err() {
+            return Err(ModuleFault::Memory);
+        }
     }
     Ok(())
 }
 
 /// How many parameters each type of a section has, none of one that is no function's.
-pub fn parameter_counts(
-    alloc: Global,
-    mut contents: BinaryReader<'_>,
-) -> Result<Vec<u32>, ModuleFault> {
+///
+/// `TypeKind` at a type of none of the three sorts; else refused as the number of the types, or as one.
+pub fn parameter_counts(alloc: Global, contents: BinaryReader<'_>) -> Result<Vec<u32>, ModuleFault>
+    ensures { IfOk result (λ counts. (groups : List (List CompositeType)) × AreTypes contents.entry groups
+        × (counts.items ≡ parameters_in groups)) }
+{
+    let mut reader = contents;
     let mut counts = Vec::new(alloc);
-    let groups = contents.read_var_u32()?;
+    let groups = match reader.read_var_u32() {
+        Ok(groups) => groups,
+        Err(e) => return Err(ModuleFault::from(e)),
+    };
     for _group in 0..groups {
-        let len = read_group_len(&mut contents)?;
-        read_group(&mut contents, len, &mut counts)?;
+        let len = match read_group_len(&mut reader) {
+            Ok(len) => len,
+            Err(e) => return Err(ModuleFault::from(e)),
+        };
+        match read_group(&mut reader, len, &mut counts) {
+            Ok(()) => {}
+            Err(fault) => return Err(fault),
+        }
     }
     Ok(counts)
 }

@@ -1,0 +1,66 @@
+-- Recursive types one behind the other, and one more.
+use Rattle.std.proofs.Common.{◌≡◌, ◌⊎◌, ℕ, Bool, true, false, List, [], ◌∷◌, ◌++◌, length, map, get_or, Result, Ok, Err, refl, sym, subst, ap, ◌∙◌, inl, inr, append_assoc, arith}
+use Rattle.std.specs.Prelude.{nat_eq}
+use Rattle.std.proofs.lemmas.Bool.{eqb-true, eqb-false}
+use Rattle.std.proofs.lemmas.List.{map-append, flat_map_more}
+use Rattle.wasm_module.specs.below.Number.{EncodesUnsigned}
+use Rattle.wasm_module.specs.below.bytes.error.Error.{Error}
+use Rattle.wasm_module.specs.below.Source.{Reader, rest, BeginsWith, Reads}
+use Rattle.wasm_module.specs.Types.{EncodesSubType, EncodesGroup}
+use Rattle.wasm_module.specs.declared.composite.CompositeType.{CompositeType}
+use Rattle.wasm_functions.specs.Items.{ItemsStand}
+use Rattle.wasm_functions.specs.Parameters.{parameter_count, parameters_in, Announces, GroupStands, GroupsStand, AreTypes}
+
+pub group_more : (r : Reader) (gs : List (List CompositeType)) (mid new : Reader) (g : List CompositeType) → GroupsStand r gs mid → GroupStands mid g new →
+    GroupsStand r (gs ++ g ∷ []) new
+group_more r [] mid new g same stands = (new, subst (λ z. GroupStands z g new) same stands, refl)
+group_more r (h ∷ hs) mid new g (next, first, others) stands = (next, first, group_more next hs mid new g others stands)
+
+-- the number of parameters of one type more, behind those before
+pub count_more : (before : List ℕ) (types : List CompositeType) (ty : CompositeType) →
+    (before ++ map parameter_count types) ++ parameter_count ty ∷ [] ≡ before ++ map parameter_count (types ++ ty ∷ [])
+count_more before types ty =
+    append_assoc before (map parameter_count types) (parameter_count ty ∷ []) ∙ ap (λ z. before ++ z) (sym (map-append parameter_count types (ty ∷ [])))
+
+-- those of one recursive type more
+pub parameters_more : (groups : List (List CompositeType)) (types : List CompositeType) →
+    parameters_in groups ++ map parameter_count types ≡ parameters_in (groups ++ types ∷ [])
+parameters_more groups types = flat_map_more (λ (g : List CompositeType). map parameter_count g) [] groups types
+
+-- all types stand there
+pub all_types : (contents first end : Reader) (gs : List (List CompositeType)) (n : ℕ) → Reads (EncodesUnsigned 32) (Ok n) contents first →
+    GroupsStand first gs end → length gs ≡ n → AreTypes contents gs
+all_types contents first end gs n counted stand all =
+    record { first = first; count = subst (λ k. Reads (EncodesUnsigned 32) (Ok k) contents first) (sym all) counted; end = end; stand = stand }
+
+-- whether a byte stands first
+told : (b : Bool) → (b ≡ true) ⊎ (b ≡ false)
+told true = inl refl
+told false = inr refl
+
+begins_by : (byte b : ℕ) (bs : List ℕ) → (nat_eq b byte ≡ true) ⊎ (nat_eq b byte ≡ false) → BeginsWith byte (b ∷ bs) ⊎ (BeginsWith byte (b ∷ bs) → ⊥)
+begins_by byte b bs (inl is) = inl (bs, ap (λ z. z ∷ bs) (eqb-true b byte is))
+begins_by byte b bs (inr not) = inr (λ h. eqb-false b byte not (ap (λ z. get_or z 0 0) h.1))
+
+begins : (byte : ℕ) (bs : List ℕ) → BeginsWith byte bs ⊎ (BeginsWith byte bs → ⊥)
+begins byte [] = inr (λ h. let none = ap length h.1 in absurd (omega (arith, none)))
+begins byte (b ∷ bs) = begins_by byte b bs (told (nat_eq b byte))
+
+abbrev value_or : Result ℕ Error → ℕ
+value_or (Ok n) = n
+value_or (Err e) = 0
+
+abbrev read : ℕ → Result ℕ Error
+read n = Ok n
+
+announced_by : (n : ℕ) (r first : Reader) → (BeginsWith 0x4e (rest r) → Reads EncodesGroup (Ok n) r first) →
+    ((BeginsWith 0x4e (rest r) → ⊥) → (read n ≡ read 1) × (first ≡ r)) → BeginsWith 0x4e (rest r) ⊎ (BeginsWith 0x4e (rest r) → ⊥) → Announces n r first
+announced_by n r first group one (inl is) = inl (is, group is)
+announced_by n r first group one (inr not) = let o = one not in inr (not, ap value_or o.0, o.1)
+
+-- a recursive type of so many sub types as it announces
+pub group_stands : (n : ℕ) (r first end : Reader) (types : List CompositeType) → (BeginsWith 0x4e (rest r) → Reads EncodesGroup (Ok n) r first) →
+    ((BeginsWith 0x4e (rest r) → ⊥) → (read n ≡ read 1) × (first ≡ r)) → length types ≡ n → ItemsStand EncodesSubType first types end →
+    GroupStands r types end
+group_stands n r first end types group one all stand =
+    (first, subst (λ k. Announces k r first) (sym all) (announced_by n r first group one (begins 0x4e (rest r))), stand)

@@ -1,0 +1,82 @@
+-- Names of functions, and one more; the last section of names.
+use Rattle.std.proofs.Common.{◌≡◌, ℕ, ◌-◌, ◌≤◌, Bool, true, false, List, [], ◌∷◌, ◌++◌, length, set, zero, suc, Option, Some, None, Ok, refl, sym, subst, ap, ◌∙◌, append_assoc, append-nil, arith, cond}
+use Rattle.std.specs.Prelude.{◌==◌, nat_eq}
+use Rattle.std.specs.Borrow.{Bor}
+use Rattle.std.proofs.lemmas.Bool.{le-leb, eqb-true}
+use Rattle.std.proofs.lemmas.List.{map-set}
+use Rattle.wasm_module.specs.below.bytes.error.Error.{Error}
+use Rattle.wasm_module.specs.below.bytes.message.Message.{Message}
+use Rattle.wasm_module.specs.below.bytes.message.Message.TheVariants as message
+use Rattle.wasm_module.specs.below.Refusal.{IsReadFault}
+use Rattle.wasm_module.specs.below.Sequence.{PrefixCode}
+use Rattle.wasm_module.specs.below.Source.{Reader, rest, MayFollow, IsRefusal, Reads}
+use Rattle.wasm_module.specs.Exports.{ExportParts}
+use Rattle.wasm_module.specs.Module.{SectionParts}
+use Rattle.wasm_module.specs.Names.{NameParts}
+use Rattle.wasm_functions.specs.Sections.{first_with}
+use Rattle.wasm_functions.specs.Names.{bytes_of, with_name, with_exports, with_names, IsNames, NoneIsNames, LastNames}
+
+-- nothing is set behind the end
+pub set_behind : {X : Type 0} (xs : List X) (i : ℕ) (x : X) → length xs ≤ i → set xs i x ≡ xs
+set_behind [] i x h = refl
+set_behind (y ∷ ys) zero x h = absurd (omega (arith, h))
+set_behind (y ∷ ys) (suc i) x h = ap (λ zs. y ∷ zs) (set_behind ys i x (omega (arith, h)))
+
+pub exports_more : (imported : ℕ) (names : List (List ℕ)) (es : List ExportParts) (e : ExportParts) →
+    with_exports imported names (es ++ e ∷ []) ≡ with_exports imported (with_exports imported names es) (e ∷ [])
+exports_more imported names [] e = refl
+exports_more imported names (d ∷ ds) e = exports_more imported (cond (d.kind == 0) (with_name imported names d.index d.name) names) ds e
+
+pub names_more : (imported : ℕ) (names : List (List ℕ)) (ns : List NameParts) (n : NameParts) →
+    with_names imported names (ns ++ n ∷ []) ≡ with_name imported (with_names imported names ns) n.index n.name
+names_more imported names [] n = refl
+names_more imported names (m ∷ ms) n = names_more imported (with_name imported names m.index m.name) ms n
+
+none_more : (ss : List SectionParts) (s : SectionParts) → NoneIsNames ss → ((contents : Reader) → IsNames s contents → ⊥) → NoneIsNames (ss ++ s ∷ [])
+none_more [] s none other = (other, tt)
+none_more (t ∷ ts) s (first, others) other = (first, none_more ts s others other)
+
+-- one section more that is none of names
+pub last_stays : (found : Option Reader) (ss : List SectionParts) (s : SectionParts) → LastNames ss found → ((contents : Reader) → IsNames s contents → ⊥) →
+    LastNames (ss ++ s ∷ []) found
+last_stays None ss s none other = none_more ss s none other
+last_stays (Some contents) ss s (before, after, t, parts, is, none) other =
+    (before, after ++ s ∷ [], t, ap (λ z. z ++ s ∷ []) parts ∙ append_assoc before (t ∷ after) (s ∷ []), is, none_more after s none other)
+
+-- the same text is not read as two values
+pub one_value : {X : Type 0} (P : List ℕ → X → Type 0) → PrefixCode P → (r a b : Reader) (x y : X) → Reads P (Ok x) r a → Reads P (Ok y) r b → x ≡ y
+one_value P code r a b x y (text, is, takes) (other, is_other, takes_other) =
+    (code text other (rest a) (rest b) x y is is_other (sym takes.parts ∙ takes_other.parts)).1
+
+-- the data may end behind what is refused
+may_end : (m : Message) → IsReadFault m → MayFollow m []
+may_end message.EndOfData h = refl
+may_end message.OutOfMemory h = h
+may_end _ h = tt
+
+pub not_both : {X : Type 0} (P : List ℕ → X → Type 0) (e : Error) (r b : Reader) (x : X) → IsRefusal P e r → Reads P (Ok x) r b → ⊥
+not_both P e r b x refused (text, is, takes) =
+    refused.refuses [] (may_end e.message refused.fault) text (rest b) x is (append-nil (rest r) ∙ takes.parts)
+
+-- an own function is named
+pub own_named : (imported index : ℕ) (names : List (Bor (List ℕ))) (name : Bor (List ℕ)) → imported ≤ index →
+    bytes_of (set names (index - imported) name) ≡ with_name imported (bytes_of names) index name.now
+own_named imported index names name own =
+    map-set (λ (n : Bor (List ℕ)). n.now) names (index - imported) name ∙
+    sym (ap (λ b. cond b (set (bytes_of names) (index - imported) name.now) (bytes_of names)) (le-leb imported index own))
+
+-- no text is both
+abbrev IsNot : Bool → Type 0
+IsNot true = ⊥
+IsNot false = Unit {0}
+
+pub is_not : false ≡ true → ⊥
+is_not same = subst IsNot same tt
+
+-- a section with another number
+other_by : (b : Bool) (found : Option Reader) → (b ≡ true → ⊥) → cond b found None ≡ None
+other_by true found not = absurd (not refl)
+other_by false found not = refl
+
+pub not_first : (s : SectionParts) (id : ℕ) → (s.id ≡ id → ⊥) → first_with id (s ∷ []) ≡ None
+not_first s id not = other_by (nat_eq s.id id) (Some s.contents) (λ is. not (eqb-true s.id id is))

@@ -1,0 +1,100 @@
+-- Bytes are one module at most.
+use Rattle.std.proofs.Common.{◌≡◌, ℕ, ◌+◌, List, [], ◌∷◌, ◌++◌, length, get_or, drop, Ok, refl, sym, subst, ap, ◌∙◌, append_assoc, arith}
+use Rattle.std.specs.Int.{w32}
+use Rattle.wasm_module.specs.below.bytes.error.Error.{Error}
+use Rattle.wasm_module.specs.below.bytes.features.WasmFeatures.{WasmFeatures}
+use Rattle.wasm_module.specs.below.Number.{EncodesUnsigned, EncodesFixed}
+use Rattle.wasm_module.specs.below.Sequence.{PrefixCode}
+use Rattle.wasm_module.specs.below.Source.{Reader, rest, at_position, IsRefusal, Reads}
+use Rattle.wasm_module.specs.Module.{EncodesPreamble, preamble_kind, SectionParts, EncodesSection}
+use Rattle.wasm_module.specs.declared.preamble.Preamble.{Preamble}
+use Rattle.wasm_module.specs.declared.preamble.PreambleKind.{PreambleKind}
+use Rattle.wasm_module.specs.declared.preamble.PreambleKind.TheVariants as kind
+use Rattle.wasm_functions.specs.Sections.{SectionsStand, BeginsModule, IsModule}
+use Rattle.wasm_functions.proofs.Named.{not_both}
+use Rattle.wasm_functions.proofs.Standing.{shorter}
+
+same_texts : (a b x y : List ℕ) → length a ≡ length b → a ++ x ≡ b ++ y → (a ≡ b) × (x ≡ y)
+same_texts [] [] x y l e = (refl, e)
+same_texts [] (c ∷ b) x y l e = absurd (omega (arith, l))
+same_texts (c ∷ a) [] x y l e = absurd (omega (arith, l))
+same_texts (c ∷ a) (d ∷ b) x y l e =
+    let first : c ≡ d = ap (λ z. get_or z 0 0) e in
+    let others = same_texts a b x y (omega (arith, l)) (ap (drop 1) e) in
+    (ap (λ z. z ∷ a) first ∙ ap (λ z. d ∷ z) others.0, others.1)
+
+three_parts : (a i s n b x : List ℕ) → a ≡ i ++ s → s ≡ n ++ b → a ++ x ≡ i ++ (n ++ (b ++ x))
+three_parts a i s n b x p q =
+    ap (λ z. z ++ x) p ∙ append_assoc i s x ∙ ap (λ z. i ++ z) (ap (λ z. z ++ x) q ∙ append_assoc n b x)
+
+module _ (numbers : PrefixCode (EncodesUnsigned 32)) where
+  section_text : (features : WasmFeatures) (a b x y : List ℕ) (s t : SectionParts) → EncodesSection features a s → EncodesSection features b t →
+      a ++ x ≡ b ++ y → a ≡ b
+  section_text features a b x y s t (i, si, p, is, (n, body, size, q, number, (f, buffer, start, long)))
+      (j, sj, p', is', (n', body', size', q', number', (f', buffer', start', long'))) e =
+      let whole = sym (three_parts a i si n body x p q) ∙ e ∙ three_parts b j sj n' body' y p' q' in
+      let id = same_texts i j (n ++ (body ++ x)) (n' ++ (body' ++ y)) (ap length is.0 ∙ sym (ap length is'.0)) whole in
+      let size_is = numbers n n' (body ++ x) (body' ++ y) size size' number number' id.1 in
+      let behind = same_texts n n' (body ++ x) (body' ++ y) (ap length size_is.0) id.1 in
+      let contents = same_texts body body' x y (long ∙ size_is.1 ∙ sym long') behind.1 in
+      p ∙ ap (λ z. z ++ si) id.0 ∙ ap (λ z. j ++ z) (q ∙ ap (λ z. z ++ body) size_is.0 ∙ ap (λ z. n' ++ z) contents.0 ∙ sym q') ∙ sym p'
+
+  one_step : (r mid next : Reader) (s t : SectionParts) → Reads (EncodesSection r.features) (Ok s) r mid → Reads (EncodesSection r.features) (Ok t) r next →
+      mid ≡ next
+  one_step r mid next s t (a, is, takes) (b, is', takes') =
+      let same = section_text r.features a b (rest mid) (rest next) s t is is' (sym takes.parts ∙ takes'.parts) in
+      takes.moved ∙ ap (λ (z : List ℕ). at_position r (r.position + length z)) same ∙ sym takes'.moved
+
+  -- what is left of sections behind some of them
+  sections_left : (r : Reader) (ss : List SectionParts) (mid : Reader) (ts : List SectionParts) (end : Reader) → SectionsStand r ss mid →
+      SectionsStand r ts end → rest end ≡ [] → (us : List SectionParts) × SectionsStand mid us end
+  sections_left r [] mid ts end same all none = (ts, subst (λ z. SectionsStand z ts end) (sym same) all)
+  sections_left r (s ∷ ss) mid [] end (next, reads, placed, others) same none =
+      let fewer = shorter r next s reads in
+      let empty : length (rest r) ≡ 0 = ap (λ z. length (rest z)) (sym same) ∙ ap length none in absurd (omega (arith, fewer, empty))
+  sections_left r (s ∷ ss) mid (t ∷ ts) end (next, reads, placed, others) (next', reads', placed', others') none =
+      sections_left next ss mid ts end others (subst (λ z. SectionsStand z ts end) (sym (one_step r next next' s t reads reads')) others') none
+
+no_section : (mid : Reader) (us : List SectionParts) (end : Reader) (e : Error) → SectionsStand mid us end → rest end ≡ [] → (rest mid ≡ [] → ⊥) →
+    IsRefusal (EncodesSection mid.features) e mid → ⊥
+no_section mid [] end e same none more refused = more (ap rest (sym same) ∙ none)
+no_section mid (u ∷ us) end e (next, reads, placed, others) none more refused = not_both (EncodesSection mid.features) e mid next u refused reads
+
+abbrev kind_by : ℕ → ℕ → PreambleKind
+kind_by magic version = preamble_kind (record { magic = magic; version = version })
+
+module _ (fixed : PrefixCode (EncodesFixed w32)) where
+  one_preamble : (a b x y : List ℕ) (p q : Preamble) → EncodesPreamble a p → EncodesPreamble b q → a ++ x ≡ b ++ y →
+      (a ≡ b) × (preamble_kind p ≡ preamble_kind q)
+  one_preamble a b x y p q (m, v, parts, magic, version) (m', v', parts', magic', version') e =
+      let whole = sym (append_assoc m v x) ∙ ap (λ z. z ++ x) (sym parts) ∙ e ∙ ap (λ z. z ++ y) parts' ∙ append_assoc m' v' y in
+      let first = fixed m m' (v ++ x) (v' ++ y) p.magic q.magic magic magic' whole in
+      let behind = same_texts m m' (v ++ x) (v' ++ y) (ap length first.0) whole in
+      let second = fixed v v' x y p.version q.version version version' behind.1 in (
+        parts ∙ ap (λ z. z ++ v) first.0 ∙ ap (λ z. m' ++ z) second.0 ∙ sym parts',
+        ap (λ z. kind_by z p.version) first.1 ∙ ap (λ z. kind_by q.magic z) second.1,
+      )
+
+  -- a module begins with the preamble that was read
+  pub begins_as : (whole mid behind : Reader) (p : Preamble) → Reads EncodesPreamble (Ok p) whole mid → BeginsModule whole behind →
+      (mid ≡ behind) × (preamble_kind p ≡ kind.Module)
+  begins_as whole mid behind p (a, is, takes) h =
+      let (b, is', takes') = h.begins in
+      let same = one_preamble a b (rest mid) (rest behind) p h.preamble is is' (sym takes.parts ∙ takes'.parts) in (
+        takes.moved ∙ ap (λ (z : List ℕ). at_position whole (whole.position + length z)) same.0 ∙ sym takes'.moved,
+        same.1 ∙ h.is,
+      )
+
+-- bytes whose preamble is refused are no module
+pub no_preamble : (whole behind : Reader) (e : Error) → IsRefusal EncodesPreamble e whole → BeginsModule whole behind → ⊥
+no_preamble whole behind e refused h = not_both EncodesPreamble e whole behind h.preamble refused h.begins
+
+-- nor are those of which a section is refused
+pub no_module : PrefixCode (EncodesUnsigned 32) → PrefixCode (EncodesFixed w32) → (whole behind mid : Reader) (ss : List SectionParts) (e : Error) →
+    BeginsModule whole behind → SectionsStand behind ss mid → (rest mid ≡ [] → ⊥) → IsRefusal (EncodesSection mid.features) e mid →
+    (sections : List SectionParts) → IsModule whole sections → ⊥
+no_module numbers fixed whole behind mid ss e begins stand more refused sections h =
+    let same = (begins_as fixed whole behind h.behind begins.preamble begins.begins h.begins).0 in
+    let all = subst (λ z. SectionsStand z sections h.end) (sym same) h.stand in
+    let (us, left) = sections_left numbers behind ss mid sections h.end stand all h.all in
+    no_section mid us h.end e left h.all more refused

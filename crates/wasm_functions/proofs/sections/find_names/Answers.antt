@@ -1,0 +1,24 @@
+use Rattle.std.proofs.Common.{◌≡◌, ◌∷◌, ◌++◌, [], rules}
+use Rattle.wasm_module.specs.below.Source.{rest, reader_of}
+use Rattle.wasm_functions.proofs.Standing.{one_more}
+use Rattle.wasm_functions.proofs.Unique.{no_module}
+use Rattle.wasm_functions.proofs.sections.find_names.Goals as goal
+
+pub customs-preserved : goal.customs-preserved
+customs-preserved c =
+    let h = c.customs.invariant in
+    let s = c.in-Ok-read_section.section in
+    let read = c.in-Ok-read_section.ensures in
+    let stand = one_more c.in-Ok.reader h.0 c.customs.reader c.read_section.new.reader s h.1 read.reads read.placed in
+    (h.0 ++ s ∷ [], stand, c.or_last-found.ensures h.0 h.2)
+
+pub returns-in-Err-clause-refused : goal.returns-in-Err-clause-refused
+returns-in-Err-clause-refused c sections is = c.in-Err.ensures.refused is.behind is.begins
+
+pub returns-in-Err-read_section-clause-refused : goal.returns-in-Err-read_section-clause-refused
+returns-in-Err-read_section-clause-refused c sections is =
+    let h = c.customs.invariant in
+    let more : rest c.customs.reader ≡ [] → ⊥ = search rules in
+    let e = c.in-Err-read_section.e in
+    no_module (c.unsigned_numbers.ensures 32) c.fixed_numbers.ensures.four (reader_of c.args.features 0 c.args.bytes.now) c.in-Ok.reader c.customs.reader
+    h.0 e c.in-Ok.ensures.ok h.1 more c.in-Err-read_section.ensures.reads.1 sections is

@@ -1,0 +1,13 @@
+use Rattle.std.proofs.Common.{List, length}
+use Rattle.wasm_module.specs.below.Source.{rest}
+use Rattle.wasm_module.specs.Module.{SectionParts}
+use Rattle.wasm_functions.specs.Names.{LastNames}
+use Rattle.wasm_functions.specs.Sections.{SectionsStand}
+use Rattle.wasm_functions.proofs.sections.find_names.Given as goal
+
+-- these sections were read, and this is the last of them that is one of names
+abbrev pub invariant-customs : goal.invariant-customs
+invariant-customs l = (sections : List SectionParts) × SectionsStand l.initial.reader sections l.reader × LastNames sections l.found
+
+abbrev pub decreases-customs : goal.decreases-customs
+decreases-customs l = length (rest l.reader)

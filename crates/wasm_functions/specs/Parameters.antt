@@ -1,0 +1,44 @@
+-- The types of a section of types, and how many parameters each has.
+-- WebAssembly Core Specification 3.0, Binary Format: Types, Recursive Types; Modules, Type Section.
+use Rattle.std.specs.Prelude.{◌≡◌, ◌⊎◌, ℕ, List, [], ◌∷◌, length, map, Option, Some, None, Ok}
+use Rattle.std.specs.List.{flat_map}
+use Rattle.wasm_module.specs.below.Number.{EncodesUnsigned}
+use Rattle.wasm_module.specs.below.Source.{Reader, rest, BeginsWith, Reads}
+use Rattle.wasm_module.specs.Types.{EncodesSubType, EncodesGroup}
+use Rattle.wasm_module.specs.declared.composite.CompositeType.{CompositeType}
+use Rattle.wasm_module.specs.declared.composite.CompositeType.TheVariants as composite
+use Rattle.wasm_functions.specs.Items.{ItemsStand}
+
+-- How many parameters a type has: none where it is no function's.
+abbrev pub parameter_count : CompositeType → ℕ
+parameter_count (composite.Function parameters results) = parameters
+parameter_count _ = 0
+
+-- So many sub types are announced: as the beginning of a list says, or one where no such beginning stands there.
+abbrev pub Announces : ℕ → Reader → Reader → Type 0
+Announces n r first = (BeginsWith 0x4e (rest r) × Reads EncodesGroup (Ok n) r first) ⊎ ((¬ BeginsWith 0x4e (rest r)) × (n ≡ 1) × (first ≡ r))
+
+-- A recursive type: these sub types, as many as it announces.
+abbrev pub GroupStands : Reader → List CompositeType → Reader → Type 0
+GroupStands r types end = (first : Reader) × Announces (length types) r first × ItemsStand EncodesSubType first types end
+
+-- These recursive types stand one behind the other, from the first reader to the second.
+abbrev pub GroupsStand : Reader → List (List CompositeType) → Reader → Type 0
+GroupsStand r [] end = end ≡ r
+GroupsStand r (g ∷ gs) end = (mid : Reader) × GroupStands r g mid × GroupsStand mid gs end
+
+-- The contents of a section begin with these recursive types: how many they are, and each.
+pub record AreTypes (contents : Reader) (groups : List (List CompositeType)) : Type 0 where
+  pub first : Reader
+  pub count : Reads (EncodesUnsigned 32) (Ok (length groups)) contents first
+  pub end : Reader
+  pub stand : GroupsStand first groups end
+
+-- How many parameters each type of these has.
+abbrev pub parameters_in : List (List CompositeType) → List ℕ
+parameters_in = flat_map (λ types. map parameter_count types)
+
+-- These are the numbers of parameters, where the section of types is this.
+abbrev pub CountsParameters : Option Reader → List ℕ → Type 0
+CountsParameters None counts = counts ≡ []
+CountsParameters (Some contents) counts = (groups : List (List CompositeType)) × AreTypes contents groups × (counts ≡ parameters_in groups)
