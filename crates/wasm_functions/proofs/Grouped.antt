@@ -42,7 +42,7 @@ begins_by : (byte b : ℕ) (bs : List ℕ) → (nat_eq b byte ≡ true) ⊎ (nat
 begins_by byte b bs (inl is) = inl (bs, ap (λ z. z ∷ bs) (eqb-true b byte is))
 begins_by byte b bs (inr not) = inr (λ h. eqb-false b byte not (ap (λ z. get_or z 0 0) h.1))
 
-begins : (byte : ℕ) (bs : List ℕ) → BeginsWith byte bs ⊎ (BeginsWith byte bs → ⊥)
+pub begins : (byte : ℕ) (bs : List ℕ) → BeginsWith byte bs ⊎ (BeginsWith byte bs → ⊥)
 begins byte [] = inr (λ h. let none = ap length h.1 in absurd (omega (arith, none)))
 begins byte (b ∷ bs) = begins_by byte b bs (told (nat_eq b byte))
 
@@ -58,9 +58,14 @@ announced_by : (n : ℕ) (r first : Reader) → (BeginsWith 0x4e (rest r) → Re
 announced_by n r first group one (inl is) = inl (is, group is)
 announced_by n r first group one (inr not) = let o = one not in inr (not, ap value_or o.0, o.1)
 
+-- what a call read of the beginning of a recursive type
+pub group_announced : (n : ℕ) (r first : Reader) → (BeginsWith 0x4e (rest r) → Reads EncodesGroup (Ok n) r first) →
+    ((BeginsWith 0x4e (rest r) → ⊥) → (read n ≡ read 1) × (first ≡ r)) → Announces n r first
+group_announced n r first group one = announced_by n r first group one (begins 0x4e (rest r))
+
 -- a recursive type of so many sub types as it announces
 pub group_stands : (n : ℕ) (r first end : Reader) (types : List CompositeType) → (BeginsWith 0x4e (rest r) → Reads EncodesGroup (Ok n) r first) →
     ((BeginsWith 0x4e (rest r) → ⊥) → (read n ≡ read 1) × (first ≡ r)) → length types ≡ n → ItemsStand EncodesSubType first types end →
     GroupStands r types end
 group_stands n r first end types group one all stand =
-    (first, subst (λ k. Announces k r first) (sym all) (announced_by n r first group one (begins 0x4e (rest r))), stand)
+    (first, subst (λ k. Announces k r first) (sym all) (group_announced n r first group one), stand)

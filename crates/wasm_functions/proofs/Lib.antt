@@ -4,3 +4,6 @@ pub mod Texts
 pub mod Grouped
 pub mod Named
 pub mod Unique
+pub mod Next
+pub mod Laws
+pub mod OfSection

@@ -1,16 +1,16 @@
 -- Bytes are one module at most.
-use Rattle.std.proofs.Common.{◌≡◌, ℕ, ◌+◌, List, [], ◌∷◌, ◌++◌, length, get_or, drop, Ok, refl, sym, subst, ap, ◌∙◌, append_assoc, arith}
+use Rattle.std.proofs.Common.{◌≡◌, ℕ, ◌+◌, List, [], ◌∷◌, ◌++◌, length, get_or, drop, Option, Ok, refl, sym, subst, ap, ◌∙◌, append_assoc, arith}
 use Rattle.std.specs.Int.{w32}
 use Rattle.wasm_module.specs.below.bytes.error.Error.{Error}
 use Rattle.wasm_module.specs.below.bytes.features.WasmFeatures.{WasmFeatures}
 use Rattle.wasm_module.specs.below.Number.{EncodesUnsigned, EncodesFixed}
 use Rattle.wasm_module.specs.below.Sequence.{PrefixCode}
-use Rattle.wasm_module.specs.below.Source.{Reader, rest, at_position, IsRefusal, Reads}
+use Rattle.wasm_module.specs.below.Source.{Reader, rest, offset_of, end_of, at_position, IsRefusal, Reads}
 use Rattle.wasm_module.specs.Module.{EncodesPreamble, preamble_kind, SectionParts, EncodesSection}
 use Rattle.wasm_module.specs.declared.preamble.Preamble.{Preamble}
 use Rattle.wasm_module.specs.declared.preamble.PreambleKind.{PreambleKind}
 use Rattle.wasm_module.specs.declared.preamble.PreambleKind.TheVariants as kind
-use Rattle.wasm_functions.specs.Sections.{SectionsStand, BeginsModule, IsModule}
+use Rattle.wasm_functions.specs.Sections.{SectionsStand, BeginsModule, IsModule, IsSection, first_with}
 use Rattle.wasm_functions.proofs.Named.{not_both}
 use Rattle.wasm_functions.proofs.Standing.{shorter}
 
@@ -27,9 +27,14 @@ three_parts : (a i s n b x : List ℕ) → a ≡ i ++ s → s ≡ n ++ b → a +
 three_parts a i s n b x p q =
     ap (λ z. z ++ x) p ∙ append_assoc i s x ∙ ap (λ z. i ++ z) (ap (λ z. z ++ x) q ∙ append_assoc n b x)
 
+abbrev parts_by : ℕ → WasmFeatures → ℕ → List ℕ → ℕ → SectionParts
+parts_by id features start buffer position =
+    record { id = id; contents = record { features = features; start = start; buffer = buffer; position = position } }
+
 module _ (numbers : PrefixCode (EncodesUnsigned 32)) where
   section_text : (features : WasmFeatures) (a b x y : List ℕ) (s t : SectionParts) → EncodesSection features a s → EncodesSection features b t →
-      a ++ x ≡ b ++ y → a ≡ b
+      a ++ x ≡ b ++ y →
+      (a ≡ b) × (s.id ≡ t.id) × (s.contents.buffer ≡ t.contents.buffer) × (s.contents.features ≡ t.contents.features) × (s.contents.position ≡ t.contents.position)
   section_text features a b x y s t (i, si, p, is, (n, body, size, q, number, (f, buffer, start, long)))
       (j, sj, p', is', (n', body', size', q', number', (f', buffer', start', long'))) e =
       let whole = sym (three_parts a i si n body x p q) ∙ e ∙ three_parts b j sj n' body' y p' q' in
@@ -37,13 +42,20 @@ module _ (numbers : PrefixCode (EncodesUnsigned 32)) where
       let size_is = numbers n n' (body ++ x) (body' ++ y) size size' number number' id.1 in
       let behind = same_texts n n' (body ++ x) (body' ++ y) (ap length size_is.0) id.1 in
       let contents = same_texts body body' x y (long ∙ size_is.1 ∙ sym long') behind.1 in
-      p ∙ ap (λ z. z ++ si) id.0 ∙ ap (λ z. j ++ z) (q ∙ ap (λ z. z ++ body) size_is.0 ∙ ap (λ z. n' ++ z) contents.0 ∙ sym q') ∙ sym p'
+      let second = q ∙ ap (λ z. z ++ body) size_is.0 ∙ ap (λ z. n' ++ z) contents.0 ∙ sym q' in (
+        p ∙ ap (λ z. z ++ si) id.0 ∙ ap (λ z. j ++ z) second ∙ sym p',
+        ap (λ z. get_or z 0 0) (sym is.0 ∙ id.0 ∙ is'.0),
+        buffer ∙ contents.0 ∙ sym buffer',
+        f ∙ sym f',
+        start ∙ sym start',
+      )
 
   one_step : (r mid next : Reader) (s t : SectionParts) → Reads (EncodesSection r.features) (Ok s) r mid → Reads (EncodesSection r.features) (Ok t) r next →
-      mid ≡ next
+      (mid ≡ next) × (s.id ≡ t.id) × (s.contents.buffer ≡ t.contents.buffer) × (s.contents.features ≡ t.contents.features) ×
+      (s.contents.position ≡ t.contents.position)
   one_step r mid next s t (a, is, takes) (b, is', takes') =
       let same = section_text r.features a b (rest mid) (rest next) s t is is' (sym takes.parts ∙ takes'.parts) in
-      takes.moved ∙ ap (λ (z : List ℕ). at_position r (r.position + length z)) same ∙ sym takes'.moved
+      (takes.moved ∙ ap (λ (z : List ℕ). at_position r (r.position + length z)) same.0 ∙ sym takes'.moved, same.1, same.2, same.3, same.4)
 
   -- what is left of sections behind some of them
   sections_left : (r : Reader) (ss : List SectionParts) (mid : Reader) (ts : List SectionParts) (end : Reader) → SectionsStand r ss mid →
@@ -53,7 +65,35 @@ module _ (numbers : PrefixCode (EncodesUnsigned 32)) where
       let fewer = shorter r next s reads in
       let empty : length (rest r) ≡ 0 = ap (λ z. length (rest z)) (sym same) ∙ ap length none in absurd (omega (arith, fewer, empty))
   sections_left r (s ∷ ss) mid (t ∷ ts) end (next, reads, placed, others) (next', reads', placed', others') none =
-      sections_left next ss mid ts end others (subst (λ z. SectionsStand z ts end) (sym (one_step r next next' s t reads reads')) others') none
+      sections_left next ss mid ts end others (subst (λ z. SectionsStand z ts end) (sym (one_step r next next' s t reads reads').0) others') none
+
+  one_section : (r mid next : Reader) (s t : SectionParts) → Reads (EncodesSection r.features) (Ok s) r mid → Reads (EncodesSection r.features) (Ok t) r next →
+      end_of s.contents ≡ offset_of mid → end_of t.contents ≡ offset_of next → s ≡ t
+  one_section r mid next s t reads reads' placed placed' =
+      let (moved, id, buffer, features, position) = one_step r mid next s t reads reads' in
+      let size = ap length buffer in
+      let behind = ap offset_of moved in
+      let start : s.contents.start ≡ t.contents.start = omega (arith, placed, placed', size, behind) in
+      ap (λ z. parts_by z s.contents.features s.contents.start s.contents.buffer s.contents.position) id ∙
+      ap (λ z. parts_by t.id z s.contents.start s.contents.buffer s.contents.position) features ∙
+      ap (λ z. parts_by t.id t.contents.features z s.contents.buffer s.contents.position) start ∙
+      ap (λ z. parts_by t.id t.contents.features t.contents.start z s.contents.position) buffer ∙
+      ap (λ z. parts_by t.id t.contents.features t.contents.start t.contents.buffer z) position
+
+  same_sections : (r : Reader) (ss ts : List SectionParts) (end last : Reader) → SectionsStand r ss end → SectionsStand r ts last → rest end ≡ [] →
+      rest last ≡ [] → ss ≡ ts
+  same_sections r [] [] end last a b none none' = refl
+  same_sections r [] (t ∷ ts) end last a (next, reads, placed, others) none none' =
+      let fewer = shorter r next t reads in
+      let empty : length (rest r) ≡ 0 = ap (λ z. length (rest z)) (sym a) ∙ ap length none in absurd (omega (arith, fewer, empty))
+  same_sections r (s ∷ ss) [] end last (next, reads, placed, others) b none none' =
+      let fewer = shorter r next s reads in
+      let empty : length (rest r) ≡ 0 = ap (λ z. length (rest z)) (sym b) ∙ ap length none' in absurd (omega (arith, fewer, empty))
+  same_sections r (s ∷ ss) (t ∷ ts) end last (next, reads, placed, others) (next', reads', placed', others') none none' =
+      let first = one_section r next next' s t reads reads' placed placed' in
+      let moved = (one_step r next next' s t reads reads').0 in
+      let more = same_sections next ss ts end last others (subst (λ z. SectionsStand z ts last) (sym moved) others') none none' in
+      ap (λ z. z ∷ ss) first ∙ ap (λ zs. t ∷ zs) more
 
 no_section : (mid : Reader) (us : List SectionParts) (end : Reader) (e : Error) → SectionsStand mid us end → rest end ≡ [] → (rest mid ≡ [] → ⊥) →
     IsRefusal (EncodesSection mid.features) e mid → ⊥
@@ -98,3 +138,13 @@ no_module numbers fixed whole behind mid ss e begins stand more refused sections
     let all = subst (λ z. SectionsStand z sections h.end) (sym same) h.stand in
     let (us, left) = sections_left numbers behind ss mid sections h.end stand all h.all in
     no_section mid us h.end e left h.all more refused
+
+module _ (numbers : PrefixCode (EncodesUnsigned 32)) (fixed : PrefixCode (EncodesFixed w32)) where
+  pub one_module : (whole : Reader) (ss ts : List SectionParts) → IsModule whole ss → IsModule whole ts → ss ≡ ts
+  one_module whole ss ts a b =
+      let same = (begins_as fixed whole a.behind b.behind a.begins.preamble a.begins.begins b.begins).0 in
+      same_sections numbers a.behind ss ts a.end b.end a.stand (subst (λ z. SectionsStand z ts b.end) (sym same) b.stand) a.all b.all
+
+  -- a module has one first section with a number
+  pub one_found : (whole : Reader) (id : ℕ) (found other : Option Reader) → IsSection whole id found → IsSection whole id other → found ≡ other
+  one_found whole id found other (ss, a, is) (ts, b, is') = is ∙ ap (first_with id) (one_module whole ss ts a b) ∙ sym is'

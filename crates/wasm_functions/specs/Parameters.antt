@@ -1,7 +1,7 @@
 -- The types of a section of types, and how many parameters each has.
 -- WebAssembly Core Specification 3.0, Binary Format: Types, Recursive Types; Modules, Type Section.
 use Rattle.std.specs.Prelude.{◌≡◌, ◌⊎◌, ℕ, List, [], ◌∷◌, length, map, Option, Some, None, Ok}
-use Rattle.std.specs.List.{flat_map}
+use Rattle.std.specs.List.{All, flat_map}
 use Rattle.wasm_module.specs.below.Number.{EncodesUnsigned}
 use Rattle.wasm_module.specs.below.Source.{Reader, rest, BeginsWith, Reads}
 use Rattle.wasm_module.specs.Types.{EncodesSubType, EncodesGroup}
@@ -13,6 +13,14 @@ use Rattle.wasm_functions.specs.Items.{ItemsStand}
 abbrev pub parameter_count : CompositeType → ℕ
 parameter_count (composite.Function parameters results) = parameters
 parameter_count _ = 0
+
+-- The type is of one of the three sorts.
+abbrev pub IsKnownType : CompositeType → Type 0
+IsKnownType (composite.Other kind) = ⊥
+IsKnownType _ = Unit {0}
+
+abbrev pub AreKnownTypes : List CompositeType → Type 0
+AreKnownTypes types = All IsKnownType types
 
 -- So many sub types are announced: as the beginning of a list says, or one where no such beginning stands there.
 abbrev pub Announces : ℕ → Reader → Reader → Type 0
@@ -41,4 +49,4 @@ parameters_in = flat_map (λ types. map parameter_count types)
 -- These are the numbers of parameters, where the section of types is this.
 abbrev pub CountsParameters : Option Reader → List ℕ → Type 0
 CountsParameters None counts = counts ≡ []
-CountsParameters (Some contents) counts = (groups : List (List CompositeType)) × AreTypes contents groups × (counts ≡ parameters_in groups)
+CountsParameters (Some contents) counts = (groups : List (List CompositeType)) × AreTypes contents groups × All AreKnownTypes groups × (counts ≡ parameters_in groups)

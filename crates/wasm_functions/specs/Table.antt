@@ -1,6 +1,7 @@
 -- What the sections of a module tell of its functions.
 -- WebAssembly Core Specification 3.0, Binary Format, Modules: Indices, Import Section, Function Section.
 use Rattle.std.specs.Prelude.{◌≡◌, ◌==◌, ◌+◌, ◌^◌, ◌-◌, ◌<◌, ◌≤◌, ℕ, List, [], ◌∷◌, Option, Some, None, min, length, replicate, slice_get, slice_index_or, if◌then◌else◌}
+use Rattle.std.specs.List.{All}
 use Rattle.std.specs.Str.{is_utf8}
 use Rattle.wasm_module.specs.below.Number.{EncodesUnsigned}
 use Rattle.wasm_module.specs.below.Source.{Reader}
@@ -22,17 +23,31 @@ pub record Table : Type 0 where
   pub types : List ℕ
   pub names : List (List ℕ)
 
+-- The import is of one of the five kinds.
+abbrev pub IsKnownImport : ImportParts → Type 0
+IsKnownImport i = i.kind < 5
+
 -- So many functions are imported, where the section of imports is this.
 abbrev pub CountsImports : Option Reader → ℕ → Type 0
 CountsImports None n = n ≡ 0
-CountsImports (Some contents) n = (imports : List ImportParts) × IsList EncodesImport contents imports × (n ≡ functions_in imports)
+CountsImports (Some contents) n = (imports : List ImportParts) × IsList EncodesImport contents imports × All IsKnownImport imports × (n ≡ functions_in imports)
 
 -- These are the types of the module's own functions, where the section of functions is this.
 abbrev pub ListsTypes : Option Reader → List ℕ → Type 0
 ListsTypes None types = types ≡ []
 ListsTypes (Some contents) types = IsList (EncodesUnsigned 32) contents types
 
--- This is what the sections of a module tell of its functions. Of two names that a function has, that of the section of names is kept.
+-- These are the names of so many own functions, behind the imported ones: those of exports, and in their place those of the section of names.
+pub record NamesFunctions (whole : Reader) (imported count : ℕ) (names : List (List ℕ)) : Type 0 where
+  pub exports : Option Reader
+  pub section_of_exports : IsSection whole 7 exports
+  pub exported : List (List ℕ)
+  pub from_exports : NamesExported imported exports (replicate count []) exported
+  pub given : Option Reader
+  pub section_of_names : HasNames whole given
+  pub from_names : NamesGiven imported given exported names
+
+-- This is what the sections of a module tell of its functions.
 pub record IsTableOf (whole : Reader) (t : Table) : Type 0 where
   pub imports : Option Reader
   pub section_of_imports : IsSection whole 2 imports
@@ -43,13 +58,7 @@ pub record IsTableOf (whole : Reader) (t : Table) : Type 0 where
   pub signatures : Option Reader
   pub section_of_types : IsSection whole 1 signatures
   pub parameters : CountsParameters signatures t.parameters
-  pub exports : Option Reader
-  pub section_of_exports : IsSection whole 7 exports
-  pub exported : List (List ℕ)
-  pub names_of_exports : NamesExported t.imported exports (replicate (length t.types) []) exported
-  pub given : Option Reader
-  pub section_of_names : HasNames whole given
-  pub names : NamesGiven t.imported given exported t.names
+  pub names : NamesFunctions whole t.imported (length t.types) t.names
 
 -- The index of the own function at a place: those that are imported come first.
 abbrev pub index_of : Table → ℕ → ℕ

@@ -1,30 +1,20 @@
 //! The functions of a module.
-ghost use Rattle.std.specs.Prelude.{◌≡◌, ◌↔◌, [], List, replicate, IsTrue, IfOk};
+ghost use Rattle.std.specs.Prelude.{◌≡◌, ◌↔◌, List, IsTrue, IfOk, IfErr};
 ghost use Rattle.wasm_module.specs.below.Source.{reader_of};
 ghost use Rattle.wasm_module.specs.Module.{SectionParts};
-ghost use Rattle.wasm_functions.specs.Names.{bytes_of, NamesExported, NamesGiven};
-ghost use Rattle.wasm_functions.specs.Parameters.{CountsParameters};
 ghost use Rattle.wasm_functions.specs.Sections.{IsModule};
-ghost use Rattle.wasm_functions.specs.Table.{CountsImports, ListsTypes, IsTableOf, IsOwn, index_of, parameters_at, text_of_name, name_at, NamesModule};
+ghost use Rattle.wasm_functions.specs.Table.{Table, IsTableOf, IsOwn, index_of, parameters_at, text_of_name, name_at, NamesModule};
 
 use crate::fault::ModuleFault;
-use crate::imports::imported_functions;
-use crate::names::{name_exports, name_functions, name_of_module};
-use crate::sections::{find_names, find_section};
-use crate::types::{function_types, parameter_counts};
+use crate::found::{find_function_names, find_imported, find_parameters, find_types};
+use crate::names::name_of_module;
+use crate::sections::find_names;
 use std::alloc::Global;
 use std::marker::Model;
 use std::str::from_utf8;
-use wasm_module::below::{BinaryReader, WasmFeatures};
-
-/// The numbers of the sections.
-const TYPES: u8 = 1;
-
-const IMPORTS: u8 = 2;
-
-const FUNCTIONS: u8 = 3;
-
-const EXPORTS: u8 = 7;
+use wasm_module::below::WasmFeatures;
+use wasm_module::below::byte_laws::{fixed_numbers, unsigned_numbers};
+use wasm_module::module_laws;
 
 /// What a module tells of its own functions, each at its place behind those that are imported.
 #[derive(Debug, Drop)]
@@ -44,73 +34,6 @@ impl<'a> Model for Functions<'a> {
     ghost view = { λ f. record { imported = f.imported; parameters = f.parameters.items; types = f.types.items; names = bytes_of f.names.items } };
 }
 
-/// A name for each function, which has no byte.
-fn no_names<'a>(alloc: Global, count: usize) -> Result<Vec<&'a [u8]>, ModuleFault>
-    ensures { IfOk result (λ names. bytes_of names.items ≡ replicate count []) }
-{
-    let mut names: Vec<&'a [u8]> = Vec::new(alloc);
-    for _function in 0..count {
-        if names.push(&[]).is_err() {
-            return Err(ModuleFault::Memory);
-        }
-    }
-    Ok(names)
-}
-
-/// How many parameters each type has, where a section of types is there.
-fn parameters_of(alloc: Global, contents: Option<BinaryReader<'_>>) -> Result<Vec<u32>, ModuleFault>
-    ensures { IfOk result (λ counts. CountsParameters contents.entry counts.items) }
-{
-    match contents {
-        Some(contents) => parameter_counts(alloc, contents),
-        None => Ok(Vec::new(alloc)),
-    }
-}
-
-/// How many functions are imported, where a section of imports is there.
-fn imports_of(contents: Option<BinaryReader<'_>>) -> Result<u32, ModuleFault>
-    ensures { IfOk result (λ n. CountsImports contents.entry n) }
-{
-    match contents {
-        Some(contents) => imported_functions(contents),
-        None => Ok(0),
-    }
-}
-
-/// The types of the functions, where a section of functions is there.
-fn types_of(alloc: Global, contents: Option<BinaryReader<'_>>) -> Result<Vec<u32>, ModuleFault>
-    ensures { IfOk result (λ types. ListsTypes contents.entry types.items) }
-{
-    match contents {
-        Some(contents) => function_types(alloc, contents),
-        None => Ok(Vec::new(alloc)),
-    }
-}
-
-/// Names the functions that are exported, where a section of exports is there.
-fn exported<'a>(
-    contents: Option<BinaryReader<'a>>,
-    imported: u32,
-    names: &mut Vec<&'a [u8]>,
-) -> Result<(), ModuleFault>
-    ensures { IfOk result (λ done. NamesExported imported contents.entry (bytes_of names.old.items) (bytes_of names.new.items)) }
-{
-    match contents {
-        Some(contents) => name_exports(contents, imported, names),
-        None => Ok(()),
-    }
-}
-
-/// Names the functions that a section of names names, where one is there.
-fn given<'a>(contents: Option<BinaryReader<'a>>, imported: u32, names: &mut Vec<&'a [u8]>)
-    ensures { NamesGiven imported contents.entry (bytes_of names.old.items) (bytes_of names.new.items) }
-{
-    match contents {
-        Some(contents) => name_functions(contents, imported, names),
-        None => {}
-    }
-}
-
 impl<'a> Functions<'a> {
     /// What the sections of a module tell. Of two names that a function has, that of the custom
     /// section is kept; of two exports, the last. A custom section that is refused names no more.
@@ -119,18 +42,29 @@ impl<'a> Functions<'a> {
         features: WasmFeatures,
         bytes: &'a [u8],
     ) -> Result<Functions<'a>, ModuleFault>
-        ensures { IfOk result (λ f. IsTableOf (reader_of features 0 bytes.now) f) }
+        ensures ok { IfOk result (λ f. IsTableOf (reader_of features 0 bytes.now) f) }
+        ensures refused { IfErr result (λ fault. (t : Table) → IsTableOf (reader_of features 0 bytes.now) t
+            → fault ≡ ModuleFault.Memory) }
     {
-        let parameters = parameters_of(alloc, find_section(features, bytes, TYPES)?)?;
-        let imported = imports_of(find_section(features, bytes, IMPORTS)?)?;
-        let types = types_of(alloc, find_section(features, bytes, FUNCTIONS)?)?;
-        let mut names = no_names(alloc, types.len())?;
-        exported(
-            find_section(features, bytes, EXPORTS)?,
-            imported,
-            &mut names,
-        )?;
-        given(find_names(features, bytes)?, imported, &mut names);
+        unsigned_numbers();
+        fixed_numbers();
+        module_laws::imports();
+        let parameters = match find_parameters(alloc, features, bytes) {
+            Ok(parameters) => parameters,
+            Err(fault) => return Err(fault),
+        };
+        let imported = match find_imported(features, bytes) {
+            Ok(imported) => imported,
+            Err(fault) => return Err(fault),
+        };
+        let types = match find_types(alloc, features, bytes) {
+            Ok(types) => types,
+            Err(fault) => return Err(fault),
+        };
+        let names = match find_function_names(alloc, features, bytes, imported, types.len()) {
+            Ok(names) => names,
+            Err(fault) => return Err(fault),
+        };
         Ok(Functions {
             imported,
             parameters,

@@ -1,21 +1,22 @@
 //! How many functions are imported.
-ghost use Rattle.std.specs.Prelude.{◌≡◌, List, IfOk};
-ghost use Rattle.wasm_module.specs.Imports.{ImportParts, EncodesImport};
-ghost use Rattle.wasm_functions.specs.Items.{IsList};
-ghost use Rattle.wasm_functions.specs.Table.{functions_in};
+ghost use Rattle.std.specs.Prelude.{ℕ, Some, IfOk, IfErr};
+ghost use Rattle.wasm_functions.specs.Table.{CountsImports};
 
 use crate::fault::ModuleFault;
-use wasm_module::Import;
 use wasm_module::below::BinaryReader;
+use wasm_module::below::byte_laws::unsigned_numbers;
+use wasm_module::{Import, module_laws};
 
 /// How many of the imports of a section are functions.
 ///
 /// `ImportKind` at an import of none of the five kinds; else refused as the number of the imports or as
 /// an import.
 pub fn imported_functions(contents: BinaryReader<'_>) -> Result<u32, ModuleFault>
-    ensures { IfOk result (λ n. (imports : List ImportParts) × IsList EncodesImport contents.entry imports
-        × (n ≡ functions_in imports)) }
+    ensures ok { IfOk result (λ n. CountsImports (Some contents.entry) n) }
+    ensures refused { IfErr result (λ fault. (n : ℕ) → CountsImports (Some contents.entry) n → ⊥) }
 {
+    unsigned_numbers();
+    module_laws::imports();
     let mut reader = contents;
     let count = match reader.read_var_u32() {
         Ok(count) => count,

@@ -3,10 +3,12 @@
 #![tactic(auto)]
 
 mod fault;
+mod found;
 mod functions;
 mod imports;
 mod names;
 mod sections;
+pub mod table_laws;
 mod types;
 
 pub use fault::ModuleFault;

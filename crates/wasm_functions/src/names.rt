@@ -1,5 +1,5 @@
 //! The names of functions: those under which they are exported, and those of the custom section `name`.
-ghost use Rattle.std.specs.Prelude.{◌≡◌, ◌∷◌, [], List, Some, IfOk};
+ghost use Rattle.std.specs.Prelude.{◌≡◌, ◌∷◌, [], List, Some, IfOk, IfErr};
 ghost use Rattle.wasm_module.specs.Exports.{ExportParts, EncodesExport};
 ghost use Rattle.wasm_module.specs.Names.{NameParts, EncodesNameAssociation};
 ghost use Rattle.wasm_functions.specs.Items.{IsList};
@@ -7,7 +7,8 @@ ghost use Rattle.wasm_functions.specs.Names.{bytes_of, with_name, with_exports, 
 
 use crate::fault::ModuleFault;
 use wasm_module::below::BinaryReader;
-use wasm_module::{Export, Name, NameAssociation, read_section};
+use wasm_module::below::byte_laws::unsigned_numbers;
+use wasm_module::{Export, Name, NameAssociation, module_laws, read_section};
 
 /// The byte of the kind of functions.
 const FUNCTION: u8 = 0;
@@ -46,9 +47,12 @@ pub fn name_exports<'a>(
     imported: u32,
     names: &mut Vec<&'a [u8]>,
 ) -> Result<(), ModuleFault>
-    ensures { IfOk result (λ done. (exports : List ExportParts) × IsList EncodesExport contents.entry exports
+    ensures ok { IfOk result (λ done. (exports : List ExportParts) × IsList EncodesExport contents.entry exports
         × (bytes_of names.new.items ≡ with_exports imported (bytes_of names.old.items) exports)) }
+    ensures refused { IfErr result (λ fault. (exports : List ExportParts) → IsList EncodesExport contents.entry exports → ⊥) }
 {
+    unsigned_numbers();
+    module_laws::exports();
     let mut reader = contents;
     let count = match reader.read_var_u32() {
         Ok(count) => count,

@@ -1,15 +1,18 @@
 //! The types of functions.
-ghost use Rattle.std.specs.Prelude.{◌≡◌, ◌++◌, List, length, map, IfOk};
+ghost use Rattle.std.specs.Prelude.{◌≡◌, ◌++◌, ℕ, List, length, map, Some, IfOk, IfErr};
+ghost use Rattle.std.specs.List.{All};
 ghost use Rattle.wasm_module.specs.below.Number.{EncodesUnsigned};
+ghost use Rattle.wasm_module.specs.below.Source.{Reader};
 ghost use Rattle.wasm_module.specs.Types.{EncodesSubType};
 ghost use Rattle.wasm_module.specs.declared.composite.CompositeType.{CompositeType};
 ghost use Rattle.wasm_functions.specs.Items.{IsList, ItemsStand};
-ghost use Rattle.wasm_functions.specs.Parameters.{parameter_count, parameters_in, AreTypes};
+ghost use Rattle.wasm_functions.specs.Parameters.{parameter_count, IsKnownType, CountsParameters};
 
 use crate::fault::ModuleFault;
 use std::alloc::Global;
 use wasm_module::below::BinaryReader;
-use wasm_module::{CompositeType, read_group_len};
+use wasm_module::below::byte_laws::unsigned_numbers;
+use wasm_module::{CompositeType, module_laws, read_group_len};
 
 /// How many parameters a type has, none where it is no function's.
 fn parameter_count(ty: CompositeType) -> u32
@@ -27,9 +30,12 @@ fn read_group(
     len: u32,
     counts: &mut Vec<u32>,
 ) -> Result<(), ModuleFault>
-    ensures { IfOk result (λ done. (types : List CompositeType) × (length types ≡ len) × ItemsStand EncodesSubType reader.old types reader.new
-        × (counts.new.items ≡ counts.old.items ++ map parameter_count types)) }
+    ensures ok { IfOk result (λ done. (types : List CompositeType) × (length types ≡ len) × ItemsStand EncodesSubType reader.old types reader.new
+        × All IsKnownType types × (counts.new.items ≡ counts.old.items ++ map parameter_count types)) }
+    ensures refused { IfErr result (λ fault. (types : List CompositeType) → (end : Reader) → length types ≡ len
+        → ItemsStand EncodesSubType reader.old types end → All IsKnownType types → fault ≡ ModuleFault.Memory) }
 {
+    module_laws::types();
     for _ty in 0..len {
         let offset = reader.original_position();
         let ty = match CompositeType::read(reader) {
@@ -50,9 +56,11 @@ fn read_group(
 ///
 /// `TypeKind` at a type of none of the three sorts; else refused as the number of the types, or as one.
 pub fn parameter_counts(alloc: Global, contents: BinaryReader<'_>) -> Result<Vec<u32>, ModuleFault>
-    ensures { IfOk result (λ counts. (groups : List (List CompositeType)) × AreTypes contents.entry groups
-        × (counts.items ≡ parameters_in groups)) }
+    ensures ok { IfOk result (λ counts. CountsParameters (Some contents.entry) counts.items) }
+    ensures refused { IfErr result (λ fault. (counts : List ℕ) → CountsParameters (Some contents.entry) counts → fault ≡ ModuleFault.Memory) }
 {
+    unsigned_numbers();
+    module_laws::types();
     let mut reader = contents;
     let mut counts = Vec::new(alloc);
     let groups = match reader.read_var_u32() {
@@ -74,8 +82,10 @@ pub fn parameter_counts(alloc: Global, contents: BinaryReader<'_>) -> Result<Vec
 
 /// The types of the functions of a section: an index for each.
 pub fn function_types(alloc: Global, contents: BinaryReader<'_>) -> Result<Vec<u32>, ModuleFault>
-    ensures { IfOk result (λ types. IsList (EncodesUnsigned 32) contents.entry types.items) }
+    ensures ok { IfOk result (λ types. IsList (EncodesUnsigned 32) contents.entry types.items) }
+    ensures refused { IfErr result (λ fault. (types : List ℕ) → IsList (EncodesUnsigned 32) contents.entry types → fault ≡ ModuleFault.Memory) }
 {
+    unsigned_numbers();
     let mut reader = contents;
     let mut types = Vec::new(alloc);
     let count = match reader.read_var_u32() {

@@ -1,6 +1,11 @@
-use Rattle.std.proofs.Common.{◌≡◌, ◌+◌, ◌≤◌, [], ◌∷◌, ◌++◌, ap, ◌∙◌, rules, cond, arith}
+use Rattle.std.proofs.Common.{◌≡◌, ◌+◌, ◌≤◌, ◌<◌, [], ◌∷◌, ◌++◌, length, ap, ◌∙◌, rules, cond, arith}
 use Rattle.std.specs.Prelude.{◌==◌}
-use Rattle.wasm_module.specs.Imports.{EncodesImport}
+use Rattle.std.proofs.lemmas.List.Elements.{All-push}
+use Rattle.wasm_functions.specs.Table.{IsKnownImport}
+use Rattle.wasm_module.specs.below.Number.{EncodesUnsigned}
+use Rattle.wasm_module.specs.Imports.{ImportParts, EncodesImport}
+use Rattle.wasm_functions.proofs.Named.{one_value, not_both}
+use Rattle.wasm_functions.proofs.Next.{all_at, next_item, none_refused}
 use Rattle.wasm_functions.proofs.Listed.{item_more, one_longer, functions_more}
 use Rattle.wasm_functions.proofs.imports.imported_functions.Goals as goal
 
@@ -9,6 +14,7 @@ loop-import-preserved c =
     let h = c.loop-import.invariant in
     let import = c.in-Ok-read.import in
     let stand = item_more EncodesImport c.read_var_u32.new.self h.0 c.loop-import.reader c.read.new.reader import h.1 c.in-Ok-read.ensures.reads in
+    let known : IsKnownImport import = search rules in
     let one : c.from-functions.result ≡ cond (import.kind == 0) 1 0 = search rules in
     let few : c.from-functions.result ≤ 1 = search rules in
     let sum = functions_more h.0 import in
@@ -16,6 +22,32 @@ loop-import-preserved c =
       h.0 ++ import ∷ [],
       stand,
       long ∙ ap (λ n. n + 1) h.2,
-      let f = h.3 in omega (arith, f, one, sum),
-      let f = h.4 in omega (arith, f, few),
+      All-push IsKnownImport h.0 import h.3 known,
+      let f = h.4 in omega (arith, f, one, sum),
+      let f = h.5 in omega (arith, f, few),
     )
+
+pub returns-in-Err-clause-refused : goal.returns-in-Err-clause-refused
+returns-in-Err-clause-refused c n (imports, list, known, is) =
+    not_both (EncodesUnsigned 32) c.in-Err.e c.args.contents list.first (length imports) c.in-Err.ensures.reads.1 list.count
+
+pub returns-in-Err-read-clause-refused : goal.returns-in-Err-read-clause-refused
+returns-in-Err-read-clause-refused c n (imports, list, known, is) =
+    let h = c.loop-import.invariant in
+    let fewer : length h.0 < c.in-Ok.count = let so = h.2 in let test = c.loop-import-test.true in omega (arith, so, test) in
+    none_refused EncodesImport c.imports.ensures.one (c.unsigned_numbers.ensures 32) c.args.contents c.read_var_u32.new.self c.loop-import.reader
+    c.in-Ok.count h.0 imports c.in-Err-read.e c.in-Ok.ensures.reads h.1 fewer c.in-Err-read.ensures.reads.1 list
+
+pub returns-then-kind-gt4-clause-refused : goal.returns-then-kind-gt4-clause-refused
+returns-then-kind-gt4-clause-refused c n (imports, list, known, is) =
+    let h = c.loop-import.invariant in
+    let fewer : length h.0 < c.in-Ok.count = let so = h.2 in let test = c.loop-import-test.true in omega (arith, so, test) in
+    let import = c.in-Ok-read.import in
+    let (y, ys, next, parts, reads) = next_item EncodesImport c.imports.ensures.one (c.unsigned_numbers.ensures 32) c.args.contents c.read_var_u32.new.self
+    c.loop-import.reader c.in-Ok.count h.0 imports c.in-Ok.ensures.reads h.1 fewer list in
+    let same = one_value EncodesImport c.imports.ensures.one c.loop-import.reader c.read.new.reader next import y c.in-Ok-read.ensures.reads reads in
+    let few : y.kind < 5 = all_at IsKnownImport h.0 y ys imports parts known in
+    let kinds : import.kind ≡ y.kind = ap (λ (i : ImportParts). i.kind) same in
+    let is_kind = c.kind-kind.ensures in
+    let more = c.if-kind-gt4.true in
+    omega (arith, few, kinds, is_kind, more)

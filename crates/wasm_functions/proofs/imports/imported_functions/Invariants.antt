@@ -1,10 +1,11 @@
 use Rattle.std.proofs.Common.{◌≡◌, ◌≤◌, List, length}
+use Rattle.std.specs.List.{All}
 use Rattle.wasm_module.specs.Imports.{ImportParts, EncodesImport}
 use Rattle.wasm_functions.specs.Items.{ItemsStand}
-use Rattle.wasm_functions.specs.Table.{functions_in}
+use Rattle.wasm_functions.specs.Table.{functions_in, IsKnownImport}
 use Rattle.wasm_functions.proofs.imports.imported_functions.Given as goal
 
 -- so many imports were read, and among them so many functions
 abbrev pub invariant-loop-import : goal.invariant-loop-import
 invariant-loop-import l = (imports : List ImportParts) × ItemsStand EncodesImport l.initial.reader imports l.reader × (length imports ≡ l._import) ×
-    (l.functions ≡ functions_in imports) × (l.functions ≤ l._import)
+    All IsKnownImport imports × (l.functions ≡ functions_in imports) × (l.functions ≤ l._import)

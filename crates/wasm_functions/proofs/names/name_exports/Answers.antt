@@ -1,8 +1,10 @@
-use Rattle.std.proofs.Common.{◌+◌, [], ◌∷◌, ◌++◌, sym, ap, ◌∙◌}
+use Rattle.std.proofs.Common.{◌+◌, ◌<◌, [], ◌∷◌, ◌++◌, length, sym, ap, ◌∙◌, arith}
+use Rattle.wasm_module.specs.below.Number.{EncodesUnsigned}
 use Rattle.wasm_module.specs.Exports.{EncodesExport}
 use Rattle.wasm_functions.specs.Names.{bytes_of, with_exports}
 use Rattle.wasm_functions.proofs.Listed.{item_more, one_longer}
-use Rattle.wasm_functions.proofs.Named.{exports_more}
+use Rattle.wasm_functions.proofs.Named.{exports_more, not_both}
+use Rattle.wasm_functions.proofs.Next.{none_refused}
 use Rattle.wasm_functions.proofs.names.name_exports.Goals as goal
 
 pub loop-export-preserved : goal.loop-export-preserved
@@ -15,3 +17,14 @@ loop-export-preserved c =
       c.set_exported.ensures ∙ ap (λ names. with_exports c.args.imported names (export ∷ [])) h.3 ∙
           sym (exports_more c.args.imported (bytes_of c.args.names.now.items) h.0 export),
     )
+
+pub returns-in-Err-clause-refused : goal.returns-in-Err-clause-refused
+returns-in-Err-clause-refused c exports list =
+    not_both (EncodesUnsigned 32) c.in-Err.e c.args.contents list.first (length exports) c.in-Err.ensures.reads.1 list.count
+
+pub returns-in-Err-read-clause-refused : goal.returns-in-Err-read-clause-refused
+returns-in-Err-read-clause-refused c exports list =
+    let h = c.loop-export.invariant in
+    let fewer : length h.0 < c.in-Ok.count = let so = h.2 in let test = c.loop-export-test.true in omega (arith, so, test) in
+    none_refused EncodesExport c.exports.ensures.one (c.unsigned_numbers.ensures 32) c.args.contents c.read_var_u32.new.self c.loop-export.reader
+    c.in-Ok.count h.0 exports c.in-Err-read.e c.in-Ok.ensures.reads h.1 fewer c.in-Err-read.ensures.reads.1 list

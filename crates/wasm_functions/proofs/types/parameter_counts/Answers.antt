@@ -1,17 +1,51 @@
-use Rattle.std.proofs.Common.{◌+◌, ℕ, List, [], ◌∷◌, ◌++◌, map, ap, ◌∙◌}
-use Rattle.wasm_functions.specs.Parameters.{parameter_count}
-use Rattle.wasm_functions.proofs.Grouped.{group_more, group_stands, parameters_more}
+use Rattle.std.proofs.Common.{◌+◌, ◌<◌, ℕ, List, [], ◌∷◌, ◌++◌, length, map, subst, ap, ◌∙◌, arith}
+use Rattle.std.proofs.lemmas.List.Elements.{All-push}
+use Rattle.wasm_module.specs.below.Number.{EncodesUnsigned}
+use Rattle.wasm_module.specs.below.Source.{Reader}
+use Rattle.wasm_module.specs.Types.{EncodesSubType}
+use Rattle.wasm_functions.specs.Items.{ItemsStand}
+use Rattle.wasm_functions.specs.Parameters.{parameter_count, AreKnownTypes}
+use Rattle.wasm_functions.proofs.Grouped.{group_more, group_stands, group_announced, parameters_more}
 use Rattle.wasm_functions.proofs.Listed.{one_longer}
+use Rattle.wasm_functions.proofs.Named.{not_both}
+use Rattle.wasm_functions.proofs.Next.{all_at, next_group, one_announced, none_announced}
 use Rattle.wasm_functions.proofs.types.parameter_counts.Goals as goal
 
 pub loop-group-preserved : goal.loop-group-preserved
 loop-group-preserved c =
     let h = c.loop-group.invariant in
-    let g = c.in-Ok-read_group.ensures in
+    let g = c.in-Ok-read_group.ensures.ok in
     let len = c.in-Ok-read_group_len.ensures in
     let stands = group_stands c.in-Ok-read_group_len.len c.loop-group.reader c.read_group_len.new.reader c.read_group.new.reader g.0 len.group len.one g.1 g.2 in (
       h.0 ++ g.0 ∷ [],
       group_more c.read_var_u32.new.self h.0 c.loop-group.reader c.read_group.new.reader g.0 h.1 stands,
       one_longer h.0 g.0 ∙ ap (λ n. n + 1) h.2,
-      g.3 ∙ ap (λ (counts : List ℕ). counts ++ map parameter_count g.0) h.3 ∙ parameters_more h.0 g.0,
+      All-push AreKnownTypes h.0 g.0 h.3 g.3,
+      g.4 ∙ ap (λ (counts : List ℕ). counts ++ map parameter_count g.0) h.4 ∙ parameters_more h.0 g.0,
     )
+
+pub returns-in-Err-clause-refused : goal.returns-in-Err-clause-refused
+returns-in-Err-clause-refused c counts (groups, types, known, is) =
+    absurd (not_both (EncodesUnsigned 32) c.in-Err.e c.args.contents types.first (length groups) c.in-Err.ensures.reads.1 types.count)
+
+pub returns-in-Err-read_group_len-clause-refused : goal.returns-in-Err-read_group_len-clause-refused
+returns-in-Err-read_group_len-clause-refused c counts (groups, types, known, is) =
+    let h = c.loop-group.invariant in
+    let fewer : length h.0 < c.in-Ok.groups = let so = h.2 in let test = c.loop-group-test.true in omega (arith, so, test) in
+    let (g, gs, next, parts, stand) = next_group c.types.ensures.group c.types.ensures.one (c.unsigned_numbers.ensures 32) c.args.contents
+    c.read_var_u32.new.self c.loop-group.reader c.in-Ok.groups h.0 groups c.in-Ok.ensures.reads h.1 fewer types in
+    let len = c.in-Err-read_group_len.ensures in
+    absurd (none_announced (length g) c.in-Err-read_group_len.e c.loop-group.reader c.read_group_len.new.reader stand.0 len.group len.one stand.1)
+
+pub returns-in-Err-read_group-clause-refused : goal.returns-in-Err-read_group-clause-refused
+returns-in-Err-read_group-clause-refused c counts (groups, types, known, is) =
+    let h = c.loop-group.invariant in
+    let fewer : length h.0 < c.in-Ok.groups = let so = h.2 in let test = c.loop-group-test.true in omega (arith, so, test) in
+    let (g, gs, next, parts, stand) = next_group c.types.ensures.group c.types.ensures.one (c.unsigned_numbers.ensures 32) c.args.contents
+    c.read_var_u32.new.self c.loop-group.reader c.in-Ok.groups h.0 groups c.in-Ok.ensures.reads h.1 fewer types in
+    let len = c.in-Ok-read_group_len.ensures in
+    let read = c.in-Ok-read_group_len.len in
+    let announced = group_announced read c.loop-group.reader c.read_group_len.new.reader len.group len.one in
+    let same = one_announced c.types.ensures.group c.types.ensures.one (length g) read c.loop-group.reader stand.0 c.read_group_len.new.reader stand.1 announced in
+    let stands = subst (λ (r : Reader). ItemsStand EncodesSubType r g next) same.1 stand.2 in
+    c.in-Err-read_group.ensures.refused g next same.0 stands (all_at AreKnownTypes h.0 g gs groups parts known)

@@ -1,17 +1,38 @@
-use Rattle.std.proofs.Common.{◌≡◌, ◌+◌, [], ◌∷◌, ◌++◌, ap, ◌∙◌, rules}
+use Rattle.std.proofs.Common.{◌≡◌, ◌+◌, ◌<◌, [], ◌∷◌, ◌++◌, length, sym, subst, ap, ◌∙◌, rules, arith}
+use Rattle.std.proofs.lemmas.List.Elements.{All-push}
 use Rattle.wasm_module.specs.Types.{EncodesSubType}
-use Rattle.wasm_functions.specs.Parameters.{parameter_count}
+use Rattle.wasm_functions.specs.Parameters.{parameter_count, IsKnownType}
 use Rattle.wasm_functions.proofs.Grouped.{count_more}
 use Rattle.wasm_functions.proofs.Listed.{item_more, one_longer}
+use Rattle.wasm_functions.proofs.Named.{one_value, not_both}
+use Rattle.wasm_functions.proofs.Next.{all_at, more_items}
 use Rattle.wasm_functions.proofs.types.read_group.Goals as goal
 
 pub loop-ty-preserved : goal.loop-ty-preserved
 loop-ty-preserved c =
     let h = c.loop-ty.invariant in
     let ty = c.in-Ok.ty in
+    let known : IsKnownType ty = search rules in
     let pushed : c.push.new.self.items ≡ c.loop-ty.counts.items ++ parameter_count ty ∷ [] = search rules in (
       h.0 ++ ty ∷ [],
       item_more EncodesSubType c.args.reader.now h.0 c.loop-ty.reader c.read.new.reader ty h.1 c.in-Ok.ensures.reads,
       one_longer h.0 ty ∙ ap (λ n. n + 1) h.2,
-      pushed ∙ ap (λ z. z ++ parameter_count ty ∷ []) h.3 ∙ count_more c.args.counts.now.items h.0 ty,
+      All-push IsKnownType h.0 ty h.3 known,
+      pushed ∙ ap (λ z. z ++ parameter_count ty ∷ []) h.4 ∙ count_more c.args.counts.now.items h.0 ty,
     )
+
+pub returns-in-Err-clause-refused : goal.returns-in-Err-clause-refused
+returns-in-Err-clause-refused c types end all stand known =
+    let h = c.loop-ty.invariant in
+    let fewer : length h.0 < length types = let so = h.2 in let test = c.loop-ty-test.true in omega (arith, so, test, all) in
+    let (y, ys, next, parts, reads) = more_items EncodesSubType c.types.ensures.one c.args.reader.now h.0 types c.loop-ty.reader end h.1 stand fewer in
+    absurd (not_both EncodesSubType c.in-Err.e c.loop-ty.reader next y c.in-Err.ensures.reads.1 reads)
+
+pub returns-in-Other-clause-refused : goal.returns-in-Other-clause-refused
+returns-in-Other-clause-refused c types end all stand known =
+    let h = c.loop-ty.invariant in
+    let fewer : length h.0 < length types = let so = h.2 in let test = c.loop-ty-test.true in omega (arith, so, test, all) in
+    let (y, ys, next, parts, reads) = more_items EncodesSubType c.types.ensures.one c.args.reader.now h.0 types c.loop-ty.reader end h.1 stand fewer in
+    let same = one_value EncodesSubType c.types.ensures.one c.loop-ty.reader c.read.new.reader next c.in-Ok.ty y c.in-Ok.ensures.reads reads in
+    let is_known : IsKnownType c.in-Ok.ty = subst IsKnownType (sym same) (all_at IsKnownType h.0 y ys types parts known) in
+    absurd (subst IsKnownType c.in-Other.is is_known)

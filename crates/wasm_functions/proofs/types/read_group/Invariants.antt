@@ -1,11 +1,12 @@
 use Rattle.std.proofs.Common.{◌≡◌, ◌++◌, List, length, map}
+use Rattle.std.specs.List.{All}
 use Rattle.wasm_module.specs.Types.{EncodesSubType}
 use Rattle.wasm_module.specs.declared.composite.CompositeType.{CompositeType}
 use Rattle.wasm_functions.specs.Items.{ItemsStand}
-use Rattle.wasm_functions.specs.Parameters.{parameter_count}
+use Rattle.wasm_functions.specs.Parameters.{parameter_count, IsKnownType}
 use Rattle.wasm_functions.proofs.types.read_group.Given as goal
 
 -- so many types were read, and their numbers of parameters added
 abbrev pub invariant-loop-ty : goal.invariant-loop-ty
-invariant-loop-ty l = (types : List CompositeType) × ItemsStand EncodesSubType l.initial.reader types l.reader × (length types ≡ l._ty) ×
+invariant-loop-ty l = (types : List CompositeType) × ItemsStand EncodesSubType l.initial.reader types l.reader × (length types ≡ l._ty) × All IsKnownType types ×
     (l.counts.items ≡ l.initial.counts.items ++ map parameter_count types)

@@ -1,6 +1,6 @@
 use Rattle.std.proofs.Common.{◌≡◌, [], replicate}
 use Rattle.wasm_functions.specs.Names.{bytes_of}
-use Rattle.wasm_functions.proofs.functions.no_names.Given as goal
+use Rattle.wasm_functions.proofs.found.no_names.Given as goal
 
 -- so many names are there
 abbrev pub invariant-loop-function : goal.invariant-loop-function

@@ -1,0 +1,109 @@
+-- A list is one list at most: what stands behind some of its items.
+use Rattle.std.proofs.Common.{◌≡◌, ℕ, ◌+◌, ◌<◌, List, [], ◌∷◌, ◌++◌, length, Result, Ok, Err, refl, sym, subst, ap, ◌∙◌, inl, inr, arith}
+use Rattle.std.specs.List.{All}
+use Rattle.std.proofs.lemmas.List.Elements.{All-head, All-tail}
+use Rattle.wasm_module.specs.below.bytes.error.Error.{Error}
+use Rattle.wasm_module.specs.below.Number.{EncodesUnsigned}
+use Rattle.wasm_module.specs.below.Sequence.{PrefixCode}
+use Rattle.wasm_module.specs.below.Source.{Reader, rest, at_position, BeginsWith, IsRefusal, Reads}
+use Rattle.wasm_module.specs.Types.{EncodesSubType, EncodesGroup}
+use Rattle.wasm_module.specs.declared.composite.CompositeType.{CompositeType}
+use Rattle.wasm_functions.specs.Items.{ItemsStand, IsList}
+use Rattle.wasm_functions.specs.Parameters.{Announces, GroupStands, GroupsStand, AreTypes}
+use Rattle.wasm_functions.proofs.Named.{not_both}
+
+pub all_at : {X : Type 0} (P : X → Type 0) (xs : List X) (y : X) (zs ys : List X) → ys ≡ xs ++ y ∷ zs → All P ys → P y
+all_at {X} P xs y zs ys is all = at xs (subst (All P) is all)
+  where
+    at : (xs : List X) → All P (xs ++ y ∷ zs) → P y
+    at [] h = All-head P y zs h
+    at (x ∷ xs) h = at xs (All-tail P x (xs ++ y ∷ zs) h)
+
+-- the same bytes are read as the same value, up to the same place
+pub one_read : {X : Type 0} (P : List ℕ → X → Type 0) → PrefixCode P → (r a b : Reader) (x y : X) → Reads P (Ok x) r a → Reads P (Ok y) r b →
+    (x ≡ y) × (a ≡ b)
+one_read P code r a b x y (text, is, takes) (other, is_other, takes_other) =
+    let same = code text other (rest a) (rest b) x y is is_other (sym takes.parts ∙ takes_other.parts) in
+    (same.1, takes.moved ∙ ap (λ (z : List ℕ). at_position r (r.position + length z)) same.0 ∙ sym takes_other.moved)
+
+module _ {X : Type 0} (P : List ℕ → X → Type 0) (code : PrefixCode P) where
+  -- as many items of the same bytes are the same
+  pub same_items : (r : Reader) (xs ys : List X) (mid end : Reader) → ItemsStand P r xs mid → ItemsStand P r ys end → length xs ≡ length ys →
+      (xs ≡ ys) × (mid ≡ end)
+  same_items r [] [] mid end a b l = (refl, a ∙ sym b)
+  same_items r [] (y ∷ ys) mid end a b l = absurd (omega (arith, l))
+  same_items r (x ∷ xs) [] mid end a b l = absurd (omega (arith, l))
+  same_items r (x ∷ xs) (y ∷ ys) mid end (n, reads, others) (n', reads', others') l =
+      let first = one_read P code r n n' x y reads reads' in
+      let more = same_items n xs ys mid end others (subst (λ z. ItemsStand P z ys end) (sym first.1) others') (omega (arith, l)) in
+      (ap (λ z. z ∷ xs) first.0 ∙ ap (λ zs. y ∷ zs) more.0, more.1)
+
+  -- behind fewer items stands one more
+  pub more_items : (r : Reader) (xs ys : List X) (mid end : Reader) → ItemsStand P r xs mid → ItemsStand P r ys end → length xs < length ys →
+      (y : X) × (zs : List X) × (next : Reader) × (ys ≡ xs ++ y ∷ zs) × Reads P (Ok y) mid next
+  more_items r xs [] mid end a b l = absurd (omega (arith, l))
+  more_items r [] (y ∷ ys) mid end a (next, reads, others) l = (y, ys, next, refl, subst (λ z. Reads P (Ok y) z next) (sym a) reads)
+  more_items r (x ∷ xs) (y ∷ ys) mid end (n, reads, others) (n', reads', others') l =
+      let first = one_read P code r n n' x y reads reads' in
+      let (z, zs, next, is, read) = more_items n xs ys mid end others (subst (λ r. ItemsStand P r ys end) (sym first.1) others') (omega (arith, l)) in
+      (z, zs, next, ap (λ v. y ∷ v) is ∙ ap (λ v. v ∷ (xs ++ z ∷ zs)) (sym first.0), read)
+
+  pub next_item : PrefixCode (EncodesUnsigned 32) → (contents first mid : Reader) (n : ℕ) (xs ys : List X) → Reads (EncodesUnsigned 32) (Ok n) contents first →
+      ItemsStand P first xs mid → length xs < n → IsList P contents ys →
+      (y : X) × (zs : List X) × (next : Reader) × (ys ≡ xs ++ y ∷ zs) × Reads P (Ok y) mid next
+  next_item numbers contents first mid n xs ys counted stand fewer list =
+      let same = one_read (EncodesUnsigned 32) numbers contents first list.first n (length ys) counted list.count in
+      more_items first xs ys mid list.end stand (subst (λ z. ItemsStand P z ys list.end) (sym same.1) list.stand) (subst (λ k. length xs < k) same.0 fewer)
+
+  -- a section has one list at most
+  pub one_list : PrefixCode (EncodesUnsigned 32) → (contents : Reader) (xs ys : List X) → IsList P contents xs → IsList P contents ys → xs ≡ ys
+  one_list numbers contents xs ys a b =
+      let same = one_read (EncodesUnsigned 32) numbers contents a.first b.first (length xs) (length ys) a.count b.count in
+      (same_items a.first xs ys a.end b.end a.stand (subst (λ z. ItemsStand P z ys b.end) (sym same.1) b.stand) same.0).0
+
+  -- so none is refused there
+  pub none_refused : PrefixCode (EncodesUnsigned 32) → (contents first mid : Reader) (n : ℕ) (xs ys : List X) (e : Error) →
+      Reads (EncodesUnsigned 32) (Ok n) contents first → ItemsStand P first xs mid → length xs < n → IsRefusal P e mid → IsList P contents ys → ⊥
+  none_refused numbers contents first mid n xs ys e counted stand fewer refused list =
+      let (y, zs, next, is, reads) = next_item numbers contents first mid n xs ys counted stand fewer list in not_both P e mid next y refused reads
+
+-- where a recursive type begins, no beginning is refused
+abbrev read : Result ℕ Error → Type 0
+read (Ok n) = Unit {0}
+read (Err e) = ⊥
+
+abbrev same : Result ℕ Error → Result ℕ Error → Type 0
+same a b = a ≡ b
+
+pub none_announced : (n : ℕ) (e : Error) (r new first : Reader) → (BeginsWith 0x4e (rest r) → Reads EncodesGroup (Err e) r new) →
+    ((BeginsWith 0x4e (rest r) → ⊥) → same (Err e) (Ok 1) × (new ≡ r)) → Announces n r first → ⊥
+none_announced n e r new first group one (inl is) = not_both EncodesGroup e r first n (group is.0).1 is.1
+none_announced n e r new first group one (inr not) = subst read (sym (one not.0).0) tt
+
+module _ (group : PrefixCode EncodesGroup) (sub : PrefixCode EncodesSubType) where
+  pub one_announced : (n m : ℕ) (r a b : Reader) → Announces n r a → Announces m r b → (n ≡ m) × (a ≡ b)
+  one_announced n m r a b (inl p) (inl q) = one_read EncodesGroup group r a b n m p.1 q.1
+  one_announced n m r a b (inl p) (inr q) = absurd (q.0 p.0)
+  one_announced n m r a b (inr p) (inl q) = absurd (p.0 q.0)
+  one_announced n m r a b (inr p) (inr q) = (p.1 ∙ sym q.1, p.2 ∙ sym q.2)
+
+  one_group : (r mid end : Reader) (g h : List CompositeType) → GroupStands r g mid → GroupStands r h end → (g ≡ h) × (mid ≡ end)
+  one_group r mid end g h (first, announces, stand) (first', announces', stand') =
+      let same = one_announced (length g) (length h) r first first' announces announces' in
+      same_items EncodesSubType sub first g h mid end stand (subst (λ z. ItemsStand EncodesSubType z h end) (sym same.1) stand') same.0
+
+  more_groups : (r : Reader) (gs hs : List (List CompositeType)) (mid end : Reader) → GroupsStand r gs mid → GroupsStand r hs end → length gs < length hs →
+      (h : List CompositeType) × (others : List (List CompositeType)) × (next : Reader) × (hs ≡ gs ++ h ∷ others) × GroupStands mid h next
+  more_groups r gs [] mid end a b l = absurd (omega (arith, l))
+  more_groups r [] (h ∷ hs) mid end a (next, stands, others) l = (h, hs, next, refl, subst (λ z. GroupStands z h next) (sym a) stands)
+  more_groups r (g ∷ gs) (h ∷ hs) mid end (n, stands, others) (n', stands', others') l =
+      let first = one_group r n n' g h stands stands' in
+      let (i, is, next, parts, stand) = more_groups n gs hs mid end others (subst (λ r. GroupsStand r hs end) (sym first.1) others') (omega (arith, l)) in
+      (i, is, next, ap (λ v. h ∷ v) parts ∙ ap (λ v. v ∷ (gs ++ i ∷ is)) (sym first.0), stand)
+
+  pub next_group : PrefixCode (EncodesUnsigned 32) → (contents first mid : Reader) (n : ℕ) (gs hs : List (List CompositeType)) →
+      Reads (EncodesUnsigned 32) (Ok n) contents first → GroupsStand first gs mid → length gs < n → AreTypes contents hs →
+      (h : List CompositeType) × (others : List (List CompositeType)) × (next : Reader) × (hs ≡ gs ++ h ∷ others) × GroupStands mid h next
+  next_group numbers contents first mid n gs hs counted stand fewer types =
+      let same = one_read (EncodesUnsigned 32) numbers contents first types.first n (length hs) counted types.count in
+      more_groups first gs hs mid types.end stand (subst (λ z. GroupsStand z hs types.end) (sym same.1) types.stand) (subst (λ k. length gs < k) same.0 fewer)

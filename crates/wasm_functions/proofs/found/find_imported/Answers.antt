@@ -1,0 +1,16 @@
+use Rattle.std.proofs.Common.{Some, rules}
+use Rattle.wasm_module.specs.below.Source.{reader_of}
+use Rattle.wasm_functions.specs.Sections.{IsSection}
+use Rattle.wasm_functions.specs.Table.{CountsImports}
+use Rattle.wasm_functions.specs.declared.fault.ModuleFault.{ModuleFault}
+use Rattle.wasm_functions.proofs.OfSection.{of_section}
+use Rattle.wasm_functions.proofs.found.find_imported.Goals as goal
+
+pub returns-in-Ok-Some-clause-refused : goal.returns-in-Ok-Some-clause-refused
+returns-in-Ok-Some-clause-refused c =
+    let whole = reader_of c.args.features 0 c.args.bytes.now in
+    let here : IsSection whole 2 (Some c.in-Ok-Some.contents) = search rules in
+    of_section (c.unsigned_numbers.ensures 32) c.fixed_numbers.ensures.four CountsImports (λ (f : ModuleFault). ⊥) whole 2 c.in-Ok-Some.contents c.imported_functions.result here c.imported_functions.ensures.refused
+
+pub returns-in-Err-clause-refused : goal.returns-in-Err-clause-refused
+returns-in-Err-clause-refused c section y (sections, is_module, is) counted = absurd (c.in-Err.ensures.refused sections is_module)

@@ -1,0 +1,164 @@
+//! What the sections of a module tell of its functions, each where it is there.
+ghost use Rattle.std.specs.Prelude.{◌≡◌, ℕ, [], List, Option, Some, replicate, IfOk, IfErr};
+ghost use Rattle.wasm_module.specs.below.Source.{Reader, reader_of};
+ghost use Rattle.wasm_functions.specs.Items.{IsList};
+ghost use Rattle.wasm_functions.specs.Names.{bytes_of, NamesExported, NamesGiven, HasNames};
+ghost use Rattle.wasm_functions.specs.Parameters.{CountsParameters};
+ghost use Rattle.wasm_functions.specs.Sections.{IsSection};
+ghost use Rattle.wasm_functions.specs.Table.{CountsImports, ListsTypes, NamesFunctions};
+
+use crate::fault::ModuleFault;
+use crate::imports::imported_functions;
+use crate::names::{name_exports, name_functions};
+use crate::sections::{find_names, find_section};
+use crate::types::{function_types, parameter_counts};
+use std::alloc::Global;
+use wasm_module::below::WasmFeatures;
+use wasm_module::below::byte_laws::{fixed_numbers, unsigned_numbers};
+
+/// The numbers of the sections.
+const TYPES: u8 = 1;
+
+const IMPORTS: u8 = 2;
+
+const FUNCTIONS: u8 = 3;
+
+const EXPORTS: u8 = 7;
+
+/// How many parameters each type has.
+pub fn find_parameters(
+    alloc: Global,
+    features: WasmFeatures,
+    bytes: &[u8],
+) -> Result<Vec<u32>, ModuleFault>
+    ensures ok { IfOk result (λ counts. (section : Option Reader) × IsSection (reader_of features 0 bytes.now) 1 section
+        × CountsParameters section counts.items) }
+    ensures refused { IfErr result (λ fault. (section : Option Reader) → (counts : List ℕ) → IsSection (reader_of features 0 bytes.now) 1 section
+        → CountsParameters section counts → fault ≡ ModuleFault.Memory) }
+{
+    unsigned_numbers();
+    fixed_numbers();
+    match find_section(features, bytes, TYPES) {
+        Ok(Some(contents)) => parameter_counts(alloc, contents),
+        Ok(None) => Ok(Vec::new(alloc)),
+        Err(fault) => Err(fault),
+    }
+}
+
+/// How many functions are imported.
+pub fn find_imported(features: WasmFeatures, bytes: &[u8]) -> Result<u32, ModuleFault>
+    ensures ok { IfOk result (λ n. (section : Option Reader) × IsSection (reader_of features 0 bytes.now) 2 section
+        × CountsImports section n) }
+    ensures refused { IfErr result (λ fault. (section : Option Reader) → (n : ℕ) → IsSection (reader_of features 0 bytes.now) 2 section
+        → CountsImports section n → ⊥) }
+{
+    unsigned_numbers();
+    fixed_numbers();
+    match find_section(features, bytes, IMPORTS) {
+        Ok(Some(contents)) => imported_functions(contents),
+        Ok(None) => Ok(0),
+        Err(fault) => Err(fault),
+    }
+}
+
+/// The types of the functions.
+pub fn find_types(
+    alloc: Global,
+    features: WasmFeatures,
+    bytes: &[u8],
+) -> Result<Vec<u32>, ModuleFault>
+    ensures ok { IfOk result (λ types. (section : Option Reader) × IsSection (reader_of features 0 bytes.now) 3 section
+        × ListsTypes section types.items) }
+    ensures refused { IfErr result (λ fault. (section : Option Reader) → (types : List ℕ) → IsSection (reader_of features 0 bytes.now) 3 section
+        → ListsTypes section types → fault ≡ ModuleFault.Memory) }
+{
+    unsigned_numbers();
+    fixed_numbers();
+    match find_section(features, bytes, FUNCTIONS) {
+        Ok(Some(contents)) => function_types(alloc, contents),
+        Ok(None) => Ok(Vec::new(alloc)),
+        Err(fault) => Err(fault),
+    }
+}
+
+/// A name for each function, which has no byte.
+fn no_names<'a>(alloc: Global, count: usize) -> Result<Vec<&'a [u8]>, ModuleFault>
+    ensures ok { IfOk result (λ names. bytes_of names.items ≡ replicate count []) }
+    ensures memory { IfErr result (λ fault. fault ≡ ModuleFault.Memory) }
+{
+    let mut names: Vec<&'a [u8]> = Vec::new(alloc);
+    for _function in 0..count {
+        if names.push(&[]).is_err() {
+            return Err(ModuleFault::Memory);
+        }
+    }
+    Ok(names)
+}
+
+/// Names the functions that are exported.
+fn set_exports<'a>(
+    features: WasmFeatures,
+    bytes: &'a [u8],
+    imported: u32,
+    names: &mut Vec<&'a [u8]>,
+) -> Result<(), ModuleFault>
+    ensures ok { IfOk result (λ done. (section : Option Reader) × IsSection (reader_of features 0 bytes.now) 7 section
+        × NamesExported imported section (bytes_of names.old.items) (bytes_of names.new.items)) }
+    ensures refused { IfErr result (λ fault. (section : Option Reader) → (before after : List (List ℕ)) → IsSection (reader_of features 0 bytes.now) 7 section
+        → NamesExported imported section before after → ⊥) }
+{
+    unsigned_numbers();
+    fixed_numbers();
+    match find_section(features, bytes, EXPORTS) {
+        Ok(Some(contents)) => name_exports(contents, imported, names),
+        Ok(None) => Ok(()),
+        Err(fault) => Err(fault),
+    }
+}
+
+/// Names the functions that the last section of names names.
+fn set_names<'a>(
+    features: WasmFeatures,
+    bytes: &'a [u8],
+    imported: u32,
+    names: &mut Vec<&'a [u8]>,
+) -> Result<(), ModuleFault>
+    ensures ok { IfOk result (λ done. (section : Option Reader) × HasNames (reader_of features 0 bytes.now) section
+        × NamesGiven imported section (bytes_of names.old.items) (bytes_of names.new.items)) }
+    ensures refused { IfErr result (λ fault. (section : Option Reader) → HasNames (reader_of features 0 bytes.now) section → ⊥) }
+{
+    match find_names(features, bytes) {
+        Ok(Some(contents)) => {
+            name_functions(contents, imported, names);
+            Ok(())
+        }
+        Ok(None) => Ok(()),
+        Err(fault) => Err(fault),
+    }
+}
+
+/// The names of so many own functions: those of exports, and in their place those of the section of names.
+pub fn find_function_names<'a>(
+    alloc: Global,
+    features: WasmFeatures,
+    bytes: &'a [u8],
+    imported: u32,
+    count: usize,
+) -> Result<Vec<&'a [u8]>, ModuleFault>
+    ensures ok { IfOk result (λ names. NamesFunctions (reader_of features 0 bytes.now) imported count (bytes_of names.items)) }
+    ensures refused { IfErr result (λ fault. (names : List (List ℕ)) → NamesFunctions (reader_of features 0 bytes.now) imported count names
+        → fault ≡ ModuleFault.Memory) }
+{
+    let mut names = match no_names(alloc, count) {
+        Ok(names) => names,
+        Err(fault) => return Err(fault),
+    };
+    match set_exports(features, bytes, imported, &mut names) {
+        Ok(()) => {}
+        Err(fault) => return Err(fault),
+    }
+    match set_names(features, bytes, imported, &mut names) {
+        Ok(()) => Ok(names),
+        Err(fault) => Err(fault),
+    }
+}
