@@ -1,14 +1,11 @@
-//! A visitor that holds a reference, with visits of its own in three groups.
+//! A visitor that holds a reference, with a visit of its own.
 ghost use Rattle.std.specs.Prelude.{◌≤◌};
 
 use std::alloc::AllocError;
-use wasm_visit::instr::{BrTable, NumericOperator, Operator, SimdOperator};
-use wasm_visit::{
-    VisitGroups, VisitNumeric, VisitOneByte, VisitOperator, VisitSimdLow, VisitSimdOperator,
-    Visitor, dispatch,
-};
+use wasm_visit::instr::{BrTable, MiscOperator, Operator};
+use wasm_visit::{VisitGroups, VisitMisc, VisitOperator, VisitSimdOperator, Visitor, dispatch};
 
-/// Writes the names of three operators, and counts the visits of all others.
+/// Writes the names of two operators, and counts the visits of all others.
 #[derive(Drop)]
 pub struct Printer<'w> {
     pub out: &'w mut String,
@@ -27,31 +24,15 @@ impl<'w> Visitor for Printer<'w> {
     }
 }
 
-impl<'w> VisitOneByte for Printer<'w> {
-    fn visit_local_get(&mut self, local_index: u32) -> Result<(), AllocError> {
-        writeln!(self.out, "local.get {local_index}")
-    }
-}
-
-impl<'w> VisitNumeric for Printer<'w> {
-    fn visit_i32_add(&mut self) -> Result<(), AllocError> {
-        self.out.push_str("i32.add\n")
-    }
-}
-
-impl<'w> VisitSimdLow for Printer<'w> {
-    fn visit_i8x16_splat(&mut self) -> Result<(), AllocError> {
-        self.out.push_str("i8x16.splat\n")
+impl<'w> VisitMisc for Printer<'w> {
+    fn visit_data_drop(&mut self, data_index: u32) -> Result<(), AllocError> {
+        writeln!(self.out, "data.drop {data_index}")
     }
 }
 
 impl<'w> VisitGroups for Printer<'w> {
-    fn dispatch_one_byte(&mut self, op: Operator<'_>) -> Result<(), AllocError> {
-        dispatch::one_byte(self, op)
-    }
-
-    fn dispatch_numeric(&mut self, op: NumericOperator) -> Result<(), AllocError> {
-        dispatch::numeric(self, op)
+    fn dispatch_misc(&mut self, op: MiscOperator) -> Result<(), AllocError> {
+        dispatch::misc(self, op)
     }
 }
 
@@ -61,8 +42,4 @@ impl<'a, 'w> VisitOperator<'a> for Printer<'w> {
     }
 }
 
-impl<'w> VisitSimdOperator for Printer<'w> {
-    fn dispatch_simd_low(&mut self, op: SimdOperator) -> Result<(), AllocError> {
-        dispatch::simd_low(self, op)
-    }
-}
+impl<'w> VisitSimdOperator for Printer<'w> {}
