@@ -1,5 +1,5 @@
 -- What is decoded through a reference to a visitor, or through a box, is decoded by the visitor.
-use Rattle.std.proofs.Common.{◌≡◌, ℕ, List, Result, Ok, Err, refl, ap, Global, MutBor}
+use Rattle.std.proofs.Common.{◌≡◌, ℕ, List, Result, Ok, Err, refl, ap, sym, subst, ◌∙◌, Global, MutBor}
 use Rattle.std.specs.Prelude.{Box, box_value}
 use Rattle.std.specs.Box.{with_value}
 use borrow.Rule.Reborrow.{re_v}
@@ -20,3 +20,11 @@ pub through_box : {V A : Type 0} (visits : V → Operator → A → V → Type 0
     Decodes (λ s op a t. visits (box_value s) op a (box_value t)) E F result old new b (with_value b w)
 through_box visits E F (Ok a) old new b w p = p
 through_box visits E F (Err e) old new b w (same, h) = (ap (with_value b) same, h)
+
+-- What is decoded by a visitor that holds a reference to another, and visits by that alone, is decoded by the other. It is left as the reference has it at its end, where that is still the same reference.
+pub through_holder : {V A W : Type 0} (held : W → MutBor V) (visits : V → Operator → A → V → Type 0) (E : List ℕ → Operator → Type 0) (F : Message → Reader → ℕ → Type 0)
+    (result : Result A Error) (old new : Reader) (s t : W) (x : V) → ((held s).ghost_name ≡ (held t).ghost_name → x ≡ (held t).now) →
+    Decodes (λ s op a t. ((held s).ghost_name ≡ (held t).ghost_name) × visits (held s).now op a (held t).now) E F result old new s t →
+    Decodes visits E F result old new (held s).now x
+through_holder held visits E F (Ok a) old new s t x left (text, op, enc, taken, (named, vis)) = (text, op, enc, taken, subst (λ z. visits (held s).now op a z) (sym (left named)) vis)
+through_holder held visits E F (Err e) old new s t x left (same, h) = (left (sym (ap (λ z. (held z).ghost_name) same)) ∙ ap (λ z. (held z).now) same, h)

@@ -1,5 +1,7 @@
-//! A visitor whose operators of one byte all go to `visit_any`.
-use wasm_decode_groups::groups::{VisitOneByte, Visitor};
+//! A visitor whose operators all go to `visit_any`.
+use wasm_decode_groups::groups::{
+    VisitAtomic, VisitGc, VisitMisc, VisitOneByte, VisitSimdHigh, VisitSimdLow, Visitor,
+};
 use wasm_decode_groups::instr::Operator;
 
 /// What visits by `visit_any` of this visitor alone. The decoder is handed it where a visitor has
@@ -21,3 +23,13 @@ impl<V: Visitor> Visitor for ByAny<V> {
 }
 
 impl<V: Visitor> VisitOneByte for ByAny<V> {}
+
+impl<V: Visitor> VisitGc for ByAny<V> {}
+
+impl<V: Visitor> VisitMisc for ByAny<V> {}
+
+impl<V: Visitor> VisitAtomic for ByAny<V> {}
+
+impl<V: Visitor> VisitSimdLow for ByAny<V> {}
+
+impl<V: Visitor> VisitSimdHigh for ByAny<V> {}

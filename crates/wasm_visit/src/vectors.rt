@@ -5,10 +5,11 @@ ghost use Rattle.wasm_decode_groups.specs.instr.declared.operator.Operator.{Oper
 ghost use Rattle.wasm_decode_groups.specs.opcodes.Decoding.{StandsBehind, DecodesAt};
 ghost use Rattle.wasm_decode_groups.specs.groups.Groups.{IsSimdHigh, IsSimdLow};
 
+use crate::any::ByAny;
+use wasm_decode_groups as decode;
 use wasm_decode_groups::below::{BinaryReader, Result};
 use wasm_decode_groups::groups::Visitor;
 use wasm_decode_groups::instr::{Operator, SimdOperator};
-use wasm_visit_factory::Factory;
 
 /// A visitor of the vector operators: for each of the two groups of their visits, the calls by
 /// which it is reached, from an operator and from bytes. Vector Instructions.
@@ -49,15 +50,14 @@ pub trait VisitSimdOperator: Visitor {
         start: usize,
         code: u32,
     ) -> Result<Self::Output>
+    where
+        Self: Sized,
         requires behind { StandsBehind start (Some 0xfd) code reader.old }
         requires half { code < 0x80 }
         ensures { (frame : FrameKind)
             → DecodesAt Self.visits frame start result reader.old reader.new self.old self.new }
     {
-        match Factory.decode_simd_low(reader, start, code) {
-            Ok(op) => Ok(self.visit_any(op)),
-            Err(e) => Err(e),
-        }
+        decode::simd_low(&mut ByAny { visitor: self }, reader, start, code)
     }
 
     /// Reads what stands behind a subopcode, and visits the vector operator of this subopcode from 80 on. `start` is the
@@ -71,14 +71,13 @@ pub trait VisitSimdOperator: Visitor {
         start: usize,
         code: u32,
     ) -> Result<Self::Output>
+    where
+        Self: Sized,
         requires behind { StandsBehind start (Some 0xfd) code reader.old }
         requires half { 0x80 ≤ code }
         ensures { (frame : FrameKind)
             → DecodesAt Self.visits frame start result reader.old reader.new self.old self.new }
     {
-        match Factory.decode_simd_high(reader, start, code) {
-            Ok(op) => Ok(self.visit_any(op)),
-            Err(e) => Err(e),
-        }
+        decode::simd_high(&mut ByAny { visitor: self }, reader, start, code)
     }
 }

@@ -157,14 +157,13 @@ pub trait VisitGroups: Visitor {
         start: usize,
         code: u32,
     ) -> Result<Self::Output>
+    where
+        Self: Sized,
         requires behind { StandsBehind start (Some 0xfb) code reader.old }
         ensures { (frame : FrameKind)
             → DecodesAt Self.visits frame start result reader.old reader.new self.old self.new }
     {
-        match Factory.decode_gc(reader, start, code) {
-            Ok(op) => Ok(self.visit_any(op)),
-            Err(e) => Err(e),
-        }
+        decode::gc(&mut ByAny { visitor: self }, reader, start, code)
     }
 
     /// Reads what stands behind a subopcode, and visits the operator of this subopcode behind the byte fc. `start` is the
@@ -178,14 +177,13 @@ pub trait VisitGroups: Visitor {
         start: usize,
         code: u32,
     ) -> Result<Self::Output>
+    where
+        Self: Sized,
         requires behind { StandsBehind start (Some 0xfc) code reader.old }
         ensures { (frame : FrameKind)
             → DecodesAt Self.visits frame start result reader.old reader.new self.old self.new }
     {
-        match Factory.decode_misc(reader, start, code) {
-            Ok(op) => Ok(self.visit_any(op)),
-            Err(e) => Err(e),
-        }
+        decode::misc(&mut ByAny { visitor: self }, reader, start, code)
     }
 
     /// Reads what stands behind a subopcode, and visits the operator of this subopcode behind the byte fe. `start` is the
@@ -199,13 +197,12 @@ pub trait VisitGroups: Visitor {
         start: usize,
         code: u32,
     ) -> Result<Self::Output>
+    where
+        Self: Sized,
         requires behind { StandsBehind start (Some 0xfe) code reader.old }
         ensures { (frame : FrameKind)
             → DecodesAt Self.visits frame start result reader.old reader.new self.old self.new }
     {
-        match Factory.decode_atomic(reader, start, code) {
-            Ok(op) => Ok(self.visit_any(op)),
-            Err(e) => Err(e),
-        }
+        decode::atomic(&mut ByAny { visitor: self }, reader, start, code)
     }
 }
