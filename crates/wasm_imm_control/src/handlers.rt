@@ -27,7 +27,7 @@ impl Catch {
     ///
     /// `EndOfData` where the first byte is wanted; `InvalidLeadingByte` of `catch` at one above 3;
     /// else as `read_var_u32` at the tag or the label.
-    #[inline(never)]
+    #[inline(always)]
     pub fn read(reader: &mut BinaryReader<'_>) -> Result<Catch>
         ensures reads { Reads EncodesCatch result reader.old reader.new }
         ensures fault { IfErr result (λ e. CatchFault e.message reader.old e.offset) }
@@ -53,6 +53,7 @@ impl Catch {
     }
 
     /// A catch whose first byte was read.
+    #[inline(always)]
     fn read_behind(reader: &mut BinaryReader<'_>, byte: u8) -> Result<Catch>
         requires { byte ≤ 3 }
         ensures reads { Reads (IsCatchBehind byte) result reader.old reader.new }
@@ -111,7 +112,7 @@ impl Handle {
     ///
     /// `EndOfData` where the first byte is wanted; `InvalidLeadingByte` of `on clause` at one above
     /// 1; else as `read_var_u32` at the tag or the label.
-    #[inline(never)]
+    #[inline(always)]
     pub fn read(reader: &mut BinaryReader<'_>) -> Result<Handle>
         ensures reads { Reads EncodesHandle result reader.old reader.new }
         ensures fault { IfErr result (λ e. HandleFault e.message reader.old e.offset) }
@@ -137,6 +138,7 @@ impl Handle {
     }
 
     /// A clause whose first byte was read.
+    #[inline(always)]
     fn read_behind(reader: &mut BinaryReader<'_>, byte: u8) -> Result<Handle>
         requires { byte ≤ 1 }
         ensures reads { Reads (IsHandleBehind byte) result reader.old reader.new }
@@ -174,6 +176,7 @@ impl<'a> FromReader<'a> for Handle {
 }
 
 /// Two indices.
+#[inline(always)]
 fn read_pair(reader: &mut BinaryReader<'_>) -> Result<(u32, u32)>
     ensures reads { Reads EncodesPair result reader.old reader.new }
     ensures fault { IfErr result (λ e. PairFault e.message reader.old e.offset) }

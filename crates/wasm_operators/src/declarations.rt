@@ -8,6 +8,7 @@ use wasm_operators_readers::below::{BinaryReader, Result, ValType};
 /// A declaration: how many locals, and of which type. Code Section.
 ///
 /// Refused as `read_var_u32`, then as `ValType::read`.
+#[inline(always)]
 pub fn read_declaration(reader: &mut BinaryReader<'_>) -> Result<(u32, ValType)>
     ensures reads { Reads EncodesDeclaration result reader.old reader.new }
     ensures fault { IfErr result (λ e. DeclarationFault e.message reader.old e.offset) }

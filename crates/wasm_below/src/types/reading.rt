@@ -2,7 +2,7 @@
 ghost use Rattle.std.specs.Prelude.{◌≡◌, ◌≢◌, ℕ, ◌+◌, ◌≤◌, ◌⊎◌, ◌∷◌, [], IsTrue, ◌↔◌, IfSome, IfNone, IfErr};
 ghost use Rattle.wasm_below.specs.declared.types.AbstractHeapType.{AbstractHeapType};
 ghost use Rattle.wasm_below_bytes.specs.Source.{Reads, BeginsWith, rest};
-ghost use Rattle.wasm_below.specs.TypeEncoding.{heap_type_byte, ref_byte, behind_byte, LeadsShort, LeadsRefType, EncodesShort, EncodesConcrete, EncodesExact, EncodesHeapType, EncodesShortRef, EncodesLongRef, EncodesRefType, EncodesNumberType, EncodesValType, ShortFault, ByteFault, ExactFault, ConcreteFault, HeapTypeFault, RefTypeFault, ValTypeFault};
+ghost use Rattle.wasm_below.specs.TypeEncoding.{heap_type_byte, ref_byte, behind_byte, LeadsShort, LeadsRefType, LedBy, EncodesShort, EncodesConcrete, EncodesExact, EncodesHeapType, EncodesShortRef, EncodesLongRef, EncodesRefType, EncodesNumberType, EncodesValType, ShortFault, ByteFault, ExactFault, ConcreteFault, HeapTypeFault, RefTypeFault, ValTypeFault};
 
 use super::{AbstractHeapType, HeapType, MAX_TYPE_INDEX, RefType, ValType};
 use wasm_below_bytes::{BinaryReader, Message, Result, TypeName};
@@ -184,22 +184,34 @@ impl ValType {
     ///
     /// `InvalidType` of `value type` where it begins: no value type begins with this byte. Else as
     /// its reference type.
-    #[inline(never)]
+    #[inline(always)]
     pub fn read(reader: &mut BinaryReader<'_>) -> Result<ValType>
         ensures reads { Reads EncodesValType result reader.old reader.new }
         ensures fault { IfErr result (λ e. ValTypeFault e.message reader.old e.offset) }
     {
         let byte = reader.peek()?;
         if leads_ref_type(byte) {
-            return match RefType::read(reader) {
-                Ok(ty) => Ok(ValType::Ref(ty)),
-                Err(e) => Err(e),
-            };
+            return ValType::read_reference(reader);
         }
         ValType::read_number(reader)
     }
 
+    /// A value type that is a reference type, where one begins. In a function of its own, so that
+    /// the answer of the call out of line stands on its path alone.
+    #[inline(always)]
+    fn read_reference(reader: &mut BinaryReader<'_>) -> Result<ValType>
+        requires { LedBy LeadsRefType (rest reader.old) }
+        ensures reads { Reads EncodesValType result reader.old reader.new }
+        ensures fault { IfErr result (λ e. RefTypeFault e.message reader.old e.offset) }
+    {
+        match RefType::read(reader) {
+            Ok(ty) => Ok(ValType::Ref(ty)),
+            Err(e) => Err(e),
+        }
+    }
+
     /// A value type that is no reference type.
+    #[inline(always)]
     fn read_number(reader: &mut BinaryReader<'_>) -> Result<ValType>
         ensures reads { Reads EncodesNumberType result reader.old reader.new }
         ensures fault { IfErr result (λ e. ByteFault TypeName.ValueType e.message reader.old e.offset) }
@@ -217,6 +229,7 @@ impl ValType {
 }
 
 /// Whether a short form begins with this byte.
+#[inline(always)]
 fn leads_short(byte: u8) -> bool
     ensures { IsTrue result ↔ LeadsShort byte }
 {
@@ -224,6 +237,7 @@ fn leads_short(byte: u8) -> bool
 }
 
 /// Whether a reference type begins with this byte.
+#[inline(always)]
 fn leads_ref_type(byte: u8) -> bool
     ensures { IsTrue result ↔ LeadsRefType byte }
 {
