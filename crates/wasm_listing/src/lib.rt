@@ -10,8 +10,6 @@ mod dump;
 mod fault;
 mod input;
 mod lines;
-#[cfg(test)]
-mod tests;
 mod words;
 
 pub use body_census::census;

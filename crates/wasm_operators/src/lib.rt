@@ -10,19 +10,11 @@ pub mod body_laws;
 mod code;
 mod constant;
 pub mod constant_laws;
-#[cfg(test)]
-mod constant_tests;
 mod declarations;
 mod locals;
 mod passing;
 mod read_operators;
 mod section;
-#[cfg(test)]
-mod section_tests;
-#[cfg(test)]
-mod single_tests;
-#[cfg(test)]
-mod tests;
 
 pub use code::FunctionBody;
 pub use constant::ConstExpr;

@@ -1,6 +1,8 @@
 //! Bodies, their locals, and code sections: the rows of one call after another.
-use crate::{BinaryReader, CodeSectionReader, FunctionBody, OperatorsReader, Result, ValType};
 use std::test::Fail;
+use wasm_listing::operators::{
+    BinaryReader, CodeSectionReader, FunctionBody, OperatorsReader, Result, ValType,
+};
 
 /// What a call was refused by: the number of its message, and its offset.
 fn refusal<T: Drop>(answer: Result<T>) -> Option<(u8, u64)> {

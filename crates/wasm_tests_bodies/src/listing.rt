@@ -1,14 +1,11 @@
 //! The program's texts, counts, and readers and writers that fail.
-use crate::body_census::census;
-use crate::dump::run;
-use crate::fault::DumpFault;
-use crate::words::features_of;
 use bitflags::Flags;
 use std::io;
 use std::io::{Read, Write};
 use std::process::Abort;
 use std::test::Fail;
-use wasm_operators::{Error, Message, WasmFeatures};
+use wasm_listing::operators::{Error, Message, WasmFeatures};
+use wasm_listing::{DumpFault, census, features_of, run};
 
 /// A reader that gives one byte a call, and fails at one call.
 #[derive(Drop)]

@@ -1,7 +1,6 @@
 //! Constant expressions: how far they go, and where they are refused.
-use crate::ConstExpr;
 use std::test::Fail;
-use wasm_operators_readers::below::BinaryReader;
+use wasm_listing::operators::{BinaryReader, ConstExpr, Result};
 
 #[test]
 fn up_to_the_first_end(rt: HostRuntime) {
@@ -38,7 +37,7 @@ fn refusals(rt: HostRuntime) {
 }
 
 #[test]
-fn equal_wherever_they_stand(rt: HostRuntime) -> Result<(), Fail> {
+fn equal_wherever_they_stand(rt: HostRuntime) -> std::result::Result<(), Fail> {
     let first = ConstExpr::new(BinaryReader::new(&[0x41, 0x2a, 0x0b], 0));
     let second = ConstExpr::new(BinaryReader::new(&[0x41, 0x2a, 0x0b], 7));
     let other = ConstExpr::new(BinaryReader::new(&[0x41, 0x2b, 0x0b], 0));
@@ -65,7 +64,7 @@ fn memory_of_a_frame(rt: HostRuntime) {
 }
 
 /// The number and the offset of a refusal.
-fn refusal(answer: wasm_operators_readers::below::Result<ConstExpr<'_>>) -> Option<(u8, u64)> {
+fn refusal(answer: Result<ConstExpr<'_>>) -> Option<(u8, u64)> {
     match answer {
         Ok(_) => None,
         Err(e) => Some((e.message().number(), e.offset())),

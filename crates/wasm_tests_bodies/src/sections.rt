@@ -1,7 +1,6 @@
 //! Sections of numbers: each form of the end of the items.
-use crate::{ConstExpr, SectionLimited};
 use std::test::Fail;
-use wasm_operators_readers::below::{BinaryReader, Result};
+use wasm_listing::operators::{BinaryReader, ConstExpr, Result, SectionLimited};
 
 /// An item, the number and the offset of a refusal, or the end.
 #[derive(Clone, Copy, Debug, PartialEq, Eq)]

@@ -1,12 +1,12 @@
 //! Single operators under frames that the caller keeps.
 ghost use Rattle.std.specs.Prelude.{◌≡◌};
 
-use crate::{ReadOperators, ReadSimdVisits, ReadVisits};
 use std::alloc::Global;
-use wasm_operators_readers::below::{BinaryReader, Result, ValType};
-use wasm_operators_readers::imm::SelectTypes;
-use wasm_operators_readers::instr::{BrTable, FrameKind, FrameStack, Operator, SimdOperator};
-use wasm_operators_readers::visitors::{VisitGroups, VisitOperator, VisitSimdOperator, Visitor};
+use wasm_listing::operators::{
+    BinaryReader, BrTable, FrameKind, FrameStack, Operator, ReadOperators, ReadSimdVisits,
+    ReadVisits, Result, SelectTypes, SimdOperator, ValType, VisitGroups, VisitOperator,
+    VisitSimdOperator, Visitor,
+};
 
 /// What was seen: some operators by name, and a refusal by its number and offset.
 #[derive(Clone, Copy, Debug, PartialEq, Eq)]
