@@ -16,5 +16,14 @@ pub use refusals::no_frame;
 pub use visit::{
     visit_behind, visit_behind_simd, visit_below_20, visit_operator, visit_operator_simd,
 };
-pub use wasm_visit as visitors;
 pub use wasm_visit::{below, grammar, imm, instr};
+
+/// Visitors: what they have, and the calls that reach their visits.
+pub mod visitors {
+    pub use wasm_visit::{
+        HoldOperator, HoldTable, IsEndOperatorVisitor, OperatorFactory, OperatorMaker, VisitAtomic,
+        VisitGc, VisitGroups, VisitMisc, VisitNumeric, VisitOneByte, VisitOperator, VisitSimdHigh,
+        VisitSimdLow, VisitSimdOperator, Visitor, decode, dispatch, visit_operator,
+        visit_operator_with_simd, visit_owned, visit_owned_simd,
+    };
+}

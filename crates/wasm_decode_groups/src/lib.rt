@@ -18,6 +18,17 @@ pub use numeric_operators::numeric;
 pub use one_byte_operators::{any_one_byte, one_byte};
 pub use simd_high_operators::simd_high;
 pub use simd_low_operators::simd_low;
-pub use wasm_decode_opcodes as opcodes;
-pub use wasm_visit_groups as groups;
 pub use wasm_visit_groups::{below, grammar, imm, instr};
+
+/// The visits of operators, in groups.
+pub mod groups {
+    pub use wasm_visit_groups::{
+        VisitAtomic, VisitGc, VisitMisc, VisitNumeric, VisitOneByte, VisitSimdHigh, VisitSimdLow,
+        Visitor,
+    };
+}
+
+/// What stands behind an opcode.
+pub mod opcodes {
+    pub use wasm_decode_opcodes::immediates;
+}

@@ -25,5 +25,9 @@ pub use iterators::{OperatorsIterator, OperatorsIteratorWithOffsets};
 pub use operators::OperatorsReader;
 pub use stack::ControlStack;
 pub use step::FrameStep;
-pub use wasm_decode as decoder;
 pub use wasm_decode::{below, grammar, imm, instr, visitors};
+
+/// The decoder of one operator.
+pub mod decoder {
+    pub use wasm_decode::{laws, read_operator, visit_operator, visit_operator_simd};
+}

@@ -22,10 +22,20 @@ pub use operator::VisitOperator;
 pub use owned::{visit_owned, visit_owned_simd};
 pub use vectors::VisitSimdOperator;
 pub use visit_groups::VisitGroups;
-pub use wasm_decode_groups as decode;
 pub use wasm_decode_groups::groups::{
     VisitAtomic, VisitGc, VisitMisc, VisitNumeric, VisitOneByte, VisitSimdHigh, VisitSimdLow,
     Visitor,
 };
 pub use wasm_decode_groups::{below, grammar, imm, instr, opcodes};
-pub use wasm_visit_factory as layer_factory;
+
+/// The decoding of each group, for a visitor with visits of its own.
+pub mod decode {
+    pub use wasm_decode_groups::{
+        any_one_byte, atomic, gc, misc, numeric, one_byte, simd_high, simd_low,
+    };
+}
+
+/// The visitor that makes operators without borrows, in place.
+pub mod layer_factory {
+    pub use wasm_visit_factory::Factory;
+}
