@@ -20,4 +20,13 @@ pub use handlers::{Catch, Handle};
 pub use lists::refuse_from;
 pub use members::{Catches, Handles, Members, SelectTypes};
 pub use select::Select;
-pub use wasm_below as below;
+
+/// Readers of bytes, numbers and types.
+pub mod below {
+    pub use wasm_below::{
+        AbstractHeapType, BinaryReader, BinaryReaderError, BinaryReaderIter, Error, ErrorKind,
+        FrameName, FromReader, HeapType, InstructionName, LeadingByteName, May, MemoryUse, Message,
+        Never, NumberName, RefType, Result, SizeName, TakesMemory, TypeName, UsesMemory, ValType,
+        WasmFeatures, byte_laws, type_laws,
+    };
+}

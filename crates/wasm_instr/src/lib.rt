@@ -12,7 +12,6 @@ mod operator;
 pub use arity::ModuleArity;
 pub use frame_stack::FrameStack;
 pub use operator::Operator;
-pub use wasm_grammar as grammar;
 pub use wasm_grammar::FrameKind;
 pub use wasm_instr_simd::imm::{
     BlockType, BrTable, BrTableTargets, Cast, Catch, Catches, Handle, Handles, Ieee32, Ieee64,
@@ -24,3 +23,8 @@ pub use wasm_instr_simd::instr_ops::{
     AtomicOperator, GcOperator, MiscOperator, NumericOperator, OperatorInfo,
 };
 pub use wasm_instr_simd::{SimdOperator, below, imm};
+
+/// Trees of operators, and their frames.
+pub mod grammar {
+    pub use wasm_grammar::{FrameKind, laws};
+}

@@ -5,5 +5,11 @@
 mod simd;
 
 pub use simd::SimdOperator;
-pub use wasm_instr_ops as instr_ops;
 pub use wasm_instr_ops::{below, imm};
+
+/// The operators that are no vector operators.
+pub mod instr_ops {
+    pub use wasm_instr_ops::{
+        AtomicOperator, GcOperator, MiscOperator, NumericOperator, OperatorInfo,
+    };
+}

@@ -18,5 +18,16 @@ pub use one_byte::VisitOneByte;
 pub use simd_high::VisitSimdHigh;
 pub use simd_low::VisitSimdLow;
 pub use visitor::Visitor;
-pub use wasm_instr as instr;
 pub use wasm_instr::{below, grammar, imm};
+
+/// Operators.
+pub mod instr {
+    pub use wasm_instr::{
+        AtomicOperator, BlockType, BrTable, BrTableTargets, Cast, Catch, Catches, FrameKind,
+        FrameStack, GcOperator, Handle, Handles, Ieee32, Ieee64, MemArg, MemArgKind,
+        MemArgOrdering, MemArgTarget, Members, MiscOperator, ModuleArity, NumericOperator,
+        Operator, OperatorInfo, Ordering, ReadImmediates, ResumeTable, Select, SelectTypes,
+        SimdOperator, TryTable, V128, laws, read_lane, read_lanes, read_memory_index,
+        read_table_index,
+    };
+}
