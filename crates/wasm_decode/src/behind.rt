@@ -1,6 +1,7 @@
 //! What stands behind an opcode, but for the branch table. Operators behind a prefix byte are decoded
-//! out of line, so that the code for all others stays small; what these calls answer is matched and
-//! made again where they are made, so that it is not held in memory where the others end.
+//! out of line, by a call for each prefix, so that the code for all others stays small; what these calls
+//! answer is matched and made again where they are made, so that it is not held in memory where the
+//! others end.
 ghost use Rattle.std.specs.Prelude.{◌≡◌, ◌≢◌, Some, None, IfOk, IfErr};
 ghost use Rattle.wasm_visit.specs.below.Source.{at_position};
 ghost use Rattle.wasm_visit.specs.grammar.declared.frame_kind.FrameKind.{FrameKind};
@@ -48,53 +49,106 @@ pub fn group_behind<V: VisitGroups>(
     ensures { DecodesAt V.visits frame start result reader.old reader.new v.old v.new }
 {
     match code {
-        0xfb => prefixed_behind(v, reader, start, 0xfb),
-        0xfc => prefixed_behind(v, reader, start, 0xfc),
-        0xfe => prefixed_behind(v, reader, start, 0xfe),
+        0xfb => gc_behind(v, reader, start),
+        0xfc => misc_behind(v, reader, start),
+        0xfe => atomic_behind(v, reader, start),
         0x45..=0xc4 => Ok(v.decode_numeric(code)),
         _ => v.decode_one_byte(alloc, reader, start, frame, code),
     }
 }
 
-/// An operator behind one of the prefix bytes fb, fc and fe.
+/// An operator behind the byte fb.
 #[inline(always)]
-fn prefixed_behind<V: VisitGroups>(
+fn gc_behind<V: VisitGroups>(
     v: &mut V,
     reader: &mut BinaryReader<'_>,
     start: usize,
-    prefix: u8,
 ) -> Result<V::Output>
-    requires behind { StandsBehind start None prefix reader.old }
-    requires prefix { entry_at None prefix ≡ prefixes }
-    requires vector { prefix ≢ 0xfd }
+    requires { StandsBehind start None 0xfb reader.old }
     ensures { (frame : FrameKind) → DecodesAt V.visits frame start result reader.old reader.new v.old v.new }
 {
-    match prefixed_out_of_line(v, reader, start, prefix) {
+    match gc_out_of_line(v, reader, start) {
         Ok(answer) => Ok(answer),
         Err(e) => Err(e),
     }
 }
 
-/// The subopcode behind such a prefix byte, and the operator's visit.
+/// The subopcode behind the byte fb, and the operator's visit.
 #[inline(never)]
-fn prefixed_out_of_line<V: VisitGroups>(
+fn gc_out_of_line<V: VisitGroups>(
     v: &mut V,
     reader: &mut BinaryReader<'_>,
     start: usize,
-    prefix: u8,
 ) -> Result<V::Output>
-    requires behind { StandsBehind start None prefix reader.old }
-    requires prefix { entry_at None prefix ≡ prefixes }
-    requires vector { prefix ≢ 0xfd }
+    requires { StandsBehind start None 0xfb reader.old }
     ensures { (frame : FrameKind) → DecodesAt V.visits frame start result reader.old reader.new v.old v.new }
 {
-    match subopcode(reader, start, prefix) {
-        Ok(code) => match prefix {
-            0xfb => v.decode_gc(reader, start, code),
-            0xfc => v.decode_misc(reader, start, code),
-            0xfe => v.decode_atomic(reader, start, code),
-            _ => unreachable!(),
-        },
+    match subopcode(reader, start, 0xfb) {
+        Ok(code) => v.decode_gc(reader, start, code),
+        Err(e) => Err(e),
+    }
+}
+
+/// An operator behind the byte fc.
+#[inline(always)]
+fn misc_behind<V: VisitGroups>(
+    v: &mut V,
+    reader: &mut BinaryReader<'_>,
+    start: usize,
+) -> Result<V::Output>
+    requires { StandsBehind start None 0xfc reader.old }
+    ensures { (frame : FrameKind) → DecodesAt V.visits frame start result reader.old reader.new v.old v.new }
+{
+    match misc_out_of_line(v, reader, start) {
+        Ok(answer) => Ok(answer),
+        Err(e) => Err(e),
+    }
+}
+
+/// The subopcode behind the byte fc, and the operator's visit.
+#[inline(never)]
+fn misc_out_of_line<V: VisitGroups>(
+    v: &mut V,
+    reader: &mut BinaryReader<'_>,
+    start: usize,
+) -> Result<V::Output>
+    requires { StandsBehind start None 0xfc reader.old }
+    ensures { (frame : FrameKind) → DecodesAt V.visits frame start result reader.old reader.new v.old v.new }
+{
+    match subopcode(reader, start, 0xfc) {
+        Ok(code) => v.decode_misc(reader, start, code),
+        Err(e) => Err(e),
+    }
+}
+
+/// An operator behind the byte fe.
+#[inline(always)]
+fn atomic_behind<V: VisitGroups>(
+    v: &mut V,
+    reader: &mut BinaryReader<'_>,
+    start: usize,
+) -> Result<V::Output>
+    requires { StandsBehind start None 0xfe reader.old }
+    ensures { (frame : FrameKind) → DecodesAt V.visits frame start result reader.old reader.new v.old v.new }
+{
+    match atomic_out_of_line(v, reader, start) {
+        Ok(answer) => Ok(answer),
+        Err(e) => Err(e),
+    }
+}
+
+/// The subopcode behind the byte fe, and the operator's visit.
+#[inline(never)]
+fn atomic_out_of_line<V: VisitGroups>(
+    v: &mut V,
+    reader: &mut BinaryReader<'_>,
+    start: usize,
+) -> Result<V::Output>
+    requires { StandsBehind start None 0xfe reader.old }
+    ensures { (frame : FrameKind) → DecodesAt V.visits frame start result reader.old reader.new v.old v.new }
+{
+    match subopcode(reader, start, 0xfe) {
+        Ok(code) => v.decode_atomic(reader, start, code),
         Err(e) => Err(e),
     }
 }
