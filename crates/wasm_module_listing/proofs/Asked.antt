@@ -1,0 +1,51 @@
+-- Functions that are asked for, and others; and the next body of a section.
+use Rattle.std.proofs.Common.{◌≡◌, ◌+◌, Bool, true, false, Some, Result, Ok, Err, IsOk, IsErrAnd, IfErr, refl, sym, subst, ◌∙◌}
+use Rattle.wasm_disassembly.specs.operators.below.bytes.error.Error.{Error}
+use Rattle.wasm_disassembly.specs.operators.below.bytes.message.Message.TheVariants as message
+use Rattle.wasm_disassembly.specs.operators.below.FromReader.{ReadsValue, EncodesReader, ReaderFault}
+use Rattle.wasm_disassembly.specs.operators.below.Source.{Reader, offset_of, end_of}
+use Rattle.wasm_disassembly.specs.operators.Section.{SectionItems, StepsSection}
+use Rattle.wasm_module_listing.specs.declared.fault.Fault.{Fault}
+use Rattle.wasm_module_listing.specs.declared.fault.Fault.TheVariants as fault
+use Rattle.wasm_module_listing.specs.Listing.{WhereAsked, IsHalt, IsLater, WritesNothing}
+
+pub asked_for : (A B : Type 0) (asked given : Bool) → asked ≡ given → asked ≡ true → A → WhereAsked given A B
+asked_for A B asked given same is a = subst (λ b. WhereAsked b A B) (sym is ∙ same) a
+
+pub not_asked_for : (A B : Type 0) (asked given : Bool) → asked ≡ given → asked ≡ false → B → WhereAsked given A B
+not_asked_for A B asked given same is b = subst (λ b. WhereAsked b A B) (sym is ∙ same) b
+
+-- an item that was read
+pub item_read : (item : Result Reader Error) (body : Reader) (old new : SectionItems) → item ≡ Ok body →
+    StepsSection (EncodesReader old.reader.features) ReaderFault (λ o b n. end_of b ≡ offset_of n) false (Some item) old new →
+    (old.refused ≡ false) × (new.refused ≡ false) × (old.remaining ≡ new.remaining + 1) ×
+    ReadsValue (EncodesReader old.reader.features) false (Ok body) old.reader new.reader × (end_of body ≡ offset_of new.reader)
+item_read item body old new is steps =
+    subst (λ (x : Result Reader Error). StepsSection (EncodesReader old.reader.features) ReaderFault (λ o b n. end_of b ≡ offset_of n) false (Some x) old new) is steps
+
+-- what was asked for
+pub asked_only : (A B : Type 0) (asked given : Bool) → asked ≡ given → asked ≡ true → WhereAsked given A B → A
+asked_only A B asked given same is wanted = subst (λ b. WhereAsked b A B) (sym same ∙ is) wanted
+
+-- where writing or memory failed, something may be written
+pub halts_later : (f : Fault) → IsHalt f → IsLater f
+halts_later (fault.Module _) h = h
+halts_later (fault.NoFunction _) h = h
+halts_later (fault.Code _) h = tt
+halts_later fault.Reading h = h
+halts_later fault.Writing h = h
+halts_later fault.Memory h = h
+
+pub later_writes : (f : Fault) → IsLater f → WritesNothing f → ⊥
+later_writes (fault.Module _) h w = h
+later_writes (fault.NoFunction _) h w = h
+later_writes (fault.Code _) h w = w
+later_writes fault.Reading h w = h
+later_writes fault.Writing h w = w
+later_writes fault.Memory h w = w
+
+-- a body that is read is refused for memory alone
+pub read_whole : {X : Type 0} (answer : Result X Error) → (IsErrAnd answer (λ e. e.message ≡ message.OutOfMemory) → ⊥) →
+    IfErr answer (λ e. e.message ≡ message.OutOfMemory) → IsOk answer
+read_whole (Ok x) other memory = refl
+read_whole (Err e) other memory = absurd (other memory)

@@ -1,0 +1,122 @@
+-- A code section has one list of bodies at most.
+use Rattle.std.proofs.Common.{◌≡◌, ℕ, ◌+◌, ◌<◌, true, false, List, [], ◌∷◌, ◌++◌, length, get_or, drop, Ok, refl, sym, subst, ap, ◌∙◌, append_assoc, append-nil, arith, inl, inr}
+use Rattle.wasm_disassembly.specs.operators.below.bytes.error.Error.{Error}
+use Rattle.wasm_disassembly.specs.operators.below.bytes.features.WasmFeatures.{WasmFeatures}
+use Rattle.wasm_disassembly.specs.operators.below.bytes.message.Message.{Message}
+use Rattle.wasm_disassembly.specs.operators.below.bytes.message.Message.TheVariants as message
+use Rattle.wasm_disassembly.specs.operators.below.FromReader.{ReadsValue, EncodesReader, IsRefused}
+use Rattle.wasm_disassembly.specs.operators.below.Number.{EncodesUnsigned}
+use Rattle.wasm_disassembly.specs.operators.below.Refusal.{IsReadFault}
+use Rattle.wasm_disassembly.specs.operators.below.Sequence.{PrefixCode}
+use Rattle.wasm_disassembly.specs.operators.below.Source.{Reader, rest, offset_of, end_of, at_position, MayFollow, IsRefusal, Reads}
+use Rattle.wasm_module_listing.specs.Listing.{BodiesStand, IsCode, StopsCode, RefusesCode}
+
+-- nothing stands behind bytes at their end
+may_end : (m : Message) → (m ≡ message.OutOfMemory → ⊥) → MayFollow m []
+may_end message.EndOfData h = refl
+may_end message.OutOfMemory h = absurd (h refl)
+may_end _ h = tt
+
+-- what is read is not refused
+pub not_refused : {X : Type 0} (P : List ℕ → X → Type 0) (e : Error) (r b : Reader) (x : X) → IsRefused P false e r → ReadsValue P false (Ok x) r b → ⊥
+not_refused P e r b x refused (text, is, takes) =
+    let memory : e.message ≡ message.OutOfMemory → ⊥ = λ m. let h : false ≡ true = (refused.memory m).0 in cc in
+    refused.refuses [] (may_end e.message memory) text (rest b) x is (append-nil (rest r) ∙ takes.parts)
+
+no_memory : (m : Message) → IsReadFault m → m ≡ message.OutOfMemory → ⊥
+no_memory m h is = subst IsReadFault is h
+
+number_not_refused : (e : Error) (r b : Reader) (n : ℕ) → IsRefusal (EncodesUnsigned 32) e r → Reads (EncodesUnsigned 32) (Ok n) r b → ⊥
+number_not_refused e r b n refused (text, is, takes) =
+    refused.refuses [] (may_end e.message (no_memory e.message refused.fault)) text (rest b) n is (append-nil (rest r) ∙ takes.parts)
+
+same_texts : (a b x y : List ℕ) → length a ≡ length b → a ++ x ≡ b ++ y → (a ≡ b) × (x ≡ y)
+same_texts [] [] x y l e = (refl, e)
+same_texts [] (c ∷ b) x y l e = absurd (omega (arith, l))
+same_texts (c ∷ a) [] x y l e = absurd (omega (arith, l))
+same_texts (c ∷ a) (d ∷ b) x y l e =
+    let first : c ≡ d = ap (λ z. get_or z 0 0) e in
+    let others = same_texts a b x y (omega (arith, l)) (ap (drop 1) e) in
+    (ap (λ z. z ∷ a) first ∙ ap (λ z. d ∷ z) others.0, others.1)
+
+abbrev reader_by : WasmFeatures → ℕ → List ℕ → ℕ → Reader
+reader_by features start buffer position = record { features = features; start = start; buffer = buffer; position = position }
+
+same_reader : (b c : Reader) → b.features ≡ c.features → b.start ≡ c.start → b.buffer ≡ c.buffer → b.position ≡ c.position → b ≡ c
+same_reader b c features start buffer position =
+    ap (λ z. reader_by z b.start b.buffer b.position) features ∙
+    ap (λ z. reader_by c.features z b.buffer b.position) start ∙
+    ap (λ z. reader_by c.features c.start z b.position) buffer ∙
+    ap (λ z. reader_by c.features c.start c.buffer z) position
+
+module _ (numbers : PrefixCode (EncodesUnsigned 32)) where
+  one_number : (r a b : Reader) (n m : ℕ) → Reads (EncodesUnsigned 32) (Ok n) r a → Reads (EncodesUnsigned 32) (Ok m) r b → (n ≡ m) × (a ≡ b)
+  one_number r a b n m (text, is, takes) (other, is_other, takes_other) =
+      let same = numbers text other (rest a) (rest b) n m is is_other (sym takes.parts ∙ takes_other.parts) in
+      (same.1, takes.moved ∙ ap (λ (z : List ℕ). at_position r (r.position + length z)) same.0 ∙ sym takes_other.moved)
+
+  -- the same bytes are read as the same body, up to the same place
+  one_body : (r mid next b c : Reader) → ReadsValue (EncodesReader r.features) false (Ok b) r mid → ReadsValue (EncodesReader r.features) false (Ok c) r next →
+      end_of b ≡ offset_of mid → end_of c ≡ offset_of next → (b ≡ c) × (mid ≡ next)
+  one_body r mid next b c (text, (n, body, size, q, number, (f, buffer, start, long)), takes)
+      (text', (n', body', size', q', number', (f', buffer', start', long')), takes') placed placed' =
+      let whole : n ++ (body ++ rest mid) ≡ n' ++ (body' ++ rest next) =
+      sym (append_assoc n body (rest mid)) ∙ ap (λ z. z ++ rest mid) (sym q) ∙ sym takes.parts ∙ takes'.parts ∙ ap (λ z. z ++ rest next) q' ∙
+      append_assoc n' body' (rest next) in
+      let size_is = numbers n n' (body ++ rest mid) (body' ++ rest next) size size' number number' whole in
+      let behind = same_texts n n' (body ++ rest mid) (body' ++ rest next) (ap length size_is.0) whole in
+      let contents = same_texts body body' (rest mid) (rest next) (long ∙ size_is.1 ∙ sym long') behind.1 in
+      let texts : text ≡ text' = q ∙ ap (λ z. z ++ body) size_is.0 ∙ ap (λ z. n' ++ z) contents.0 ∙ sym q' in
+      let moved : mid ≡ next = takes.moved ∙ ap (λ (z : List ℕ). at_position r (r.position + length z)) texts ∙ sym takes'.moved in
+      let same_buffer : b.buffer ≡ c.buffer = buffer ∙ contents.0 ∙ sym buffer' in
+      let sizes : length b.buffer ≡ length c.buffer = ap length same_buffer in
+      let ends : offset_of mid ≡ offset_of next = ap offset_of moved in
+      let starts : b.start ≡ c.start = omega (arith, placed, placed', sizes, ends) in
+      (same_reader b c (f ∙ sym f') starts same_buffer (start ∙ sym start'), moved)
+
+  -- as many bodies of the same bytes are the same
+  same_bodies : (r : Reader) (bs cs : List Reader) (mid end : Reader) → BodiesStand r bs mid → BodiesStand r cs end → length bs ≡ length cs →
+      (bs ≡ cs) × (mid ≡ end)
+  same_bodies r [] [] mid end a b l = (refl, a ∙ sym b)
+  same_bodies r [] (c ∷ cs) mid end a b l = absurd (omega (arith, l))
+  same_bodies r (b ∷ bs) [] mid end a c l = absurd (omega (arith, l))
+  same_bodies r (b ∷ bs) (c ∷ cs) mid end (n, reads, placed, others) (n', reads', placed', others') l =
+      let first = one_body r n n' b c reads reads' placed placed' in
+      let more = same_bodies n bs cs mid end others (subst (λ z. BodiesStand z cs end) (sym first.1) others') (omega (arith, l)) in
+      (ap (λ z. z ∷ bs) first.0 ∙ ap (λ zs. c ∷ zs) more.0, more.1)
+
+  -- behind fewer bodies stands one more
+  one_more : (r : Reader) (bs cs : List Reader) (mid end : Reader) → BodiesStand r bs mid → BodiesStand r cs end → length bs < length cs →
+      (c : Reader) × (next : Reader) × ReadsValue (EncodesReader mid.features) false (Ok c) mid next
+  one_more r bs [] mid end a b l = absurd (omega (arith, l))
+  one_more r [] (c ∷ cs) mid end a (next, reads, placed, others) l =
+      (c, next, subst (λ z. ReadsValue (EncodesReader z.features) false (Ok c) z next) (sym a) reads)
+  one_more r (b ∷ bs) (c ∷ cs) mid end (n, reads, placed, others) (n', reads', placed', others') l =
+      let first = one_body r n n' b c reads reads' placed placed' in
+      one_more n bs cs mid end others (subst (λ z. BodiesStand z cs end) (sym first.1) others') (omega (arith, l))
+
+  -- a code section is one list of bodies at most
+  pub one_code : (contents : Reader) (first second : List Reader) → IsCode contents first → IsCode contents second → first ≡ second
+  one_code contents bs cs a b =
+      let same = one_number contents a.first b.first (length bs) (length cs) a.count b.count in
+      (same_bodies a.first bs cs a.end b.end a.stand (subst (λ z. BodiesStand z cs b.end) (sym same.1) b.stand) same.0).0
+
+  stops_not : (contents : Reader) (all before : List Reader) (e : Error) → IsCode contents all → StopsCode e contents before → ⊥
+  stops_not contents all before e h s =
+      let same = one_number contents s.first h.first (length before + s.remaining) (length all) s.count h.count in
+      let stand = subst (λ z. BodiesStand z all h.end) (sym same.1) h.stand in
+      elim s.stops [
+        | inl (more, refused, fault) ↦
+            let fewer : length before < length all = let e = same.0 in omega (arith, more, e) in
+            let (c, next, reads) = one_more s.first before all s.end h.end s.stand stand fewer in
+            not_refused (EncodesReader s.end.features) e s.end next c refused reads
+        | inr (none, (left, message, offset)) ↦
+            let as_many : length before ≡ length all = let e = same.0 in omega (arith, none, e) in
+            let ends = (same_bodies s.first before all s.end h.end s.stand stand as_many).1 in
+            left (ap rest ends ∙ h.all)
+      ]
+
+  -- one that has bodies is not refused
+  pub code_not_refused : (contents : Reader) (all before : List Reader) (e : Error) → IsCode contents all → RefusesCode e contents before → ⊥
+  code_not_refused contents all before e h (inl (none, refused)) = number_not_refused e contents h.first (length all) refused h.count
+  code_not_refused contents all before e h (inr stops) = stops_not contents all before e h stops

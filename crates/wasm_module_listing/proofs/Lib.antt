@@ -1,0 +1,12 @@
+pub mod Bodies
+pub mod Written
+pub mod Added
+pub mod Sums
+pub mod Asked
+pub mod Counted
+pub mod Codes
+pub mod Found
+pub mod Ended
+pub mod Modules
+pub mod Chosen
+pub mod Texts

@@ -1,0 +1,47 @@
+-- Functions that were written, and one more.
+use Rattle.std.proofs.Common.{◌≡◌, ℕ, ◌+◌, List, [], ◌∷◌, ◌++◌, length, Option, refl, sym, subst, ap, ◌∙◌, append_assoc, append-nil, arith}
+use Rattle.std.specs.Io.KnownBytes.{Appends}
+use Rattle.wasm_disassembly.specs.operators.below.bytes.error.Error.{Error}
+use Rattle.wasm_disassembly.specs.operators.below.Source.{Reader}
+use Rattle.wasm_functions.specs.Table.{Table}
+use Rattle.wasm_module_listing.specs.Listing.{Refusals, Told, IsWritten, AreWritten, Writes}
+use Rattle.wasm_module_listing.proofs.Bodies.{told_both, appends_both, appends_none}
+
+written_more : (t : Table) (only : Option ℕ) (place : ℕ) (bs : List Reader) (b : Reader) (told one : Refusals) (text own : List ℕ) (at : ℕ) →
+    at ≡ place + length bs → AreWritten t only place bs told text → IsWritten t only at b one own →
+    AreWritten t only place (bs ++ b ∷ []) (told ++ one) (text ++ own)
+written_more t only place [] b told one text own at is (all, none) written =
+    let here : at ≡ place = is ∙ omega arith in (
+      one,
+      [],
+      own,
+      [],
+      ap (λ z. z ++ one) all ∙ sym (append-nil one),
+      ap (λ z. z ++ own) none ∙ sym (append-nil own),
+      subst (λ n. IsWritten t only n b one own) here written,
+      (refl, refl),
+    )
+written_more t only place (c ∷ cs) b told one text own at is (first, others, front, more, all, parts, written, behind) last =
+    let next : at ≡ place + 1 + length cs = is ∙ omega arith in (
+      first,
+      others ++ one,
+      front,
+      more ++ own,
+      ap (λ z. z ++ one) all ∙ append_assoc first others one,
+      ap (λ z. z ++ own) parts ∙ append_assoc front more own,
+      written,
+      written_more t only (place + 1) cs b others one more own at next behind last,
+    )
+
+-- none was written
+pub writes_none : {S : Type 0} (tells : S → ℕ → Error → S → Type 0) (t : Table) (only : Option ℕ) (s : S) (old : Option (List ℕ)) →
+    Writes tells t only [] [] s s old old
+writes_none tells t only s old = record { text = []; written = (refl, refl); appends = appends_none old; told_of = refl }
+
+-- one more was written
+pub writes_more : {S : Type 0} (tells : S → ℕ → Error → S → Type 0) (t : Table) (only : Option ℕ) (bs : List Reader) (b : Reader) (told one : Refusals)
+    (own : List ℕ) (at : ℕ) (before mid after : S) (old between new : Option (List ℕ)) → at ≡ length bs →
+    Writes tells t only bs told before mid old between → IsWritten t only at b one own → Told tells one mid after → Appends between new own →
+    Writes tells t only (bs ++ b ∷ []) (told ++ one) before after old new
+writes_more tells t only bs b told one own at before mid after old between new is w written tells_one appends =
+    record { text = w.text ++ own; written = written_more t only 0 bs b told one w.text own at (is ∙ sym (omega arith)) w.written written; appends = appends_both old between new w.text own w.appends appends; told_of = told_both tells told one before mid after w.told_of tells_one }

@@ -1,0 +1,232 @@
+-- What is written of the functions of a module, and what is told of those that are refused.
+-- WebAssembly Core Specification 3.0, Binary Format, Modules: Code Section. The form is that of `wasm-objdump -d` of wabt.
+use Rattle.std.specs.Prelude.{◌≡◌, ◌==◌, ◌⊎◌, ℕ, ◌+◌, Bool, true, false, List, [], ◌∷◌, ◌++◌, length, ◌≤◌, Option, Some, None, Result, Ok, Err, codes}
+use Rattle.std.specs.Io.KnownBytes.{Appends, Keeps}
+use Rattle.wasm_disassembly.specs.operators.below.bytes.error.Error.{Error}
+use Rattle.wasm_disassembly.specs.operators.below.bytes.features.WasmFeatures.{WasmFeatures}
+use Rattle.wasm_disassembly.specs.operators.below.FromReader.{ReadsValue, EncodesReader, ReaderFault}
+use Rattle.wasm_disassembly.specs.operators.below.Number.{EncodesUnsigned}
+use Rattle.wasm_disassembly.specs.operators.below.Source.{Reader, rest, offset_of, end_of, reader_of, source_of, Reads, IsRefusal}
+use Rattle.wasm_disassembly.specs.operators.Body.{EncodesBody}
+use Rattle.wasm_disassembly.specs.operators.Expression.{Placed}
+use Rattle.wasm_disassembly.specs.operators.Locals.{Declaration, max_locals}
+use Rattle.wasm_disassembly.specs.operators.Section.{StopsSection}
+use Rattle.wasm_disassembly.specs.Disassembly.{Heading, IsText}
+use Rattle.wasm_disassembly.specs.LocalLines.{locals_in}
+use Rattle.wasm_functions.specs.Sections.{IsSection}
+use Rattle.wasm_functions.specs.Table.{Table, IsTableOf, IsOwn, index_of, name_at, parameters_at, NamesModule}
+use Rattle.wasm_functions.specs.declared.fault.ModuleFault.TheVariants as whole_fault
+use Rattle.wasm_module_listing.specs.declared.fault.Fault.{Fault}
+use Rattle.wasm_module_listing.specs.declared.fault.Fault.TheVariants as fault
+
+-- These bodies stand one behind the other, each behind its length, from the first reader to the second. Their offsets are those of the section.
+abbrev pub BodiesStand : Reader → List Reader → Reader → Type 0
+BodiesStand r [] end = end ≡ r
+BodiesStand r (b ∷ bs) end = (mid : Reader) × ReadsValue (EncodesReader r.features) false (Ok b) r mid × (end_of b ≡ offset_of mid) × BodiesStand mid bs end
+
+-- The contents of a code section: how many bodies it has, and these, up to the end.
+pub record IsCode (contents : Reader) (bodies : List Reader) : Type 0 where
+  pub first : Reader
+  pub count : Reads (EncodesUnsigned 32) (Ok (length bodies)) contents first
+  pub end : Reader
+  pub stand : BodiesStand first bodies end
+  pub all : rest end ≡ []
+
+-- A code section is refused behind these bodies: of those that it announces the next one has no bytes, or data is left behind the last.
+pub record StopsCode (e : Error) (contents : Reader) (bodies : List Reader) : Type 0 where
+  pub first : Reader
+  pub remaining : ℕ
+  pub count : Reads (EncodesUnsigned 32) (Ok (length bodies + remaining)) contents first
+  pub end : Reader
+  pub stand : BodiesStand first bodies end
+  pub stops : StopsSection (EncodesReader end.features) ReaderFault false e (record { remaining = remaining; reader = end; refused = false })
+
+-- A code section is refused: it announces no number of bodies, and none is read; or it is behind some of them.
+abbrev pub RefusesCode : Error → Reader → List Reader → Type 0
+RefusesCode e contents bodies = ((bodies ≡ []) × IsRefusal (EncodesUnsigned 32) e contents) ⊎ StopsCode e contents bodies
+
+-- Whether the function with this index is asked for: any is, or this one alone.
+abbrev pub is_asked : Option ℕ → ℕ → Bool
+is_asked None index = true
+is_asked (Some only) index = only == index
+
+-- One thing holds of a function that is asked for, and another of those that are not.
+abbrev pub WhereAsked : Bool → Type 0 → Type 0 → Type 0
+WhereAsked true A B = A
+WhereAsked false A B = B
+
+-- Refusals, each with the index of its function.
+abbrev pub Refusals : Type 0
+Refusals = List (ℕ × Error)
+
+abbrev pub are_none : Refusals → Bool
+are_none [] = true
+are_none (r ∷ rs) = false
+
+-- These refusals were told, one after the other.
+abbrev pub Told : {S : Type 0} → (S → ℕ → Error → S → Type 0) → Refusals → S → S → Type 0
+Told tells [] old new = new ≡ old
+Told {S} tells (r ∷ rs) old new = (mid : S) × tells old r.0 r.1 mid × Told tells rs mid new
+
+-- What the text of the own function at a place begins with.
+abbrev pub heading_at : Table → ℕ → Heading
+heading_at t place = record { index = index_of t place; name = name_at t place; parameters = parameters_at t place }
+
+-- What a body that ended so is told of.
+abbrev pub refusals_of : {X : Type 0} → ℕ → Result X Error → Refusals
+refusals_of index (Ok x) = []
+refusals_of index (Err e) = (index, e) ∷ []
+
+-- The text of the function at a place: of the body that the bytes are; or, of other bytes, of what stands before the refusal, which is told.
+abbrev pub ListsFunction : Table → ℕ → Reader → Refusals → List ℕ → Type 0
+ListsFunction t place body told text =
+    (answer : Result (Unit {0}) Error) × IsText (heading_at t place) answer body text × (told ≡ refusals_of (index_of t place) answer)
+
+-- What is written of the function at a place: its text, or nothing where it is not asked for.
+abbrev pub IsWritten : Table → Option ℕ → ℕ → Reader → Refusals → List ℕ → Type 0
+IsWritten t only place body told text =
+    WhereAsked (is_asked only (index_of t place)) (ListsFunction t place body told text) ((told ≡ []) × (text ≡ []))
+
+-- What is written of these functions, from a place on, one behind the other, and what is told.
+abbrev pub AreWritten : Table → Option ℕ → ℕ → List Reader → Refusals → List ℕ → Type 0
+AreWritten t only place [] told text = (told ≡ []) × (text ≡ [])
+AreWritten t only place (b ∷ bs) told text =
+    (one others : Refusals) × (own more : List ℕ) × (told ≡ one ++ others) × (text ≡ own ++ more) × IsWritten t only place b one own ×
+    AreWritten t only (place + 1) bs others more
+
+-- These functions were written and told of, the first ones of a module.
+pub record Writes {S : Type 0} (tells : S → ℕ → Error → S → Type 0) (t : Table) (only : Option ℕ) (bodies : List Reader) (told : Refusals)
+    (before after : S) (old new : Option (List ℕ)) : Type 0 where
+  pub text : List ℕ
+  pub written : AreWritten t only 0 bodies told text
+  pub appends : Appends old new text
+  pub told_of : Told tells told before after
+
+-- The functions of a code section are written, and answered is whether none is refused; or the section is refused, behind those that stand before.
+-- Of the other faults nothing is said here.
+abbrev pub ListsCode : {S : Type 0} → (S → ℕ → Error → S → Type 0) → Table → Option ℕ → Reader → Result Bool Fault → S → S → Option (List ℕ) →
+    Option (List ℕ) → Type 0
+ListsCode tells t only contents (Ok whole) before after old new =
+    (bodies : List Reader) × IsCode contents bodies × (told : Refusals) × Writes tells t only bodies told before after old new × (whole ≡ are_none told)
+ListsCode tells t only contents (Err (fault.Code e)) before after old new =
+    (bodies : List Reader) × RefusesCode e contents bodies × (told : Refusals) × Writes tells t only bodies told before after old new
+ListsCode tells t only contents (Err _) before after old new = Unit {0}
+
+-- The same where the module has a code section or none.
+abbrev pub ListsFound : {S : Type 0} → (S → ℕ → Error → S → Type 0) → Table → Option ℕ → Option Reader → Result Bool Fault → S → S → Option (List ℕ) →
+    Option (List ℕ) → Type 0
+ListsFound tells t only (Some contents) result before after old new = ListsCode tells t only contents result before after old new
+ListsFound tells t only None (Ok whole) before after old new = (whole ≡ true) × (after ≡ before) × Keeps old new
+ListsFound tells t only None (Err f) before after old new = Unit {0}
+
+-- What stands before the functions: the name of the file, and that of the module, where it has one.
+abbrev pub name_line : List ℕ → List ℕ
+name_line [] = []
+name_line (n ∷ ns) = codes "module name: <" ++ ((n ∷ ns) ++ codes ">\n")
+
+abbrev pub file_line : List ℕ → List ℕ
+file_line file = codes "\n" ++ (file ++ codes ":\tfile format wasm 0x1\n")
+
+abbrev pub title_of : List ℕ → List ℕ → List ℕ
+title_of file name = file_line file ++ (name_line name ++ codes "\nCode Disassembly:\n\n")
+
+-- One of the functions is asked for that the module has, or all.
+abbrev pub IsThere : Table → Option ℕ → Type 0
+IsThere t None = Unit {0}
+IsThere t (Some index) = IsOwn t index
+
+-- The bytes are a module: this is what it tells of its functions, one of which is asked for or all, and this its code section, where it has one.
+pub record OpensModule (features : WasmFeatures) (only : Option ℕ) (bytes : List ℕ) (table : Table) (code : Option Reader) : Type 0 where
+  pub is_table : IsTableOf (reader_of features 0 bytes) table
+  pub is_there : IsThere table only
+  pub is_code : IsSection (reader_of features 0 bytes) 10 code
+
+-- The bytes are a module that has no own function with this index.
+pub record LacksFunction (features : WasmFeatures) (bytes : List ℕ) (index : ℕ) : Type 0 where
+  pub table : Table
+  pub is_table : IsTableOf (reader_of features 0 bytes) table
+  pub is_not : IsOwn table index → ⊥
+
+-- Nothing is written: the bytes are no module with such a table, or memory was refused; or the one function that is asked for is none of the module's.
+abbrev pub RefusesModule : WasmFeatures → Option ℕ → List ℕ → Fault → Type 0
+RefusesModule features only bytes (fault.Module f) = (table : Table) → IsTableOf (reader_of features 0 bytes) table → f ≡ whole_fault.Memory
+RefusesModule features only bytes (fault.NoFunction index) = (only ≡ Some index) × LacksFunction features bytes index
+RefusesModule features only bytes _ = ⊥
+
+-- A module is written: a title with its name, and behind it the functions of its code section.
+pub record WritesModule {S : Type 0} (tells : S → ℕ → Error → S → Type 0) (features : WasmFeatures) (only : Option ℕ) (file bytes : List ℕ)
+    (result : Result Bool Fault) (before after : S) (old new : Option (List ℕ)) : Type 0 where
+  pub table : Table
+  pub code : Option Reader
+  pub opens : OpensModule features only bytes table code
+  pub name : List ℕ
+  pub is_name : NamesModule (reader_of features 0 bytes) name
+  pub titled : Option (List ℕ)
+  pub title : Appends old titled (title_of file name)
+  pub lists : ListsFound tells table only code result before after titled new
+
+-- The disassembly of a module: it is written; or its code section is refused, behind the functions that were written; or nothing is. Where writing failed, or
+-- memory behind the beginning, nothing is said here.
+abbrev pub ListsModule : {S : Type 0} → (S → ℕ → Error → S → Type 0) → WasmFeatures → Option ℕ → List ℕ → List ℕ → Result Bool Fault → S → S →
+    Option (List ℕ) → Option (List ℕ) → Type 0
+ListsModule tells features only file bytes (Ok whole) before after old new = WritesModule tells features only file bytes (Ok whole) before after old new
+ListsModule tells features only file bytes (Err (fault.Code e)) before after old new =
+    WritesModule tells features only file bytes (Err (fault.Code e)) before after old new
+ListsModule tells features only file bytes (Err fault.Writing) before after old new = Unit {0}
+ListsModule tells features only file bytes (Err fault.Memory) before after old new = Unit {0}
+ListsModule tells features only file bytes (Err f) before after old new = RefusesModule features only bytes f × (after ≡ before)
+
+-- The bytes are the body of a function, with no more locals than it may have.
+abbrev pub IsFunction : Reader → Type 0
+IsFunction body = (declarations : List Declaration) × (placed : Placed) × EncodesBody (source_of body) declarations placed × (locals_in declarations ≤ max_locals)
+
+-- Each of these functions, from a place on, that is asked for has a body of this kind.
+abbrev pub AreAsked : (Reader → Type 0) → Table → Option ℕ → ℕ → List Reader → Type 0
+AreAsked Is t only place [] = Unit {0}
+AreAsked Is t only place (b ∷ bs) = WhereAsked (is_asked only (index_of t place)) (Is b) (Unit {0}) × AreAsked Is t only (place + 1) bs
+
+-- The same of those of a code section, where there is one.
+abbrev pub HasAsked : (Reader → Type 0) → Table → Option ℕ → Option Reader → Type 0
+HasAsked Is t only None = Unit {0}
+HasAsked Is t only (Some contents) = (bodies : List Reader) × IsCode contents bodies × AreAsked Is t only 0 bodies
+
+-- The bytes are a module of which each function that is asked for has a body of this kind.
+pub record IsModuleOf (Is : Reader → Type 0) (features : WasmFeatures) (only : Option ℕ) (bytes : List ℕ) : Type 0 where
+  pub table : Table
+  pub code : Option Reader
+  pub opens : OpensModule features only bytes table code
+  pub bodies : HasAsked Is table only code
+
+-- The faults before anything is written.
+abbrev pub WritesNothing : Fault → Type 0
+WritesNothing (fault.Module _) = Unit {0}
+WritesNothing (fault.NoFunction _) = Unit {0}
+WritesNothing _ = ⊥
+
+-- The faults of writing, and of memory behind the beginning.
+abbrev pub IsHalt : Fault → Type 0
+IsHalt fault.Writing = Unit {0}
+IsHalt fault.Memory = Unit {0}
+IsHalt _ = ⊥
+
+-- Those behind the beginning of what is written: the code section is refused, or writing or memory failed.
+abbrev pub IsLater : Fault → Type 0
+IsLater (fault.Code _) = Unit {0}
+IsLater f = IsHalt f
+
+-- Those that say nothing against the module.
+abbrev pub IsOutside : Fault → Type 0
+IsOutside (fault.Module f) = f ≡ whole_fault.Memory
+IsOutside f = IsHalt f
+
+-- All functions are written and none is refused, unless writing or memory failed.
+abbrev pub Succeeds : Result Bool Fault → Type 0
+Succeeds (Ok whole) = whole ≡ true
+Succeeds (Err f) = IsOutside f
+
+abbrev pub status_of : Fault → ℕ
+status_of (fault.Module whole_fault.Memory) = 3
+status_of (fault.Module _) = 1
+status_of (fault.Code _) = 1
+status_of (fault.NoFunction _) = 1
+status_of _ = 3

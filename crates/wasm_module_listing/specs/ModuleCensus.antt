@@ -1,0 +1,108 @@
+-- The operators of a module, counted by the proposals that brought them.
+use Rattle.std.specs.Prelude.{◌≡◌, ◌⊎◌, ℕ, ◌+◌, ◌-◌, ◌^◌, Bool, List, [], ◌∷◌, ◌++◌, Option, Some, None, Result, Ok, Err, min, replicate, true}
+use Rattle.wasm_disassembly.specs.operators.below.bytes.error.Error.{Error}
+use Rattle.wasm_disassembly.specs.operators.below.bytes.features.WasmFeatures.{WasmFeatures}
+use Rattle.wasm_disassembly.specs.operators.below.Source.{Reader, rest, offset_of}
+use Rattle.wasm_disassembly.specs.operators.Expression.{Placed}
+use Rattle.wasm_disassembly.specs.operators.Locals.{Declaration}
+use Rattle.wasm_listing.specs.declared.fault.DumpFault.TheVariants as dump
+use Rattle.wasm_listing.specs.Census.{Counts}
+use Rattle.wasm_listing.specs.Dump.{input_of, IsBody}
+use Rattle.wasm_functions.specs.Table.{Table, index_of}
+use Rattle.std.specs.Io.KnownBytes.{Appends}
+use Rattle.wasm_module_listing.specs.CountTable.{Row, IsTable, table_text}
+use Rattle.wasm_module_listing.specs.declared.counts.ModuleCounts.{ModuleCounts}
+use Rattle.wasm_module_listing.specs.declared.fault.Fault.{Fault}
+use Rattle.wasm_module_listing.specs.declared.fault.Fault.TheVariants as fault
+use Rattle.wasm_module_listing.specs.Listing.{Refusals, Told, are_none, is_asked, WhereAsked, IsCode, RefusesCode, OpensModule, RefusesModule, IsOutside}
+
+-- Counts, added: each stays at the greatest u64.
+abbrev pub add_counts : List ℕ → List ℕ → List ℕ
+add_counts (a ∷ more) (b ∷ others) = min (a + b) (2 ^ 64 - 1) ∷ add_counts more others
+add_counts _ _ = []
+
+-- A refusal of some bytes at offset 0, where they stand at another offset.
+abbrev pub moved : ℕ → Error → Error
+moved offset e = record { message = e.message; offset = min (offset + e.offset) (2 ^ 64 - 1) }
+
+-- What the census of a body adds to the counts: those of the body that the bytes are; or, of other bytes, nothing, and their refusal is told.
+abbrev pub AddsBody : WasmFeatures → ℕ → Reader → Refusals → List ℕ → List ℕ → Type 0
+AddsBody features index body told before after =
+    ((added : List ℕ) × Counts (input_of features (rest body)) (Ok added) × (after ≡ add_counts before added) × (told ≡ [])) ⊎
+    ((e : Error) × Counts (input_of features (rest body)) (Err (dump.Refused e)) × (after ≡ before) × (told ≡ (index, moved (offset_of body) e) ∷ []))
+
+-- What the function at a place adds: its census, or nothing where it is not asked for.
+abbrev pub IsAdded : WasmFeatures → Table → Option ℕ → ℕ → Reader → Refusals → List ℕ → List ℕ → Type 0
+IsAdded features t only place body told before after =
+    WhereAsked (is_asked only (index_of t place)) (AddsBody features (index_of t place) body told before after) ((told ≡ []) × (after ≡ before))
+
+-- What these functions add, from a place on, one after the other, and what is told.
+abbrev pub AreAdded : WasmFeatures → Table → Option ℕ → ℕ → List Reader → Refusals → List ℕ → List ℕ → Type 0
+AreAdded features t only place [] told before after = (told ≡ []) × (after ≡ before)
+AreAdded features t only place (b ∷ bs) told before after =
+    (one others : Refusals) × (mid : List ℕ) × (told ≡ one ++ others) × IsAdded features t only place b one before mid ×
+    AreAdded features t only (place + 1) bs others mid after
+
+abbrev pub no_counts : List ℕ
+no_counts = replicate 19 0
+
+-- These functions were counted and told of, the first ones of a module.
+pub record Adds {S : Type 0} (tells : S → ℕ → Error → S → Type 0) (features : WasmFeatures) (t : Table) (only : Option ℕ) (bodies : List Reader)
+    (told : Refusals) (before after : S) (counts : List ℕ) : Type 0 where
+  pub added : AreAdded features t only 0 bodies told no_counts counts
+  pub told_of : Told tells told before after
+
+-- The functions of a code section are counted, and answered is whether none is refused; or the section is refused, behind those that stand before.
+-- Of the other faults nothing is said here.
+abbrev pub CountsCode : {S : Type 0} → (S → ℕ → Error → S → Type 0) → WasmFeatures → Table → Option ℕ → Reader → Result ModuleCounts Fault → S → S → Type 0
+CountsCode tells features t only contents (Ok found) before after =
+    (bodies : List Reader) × IsCode contents bodies × (told : Refusals) × Adds tells features t only bodies told before after found.counts ×
+    (found.whole ≡ are_none told)
+CountsCode tells features t only contents (Err (fault.Code e)) before after =
+    (bodies : List Reader) × RefusesCode e contents bodies × (told : Refusals) × (counts : List ℕ) ×
+    Adds tells features t only bodies told before after counts
+CountsCode tells features t only contents (Err _) before after = Unit {0}
+
+-- The same where the module has a code section or none.
+abbrev pub CountsFound : {S : Type 0} → (S → ℕ → Error → S → Type 0) → WasmFeatures → Table → Option ℕ → Option Reader → Result ModuleCounts Fault → S → S →
+    Type 0
+CountsFound tells features t only (Some contents) result before after = CountsCode tells features t only contents result before after
+CountsFound tells features t only None (Ok found) before after = (found.counts ≡ no_counts) × (found.whole ≡ true) × (after ≡ before)
+CountsFound tells features t only None (Err f) before after = Unit {0}
+
+-- The operators of a module are counted.
+pub record CountsOf {S : Type 0} (tells : S → ℕ → Error → S → Type 0) (features : WasmFeatures) (only : Option ℕ) (bytes : List ℕ)
+    (result : Result ModuleCounts Fault) (before after : S) : Type 0 where
+  pub table : Table
+  pub code : Option Reader
+  pub opens : OpensModule features only bytes table code
+  pub counts : CountsFound tells features table only code result before after
+
+-- The census of a module: it is counted; or its code section is refused, behind the functions that were told of; or nothing is. Where telling failed, or memory
+-- behind the beginning, nothing is said here.
+abbrev pub CountsModule : {S : Type 0} → (S → ℕ → Error → S → Type 0) → WasmFeatures → Option ℕ → List ℕ → Result ModuleCounts Fault → S → S → Type 0
+CountsModule tells features only bytes (Ok found) before after = CountsOf tells features only bytes (Ok found) before after
+CountsModule tells features only bytes (Err (fault.Code e)) before after = CountsOf tells features only bytes (Err (fault.Code e)) before after
+CountsModule tells features only bytes (Err fault.Writing) before after = Unit {0}
+CountsModule tells features only bytes (Err fault.Memory) before after = Unit {0}
+CountsModule tells features only bytes (Err f) before after = RefusesModule features only bytes f × (after ≡ before)
+
+-- The bytes are a body that is counted.
+abbrev pub IsCounted : WasmFeatures → Reader → Type 0
+IsCounted features body = (declarations : List Declaration) × (placed : Placed) × IsBody (input_of features (rest body)) declarations placed
+
+-- All functions are counted and none is refused, unless telling or memory failed.
+abbrev pub CountsAll : Result ModuleCounts Fault → Type 0
+CountsAll (Ok found) = found.whole ≡ true
+CountsAll (Err f) = IsOutside f
+
+-- The census of a module as a table, which is written where it is counted.
+abbrev pub TabulatesModule : {S : Type 0} → (S → ℕ → Error → S → Type 0) → WasmFeatures → Option ℕ → List ℕ → Result Bool Fault → S → S → Option (List ℕ) →
+    Option (List ℕ) → Type 0
+TabulatesModule tells features only bytes (Ok whole) before after old new =
+    (found : ModuleCounts) × CountsOf tells features only bytes (Ok found) before after × (whole ≡ found.whole) × (rows : List Row) × IsTable found.counts rows ×
+    Appends old new (table_text rows)
+TabulatesModule tells features only bytes (Err (fault.Code e)) before after old new = CountsOf tells features only bytes (Err (fault.Code e)) before after × (new ≡ old)
+TabulatesModule tells features only bytes (Err fault.Writing) before after old new = Unit {0}
+TabulatesModule tells features only bytes (Err fault.Memory) before after old new = Unit {0}
+TabulatesModule tells features only bytes (Err f) before after old new = RefusesModule features only bytes f × (after ≡ before) × (new ≡ old)

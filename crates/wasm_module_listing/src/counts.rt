@@ -1,0 +1,143 @@
+//! How many operators of each proposal the functions of a code section have.
+ghost use Rattle.std.specs.Prelude.{◌≡◌, true, List, IfOk, IfErr};
+ghost use Rattle.wasm_disassembly.specs.operators.below.Source.{Reader, offset_of};
+ghost use Rattle.wasm_functions.specs.Table.{index_of};
+ghost use Rattle.wasm_module_listing.specs.Listing.{is_asked, are_none, Refusals, Told, WhereAsked, IsCode, AreAsked, IsHalt, IsLater};
+ghost use Rattle.wasm_module_listing.specs.ModuleCensus.{add_counts, no_counts, IsAdded, CountsCode, IsCounted, CountsAll, moved};
+
+use crate::code_laws;
+use crate::complaints::Complaints;
+use crate::fault::Fault;
+use crate::listing::is_asked;
+use std::alloc::Global;
+use wasm_disassembly::operators::{
+    BinaryReader, CodeSectionReader, Error, FunctionBody, WasmFeatures,
+};
+use wasm_functions::Functions;
+use wasm_listing::{DumpFault, census};
+
+/// How many operators of each proposal the functions of a module have, in the order of `census` of
+/// `wasm_listing`; and whether none of them is refused, whose operators are not counted.
+#[derive(Clone, Copy, Debug, PartialEq, Eq)]
+pub struct ModuleCounts {
+    pub counts: [u64; 19],
+    pub whole: bool,
+}
+
+impl ModuleCounts {
+    /// No operator is counted, and none refused.
+    pub fn none() -> ModuleCounts
+        ensures counts { result.counts ≡ no_counts }
+        ensures whole { result.whole ≡ true }
+    {
+        ModuleCounts {
+            counts: [0; 19],
+            whole: true,
+        }
+    }
+}
+
+/// Adds the counts of a body.
+fn add(counts: &mut [u64; 19], more: &[u64; 19])
+    ensures { counts.new ≡ add_counts counts.old more.now }
+{
+    'places: for place in 0..19usize {
+        counts[place] = counts[place].saturating_add(more[place]);
+    }
+}
+
+/// A refusal of the bytes of a body, with the offset of the module.
+fn moved(body: &FunctionBody<'_>, error: Error) -> Error
+    ensures { result ≡ moved (offset_of body.now) error }
+{
+    let start = body.get_binary_reader().original_position();
+    Error::new(error.message(), start.saturating_add(error.offset()))
+}
+
+/// Adds the counts of the function at a place, where it is asked for. Answers whether it is not refused,
+/// and tells of it where it is.
+fn count_asked<C: Complaints>(
+    alloc: Global,
+    features: WasmFeatures,
+    functions: &Functions<'_>,
+    only: Option<u32>,
+    place: u32,
+    body: &FunctionBody<'_>,
+    counts: &mut [u64; 19],
+    complaints: &mut C,
+) -> Result<bool, Fault>
+    ensures adds { IfOk result (λ whole. (told : Refusals)
+        × IsAdded features functions.now only place body.now told counts.old counts.new
+        × Told C.tells told complaints.old complaints.new × (whole ≡ are_none told)) }
+    ensures whole { IfOk result (λ whole. WhereAsked (is_asked only (index_of functions.now place)) (IsCounted features body.now) (Unit {0})
+        → whole ≡ true) }
+    ensures halts { IfErr result (λ fault. IsHalt fault) }
+{
+    let index = functions.index(place);
+    if !is_asked(only, index) {
+        return Ok(true);
+    }
+    match census(alloc, features, body.as_bytes()) {
+        Ok(more) => {
+            add(counts, &more);
+            Ok(true)
+        }
+        Err(DumpFault::Refused(e)) => match complaints.complain(index, moved(body, e)) {
+            Ok(()) => Ok(false),
+            Err(_) => Err(Fault::Writing),
+        },
+        Err(_) => Err(Fault::Memory),
+    }
+}
+
+#[tactic(auto, using(crate::proofs::Asked::halts_later))]
+/// Counts the operators of the functions of a code section, or of the one with an index. Each that is
+/// refused is told of, and the others are counted.
+///
+/// `Code` where the section itself is refused.
+pub fn count_code<C: Complaints>(
+    alloc: Global,
+    features: WasmFeatures,
+    functions: &Functions<'_>,
+    code: BinaryReader<'_>,
+    only: Option<u32>,
+    complaints: &mut C,
+) -> Result<ModuleCounts, Fault>
+    ensures counts { CountsCode C.tells features functions.now only code.entry result complaints.old complaints.new }
+    ensures whole { (bodies : List Reader) → IsCode code.entry bodies
+        → AreAsked (IsCounted features) functions.now only 0 bodies → CountsAll result }
+    ensures later { IfErr result (λ fault. IsLater fault) }
+{
+    code_laws::one_list();
+    code_laws::no_refusal();
+    let section = match CodeSectionReader::new(alloc, code) {
+        Ok(section) => section,
+        Err(e) => return Err(Fault::Code(e)),
+    };
+    let mut items = section.into_iter();
+    let mut counts = ModuleCounts::none().counts;
+    let mut place: u32 = 0;
+    let mut whole = true;
+    'bodies: while let Some(item) = items.next() {
+        let body = match item {
+            Ok(body) => body,
+            Err(e) => return Err(Fault::Code(e)),
+        };
+        let one = match count_asked(
+            alloc,
+            features,
+            functions,
+            only,
+            place,
+            &body,
+            &mut counts,
+            complaints,
+        ) {
+            Ok(one) => one,
+            Err(fault) => return Err(fault),
+        };
+        whole &= one;
+        place = place.saturating_add(1);
+    }
+    Ok(ModuleCounts { counts, whole })
+}

@@ -1,0 +1,164 @@
+//! The texts of the functions of a code section.
+ghost use Rattle.std.specs.Prelude.{◌≡◌, ◌↔◌, true, List, ℕ, IsTrue, IsOk, IsErrAnd, IfOk, IfErr};
+ghost use Rattle.std.specs.Io.KnownBytes.{Appends, Keeps};
+ghost use Rattle.wasm_disassembly.specs.Disassembly.{IsText};
+ghost use Rattle.wasm_disassembly.specs.operators.below.Source.{Reader};
+ghost use Rattle.wasm_functions.specs.Table.{index_of};
+ghost use Rattle.wasm_module_listing.specs.Listing.{is_asked, are_none, heading_at, Refusals, Told, WhereAsked, IsWritten};
+ghost use Rattle.wasm_module_listing.specs.Listing.{IsCode, ListsCode, IsFunction, AreAsked, Succeeds, IsHalt, IsLater};
+
+use crate::code_laws;
+use crate::complaints::Complaints;
+use crate::fault::Fault;
+use crate::writing::write_text;
+use std::alloc::Global;
+use std::io::Write;
+use wasm_disassembly::disassemble;
+use wasm_disassembly::operators::{BinaryReader, CodeSectionReader, Error, FunctionBody, Message};
+use wasm_functions::Functions;
+
+/// Whether reading ended for allocation failure.
+fn is_memory(answer: &Result<(), Error>) -> bool
+    ensures { IsTrue result ↔ IsErrAnd answer.now (λ e. e.message ≡ Message.OutOfMemory) }
+{
+    match answer {
+        Ok(()) => false,
+        Err(error) => matches!(error.message(), Message::OutOfMemory),
+    }
+}
+
+/// Writes the text of the function at a place, and answers how its reading ended.
+fn list_function<W: Write>(
+    alloc: Global,
+    functions: &Functions<'_>,
+    place: u32,
+    body: &FunctionBody<'_>,
+    writer: &mut W,
+) -> Result<Result<(), Error>, Fault>
+    ensures lists { IfOk result (λ answer. (text : List ℕ) × Appends (W.contents writer.old) (W.contents writer.new) text
+        × IsText (heading_at functions.now place) answer body.now text) }
+    ensures whole { IfOk result (λ answer. IsFunction body.now → IsOk answer) }
+    ensures halts { IfErr result (λ fault. IsHalt fault) }
+{
+    let mut text = String::new(alloc);
+    let index = functions.index(place);
+    let name = functions.name(place);
+    let parameters = functions.parameters(place);
+    let answer = disassemble(alloc, &mut text, index, name, parameters, body);
+    if is_memory(&answer) {
+        return Err(Fault::Memory);
+    }
+    match write_text(writer, text.as_str()) {
+        Ok(()) => Ok(answer),
+        Err(fault) => Err(fault),
+    }
+}
+
+/// Tells of a function that is refused, once the lines that stand before are written.
+fn complain<W: Write, C: Complaints>(
+    writer: &mut W,
+    complaints: &mut C,
+    index: u32,
+    error: Error,
+) -> Result<(), Fault>
+    ensures keeps { IfOk result (λ done. Keeps (W.contents writer.old) (W.contents writer.new)) }
+    ensures tells { IfOk result (λ done. C.tells complaints.old index error complaints.new) }
+    ensures halts { IfErr result (λ fault. IsHalt fault) }
+{
+    if writer.flush().is_err() {
+        return Err(Fault::Writing);
+    }
+    if complaints.complain(index, error).is_err() {
+        return Err(Fault::Writing);
+    }
+    Ok(())
+}
+
+/// Whether the function with this index is asked for.
+pub fn is_asked(only: Option<u32>, index: u32) -> bool
+    ensures { result ≡ is_asked only index }
+{
+    match only {
+        None => true,
+        Some(only) => only == index,
+    }
+}
+
+/// Writes the text of the function at a place, where it is asked for. Answers whether it is not refused,
+/// and tells of it where it is.
+fn list_asked<W: Write, C: Complaints>(
+    alloc: Global,
+    functions: &Functions<'_>,
+    only: Option<u32>,
+    place: u32,
+    body: &FunctionBody<'_>,
+    writer: &mut W,
+    complaints: &mut C,
+) -> Result<bool, Fault>
+    ensures lists { IfOk result (λ whole. (told : Refusals) × (text : List ℕ)
+        × Appends (W.contents writer.old) (W.contents writer.new) text
+        × IsWritten functions.now only place body.now told text
+        × Told C.tells told complaints.old complaints.new × (whole ≡ are_none told)) }
+    ensures whole { IfOk result (λ whole. WhereAsked (is_asked only (index_of functions.now place)) (IsFunction body.now) (Unit {0})
+        → whole ≡ true) }
+    ensures halts { IfErr result (λ fault. IsHalt fault) }
+{
+    let index = functions.index(place);
+    if !is_asked(only, index) {
+        return Ok(true);
+    }
+    let answer = match list_function(alloc, functions, place, body, writer) {
+        Ok(answer) => answer,
+        Err(fault) => return Err(fault),
+    };
+    match answer {
+        Ok(()) => Ok(true),
+        Err(e) => match complain(writer, complaints, index, e) {
+            Ok(()) => Ok(false),
+            Err(fault) => Err(fault),
+        },
+    }
+}
+
+#[tactic(auto, using(crate::proofs::Asked::halts_later))]
+/// Writes the texts of the functions of a code section, or of the one with an index, in their order.
+/// Answers whether none of them is refused; each that is refused is told of, and the others follow.
+///
+/// `Code` where the section itself is refused, behind the functions before.
+pub fn list_code<W: Write, C: Complaints>(
+    alloc: Global,
+    functions: &Functions<'_>,
+    code: BinaryReader<'_>,
+    only: Option<u32>,
+    writer: &mut W,
+    complaints: &mut C,
+) -> Result<bool, Fault>
+    ensures lists { ListsCode C.tells functions.now only code.entry result complaints.old complaints.new
+        (W.contents writer.old) (W.contents writer.new) }
+    ensures whole { (bodies : List Reader) → IsCode code.entry bodies → AreAsked IsFunction functions.now only 0 bodies
+        → Succeeds result }
+    ensures later { IfErr result (λ fault. IsLater fault) }
+{
+    code_laws::one_list();
+    code_laws::no_refusal();
+    let section = match CodeSectionReader::new(alloc, code) {
+        Ok(section) => section,
+        Err(e) => return Err(Fault::Code(e)),
+    };
+    let mut items = section.into_iter();
+    let mut place: u32 = 0;
+    let mut whole = true;
+    'bodies: while let Some(item) = items.next() {
+        let body = match item {
+            Ok(body) => body,
+            Err(e) => return Err(Fault::Code(e)),
+        };
+        let one = match list_asked(alloc, functions, only, place, &body, writer, complaints) {
+            Ok(one) => one,
+            Err(fault) => return Err(fault),
+        };
+        whole &= one;
+        place = place.saturating_add(1);
+    }
+    Ok(whole)
+}

@@ -1,0 +1,68 @@
+//! What the program writes of a module.
+ghost use Rattle.std.specs.Bool.{OnTrue, OnFalse};
+ghost use Rattle.wasm_module_listing.specs.Listing.{IsFunction, IsModuleOf, ListsModule, Succeeds};
+ghost use Rattle.wasm_module_listing.specs.ModuleCensus.{IsCounted, TabulatesModule};
+
+use crate::complaints::Complaints;
+use crate::fault::Fault;
+use crate::module::{count_module, list_module};
+use crate::table::write_table;
+use std::alloc::Global;
+use std::io::Write;
+use wasm_disassembly::operators::WasmFeatures;
+
+/// What is wanted of a module.
+#[derive(Clone, Copy, Debug, PartialEq, Eq)]
+pub struct Wanted {
+    /// The census in place of the functions.
+    pub census: bool,
+    /// The function with this index alone.
+    pub function: Option<u32>,
+    /// The features that its functions are read with.
+    pub features: WasmFeatures,
+}
+
+/// Writes the disassembly of a module, or its census as a table. Answers whether none of its functions
+/// is refused; each that is refused is told of.
+///
+/// Refused as `list_module` and `count_module`.
+pub fn run<W: Write, C: Complaints>(
+    alloc: Global,
+    wanted: Wanted,
+    file: &str,
+    bytes: &[u8],
+    writer: &mut W,
+    complaints: &mut C,
+) -> Result<bool, Fault>
+    ensures tabulates { OnTrue wanted.census
+        (TabulatesModule C.tells wanted.features wanted.function bytes.now result complaints.old complaints.new
+        (W.contents writer.old) (W.contents writer.new)) }
+    ensures lists { OnFalse wanted.census
+        (ListsModule C.tells wanted.features wanted.function file.now bytes.now result complaints.old complaints.new
+        (W.contents writer.old) (W.contents writer.new)) }
+    // Where each function that is asked for has a body, none is refused.
+    ensures counted { OnTrue wanted.census
+        (IsModuleOf (IsCounted wanted.features) wanted.features wanted.function bytes.now → Succeeds result) }
+    ensures listed { OnFalse wanted.census
+        (IsModuleOf IsFunction wanted.features wanted.function bytes.now → Succeeds result) }
+{
+    if !wanted.census {
+        return list_module(
+            alloc,
+            wanted.features,
+            wanted.function,
+            file,
+            bytes,
+            writer,
+            complaints,
+        );
+    }
+    let found = match count_module(alloc, wanted.features, wanted.function, bytes, complaints) {
+        Ok(found) => found,
+        Err(fault) => return Err(fault),
+    };
+    match write_table(alloc, &found.counts, writer) {
+        Ok(()) => Ok(found.whole),
+        Err(fault) => Err(fault),
+    }
+}

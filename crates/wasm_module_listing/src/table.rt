@@ -1,0 +1,92 @@
+//! The census of a module as a table.
+ghost use Rattle.std.specs.Prelude.{◌≡◌, ◌++◌, List, [], IfOk, IfErr, OnOk, string_bytes, slice_index_or};
+ghost use Rattle.std.specs.Io.KnownBytes.{Appends};
+ghost use Rattle.wasm_listing.specs.Census.{proposals};
+ghost use Rattle.wasm_module_listing.specs.CountTable.{Row, IsTable, row_text, table_text};
+ghost use Rattle.wasm_module_listing.specs.Listing.{IsHalt};
+
+use crate::fault::Fault;
+use crate::writing::write_text;
+use std::alloc::{AllocError, Global};
+use std::cmp::Reverse;
+use std::io::Write;
+
+/// The proposals, in the order of the counts.
+static PROPOSALS: [&str; 19] = [
+    "mvp",
+    "sign_extension",
+    "gc",
+    "custom_descriptors",
+    "saturating_float_to_int",
+    "bulk_memory",
+    "reference_types",
+    "tail_call",
+    "memory_control",
+    "threads",
+    "simd",
+    "relaxed_simd",
+    "exceptions",
+    "legacy_exceptions",
+    "shared_everything_threads",
+    "function_references",
+    "stack_switching",
+    "wide_arithmetic",
+    "acquire_release_atomics",
+];
+
+/// The proposal of the count at this place, and no text where there is none.
+fn proposal_at(place: usize) -> &'static str
+    ensures { result.now ≡ slice_index_or proposals place [] }
+{
+    if place < 19 { PROPOSALS[place] } else { "" }
+}
+
+/// The counts that are not 0, each with its place, the largest first.
+fn rows_of(alloc: Global, counts: &[u64; 19]) -> Result<Vec<(Reverse<u64>, usize)>, AllocError>
+    ensures { IfOk result (λ rows. IsTable counts.now rows.items) }
+{
+    let mut rows = Vec::new(alloc);
+    'places: for place in 0..19usize {
+        if counts[place] != 0 {
+            rows.push((Reverse(counts[place]), place))?;
+        }
+    }
+    rows.sort()?;
+    Ok(rows)
+}
+
+/// Writes the line of a row.
+fn push_row(out: &mut String, row: (Reverse<u64>, usize)) -> Result<(), AllocError>
+    ensures { OnOk result (string_bytes out.new ≡ string_bytes out.old ++ row_text row) }
+{
+    let count = row.0.0;
+    let name = proposal_at(row.1);
+    writeln!(out, "{count:>12} {name}")
+}
+
+/// The lines of the rows.
+fn push_rows(out: &mut String, rows: &[(Reverse<u64>, usize)]) -> Result<(), AllocError>
+    ensures { OnOk result (string_bytes out.new ≡ string_bytes out.old ++ table_text rows.now) }
+{
+    for row in rows {
+        push_row(out, *row)?;
+    }
+    Ok(())
+}
+
+/// Writes a line for each proposal that brought operators of a module: how many, in the order of
+/// `census` of `wasm_listing`, and its name; the largest count first.
+pub fn write_table<W: Write>(alloc: Global, counts: &[u64; 19], writer: &mut W) -> Result<(), Fault>
+    ensures ok { OnOk result ((rows : List Row) × IsTable counts.now rows
+        × Appends (W.contents writer.old) (W.contents writer.new) (table_text rows)) }
+    ensures err { IfErr result (λ fault. IsHalt fault) }
+{
+    let Ok(rows) = rows_of(alloc, counts) else {
+        return Err(Fault::Memory);
+    };
+    let mut text = String::new(alloc);
+    if push_rows(&mut text, rows.as_slice()).is_err() {
+        return Err(Fault::Memory);
+    }
+    write_text(writer, text.as_str())
+}

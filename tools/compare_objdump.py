@@ -1,0 +1,135 @@
+#!/usr/bin/env python3
+"""Compares the disassembly of modules with that of `wasm-objdump -d` of wabt.
+
+    tools/compare_objdump.py MODULE..
+
+It takes the program that `rt ci` or `rt run` built, crates/wasm_objdump/out/wasm_objdump, and `wasm-objdump`
+of wabt (`apt-get install wabt`; tried with 1.0.32). Of each module it prints the lines of both, how many of these
+differ by each kind that docs/OBJDUMP.md explains, and by others; the processor seconds that both took, writing
+into a file, the least of three runs; and the most memory that they held. `tools/clang_modules.py` makes modules.
+It is no step of the gate. It ends with 1 where a line differs by anything else, or one of the two ends otherwise.
+"""
+
+import itertools
+import os
+import re
+import subprocess
+import sys
+import tempfile
+from pathlib import Path
+
+TOP = Path(__file__).resolve().parent.parent
+OURS = [str(TOP / "crates" / "wasm_objdump" / "out" / "wasm_objdump")]
+THEIRS = ["wasm-objdump", "-d"]
+RUNS = 3
+# Runs a program and tells its status, its processor seconds and the most memory that it held. The memory of a child
+# counts from that of the process that begins it: so this is done by a small process of its own.
+RUNNER = """\
+import os, sys
+child = os.posix_spawnp(sys.argv[2], sys.argv[2:], os.environ, file_actions=[(os.POSIX_SPAWN_OPEN, 1, sys.argv[1], os.O_WRONLY | os.O_CREAT | os.O_TRUNC, 0o600)])
+_, status, used = os.wait4(child, 0)
+print(os.waitstatus_to_exitcode(status), used.ru_utime + used.ru_stime, used.ru_maxrss)
+"""
+# What wabt writes otherwise: a name behind an operand, a constant without its sign, the indices of locals, and the type
+# of a tail call.
+NAME = re.compile(r"^( [0-9a-f]+:(?: [0-9a-f]{2}){1,9} *\| .*?) <.*>(\)?)$")
+CONSTANT = re.compile(r"^(.*\| +i(32|64)\.const )(\d+)$")
+TAIL = re.compile(r"^(.*\| +return_call_indirect) (\d+) (\d+)$")
+LOCALS = re.compile(r"^(.*\| local)\[(\d+)(?:\.\.(\d+))?\]( type=.*)$")
+
+
+def signed(text, width):
+    """A number as one with a sign."""
+    number = int(text)
+    return str(number - (1 << width) if number >> (width - 1) else number)
+
+
+def without_names(line):
+    return NAME.sub(r"\1\2", line)
+
+
+def with_sign(line):
+    return CONSTANT.sub(lambda found: found[1] + signed(found[3], int(found[2])), line)
+
+
+def without_indices(line):
+    """The indices of locals by how many they are."""
+    count = lambda found: int(found[3]) - int(found[2]) + 1 if found[3] else 1
+    return LOCALS.sub(lambda found: f"{found[1]}[{count(found)}]{found[4]}", line)
+
+
+def with_type(line):
+    return TAIL.sub(r"\1 \3 (type \2)", line)
+
+
+# Each kind of difference that is explained, and what takes it away.
+KINDS = {"names": without_names, "signs": with_sign, "locals": without_indices, "tail calls": with_type}
+
+
+def kinds_of(ours, theirs):
+    """Which kinds of differences two lines have, `other` where something else differs too."""
+    found = []
+    for kind, plain in KINDS.items():
+        if ours != theirs and (plain(ours), plain(theirs)) != (ours, theirs):
+            ours, theirs = plain(ours), plain(theirs)
+            found.append(kind)
+    return found if ours == theirs else ["other"]
+
+
+def differences(ours, theirs):
+    """How many lines there are, how many differ by each kind, and the first that differ by something else."""
+    counts, others = dict.fromkeys(["lines", *KINDS, "other"], 0), []
+    for at, (line, wanted) in enumerate(itertools.zip_longest(ours, theirs), 1):
+        counts["lines"] += line is not None
+        if line != wanted:
+            kinds = ["other"] if None in (line, wanted) else kinds_of(line, wanted)
+            for kind in kinds:
+                counts[kind] += 1
+            if kinds == ["other"] and len(others) < 5:
+                others.append(f"line {at}: {line!r}, and wabt has {wanted!r}")
+    return counts, others
+
+
+def ran(words, into):
+    """The status of a program, its processor seconds and its megabytes, the least of some runs; it writes into a file."""
+    runs = []
+    for _ in range(RUNS):
+        told = subprocess.run([sys.executable, "-I", "-S", "-c", RUNNER, into, *words], capture_output=True, text=True, check=True).stdout
+        status, seconds, kilobytes = told.split()
+        runs.append((int(status), float(seconds), int(kilobytes) / 1024))
+    return tuple(min(column) for column in zip(*runs))
+
+
+def lines_of(path):
+    """The lines of a file, one after another."""
+    with open(path, encoding="utf-8", errors="replace", newline="\n") as text:
+        for line in text:
+            yield line.rstrip("\n")
+
+
+def compared(module, folder):
+    """Compares one module, and answers whether nothing but what is explained differs."""
+    status, seconds, memory = ran([*OURS, module], f"{folder}/ours")
+    their_status, their_seconds, their_memory = ran([*THEIRS, module], f"{folder}/theirs")
+    counts, others = differences(lines_of(f"{folder}/ours"), lines_of(f"{folder}/theirs"))
+    said = ", ".join(f"{kind} {count:,}" for kind, count in counts.items())
+    size = os.path.getsize(module)
+    print(f"{module}: {size:,} bytes, status {status} and {their_status}; {said}")
+    print(f"    {seconds:.3f} s and {their_seconds:.3f} s, {memory:.1f} MB and {their_memory:.1f} MB", flush=True)
+    for other in others:
+        print(f"    {other}")
+    return not counts["other"] and status == their_status
+
+
+def main():
+    modules = sys.argv[1:]
+    if not modules or any(word.startswith("-") for word in modules):
+        print(__doc__)
+        sys.exit(modules not in (["--help"], ["-h"]))
+    with tempfile.TemporaryDirectory() as folder:
+        answers = [compared(module, folder) for module in modules]
+    sys.exit(not all(answers))
+
+
+if __name__ == "__main__":
+    main()

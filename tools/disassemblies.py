@@ -1,0 +1,77 @@
+#!/usr/bin/env python3
+"""Compares the disassembly of the small modules of crates/wasm_objdump/data with that of wabt, and spoils them.
+
+    tools/disassemblies.py
+
+Of each module NAME.wasm there, the program that `rt ci` built (as each of two compilers did) has to write what
+`wasm-objdump -d` of wabt 1.0.32 wrote, NAME.txt, and to end with status 0. Then it is run on the module cut behind
+each of its bytes, and with each of its bytes changed once: each run has to end by itself, in time, with status 0
+and no complaint, or with status 1 and complaints, a line each. It ends with 1 where one does otherwise, and where
+no program is built.
+"""
+
+import subprocess
+import sys
+from pathlib import Path
+
+TOP = Path(__file__).resolve().parent.parent
+CRATE = TOP / "crates" / "wasm_objdump"
+SECONDS = 10
+
+
+def spoiled(module):
+    """The module cut behind each of its bytes, and with each byte changed, each with what was done."""
+    for at in range(len(module)):
+        yield f"cut behind {at} bytes", module[:at]
+    for at, byte in enumerate(module):
+        yield f"byte {at} changed", module[:at] + bytes([byte ^ (0xFF if at % 2 else 0x2F)]) + module[at + 1 :]
+
+
+def is_answer(status, complaint):
+    """Whether a run ended as it may."""
+    lines = complaint.decode(errors="replace").split("\n")
+    told = len(lines) > 1 and lines[-1] == "" and all("error" in line for line in lines[:-1])
+    return (status == 0 and not complaint) or (status == 1 and told)
+
+
+def ended(program, words, given=b"", folder=CRATE / "data"):
+    """The status, the output and the complaint of a run; no status where it did not end."""
+    try:
+        ran = subprocess.run([program, *words], input=given, capture_output=True, timeout=SECONDS, cwd=folder)
+    except subprocess.TimeoutExpired:
+        return None, b"", b""
+    return ran.returncode, ran.stdout, ran.stderr
+
+
+def compared(program, path):
+    """What is wrong with the disassembly of a module, and of it spoiled; and how many runs there were."""
+    wrong = []
+    if ended(program, [path.name], folder=path.parent) != (0, path.with_suffix(".txt").read_bytes(), b""):
+        wrong.append(f"{program.name}, {path.name}: not what wabt wrote")
+    runs = 1
+    for what, module in spoiled(path.read_bytes()):
+        status, _, complained = ended(program, [], module)
+        runs += 1
+        if not is_answer(status, complained):
+            wrong.append(f"{program.name}, {path.name}, {what}: status {status}, {complained!r}")
+    return wrong, runs
+
+
+def main():
+    if sys.argv[1:]:
+        print(__doc__)
+        sys.exit(sys.argv[1:] not in (["--help"], ["-h"]))
+    programs = [path for path in (CRATE / "out" / "wasm_objdump", CRATE / "out" / "wasm_objdump.by-rattle") if path.exists()]
+    wrong, runs = [], 0
+    for program in programs:
+        for path in sorted((CRATE / "data").glob("*.wasm")):
+            found, some = compared(program, path)
+            wrong, runs = wrong + found, runs + some
+    for fault in wrong:
+        print(f"NOT AS IT SHOULD: {fault}")
+    print(f"disassemblies: {runs} run, {len(wrong)} wrong")
+    sys.exit(1 if wrong or not runs else 0)
+
+
+if __name__ == "__main__":
+    main()
