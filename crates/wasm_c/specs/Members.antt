@@ -41,7 +41,8 @@ AnswersThere (Err r) input = RefusesThere r input
 pub record ReadsAt (result : Result Operator WasmRefusal) (bytes : List ℕ) (offset features at : ℕ) : Type 0 where
   pub unknown : 64 ≤ features → result ≡ Err (misuse 100 offset)
   pub past : features < 64 → 2 ^ 64 ≤ offset + length bytes → result ≡ Err (misuse 101 offset)
-  pub outside : features < 64 → IsWithin offset bytes → (at < offset) ⊎ (offset + length bytes < at) → result ≡ Err (misuse 104 at)
+  pub before : features < 64 → IsWithin offset bytes → at < offset → result ≡ Err (misuse 104 at)
+  pub behind : features < 64 → IsWithin offset bytes → offset + length bytes < at → result ≡ Err (misuse 104 at)
   pub there : features < 64 → IsWithin offset bytes → offset ≤ at → at ≤ offset + length bytes → AnswersThere result (bytes_at bytes offset features at)
 
 -- The members of the list of an operator from an index on, or that it has no such list.
@@ -61,7 +62,7 @@ pub record AnswersList {X : Type 0} (members_of : Operator → Option (List X)) 
     (count_old count_new : ℕ) (old new : List X) : Type 0 where
   pub unknown : 64 ≤ features → (r ≡ misuse 100 offset) × Unchanged count_old count_new old new
   pub past : features < 64 → 2 ^ 64 ≤ offset + length bytes → (r ≡ misuse 101 offset) × Unchanged count_old count_new old new
-  pub outside : features < 64 → IsWithin offset bytes → (at < offset) ⊎ (offset + length bytes < at) →
-      (r ≡ misuse 104 at) × Unchanged count_old count_new old new
+  pub before : features < 64 → IsWithin offset bytes → at < offset → (r ≡ misuse 104 at) × Unchanged count_old count_new old new
+  pub behind : features < 64 → IsWithin offset bytes → offset + length bytes < at → (r ≡ misuse 104 at) × Unchanged count_old count_new old new
   pub there : features < 64 → IsWithin offset bytes → offset ≤ at → at ≤ offset + length bytes →
       FindsMembers members_of r (bytes_at bytes offset features at) at index count_old count_new old new

@@ -6,10 +6,14 @@ ghost use Rattle.std.specs.Prelude.{◌≡◌, ◌<◌, ◌≤◌, ◌+◌, ◌^
 ghost use Rattle.wasm_operators.specs.below.Features.{features_of};
 ghost use Rattle.wasm_operators.specs.below.Source.{reader_of, Takes};
 ghost use Rattle.wasm_operators.specs.below.bytes.error.Error.{Error};
+ghost use Rattle.wasm_operators.specs.instr.Row.{name_of};
+ghost use Rattle.wasm_operators.specs.instr.declared.operator.Operator.{Operator};
 ghost use Rattle.wasm_operators.specs.Expression.{Placed};
 ghost use Rattle.wasm_operators.specs.Headline.{IsWithinDepth};
 ghost use Rattle.wasm_operators.specs.Reading.{State, IsFresh};
 ghost use Rattle.wasm_view.specs.Lists.{targets_of, types_of, catches_of, handles_of};
+ghost use Rattle.wasm_view.specs.Names.{name_at};
+ghost use Rattle.wasm_view.specs.View.{view_of};
 ghost use Rattle.wasm_c.specs.Members.{AnswersList};
 ghost use Rattle.wasm_c.specs.Reads.{IsWithin, FindsPlain};
 ghost use Rattle.wasm_c.specs.Refused.{misuse, refusal_of};
@@ -19,21 +23,23 @@ ghost use Rattle.wasm_c.specs.Texts.{message_text, text_told, AnswersText};
 mod body;
 mod counter;
 mod frames;
+pub mod laws;
 mod lists;
+mod name;
 mod reader;
 mod refusal;
 mod text;
 mod viewer;
 
 use crate::body::read_body;
-use crate::lists::{operator_at, told};
+use crate::lists::{catches_at, handles_at, targets_at, types_at};
+use crate::name::write_name;
 use crate::reader::WasmReader;
 use crate::refusal::{PAST_OFFSETS, UNKNOWN_FEATURES, WasmRefusal};
 use std::alloc::Global;
 use wasm_operators::WasmFeatures;
-use wasm_view::{
-    WasmHandler, WasmOperator, WasmType, catches_of, handles_of, targets_of, types_of,
-};
+use wasm_view::laws::names;
+use wasm_view::{WasmHandler, WasmOperator, WasmType, name_at};
 
 /// The version of the structs and calls, which is that of `wasm_operators.h`.
 const VERSION: u32 = 3;
@@ -98,6 +104,18 @@ pub extern "C" fn wasm_refusal_text(refusal: &WasmRefusal, text: &mut [u8]) -> u
     ensures numbers { AnswersText (text_told refusal.now) text.old result text.new }
 {
     text::write_text(refusal.number, refusal.name, refusal.value, text)
+}
+
+/// The name of the operator of this plain data, as much of it as there is room for, without a byte 0
+/// behind it. Answers its whole length in bytes; 0 where its number is that of none.
+#[unsafe(no_mangle)]
+pub extern "C" fn wasm_operator_name(operator: &WasmOperator, name: &mut [u8]) -> usize
+    ensures named { (op : Operator) (at : ℕ) → operator.now ≡ view_of (op, at)
+        → AnswersText (Some (name_of op)) name.old result name.new }
+    ensures numbers { AnswersText (Some (name_at operator.now.opcode operator.now.shape)) name.old result name.new }
+{
+    names();
+    write_name(name_at(operator.opcode, operator.shape), name)
 }
 
 /// Opens an expression: a reader that has read none of the bytes, the first of which has this offset,
@@ -235,10 +253,7 @@ pub extern "C" fn wasm_br_table_targets(
     ensures answer { result ≡ refusal.new.number }
     ensures list { AnswersList targets_of refusal.new bytes.now offset features at index count.old count.new out.old out.new }
 {
-    *refusal = match operator_at(alloc, bytes, offset, features, at) {
-        Ok(op) => told(targets_of(&op, index, out), at, count),
-        Err(refused) => refused,
-    };
+    *refusal = targets_at(alloc, bytes, offset, features, at, index, out, count);
     refusal.number
 }
 
@@ -258,10 +273,7 @@ pub extern "C" fn wasm_select_types(
     ensures answer { result ≡ refusal.new.number }
     ensures list { AnswersList types_of refusal.new bytes.now offset features at index count.old count.new out.old out.new }
 {
-    *refusal = match operator_at(alloc, bytes, offset, features, at) {
-        Ok(op) => told(types_of(&op, index, out), at, count),
-        Err(refused) => refused,
-    };
+    *refusal = types_at(alloc, bytes, offset, features, at, index, out, count);
     refusal.number
 }
 
@@ -281,10 +293,7 @@ pub extern "C" fn wasm_try_table_catches(
     ensures answer { result ≡ refusal.new.number }
     ensures list { AnswersList catches_of refusal.new bytes.now offset features at index count.old count.new out.old out.new }
 {
-    *refusal = match operator_at(alloc, bytes, offset, features, at) {
-        Ok(op) => told(catches_of(&op, index, out), at, count),
-        Err(refused) => refused,
-    };
+    *refusal = catches_at(alloc, bytes, offset, features, at, index, out, count);
     refusal.number
 }
 
@@ -305,9 +314,6 @@ pub extern "C" fn wasm_resume_handlers(
     ensures answer { result ≡ refusal.new.number }
     ensures list { AnswersList handles_of refusal.new bytes.now offset features at index count.old count.new out.old out.new }
 {
-    *refusal = match operator_at(alloc, bytes, offset, features, at) {
-        Ok(op) => told(handles_of(&op, index, out), at, count),
-        Err(refused) => refused,
-    };
+    *refusal = handles_at(alloc, bytes, offset, features, at, index, out, count);
     refusal.number
 }
