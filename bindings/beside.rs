@@ -7,6 +7,7 @@
 //! With `--time` both then go over all of a file's bodies, in turn, ROUNDS times; the best time of each is told in
 //! nanoseconds an operator.
 
+use std::cell::RefCell;
 use std::hint::black_box;
 use std::process::ExitCode;
 use std::time::Instant;
@@ -97,8 +98,16 @@ fn original_iterator(bytes: &[u8]) -> usize {
         .count()
 }
 
+thread_local! {
+    /// The array that plain data is read into.
+    static OUT: RefCell<Vec<proved::PlainOperator>> = const { RefCell::new(Vec::new()) };
+}
+
 fn plain(bytes: &[u8]) -> usize {
-    black_box(&proved::Body::read(bytes, 0, proved::WasmFeatures::all())).len()
+    OUT.with_borrow_mut(|out| {
+        proved::read_plain(bytes, 0, proved::WasmFeatures::all(), out).expect("a body");
+        black_box(&out).len()
+    })
 }
 
 fn body_iterator(bytes: &[u8]) -> usize {
@@ -142,7 +151,7 @@ fn single_reads(bytes: &[u8]) -> usize {
 const WAYS: [Way; 7] = [
     ("original, into a list", original_list),
     ("original, by its iterator", original_iterator),
-    ("a body, as plain data", plain),
+    ("a body, into one array", plain),
     ("a body, by its iterator", body_iterator),
     ("a body, into a list", body_list),
     ("a reader's iterator", batches),

@@ -517,7 +517,7 @@ int main(int argc, char **argv) {
   pthread_join(other, NULL);
   size_t lists = 0;
   for (size_t i = 0; i < read.samples; i++) lists += look_at_sample(read.rows[read.answers + i].cells);
-  LOOK(lists == LISTS, "%zu", lists);
+  LOOK(read.samples == 0 || lists == LISTS, "%zu", lists);
   size_t calls = argc > 2 ? strtoull(argv[2], NULL, 10) : 0;
   for (size_t i = 0; i < calls; i++) look_at_random();
   size_t bodies = 0;

@@ -74,9 +74,8 @@ impl<'a> Iterator for OperatorsIteratorWithOffsets<'a> {
         self.next += 1;
         let OperatorsReader { bytes, reader, .. } = &self.reader;
         let at = (plain.offset - reader.offset) as usize;
-        let operator = operator_of(plain, &bytes[at..], reader.features);
         Some(Ok((
-            operator.expect("the library has the operators of this crate"),
+            operator_of(plain, &bytes[at..], reader.features),
             plain.offset,
         )))
     }

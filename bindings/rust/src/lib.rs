@@ -128,6 +128,22 @@ impl fmt::Display for Error {
 
 impl std::error::Error for Error {}
 
+/// Reads all operators of a body as plain data, in place of those that the list has, whose memory is used again. Where
+/// the bytes are no body, these are the longest beginning of one.
+pub fn read_plain(
+    bytes: &[u8],
+    offset: u64,
+    features: WasmFeatures,
+    out: &mut Vec<PlainOperator>,
+) -> Result<()> {
+    let refusal = native::read_body(bytes, offset, features.bits(), out);
+    if refusal.number == 0 {
+        Ok(())
+    } else {
+        Err(Error::from(refusal))
+    }
+}
+
 /// A function body that was read.
 #[derive(Clone, Debug)]
 pub struct Body<'a> {
@@ -143,7 +159,8 @@ impl<'a> Body<'a> {
     ///
     /// What is refused, or where the offset of the end does not fit in 64 bits, [`error`](Body::error) says.
     pub fn read(bytes: &'a [u8], offset: u64, features: WasmFeatures) -> Body<'a> {
-        let (operators, refusal) = native::read_body(bytes, offset, features.bits());
+        let mut operators = Vec::new();
+        let refusal = native::read_body(bytes, offset, features.bits(), &mut operators);
         let end = (refusal.number != 0).then(|| Error::from(refusal));
         Body {
             bytes,
@@ -179,10 +196,7 @@ impl<'a> Body<'a> {
         let found = self.operators.iter().map(|plain| {
             let at = (plain.offset - self.offset) as usize;
             let operator = operator_of(plain, &self.bytes[at..], self.features.bits());
-            Ok((
-                operator.expect("the library has the operators of this crate"),
-                plain.offset,
-            ))
+            Ok((operator, plain.offset))
         });
         found.chain(self.end.iter().cloned().map(Err))
     }
@@ -312,8 +326,7 @@ impl<'a> OperatorsReader<'a> {
     pub fn read(&mut self) -> Result<Operator<'a>> {
         let at = self.reader.position as usize;
         let plain = native::next(self.bytes, &mut self.frames, &mut self.reader)?;
-        Ok(operator_of(&plain, &self.bytes[at..], self.reader.features)
-            .expect("the library has the operators of this crate"))
+        Ok(operator_of(&plain, &self.bytes[at..], self.reader.features))
     }
 
     /// The next operator and its offset.

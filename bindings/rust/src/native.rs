@@ -187,11 +187,17 @@ fn look_at_version() {
     );
 }
 
-/// All operators of a body, and how reading them ended.
-pub fn read_body(bytes: &[u8], offset: u64, features: u32) -> (Vec<PlainOperator>, Refusal) {
+/// All operators of a body, in place of those that the list has, and how reading them ended.
+pub fn read_body(
+    bytes: &[u8],
+    offset: u64,
+    features: u32,
+    out: &mut Vec<PlainOperator>,
+) -> Refusal {
     look_at_version();
     // An operator takes a byte or more, so there is room for all.
-    let mut out: Vec<PlainOperator> = Vec::with_capacity(bytes.len());
+    out.clear();
+    out.reserve(bytes.len());
     let mut count = 0;
     let mut refusal = Refusal::default();
     // SAFETY: the library is proved to read within `bytes`, to write within `out`, `count` and `refusal`, and to keep
@@ -211,7 +217,7 @@ pub fn read_body(bytes: &[u8], offset: u64, features: u32) -> (Vec<PlainOperator
         );
         out.set_len(count.min(out.capacity()));
     }
-    (out, refusal)
+    refusal
 }
 
 /// A reader of an expression, or of that of a body behind its locals, with its frames; or the refusal.
@@ -412,7 +418,7 @@ impl PlainOperator {
         match self.kind {
             0x40 => BlockType::Empty,
             0 => BlockType::FuncType(self.first),
-            kind => BlockType::Value(val_type(kind, self.first)),
+            kind => BlockType::Type(val_type(kind, self.first)),
         }
     }
 

@@ -640,9 +640,10 @@ pub enum Operator<'a> {
 }
 
 /// The operator of this plain data, whose first byte is the first of these.
+#[inline]
 #[rustfmt::skip]
-pub(crate) fn operator_of<'a>(op: &PlainOperator, bytes: &'a [u8], features: u32) -> Option<Operator<'a>> {
-    Some(match op.opcode {
+pub(crate) fn operator_of<'a>(op: &PlainOperator, bytes: &'a [u8], features: u32) -> Operator<'a> {
+    match op.opcode {
         0x0 => Operator::Unreachable,
         0x1 => Operator::Nop,
         0x2 => Operator::Block { blockty: op.block_type() },
@@ -1271,8 +1272,8 @@ pub(crate) fn operator_of<'a>(op: &PlainOperator, bytes: &'a [u8], features: u32
         0xfc0015 => Operator::I64MulWideS,
         0xfc0016 => Operator::I64MulWideU,
         0xfe0004 => Operator::Pause,
-        _ => return None,
-    })
+        opcode => panic!("the library has an operator that this crate has not: {opcode:#x}"),
+    }
 }
 
 impl Operator<'_> {

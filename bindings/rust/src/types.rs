@@ -73,7 +73,7 @@ pub enum BlockType {
     /// No parameters and no results.
     Empty,
     /// No parameters, and one result of this type.
-    Value(ValType),
+    Type(ValType),
     /// Those of the function type of this index.
     FuncType(u32),
 }
