@@ -15,7 +15,10 @@ extern "C" {
 #endif
 
 /* The version of the structs and calls. wasm_operators_version() answers that of the library. */
-#define WASM_OPERATORS_VERSION 2u
+#define WASM_OPERATORS_VERSION 3u
+
+/* The length of the longest name that wasm_operator_name writes, in bytes. */
+#define WASM_LONGEST_NAME 29
 
 /* The features, of which any may be joined. */
 enum wasm_feature {
@@ -87,6 +90,20 @@ enum wasm_kind {
   WASM_KIND_REFERENCE = 1024
 };
 
+/* What a catch catches: a tag or all, and whether it gives the exception too. */
+enum wasm_catch {
+  WASM_CATCH_ONE = 0,
+  WASM_CATCH_ONE_REF = 1,
+  WASM_CATCH_ALL = 2,
+  WASM_CATCH_ALL_REF = 3
+};
+
+/* What a clause of a resume does. */
+enum wasm_clause {
+  WASM_CLAUSE_ON_LABEL = 0,
+  WASM_CLAUSE_ON_SWITCH = 1
+};
+
 /* The refusals. docs/REFUSALS.md tells their texts and offsets. */
 enum wasm_refused {
   WASM_REFUSED_END_OF_DATA = 1,
@@ -117,7 +134,8 @@ enum wasm_refused {
   WASM_REFUSED_UNKNOWN_FEATURES = 100,
   WASM_REFUSED_PAST_OFFSETS = 101,
   WASM_REFUSED_NO_ROOM = 102,
-  WASM_REFUSED_NOT_A_READER = 103
+  WASM_REFUSED_NOT_A_READER = 103,
+  WASM_REFUSED_NO_LIST = 104
 };
 
 /* The operators: the opcode; behind a prefix byte the subopcode, and 65536 times that byte. A select with
@@ -838,6 +856,24 @@ typedef struct wasm_refusal {
   uint32_t reserved;
 } wasm_refusal;
 
+/* A value type: 8 bytes without gaps. */
+typedef struct wasm_type {
+  /* `enum wasm_kind`. */
+  uint32_t kind;
+  /* The index in a reference type, else 0. */
+  uint32_t index;
+} wasm_type;
+
+/* A catch of a try_table, or a clause of a resume: 12 bytes without gaps. */
+typedef struct wasm_handler {
+  /* `enum wasm_catch`, `enum wasm_clause`. */
+  uint32_t kind;
+  /* The index of its tag, else 0. */
+  uint32_t tag;
+  /* Its label, else 0. */
+  uint32_t label;
+} wasm_handler;
+
 /* The version of the structs and calls of the library. */
 uint32_t wasm_operators_version(void);
 
@@ -857,6 +893,10 @@ uint32_t wasm_read_body(const uint8_t *bytes, size_t bytes_length, uint64_t offs
 /* The text of a refusal in ASCII, as much of it as there is room for, without a byte 0 behind it. Answers
  * its whole length in bytes; 0 where the numbers are those of no refusal. */
 size_t wasm_refusal_text(const wasm_refusal *refusal, uint8_t *text, size_t text_length);
+
+/* The name of an operator in ASCII, as much of it as there is room for, without a byte 0 behind it. Answers
+ * its whole length in bytes; 0 where its number is that of none. */
+size_t wasm_operator_name(const wasm_operator *op, uint8_t *name, size_t name_length);
 
 /* How many frames may be open at once along so many bytes: an array of this many has always room. */
 size_t wasm_frames_needed(size_t bytes_length);
@@ -892,639 +932,31 @@ uint32_t wasm_read(const uint8_t *bytes, size_t bytes_length, uint8_t *frames, s
 uint32_t wasm_finish(const uint8_t *bytes, size_t bytes_length, const uint8_t *frames, size_t frames_length,
                      const wasm_reader *reader, wasm_refusal *refusal);
 
-/* The name of an operator; null where the number is that of none. */
-static inline const char *wasm_operator_name(const wasm_operator *op) {
-  switch (op->opcode) {
-    case 0x0: return "Unreachable";
-    case 0x1: return "Nop";
-    case 0x2: return "Block";
-    case 0x3: return "Loop";
-    case 0x4: return "If";
-    case 0x5: return "Else";
-    case 0xb: return "End";
-    case 0xc: return "Br";
-    case 0xd: return "BrIf";
-    case 0xe: return "BrTable";
-    case 0xf: return "Return";
-    case 0x10: return "Call";
-    case 0x11: return "CallIndirect";
-    case 0x1a: return "Drop";
-    case 0x1b: return "Select";
-    case 0x20: return "LocalGet";
-    case 0x21: return "LocalSet";
-    case 0x22: return "LocalTee";
-    case 0x23: return "GlobalGet";
-    case 0x24: return "GlobalSet";
-    case 0x28: return "I32Load";
-    case 0x29: return "I64Load";
-    case 0x2a: return "F32Load";
-    case 0x2b: return "F64Load";
-    case 0x2c: return "I32Load8S";
-    case 0x2d: return "I32Load8U";
-    case 0x2e: return "I32Load16S";
-    case 0x2f: return "I32Load16U";
-    case 0x30: return "I64Load8S";
-    case 0x31: return "I64Load8U";
-    case 0x32: return "I64Load16S";
-    case 0x33: return "I64Load16U";
-    case 0x34: return "I64Load32S";
-    case 0x35: return "I64Load32U";
-    case 0x36: return "I32Store";
-    case 0x37: return "I64Store";
-    case 0x38: return "F32Store";
-    case 0x39: return "F64Store";
-    case 0x3a: return "I32Store8";
-    case 0x3b: return "I32Store16";
-    case 0x3c: return "I64Store8";
-    case 0x3d: return "I64Store16";
-    case 0x3e: return "I64Store32";
-    case 0x3f: return "MemorySize";
-    case 0x40: return "MemoryGrow";
-    case 0x41: return "I32Const";
-    case 0x42: return "I64Const";
-    case 0x43: return "F32Const";
-    case 0x44: return "F64Const";
-    case 0x45: return "I32Eqz";
-    case 0x46: return "I32Eq";
-    case 0x47: return "I32Ne";
-    case 0x48: return "I32LtS";
-    case 0x49: return "I32LtU";
-    case 0x4a: return "I32GtS";
-    case 0x4b: return "I32GtU";
-    case 0x4c: return "I32LeS";
-    case 0x4d: return "I32LeU";
-    case 0x4e: return "I32GeS";
-    case 0x4f: return "I32GeU";
-    case 0x50: return "I64Eqz";
-    case 0x51: return "I64Eq";
-    case 0x52: return "I64Ne";
-    case 0x53: return "I64LtS";
-    case 0x54: return "I64LtU";
-    case 0x55: return "I64GtS";
-    case 0x56: return "I64GtU";
-    case 0x57: return "I64LeS";
-    case 0x58: return "I64LeU";
-    case 0x59: return "I64GeS";
-    case 0x5a: return "I64GeU";
-    case 0x5b: return "F32Eq";
-    case 0x5c: return "F32Ne";
-    case 0x5d: return "F32Lt";
-    case 0x5e: return "F32Gt";
-    case 0x5f: return "F32Le";
-    case 0x60: return "F32Ge";
-    case 0x61: return "F64Eq";
-    case 0x62: return "F64Ne";
-    case 0x63: return "F64Lt";
-    case 0x64: return "F64Gt";
-    case 0x65: return "F64Le";
-    case 0x66: return "F64Ge";
-    case 0x67: return "I32Clz";
-    case 0x68: return "I32Ctz";
-    case 0x69: return "I32Popcnt";
-    case 0x6a: return "I32Add";
-    case 0x6b: return "I32Sub";
-    case 0x6c: return "I32Mul";
-    case 0x6d: return "I32DivS";
-    case 0x6e: return "I32DivU";
-    case 0x6f: return "I32RemS";
-    case 0x70: return "I32RemU";
-    case 0x71: return "I32And";
-    case 0x72: return "I32Or";
-    case 0x73: return "I32Xor";
-    case 0x74: return "I32Shl";
-    case 0x75: return "I32ShrS";
-    case 0x76: return "I32ShrU";
-    case 0x77: return "I32Rotl";
-    case 0x78: return "I32Rotr";
-    case 0x79: return "I64Clz";
-    case 0x7a: return "I64Ctz";
-    case 0x7b: return "I64Popcnt";
-    case 0x7c: return "I64Add";
-    case 0x7d: return "I64Sub";
-    case 0x7e: return "I64Mul";
-    case 0x7f: return "I64DivS";
-    case 0x80: return "I64DivU";
-    case 0x81: return "I64RemS";
-    case 0x82: return "I64RemU";
-    case 0x83: return "I64And";
-    case 0x84: return "I64Or";
-    case 0x85: return "I64Xor";
-    case 0x86: return "I64Shl";
-    case 0x87: return "I64ShrS";
-    case 0x88: return "I64ShrU";
-    case 0x89: return "I64Rotl";
-    case 0x8a: return "I64Rotr";
-    case 0x8b: return "F32Abs";
-    case 0x8c: return "F32Neg";
-    case 0x8d: return "F32Ceil";
-    case 0x8e: return "F32Floor";
-    case 0x8f: return "F32Trunc";
-    case 0x90: return "F32Nearest";
-    case 0x91: return "F32Sqrt";
-    case 0x92: return "F32Add";
-    case 0x93: return "F32Sub";
-    case 0x94: return "F32Mul";
-    case 0x95: return "F32Div";
-    case 0x96: return "F32Min";
-    case 0x97: return "F32Max";
-    case 0x98: return "F32Copysign";
-    case 0x99: return "F64Abs";
-    case 0x9a: return "F64Neg";
-    case 0x9b: return "F64Ceil";
-    case 0x9c: return "F64Floor";
-    case 0x9d: return "F64Trunc";
-    case 0x9e: return "F64Nearest";
-    case 0x9f: return "F64Sqrt";
-    case 0xa0: return "F64Add";
-    case 0xa1: return "F64Sub";
-    case 0xa2: return "F64Mul";
-    case 0xa3: return "F64Div";
-    case 0xa4: return "F64Min";
-    case 0xa5: return "F64Max";
-    case 0xa6: return "F64Copysign";
-    case 0xa7: return "I32WrapI64";
-    case 0xa8: return "I32TruncF32S";
-    case 0xa9: return "I32TruncF32U";
-    case 0xaa: return "I32TruncF64S";
-    case 0xab: return "I32TruncF64U";
-    case 0xac: return "I64ExtendI32S";
-    case 0xad: return "I64ExtendI32U";
-    case 0xae: return "I64TruncF32S";
-    case 0xaf: return "I64TruncF32U";
-    case 0xb0: return "I64TruncF64S";
-    case 0xb1: return "I64TruncF64U";
-    case 0xb2: return "F32ConvertI32S";
-    case 0xb3: return "F32ConvertI32U";
-    case 0xb4: return "F32ConvertI64S";
-    case 0xb5: return "F32ConvertI64U";
-    case 0xb6: return "F32DemoteF64";
-    case 0xb7: return "F64ConvertI32S";
-    case 0xb8: return "F64ConvertI32U";
-    case 0xb9: return "F64ConvertI64S";
-    case 0xba: return "F64ConvertI64U";
-    case 0xbb: return "F64PromoteF32";
-    case 0xbc: return "I32ReinterpretF32";
-    case 0xbd: return "I64ReinterpretF64";
-    case 0xbe: return "F32ReinterpretI32";
-    case 0xbf: return "F64ReinterpretI64";
-    case 0xc0: return "I32Extend8S";
-    case 0xc1: return "I32Extend16S";
-    case 0xc2: return "I64Extend8S";
-    case 0xc3: return "I64Extend16S";
-    case 0xc4: return "I64Extend32S";
-    case 0xd3: return "RefEq";
-    case 0xfb0000: return "StructNew";
-    case 0xfb0001: return "StructNewDefault";
-    case 0xfb0002: return "StructGet";
-    case 0xfb0003: return "StructGetS";
-    case 0xfb0004: return "StructGetU";
-    case 0xfb0005: return "StructSet";
-    case 0xfb0006: return "ArrayNew";
-    case 0xfb0007: return "ArrayNewDefault";
-    case 0xfb0008: return "ArrayNewFixed";
-    case 0xfb0009: return "ArrayNewData";
-    case 0xfb000a: return "ArrayNewElem";
-    case 0xfb000b: return "ArrayGet";
-    case 0xfb000c: return "ArrayGetS";
-    case 0xfb000d: return "ArrayGetU";
-    case 0xfb000e: return "ArraySet";
-    case 0xfb000f: return "ArrayLen";
-    case 0xfb0010: return "ArrayFill";
-    case 0xfb0011: return "ArrayCopy";
-    case 0xfb0012: return "ArrayInitData";
-    case 0xfb0013: return "ArrayInitElem";
-    case 0xfb0014: return "RefTestNonNull";
-    case 0xfb0015: return "RefTestNullable";
-    case 0xfb0016: return "RefCastNonNull";
-    case 0xfb0017: return "RefCastNullable";
-    case 0xfb0018: return "BrOnCast";
-    case 0xfb0019: return "BrOnCastFail";
-    case 0xfb001a: return "AnyConvertExtern";
-    case 0xfb001b: return "ExternConvertAny";
-    case 0xfb001c: return "RefI31";
-    case 0xfb001d: return "I31GetS";
-    case 0xfb001e: return "I31GetU";
-    case 0xfb0020: return "StructNewDesc";
-    case 0xfb0021: return "StructNewDefaultDesc";
-    case 0xfb0022: return "RefGetDesc";
-    case 0xfb0023: return "RefCastDescEqNonNull";
-    case 0xfb0024: return "RefCastDescEqNullable";
-    case 0xfb0025: return "BrOnCastDescEq";
-    case 0xfb0026: return "BrOnCastDescEqFail";
-    case 0xfc0000: return "I32TruncSatF32S";
-    case 0xfc0001: return "I32TruncSatF32U";
-    case 0xfc0002: return "I32TruncSatF64S";
-    case 0xfc0003: return "I32TruncSatF64U";
-    case 0xfc0004: return "I64TruncSatF32S";
-    case 0xfc0005: return "I64TruncSatF32U";
-    case 0xfc0006: return "I64TruncSatF64S";
-    case 0xfc0007: return "I64TruncSatF64U";
-    case 0xfc0008: return "MemoryInit";
-    case 0xfc0009: return "DataDrop";
-    case 0xfc000a: return "MemoryCopy";
-    case 0xfc000b: return "MemoryFill";
-    case 0xfc000c: return "TableInit";
-    case 0xfc000d: return "ElemDrop";
-    case 0xfc000e: return "TableCopy";
-    case 0x1c: return op->shape == WASM_SHAPE_SELECT_ONE ? "TypedSelect" : "TypedSelectMulti";
-    case 0xd0: return "RefNull";
-    case 0xd1: return "RefIsNull";
-    case 0xd2: return "RefFunc";
-    case 0xfc0011: return "TableFill";
-    case 0x25: return "TableGet";
-    case 0x26: return "TableSet";
-    case 0xfc000f: return "TableGrow";
-    case 0xfc0010: return "TableSize";
-    case 0x12: return "ReturnCall";
-    case 0x13: return "ReturnCallIndirect";
-    case 0xfc0012: return "MemoryDiscard";
-    case 0xfe0000: return "MemoryAtomicNotify";
-    case 0xfe0001: return "MemoryAtomicWait32";
-    case 0xfe0002: return "MemoryAtomicWait64";
-    case 0xfe0003: return "AtomicFence";
-    case 0xfe0010: return "I32AtomicLoad";
-    case 0xfe0011: return "I64AtomicLoad";
-    case 0xfe0012: return "I32AtomicLoad8U";
-    case 0xfe0013: return "I32AtomicLoad16U";
-    case 0xfe0014: return "I64AtomicLoad8U";
-    case 0xfe0015: return "I64AtomicLoad16U";
-    case 0xfe0016: return "I64AtomicLoad32U";
-    case 0xfe0017: return "I32AtomicStore";
-    case 0xfe0018: return "I64AtomicStore";
-    case 0xfe0019: return "I32AtomicStore8";
-    case 0xfe001a: return "I32AtomicStore16";
-    case 0xfe001b: return "I64AtomicStore8";
-    case 0xfe001c: return "I64AtomicStore16";
-    case 0xfe001d: return "I64AtomicStore32";
-    case 0xfe001e: return "I32AtomicRmwAdd";
-    case 0xfe001f: return "I64AtomicRmwAdd";
-    case 0xfe0020: return "I32AtomicRmw8AddU";
-    case 0xfe0021: return "I32AtomicRmw16AddU";
-    case 0xfe0022: return "I64AtomicRmw8AddU";
-    case 0xfe0023: return "I64AtomicRmw16AddU";
-    case 0xfe0024: return "I64AtomicRmw32AddU";
-    case 0xfe0025: return "I32AtomicRmwSub";
-    case 0xfe0026: return "I64AtomicRmwSub";
-    case 0xfe0027: return "I32AtomicRmw8SubU";
-    case 0xfe0028: return "I32AtomicRmw16SubU";
-    case 0xfe0029: return "I64AtomicRmw8SubU";
-    case 0xfe002a: return "I64AtomicRmw16SubU";
-    case 0xfe002b: return "I64AtomicRmw32SubU";
-    case 0xfe002c: return "I32AtomicRmwAnd";
-    case 0xfe002d: return "I64AtomicRmwAnd";
-    case 0xfe002e: return "I32AtomicRmw8AndU";
-    case 0xfe002f: return "I32AtomicRmw16AndU";
-    case 0xfe0030: return "I64AtomicRmw8AndU";
-    case 0xfe0031: return "I64AtomicRmw16AndU";
-    case 0xfe0032: return "I64AtomicRmw32AndU";
-    case 0xfe0033: return "I32AtomicRmwOr";
-    case 0xfe0034: return "I64AtomicRmwOr";
-    case 0xfe0035: return "I32AtomicRmw8OrU";
-    case 0xfe0036: return "I32AtomicRmw16OrU";
-    case 0xfe0037: return "I64AtomicRmw8OrU";
-    case 0xfe0038: return "I64AtomicRmw16OrU";
-    case 0xfe0039: return "I64AtomicRmw32OrU";
-    case 0xfe003a: return "I32AtomicRmwXor";
-    case 0xfe003b: return "I64AtomicRmwXor";
-    case 0xfe003c: return "I32AtomicRmw8XorU";
-    case 0xfe003d: return "I32AtomicRmw16XorU";
-    case 0xfe003e: return "I64AtomicRmw8XorU";
-    case 0xfe003f: return "I64AtomicRmw16XorU";
-    case 0xfe0040: return "I64AtomicRmw32XorU";
-    case 0xfe0041: return "I32AtomicRmwXchg";
-    case 0xfe0042: return "I64AtomicRmwXchg";
-    case 0xfe0043: return "I32AtomicRmw8XchgU";
-    case 0xfe0044: return "I32AtomicRmw16XchgU";
-    case 0xfe0045: return "I64AtomicRmw8XchgU";
-    case 0xfe0046: return "I64AtomicRmw16XchgU";
-    case 0xfe0047: return "I64AtomicRmw32XchgU";
-    case 0xfe0048: return "I32AtomicRmwCmpxchg";
-    case 0xfe0049: return "I64AtomicRmwCmpxchg";
-    case 0xfe004a: return "I32AtomicRmw8CmpxchgU";
-    case 0xfe004b: return "I32AtomicRmw16CmpxchgU";
-    case 0xfe004c: return "I64AtomicRmw8CmpxchgU";
-    case 0xfe004d: return "I64AtomicRmw16CmpxchgU";
-    case 0xfe004e: return "I64AtomicRmw32CmpxchgU";
-    case 0xfd0000: return "V128Load";
-    case 0xfd0001: return "V128Load8x8S";
-    case 0xfd0002: return "V128Load8x8U";
-    case 0xfd0003: return "V128Load16x4S";
-    case 0xfd0004: return "V128Load16x4U";
-    case 0xfd0005: return "V128Load32x2S";
-    case 0xfd0006: return "V128Load32x2U";
-    case 0xfd0007: return "V128Load8Splat";
-    case 0xfd0008: return "V128Load16Splat";
-    case 0xfd0009: return "V128Load32Splat";
-    case 0xfd000a: return "V128Load64Splat";
-    case 0xfd005c: return "V128Load32Zero";
-    case 0xfd005d: return "V128Load64Zero";
-    case 0xfd000b: return "V128Store";
-    case 0xfd0054: return "V128Load8Lane";
-    case 0xfd0055: return "V128Load16Lane";
-    case 0xfd0056: return "V128Load32Lane";
-    case 0xfd0057: return "V128Load64Lane";
-    case 0xfd0058: return "V128Store8Lane";
-    case 0xfd0059: return "V128Store16Lane";
-    case 0xfd005a: return "V128Store32Lane";
-    case 0xfd005b: return "V128Store64Lane";
-    case 0xfd000c: return "V128Const";
-    case 0xfd000d: return "I8x16Shuffle";
-    case 0xfd0015: return "I8x16ExtractLaneS";
-    case 0xfd0016: return "I8x16ExtractLaneU";
-    case 0xfd0017: return "I8x16ReplaceLane";
-    case 0xfd0018: return "I16x8ExtractLaneS";
-    case 0xfd0019: return "I16x8ExtractLaneU";
-    case 0xfd001a: return "I16x8ReplaceLane";
-    case 0xfd001b: return "I32x4ExtractLane";
-    case 0xfd001c: return "I32x4ReplaceLane";
-    case 0xfd001d: return "I64x2ExtractLane";
-    case 0xfd001e: return "I64x2ReplaceLane";
-    case 0xfd001f: return "F32x4ExtractLane";
-    case 0xfd0020: return "F32x4ReplaceLane";
-    case 0xfd0021: return "F64x2ExtractLane";
-    case 0xfd0022: return "F64x2ReplaceLane";
-    case 0xfd000e: return "I8x16Swizzle";
-    case 0xfd000f: return "I8x16Splat";
-    case 0xfd0010: return "I16x8Splat";
-    case 0xfd0011: return "I32x4Splat";
-    case 0xfd0012: return "I64x2Splat";
-    case 0xfd0013: return "F32x4Splat";
-    case 0xfd0014: return "F64x2Splat";
-    case 0xfd0023: return "I8x16Eq";
-    case 0xfd0024: return "I8x16Ne";
-    case 0xfd0025: return "I8x16LtS";
-    case 0xfd0026: return "I8x16LtU";
-    case 0xfd0027: return "I8x16GtS";
-    case 0xfd0028: return "I8x16GtU";
-    case 0xfd0029: return "I8x16LeS";
-    case 0xfd002a: return "I8x16LeU";
-    case 0xfd002b: return "I8x16GeS";
-    case 0xfd002c: return "I8x16GeU";
-    case 0xfd002d: return "I16x8Eq";
-    case 0xfd002e: return "I16x8Ne";
-    case 0xfd002f: return "I16x8LtS";
-    case 0xfd0030: return "I16x8LtU";
-    case 0xfd0031: return "I16x8GtS";
-    case 0xfd0032: return "I16x8GtU";
-    case 0xfd0033: return "I16x8LeS";
-    case 0xfd0034: return "I16x8LeU";
-    case 0xfd0035: return "I16x8GeS";
-    case 0xfd0036: return "I16x8GeU";
-    case 0xfd0037: return "I32x4Eq";
-    case 0xfd0038: return "I32x4Ne";
-    case 0xfd0039: return "I32x4LtS";
-    case 0xfd003a: return "I32x4LtU";
-    case 0xfd003b: return "I32x4GtS";
-    case 0xfd003c: return "I32x4GtU";
-    case 0xfd003d: return "I32x4LeS";
-    case 0xfd003e: return "I32x4LeU";
-    case 0xfd003f: return "I32x4GeS";
-    case 0xfd0040: return "I32x4GeU";
-    case 0xfd00d6: return "I64x2Eq";
-    case 0xfd00d7: return "I64x2Ne";
-    case 0xfd00d8: return "I64x2LtS";
-    case 0xfd00d9: return "I64x2GtS";
-    case 0xfd00da: return "I64x2LeS";
-    case 0xfd00db: return "I64x2GeS";
-    case 0xfd0041: return "F32x4Eq";
-    case 0xfd0042: return "F32x4Ne";
-    case 0xfd0043: return "F32x4Lt";
-    case 0xfd0044: return "F32x4Gt";
-    case 0xfd0045: return "F32x4Le";
-    case 0xfd0046: return "F32x4Ge";
-    case 0xfd0047: return "F64x2Eq";
-    case 0xfd0048: return "F64x2Ne";
-    case 0xfd0049: return "F64x2Lt";
-    case 0xfd004a: return "F64x2Gt";
-    case 0xfd004b: return "F64x2Le";
-    case 0xfd004c: return "F64x2Ge";
-    case 0xfd004d: return "V128Not";
-    case 0xfd004e: return "V128And";
-    case 0xfd004f: return "V128AndNot";
-    case 0xfd0050: return "V128Or";
-    case 0xfd0051: return "V128Xor";
-    case 0xfd0052: return "V128Bitselect";
-    case 0xfd0053: return "V128AnyTrue";
-    case 0xfd0060: return "I8x16Abs";
-    case 0xfd0061: return "I8x16Neg";
-    case 0xfd0062: return "I8x16Popcnt";
-    case 0xfd0063: return "I8x16AllTrue";
-    case 0xfd0064: return "I8x16Bitmask";
-    case 0xfd0065: return "I8x16NarrowI16x8S";
-    case 0xfd0066: return "I8x16NarrowI16x8U";
-    case 0xfd006b: return "I8x16Shl";
-    case 0xfd006c: return "I8x16ShrS";
-    case 0xfd006d: return "I8x16ShrU";
-    case 0xfd006e: return "I8x16Add";
-    case 0xfd006f: return "I8x16AddSatS";
-    case 0xfd0070: return "I8x16AddSatU";
-    case 0xfd0071: return "I8x16Sub";
-    case 0xfd0072: return "I8x16SubSatS";
-    case 0xfd0073: return "I8x16SubSatU";
-    case 0xfd0076: return "I8x16MinS";
-    case 0xfd0077: return "I8x16MinU";
-    case 0xfd0078: return "I8x16MaxS";
-    case 0xfd0079: return "I8x16MaxU";
-    case 0xfd007b: return "I8x16AvgrU";
-    case 0xfd007c: return "I16x8ExtAddPairwiseI8x16S";
-    case 0xfd007d: return "I16x8ExtAddPairwiseI8x16U";
-    case 0xfd0080: return "I16x8Abs";
-    case 0xfd0081: return "I16x8Neg";
-    case 0xfd0082: return "I16x8Q15MulrSatS";
-    case 0xfd0083: return "I16x8AllTrue";
-    case 0xfd0084: return "I16x8Bitmask";
-    case 0xfd0085: return "I16x8NarrowI32x4S";
-    case 0xfd0086: return "I16x8NarrowI32x4U";
-    case 0xfd0087: return "I16x8ExtendLowI8x16S";
-    case 0xfd0088: return "I16x8ExtendHighI8x16S";
-    case 0xfd0089: return "I16x8ExtendLowI8x16U";
-    case 0xfd008a: return "I16x8ExtendHighI8x16U";
-    case 0xfd008b: return "I16x8Shl";
-    case 0xfd008c: return "I16x8ShrS";
-    case 0xfd008d: return "I16x8ShrU";
-    case 0xfd008e: return "I16x8Add";
-    case 0xfd008f: return "I16x8AddSatS";
-    case 0xfd0090: return "I16x8AddSatU";
-    case 0xfd0091: return "I16x8Sub";
-    case 0xfd0092: return "I16x8SubSatS";
-    case 0xfd0093: return "I16x8SubSatU";
-    case 0xfd0095: return "I16x8Mul";
-    case 0xfd0096: return "I16x8MinS";
-    case 0xfd0097: return "I16x8MinU";
-    case 0xfd0098: return "I16x8MaxS";
-    case 0xfd0099: return "I16x8MaxU";
-    case 0xfd009b: return "I16x8AvgrU";
-    case 0xfd009c: return "I16x8ExtMulLowI8x16S";
-    case 0xfd009d: return "I16x8ExtMulHighI8x16S";
-    case 0xfd009e: return "I16x8ExtMulLowI8x16U";
-    case 0xfd009f: return "I16x8ExtMulHighI8x16U";
-    case 0xfd007e: return "I32x4ExtAddPairwiseI16x8S";
-    case 0xfd007f: return "I32x4ExtAddPairwiseI16x8U";
-    case 0xfd00a0: return "I32x4Abs";
-    case 0xfd00a1: return "I32x4Neg";
-    case 0xfd00a3: return "I32x4AllTrue";
-    case 0xfd00a4: return "I32x4Bitmask";
-    case 0xfd00a7: return "I32x4ExtendLowI16x8S";
-    case 0xfd00a8: return "I32x4ExtendHighI16x8S";
-    case 0xfd00a9: return "I32x4ExtendLowI16x8U";
-    case 0xfd00aa: return "I32x4ExtendHighI16x8U";
-    case 0xfd00ab: return "I32x4Shl";
-    case 0xfd00ac: return "I32x4ShrS";
-    case 0xfd00ad: return "I32x4ShrU";
-    case 0xfd00ae: return "I32x4Add";
-    case 0xfd00b1: return "I32x4Sub";
-    case 0xfd00b5: return "I32x4Mul";
-    case 0xfd00b6: return "I32x4MinS";
-    case 0xfd00b7: return "I32x4MinU";
-    case 0xfd00b8: return "I32x4MaxS";
-    case 0xfd00b9: return "I32x4MaxU";
-    case 0xfd00ba: return "I32x4DotI16x8S";
-    case 0xfd00bc: return "I32x4ExtMulLowI16x8S";
-    case 0xfd00bd: return "I32x4ExtMulHighI16x8S";
-    case 0xfd00be: return "I32x4ExtMulLowI16x8U";
-    case 0xfd00bf: return "I32x4ExtMulHighI16x8U";
-    case 0xfd00c0: return "I64x2Abs";
-    case 0xfd00c1: return "I64x2Neg";
-    case 0xfd00c3: return "I64x2AllTrue";
-    case 0xfd00c4: return "I64x2Bitmask";
-    case 0xfd00c7: return "I64x2ExtendLowI32x4S";
-    case 0xfd00c8: return "I64x2ExtendHighI32x4S";
-    case 0xfd00c9: return "I64x2ExtendLowI32x4U";
-    case 0xfd00ca: return "I64x2ExtendHighI32x4U";
-    case 0xfd00cb: return "I64x2Shl";
-    case 0xfd00cc: return "I64x2ShrS";
-    case 0xfd00cd: return "I64x2ShrU";
-    case 0xfd00ce: return "I64x2Add";
-    case 0xfd00d1: return "I64x2Sub";
-    case 0xfd00d5: return "I64x2Mul";
-    case 0xfd00dc: return "I64x2ExtMulLowI32x4S";
-    case 0xfd00dd: return "I64x2ExtMulHighI32x4S";
-    case 0xfd00de: return "I64x2ExtMulLowI32x4U";
-    case 0xfd00df: return "I64x2ExtMulHighI32x4U";
-    case 0xfd0067: return "F32x4Ceil";
-    case 0xfd0068: return "F32x4Floor";
-    case 0xfd0069: return "F32x4Trunc";
-    case 0xfd006a: return "F32x4Nearest";
-    case 0xfd00e0: return "F32x4Abs";
-    case 0xfd00e1: return "F32x4Neg";
-    case 0xfd00e3: return "F32x4Sqrt";
-    case 0xfd00e4: return "F32x4Add";
-    case 0xfd00e5: return "F32x4Sub";
-    case 0xfd00e6: return "F32x4Mul";
-    case 0xfd00e7: return "F32x4Div";
-    case 0xfd00e8: return "F32x4Min";
-    case 0xfd00e9: return "F32x4Max";
-    case 0xfd00ea: return "F32x4PMin";
-    case 0xfd00eb: return "F32x4PMax";
-    case 0xfd0074: return "F64x2Ceil";
-    case 0xfd0075: return "F64x2Floor";
-    case 0xfd007a: return "F64x2Trunc";
-    case 0xfd0094: return "F64x2Nearest";
-    case 0xfd00ec: return "F64x2Abs";
-    case 0xfd00ed: return "F64x2Neg";
-    case 0xfd00ef: return "F64x2Sqrt";
-    case 0xfd00f0: return "F64x2Add";
-    case 0xfd00f1: return "F64x2Sub";
-    case 0xfd00f2: return "F64x2Mul";
-    case 0xfd00f3: return "F64x2Div";
-    case 0xfd00f4: return "F64x2Min";
-    case 0xfd00f5: return "F64x2Max";
-    case 0xfd00f6: return "F64x2PMin";
-    case 0xfd00f7: return "F64x2PMax";
-    case 0xfd00f8: return "I32x4TruncSatF32x4S";
-    case 0xfd00f9: return "I32x4TruncSatF32x4U";
-    case 0xfd00fa: return "F32x4ConvertI32x4S";
-    case 0xfd00fb: return "F32x4ConvertI32x4U";
-    case 0xfd00fc: return "I32x4TruncSatF64x2SZero";
-    case 0xfd00fd: return "I32x4TruncSatF64x2UZero";
-    case 0xfd00fe: return "F64x2ConvertLowI32x4S";
-    case 0xfd00ff: return "F64x2ConvertLowI32x4U";
-    case 0xfd005e: return "F32x4DemoteF64x2Zero";
-    case 0xfd005f: return "F64x2PromoteLowF32x4";
-    case 0xfd0100: return "I8x16RelaxedSwizzle";
-    case 0xfd0101: return "I32x4RelaxedTruncF32x4S";
-    case 0xfd0102: return "I32x4RelaxedTruncF32x4U";
-    case 0xfd0103: return "I32x4RelaxedTruncF64x2SZero";
-    case 0xfd0104: return "I32x4RelaxedTruncF64x2UZero";
-    case 0xfd0105: return "F32x4RelaxedMadd";
-    case 0xfd0106: return "F32x4RelaxedNmadd";
-    case 0xfd0107: return "F64x2RelaxedMadd";
-    case 0xfd0108: return "F64x2RelaxedNmadd";
-    case 0xfd0109: return "I8x16RelaxedLaneselect";
-    case 0xfd010a: return "I16x8RelaxedLaneselect";
-    case 0xfd010b: return "I32x4RelaxedLaneselect";
-    case 0xfd010c: return "I64x2RelaxedLaneselect";
-    case 0xfd010d: return "F32x4RelaxedMin";
-    case 0xfd010e: return "F32x4RelaxedMax";
-    case 0xfd010f: return "F64x2RelaxedMin";
-    case 0xfd0110: return "F64x2RelaxedMax";
-    case 0xfd0111: return "I16x8RelaxedQ15mulrS";
-    case 0xfd0112: return "I16x8RelaxedDotI8x16I7x16S";
-    case 0xfd0113: return "I32x4RelaxedDotI8x16I7x16AddS";
-    case 0x1f: return "TryTable";
-    case 0x8: return "Throw";
-    case 0xa: return "ThrowRef";
-    case 0x6: return "Try";
-    case 0x7: return "Catch";
-    case 0x9: return "Rethrow";
-    case 0x18: return "Delegate";
-    case 0x19: return "CatchAll";
-    case 0xfe004f: return "GlobalAtomicGet";
-    case 0xfe0050: return "GlobalAtomicSet";
-    case 0xfe0051: return "GlobalAtomicRmwAdd";
-    case 0xfe0052: return "GlobalAtomicRmwSub";
-    case 0xfe0053: return "GlobalAtomicRmwAnd";
-    case 0xfe0054: return "GlobalAtomicRmwOr";
-    case 0xfe0055: return "GlobalAtomicRmwXor";
-    case 0xfe0056: return "GlobalAtomicRmwXchg";
-    case 0xfe0057: return "GlobalAtomicRmwCmpxchg";
-    case 0xfe0058: return "TableAtomicGet";
-    case 0xfe0059: return "TableAtomicSet";
-    case 0xfe005a: return "TableAtomicRmwXchg";
-    case 0xfe005b: return "TableAtomicRmwCmpxchg";
-    case 0xfe005c: return "StructAtomicGet";
-    case 0xfe005d: return "StructAtomicGetS";
-    case 0xfe005e: return "StructAtomicGetU";
-    case 0xfe005f: return "StructAtomicSet";
-    case 0xfe0060: return "StructAtomicRmwAdd";
-    case 0xfe0061: return "StructAtomicRmwSub";
-    case 0xfe0062: return "StructAtomicRmwAnd";
-    case 0xfe0063: return "StructAtomicRmwOr";
-    case 0xfe0064: return "StructAtomicRmwXor";
-    case 0xfe0065: return "StructAtomicRmwXchg";
-    case 0xfe0066: return "StructAtomicRmwCmpxchg";
-    case 0xfe0067: return "ArrayAtomicGet";
-    case 0xfe0068: return "ArrayAtomicGetS";
-    case 0xfe0069: return "ArrayAtomicGetU";
-    case 0xfe006a: return "ArrayAtomicSet";
-    case 0xfe006b: return "ArrayAtomicRmwAdd";
-    case 0xfe006c: return "ArrayAtomicRmwSub";
-    case 0xfe006d: return "ArrayAtomicRmwAnd";
-    case 0xfe006e: return "ArrayAtomicRmwOr";
-    case 0xfe006f: return "ArrayAtomicRmwXor";
-    case 0xfe0070: return "ArrayAtomicRmwXchg";
-    case 0xfe0071: return "ArrayAtomicRmwCmpxchg";
-    case 0xfe0072: return "RefI31Shared";
-    case 0x14: return "CallRef";
-    case 0x15: return "ReturnCallRef";
-    case 0xd4: return "RefAsNonNull";
-    case 0xd5: return "BrOnNull";
-    case 0xd6: return "BrOnNonNull";
-    case 0xe0: return "ContNew";
-    case 0xe1: return "ContBind";
-    case 0xe2: return "Suspend";
-    case 0xe3: return "Resume";
-    case 0xe4: return "ResumeThrow";
-    case 0xe5: return "ResumeThrowRef";
-    case 0xe6: return "Switch";
-    case 0xfc0013: return "I64Add128";
-    case 0xfc0014: return "I64Sub128";
-    case 0xfc0015: return "I64MulWideS";
-    case 0xfc0016: return "I64MulWideU";
-    case 0xfe0004: return "Pause";
-    default: return NULL;
-  }
-}
+/* The targets of the br_table that begins at the offset `at` of the bytes, the first of which has the offset
+ * `offset`: those from the index `index` on, as many as there is room for in `out`, without the default one.
+ * `*count` is how many it has, and `out` is unchanged behind those that are written. Answers 0.
+ *
+ * Else the number of the refusal, and nothing changes but `*refusal`: that of what stands there, which is read
+ * as inside a block; WASM_REFUSED_NO_LIST where another operator does, or `at` is the offset of none of the bytes;
+ * WASM_REFUSED_UNKNOWN_FEATURES and WASM_REFUSED_PAST_OFFSETS as wasm_read_body. */
+uint32_t wasm_br_table_targets(const uint8_t *bytes, size_t bytes_length, uint64_t offset, uint32_t features,
+                               uint64_t at, size_t index, uint32_t *out, size_t out_length, size_t *count,
+                               wasm_refusal *refusal);
+
+/* The types of the select with types that begins there, as wasm_br_table_targets. */
+uint32_t wasm_select_types(const uint8_t *bytes, size_t bytes_length, uint64_t offset, uint32_t features,
+                           uint64_t at, size_t index, wasm_type *out, size_t out_length, size_t *count,
+                           wasm_refusal *refusal);
+
+/* The catches of the try_table that begins there, as wasm_br_table_targets. */
+uint32_t wasm_try_table_catches(const uint8_t *bytes, size_t bytes_length, uint64_t offset, uint32_t features,
+                                uint64_t at, size_t index, wasm_handler *out, size_t out_length, size_t *count,
+                                wasm_refusal *refusal);
+
+/* The clauses of the resume, resume_throw or resume_throw_ref that begins there, as wasm_br_table_targets. */
+uint32_t wasm_resume_handlers(const uint8_t *bytes, size_t bytes_length, uint64_t offset, uint32_t features,
+                              uint64_t at, size_t index, wasm_handler *out, size_t out_length, size_t *count,
+                              wasm_refusal *refusal);
 
 /* The proposal that brought an operator; -1 where the number is that of none. */
 static inline int wasm_operator_proposal(const wasm_operator *op) {

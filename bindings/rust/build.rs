@@ -9,7 +9,9 @@ fn main() {
     println!("cargo:rerun-if-env-changed=WASM_OPERATORS_LIBRARIES");
     let folder = match env::var_os("WASM_OPERATORS_LIBRARIES") {
         Some(folder) => PathBuf::from(folder),
-        None => PathBuf::from(env::var_os("CARGO_MANIFEST_DIR").expect("cargo names it")).join("native"),
+        None => {
+            PathBuf::from(env::var_os("CARGO_MANIFEST_DIR").expect("cargo names it")).join("native")
+        }
     };
     println!("cargo:rustc-link-search=native={}", folder.display());
     println!("cargo:rerun-if-changed={}", folder.display());

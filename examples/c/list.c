@@ -43,7 +43,9 @@ int main(int argc, char **argv) {
   uint32_t refused = wasm_read_body(bytes, length, 0, WASM_FEATURES_ALL, operators, length, &count, &refusal);
 
   for (size_t i = 0; i < count; i++) {
-    printf("%" PRIu64 " %s\n", operators[i].offset, wasm_operator_name(&operators[i]));
+    uint8_t name[WASM_LONGEST_NAME];
+    size_t told = wasm_operator_name(&operators[i], name, sizeof name);
+    printf("%" PRIu64 " %.*s\n", operators[i].offset, (int)told, (const char *)name);
   }
   if (refused != 0) {
     uint8_t text[128];

@@ -1,4 +1,4 @@
-"""The operators of the cargo crate (bindings/rust/src/operator.rs)."""
+"""The operators of the cargo crate and their visits (bindings/rust/src/operator.rs, visit.rs)."""
 
 from plain import kinds, number
 from table import HEAD, SHARED
@@ -27,12 +27,12 @@ VALUES = {
     ("heap_type",): ["heap_type(op.kind, op.first)"],
     ("cast",): ["op.first", "ref_type(op.kind, op.second)", "ref_type(op.other_kind, op.third)"],
     ("block_type",): ["op.block_type()"],
-    ("branch_table",): ["BrTable::of(op, bytes)"],
+    ("branch_table",): ["BrTable::of(op, bytes, features)"],
     ("one_type",): ["val_type(op.kind, op.first)"],
-    ("types",): ["lists::select_types(bytes)"],
-    ("try_table",): ["lists::try_table(op, bytes)"],
-    ("unsigned", "resume_table"): ["op.first", "lists::resume_table(bytes, 1)"],
-    ("unsigned", "unsigned", "resume_table"): ["op.first", "op.second", "lists::resume_table(bytes, 2)"],
+    ("types",): ["lists::select_types(op, bytes, features)"],
+    ("try_table",): ["lists::try_table(op, bytes, features)"],
+    ("unsigned", "resume_table"): ["op.first", "lists::resume_table(bytes, features, op.second)"],
+    ("unsigned", "unsigned", "resume_table"): ["op.first", "op.second", "lists::resume_table(bytes, features, op.third)"],
 }
 
 
@@ -66,12 +66,13 @@ def operator_source(ops):
         "}",
         "",
         "/// The operator of this plain data, whose first byte is the first of these.",
+        "#[inline]",
         "#[rustfmt::skip]",
-        "pub(crate) fn operator_of<'a>(op: &PlainOperator, bytes: &'a [u8]) -> Option<Operator<'a>> {",
-        "    Some(match op.opcode {",
+        "pub(crate) fn operator_of<'a>(op: &PlainOperator, bytes: &'a [u8], features: u32) -> Operator<'a> {",
+        "    match op.opcode {",
         *[f"        0x{number(op):x}{' if op.shape == 19' if op.name == SHARED[0] else ''} => {made(op)}," for op in ops],
-        "        _ => return None,",
-        "    })",
+        "        opcode => panic!(\"the library has an operator that this crate has not: {opcode:#x}\"),",
+        "    }",
         "}",
         "",
         "impl Operator<'_> {",
@@ -87,7 +88,45 @@ def operator_source(ops):
     return "\n".join(lines) + "\n"
 
 
+def visit_source(ops):
+    """The file of the visits."""
+    lines = [
+        f"//! Visits of operators. {HEAD}",
+        "",
+        "use crate::lists::{BrTable, ResumeTable, TryTable};",
+        "use crate::operator::Operator;",
+        "use crate::types::{BlockType, HeapType, Ieee32, Ieee64, MemArg, Ordering, RefType, V128, ValType};",
+        "",
+        "/// Visits operators. A visit that a visitor has not of its own goes to `visit_any`.",
+        "#[rustfmt::skip]",
+        "pub trait VisitOperator<'a> {",
+        "    /// What a visit answers.",
+        "    type Output;",
+        "",
+        "    /// Visits an operator that has no visit of its own.",
+        "    fn visit_any(&mut self, op: Operator<'a>) -> Self::Output;",
+    ]
+    for op in ops:
+        fields = "".join(f", {name}: {TYPES.get(ty, ty)}" for name, ty in op.fields)
+        names = ", ".join(name for name, _ in op.fields)
+        value = f"Operator::{op.name}{f' {{ {names} }}' if names else ''}"
+        lines += ["", f"    /// Visits `{op.name}`.", f"    fn {op.visit}(&mut self{fields}) -> Self::Output {{ self.visit_any({value}) }}"]
+    lines += [
+        "}",
+        "",
+        "/// Calls the visitor's method for an operator.",
+        "#[rustfmt::skip]",
+        "pub fn visit_operator<'a, V: VisitOperator<'a> + ?Sized>(visitor: &mut V, op: Operator<'a>) -> V::Output {",
+        "    match op {",
+    ]
+    for op in ops:
+        names = ", ".join(name for name, _ in op.fields)
+        lines.append(f"        Operator::{op.name}{f' {{ {names} }}' if names else ''} => visitor.{op.visit}({names}),")
+    lines += ["    }", "}"]
+    return "\n".join(lines) + "\n"
+
+
 def cargo_files(ops):
-    """The file of the crate that is a list over the operators which have a shape."""
+    """The files of the crate that are lists over the operators which have a shape."""
     ops = [op for op in ops if kinds(op) in VALUES]
-    return {"bindings/rust/src/operator.rs": operator_source(ops)}
+    return {"bindings/rust/src/operator.rs": operator_source(ops), "bindings/rust/src/visit.rs": visit_source(ops)}

@@ -61,7 +61,10 @@ extern "C" {{
 #endif
 
 /* The version of the structs and calls. wasm_operators_version() answers that of the library. */
-#define WASM_OPERATORS_VERSION 2u
+#define WASM_OPERATORS_VERSION 3u
+
+/* The length of the longest name that wasm_operator_name writes, in bytes. */
+#define WASM_LONGEST_NAME {longest}
 """
 
 STRUCTS = """
@@ -127,6 +130,24 @@ typedef struct wasm_refusal {
   /* 0. */
   uint32_t reserved;
 } wasm_refusal;
+
+/* A value type: 8 bytes without gaps. */
+typedef struct wasm_type {
+  /* `enum wasm_kind`. */
+  uint32_t kind;
+  /* The index in a reference type, else 0. */
+  uint32_t index;
+} wasm_type;
+
+/* A catch of a try_table, or a clause of a resume: 12 bytes without gaps. */
+typedef struct wasm_handler {
+  /* `enum wasm_catch`, `enum wasm_clause`. */
+  uint32_t kind;
+  /* The index of its tag, else 0. */
+  uint32_t tag;
+  /* Its label, else 0. */
+  uint32_t label;
+} wasm_handler;
 """
 
 CALLS = """
@@ -149,6 +170,10 @@ uint32_t wasm_read_body(const uint8_t *bytes, size_t bytes_length, uint64_t offs
 /* The text of a refusal in ASCII, as much of it as there is room for, without a byte 0 behind it. Answers
  * its whole length in bytes; 0 where the numbers are those of no refusal. */
 size_t wasm_refusal_text(const wasm_refusal *refusal, uint8_t *text, size_t text_length);
+
+/* The name of an operator in ASCII, as much of it as there is room for, without a byte 0 behind it. Answers
+ * its whole length in bytes; 0 where its number is that of none. */
+size_t wasm_operator_name(const wasm_operator *op, uint8_t *name, size_t name_length);
 
 /* How many frames may be open at once along so many bytes: an array of this many has always room. */
 size_t wasm_frames_needed(size_t bytes_length);
@@ -183,6 +208,32 @@ uint32_t wasm_read(const uint8_t *bytes, size_t bytes_length, uint8_t *frames, s
  * read, else the number of the refusal. */
 uint32_t wasm_finish(const uint8_t *bytes, size_t bytes_length, const uint8_t *frames, size_t frames_length,
                      const wasm_reader *reader, wasm_refusal *refusal);
+
+/* The targets of the br_table that begins at the offset `at` of the bytes, the first of which has the offset
+ * `offset`: those from the index `index` on, as many as there is room for in `out`, without the default one.
+ * `*count` is how many it has, and `out` is unchanged behind those that are written. Answers 0.
+ *
+ * Else the number of the refusal, and nothing changes but `*refusal`: that of what stands there, which is read
+ * as inside a block; WASM_REFUSED_NO_LIST where another operator does, or `at` is the offset of none of the bytes;
+ * WASM_REFUSED_UNKNOWN_FEATURES and WASM_REFUSED_PAST_OFFSETS as wasm_read_body. */
+uint32_t wasm_br_table_targets(const uint8_t *bytes, size_t bytes_length, uint64_t offset, uint32_t features,
+                               uint64_t at, size_t index, uint32_t *out, size_t out_length, size_t *count,
+                               wasm_refusal *refusal);
+
+/* The types of the select with types that begins there, as wasm_br_table_targets. */
+uint32_t wasm_select_types(const uint8_t *bytes, size_t bytes_length, uint64_t offset, uint32_t features,
+                           uint64_t at, size_t index, wasm_type *out, size_t out_length, size_t *count,
+                           wasm_refusal *refusal);
+
+/* The catches of the try_table that begins there, as wasm_br_table_targets. */
+uint32_t wasm_try_table_catches(const uint8_t *bytes, size_t bytes_length, uint64_t offset, uint32_t features,
+                                uint64_t at, size_t index, wasm_handler *out, size_t out_length, size_t *count,
+                                wasm_refusal *refusal);
+
+/* The clauses of the resume, resume_throw or resume_throw_ref that begins there, as wasm_br_table_targets. */
+uint32_t wasm_resume_handlers(const uint8_t *bytes, size_t bytes_length, uint64_t offset, uint32_t features,
+                              uint64_t at, size_t index, wasm_handler *out, size_t out_length, size_t *count,
+                              wasm_refusal *refusal);
 """
 
 KINDS = """
@@ -219,6 +270,10 @@ enum wasm_kind {
 """
 
 
+CATCHES = (("WASM_CATCH_ONE", 0, ""), ("WASM_CATCH_ONE_REF", 1, ""), ("WASM_CATCH_ALL", 2, ""), ("WASM_CATCH_ALL_REF", 3, ""))
+CLAUSES = (("WASM_CLAUSE_ON_LABEL", 0, ""), ("WASM_CLAUSE_ON_SWITCH", 1, ""))
+
+
 def enum(doc, name, rows):
     """An enum of C: each row has a name, a value and, where it is told, what it is."""
     last = len(rows) - 1
@@ -242,12 +297,14 @@ def chosen(doc, signature, ops, answer, default):
 
 def header(ops):
     """The text of the header."""
-    lines = TOP.format(head=HEAD).splitlines()
+    lines = TOP.format(head=HEAD, longest=max(len(op.name) for op in ops)).splitlines()
     lines += enum("The features, of which any may be joined.", "wasm_feature", [(f"WASM_FEATURE_{it}", 1 << at, "") for at, it in enumerate(FEATURES)] + [("WASM_FEATURES_ALL", 63, "")])
     lines += enum("Which fields of an operator have a meaning.", "wasm_shape", [(f"WASM_SHAPE_{name}", at, told) for at, (name, told) in enumerate(SHAPES)])
     lines += KINDS.splitlines()
+    lines += enum("What a catch catches: a tag or all, and whether it gives the exception too.", "wasm_catch", CATCHES)
+    lines += enum("What a clause of a resume does.", "wasm_clause", CLAUSES)
     told = [(f"WASM_REFUSED_{name}", at, "") for at, name in enumerate(REFUSALS, 1)]
-    told += [("WASM_REFUSED_UNKNOWN_FEATURES", 100, ""), ("WASM_REFUSED_PAST_OFFSETS", 101, ""), ("WASM_REFUSED_NO_ROOM", 102, ""), ("WASM_REFUSED_NOT_A_READER", 103, "")]
+    told += [("WASM_REFUSED_UNKNOWN_FEATURES", 100, ""), ("WASM_REFUSED_PAST_OFFSETS", 101, ""), ("WASM_REFUSED_NO_ROOM", 102, ""), ("WASM_REFUSED_NOT_A_READER", 103, ""), ("WASM_REFUSED_NO_LIST", 104, "")]
     lines += enum("The refusals. docs/REFUSALS.md tells their texts and offsets.", "wasm_refused", told)
     distinct = [op for op in ops if op.name != SHARED[1]]
     doc = "The operators: the opcode; behind a prefix byte the subopcode, and 65536 times that byte. A select with\n * no types or several has the opcode of WASM_OP_TypedSelect, and another shape."
@@ -255,7 +312,6 @@ def header(ops):
     lines += enum("The proposals that brought the operators.", "wasm_proposal", [(f"WASM_PROPOSAL_{it.upper()}", at, "") for at, it in enumerate(PROPOSALS)])
     lines += STRUCTS.splitlines()
     lines += CALLS.splitlines()
-    lines += chosen("The name of an operator; null where the number is that of none.", "const char *wasm_operator_name(const wasm_operator *op)", ops, lambda op: f'"{op.name}"', "NULL")
     lines += chosen("The proposal that brought an operator; -1 where the number is that of none.", "int wasm_operator_proposal(const wasm_operator *op)", ops, lambda op: f"WASM_PROPOSAL_{op.proposal.upper()}", "-1")
     lines += ["", "#ifdef __cplusplus", "}", "#endif", "", "#endif"]
     return "\n".join(lines) + "\n"

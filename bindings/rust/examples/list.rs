@@ -4,7 +4,10 @@ use std::process::ExitCode;
 use wasm_operators::{Body, WasmFeatures};
 
 fn main() -> ExitCode {
-    let Some(bytes) = std::env::args_os().nth(1).and_then(|path| std::fs::read(path).ok()) else {
+    let Some(bytes) = std::env::args_os()
+        .nth(1)
+        .and_then(|path| std::fs::read(path).ok())
+    else {
         eprintln!("usage: list BODY");
         return ExitCode::from(2);
     };

@@ -12,18 +12,22 @@
 //!
 //! The library is proved to decode; this crate turns its plain data into operators, and is not proved.
 
+mod batches;
 mod lists;
 mod native;
 mod operator;
 mod types;
+mod visit;
 
+pub use batches::{OperatorsIterator, OperatorsIteratorWithOffsets};
 pub use lists::{BrTable, Catch, Handle, ResumeTable, TryTable};
 pub use native::PlainOperator;
 pub use operator::Operator;
 pub use types::{
-    AbstractHeapType, BlockType, HeapType, Ieee32, Ieee64, MemArg, MemArgOrdering, MemArgTarget, Ordering, RefType,
-    V128, ValType,
+    AbstractHeapType, BlockType, HeapType, Ieee32, Ieee64, MemArg, MemArgOrdering, MemArgTarget,
+    Ordering, RefType, V128, ValType,
 };
+pub use visit::{VisitOperator, visit_operator};
 
 use native::{PlainReader, Refusal};
 use operator::operator_of;
@@ -105,23 +109,47 @@ impl Error {
 
 impl From<Refusal> for Error {
     fn from(refusal: Refusal) -> Error {
-        Error { refusal, message: native::refusal_text(&refusal) }
+        Error {
+            refusal,
+            message: native::refusal_text(&refusal),
+        }
     }
 }
 
 impl fmt::Display for Error {
     fn fmt(&self, f: &mut fmt::Formatter<'_>) -> fmt::Result {
-        write!(f, "{} (at offset 0x{:x})", self.message, self.refusal.offset)
+        write!(
+            f,
+            "{} (at offset 0x{:x})",
+            self.message, self.refusal.offset
+        )
     }
 }
 
 impl std::error::Error for Error {}
+
+/// Reads all operators of a body as plain data, in place of those that the list has, whose memory is used again. Where
+/// the bytes are no body, these are the longest beginning of one.
+pub fn read_plain(
+    bytes: &[u8],
+    offset: u64,
+    features: WasmFeatures,
+    out: &mut Vec<PlainOperator>,
+) -> Result<()> {
+    let refusal = native::read_body(bytes, offset, features.bits(), out);
+    if refusal.number == 0 {
+        Ok(())
+    } else {
+        Err(Error::from(refusal))
+    }
+}
 
 /// A function body that was read.
 #[derive(Clone, Debug)]
 pub struct Body<'a> {
     bytes: &'a [u8],
     offset: u64,
+    features: WasmFeatures,
     operators: Vec<PlainOperator>,
     end: Option<Error>,
 }
@@ -131,9 +159,16 @@ impl<'a> Body<'a> {
     ///
     /// What is refused, or where the offset of the end does not fit in 64 bits, [`error`](Body::error) says.
     pub fn read(bytes: &'a [u8], offset: u64, features: WasmFeatures) -> Body<'a> {
-        let (operators, refusal) = native::read_body(bytes, offset, features.bits());
+        let mut operators = Vec::new();
+        let refusal = native::read_body(bytes, offset, features.bits(), &mut operators);
         let end = (refusal.number != 0).then(|| Error::from(refusal));
-        Body { bytes, offset, operators, end }
+        Body {
+            bytes,
+            offset,
+            features,
+            operators,
+            end,
+        }
     }
 
     /// How many operators were found.
@@ -160,8 +195,8 @@ impl<'a> Body<'a> {
     pub fn iter(&self) -> impl Iterator<Item = Result<(Operator<'a>, u64)>> + '_ {
         let found = self.operators.iter().map(|plain| {
             let at = (plain.offset - self.offset) as usize;
-            let operator = operator_of(plain, &self.bytes[at..]);
-            Ok((operator.expect("the library has the operators of this crate"), plain.offset))
+            let operator = operator_of(plain, &self.bytes[at..], self.features.bits());
+            Ok((operator, plain.offset))
         });
         found.chain(self.end.iter().cloned().map(Err))
     }
@@ -169,6 +204,63 @@ impl<'a> Body<'a> {
     /// All operators with their offsets, where the bytes are a body.
     pub fn read_all(&self) -> Result<Vec<(Operator<'a>, u64)>> {
         self.iter().collect()
+    }
+}
+
+/// Bytes, of which none was read.
+#[derive(Clone, Copy, Debug)]
+pub struct BinaryReader<'a> {
+    bytes: &'a [u8],
+    offset: u64,
+    features: WasmFeatures,
+}
+
+impl<'a> BinaryReader<'a> {
+    /// These bytes, the first of which has this offset, with all features.
+    pub fn new(bytes: &'a [u8], offset: u64) -> BinaryReader<'a> {
+        BinaryReader::new_features(bytes, offset, WasmFeatures::all())
+    }
+
+    /// The same with these features.
+    pub fn new_features(bytes: &'a [u8], offset: u64, features: WasmFeatures) -> BinaryReader<'a> {
+        BinaryReader {
+            bytes,
+            offset,
+            features,
+        }
+    }
+
+    /// The offset of the first byte.
+    pub fn original_position(&self) -> u64 {
+        self.offset
+    }
+
+    /// The features.
+    pub fn features(&self) -> WasmFeatures {
+        self.features
+    }
+}
+
+/// A function body, of which nothing was read.
+#[derive(Clone, Copy, Debug)]
+pub struct FunctionBody<'a> {
+    reader: BinaryReader<'a>,
+}
+
+impl<'a> FunctionBody<'a> {
+    /// The body that these bytes are to encode.
+    pub fn new(reader: BinaryReader<'a>) -> FunctionBody<'a> {
+        FunctionBody { reader }
+    }
+
+    /// A reader of the operators, behind the locals.
+    pub fn get_operators_reader(&self) -> Result<OperatorsReader<'a>> {
+        let BinaryReader {
+            bytes,
+            offset,
+            features,
+        } = self.reader;
+        OperatorsReader::of_body(bytes, offset, features)
     }
 }
 
@@ -193,15 +285,31 @@ pub struct OperatorsReader<'a> {
 
 impl<'a> OperatorsReader<'a> {
     /// A reader of the expression that the bytes encode; the first byte has this offset.
-    pub fn new(bytes: &'a [u8], offset: u64, features: WasmFeatures) -> Result<OperatorsReader<'a>> {
+    pub fn new(
+        bytes: &'a [u8],
+        offset: u64,
+        features: WasmFeatures,
+    ) -> Result<OperatorsReader<'a>> {
         let (reader, frames) = native::open(bytes, offset, features.bits(), false)?;
-        Ok(OperatorsReader { bytes, reader, frames })
+        Ok(OperatorsReader {
+            bytes,
+            reader,
+            frames,
+        })
     }
 
     /// A reader of the expression of a function body, behind its locals.
-    pub fn of_body(bytes: &'a [u8], offset: u64, features: WasmFeatures) -> Result<OperatorsReader<'a>> {
+    pub fn of_body(
+        bytes: &'a [u8],
+        offset: u64,
+        features: WasmFeatures,
+    ) -> Result<OperatorsReader<'a>> {
         let (reader, frames) = native::open(bytes, offset, features.bits(), true)?;
-        Ok(OperatorsReader { bytes, reader, frames })
+        Ok(OperatorsReader {
+            bytes,
+            reader,
+            frames,
+        })
     }
 
     /// Whether no byte is left.
@@ -218,7 +326,31 @@ impl<'a> OperatorsReader<'a> {
     pub fn read(&mut self) -> Result<Operator<'a>> {
         let at = self.reader.position as usize;
         let plain = native::next(self.bytes, &mut self.frames, &mut self.reader)?;
-        Ok(operator_of(&plain, &self.bytes[at..]).expect("the library has the operators of this crate"))
+        Ok(operator_of(&plain, &self.bytes[at..], self.reader.features))
+    }
+
+    /// The next operator and its offset.
+    pub fn read_with_offset(&mut self) -> Result<(Operator<'a>, u64)> {
+        let offset = self.original_position();
+        Ok((self.read()?, offset))
+    }
+
+    /// Reads the next operator and calls the visitor's method for it.
+    pub fn visit_operator<V: VisitOperator<'a>>(&mut self, visitor: &mut V) -> Result<V::Output> {
+        Ok(visit_operator(visitor, self.read()?))
+    }
+
+    /// The operators, each with its offset, up to the end of the bytes or a refusal. They are read in batches.
+    pub fn into_iter_with_offsets(self) -> OperatorsIteratorWithOffsets<'a> {
+        OperatorsIteratorWithOffsets::of(self)
+    }
+
+    /// All operators that are left, each with its offset, where an expression ends behind them.
+    pub fn read_all(self) -> Result<Vec<(Operator<'a>, u64)>> {
+        let mut operators = self.into_iter_with_offsets();
+        let found: Vec<(Operator<'a>, u64)> = operators.by_ref().collect::<Result<_>>()?;
+        operators.finish()?;
+        Ok(found)
     }
 
     /// Whether all frames are closed and all bytes are read.

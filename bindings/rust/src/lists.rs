@@ -1,126 +1,28 @@
-//! The lists that operators carry, read from the bytes that the library has decoded.
-//!
-//! These bytes hold what is read here, since the library has found it there; where they did not, a number would be 0
-//! and a list would end.
+//! The lists that operators carry. The library reads their members.
 
-use crate::native::PlainOperator;
-use crate::types::{BlockType, ValType, short_heap_type};
-use crate::types::{AbstractHeapType, HeapType, RefType};
+use crate::Result;
+use crate::native::{self, PlainOperator};
+use crate::types::{BlockType, ValType};
+use std::fmt;
 
-/// A reader of bytes that hold what is read.
-#[derive(Clone, Debug, PartialEq, Eq)]
-struct Members<'a> {
-    bytes: &'a [u8],
-}
-
-impl<'a> Members<'a> {
-    fn byte(&mut self) -> u8 {
-        match self.bytes.split_first() {
-            Some((first, rest)) => {
-                self.bytes = rest;
-                *first
-            }
-            None => 0,
-        }
-    }
-
-    /// An unsigned LEB128 number; of a number with a sign its low bits, without that sign.
-    fn number(&mut self) -> u64 {
-        let mut number = 0;
-        let mut shift = 0;
-        loop {
-            let byte = self.byte();
-            number |= u64::from(byte & 0x7f).checked_shl(shift).unwrap_or(0);
-            shift += 7;
-            if byte < 0x80 {
-                return number;
-            }
-        }
-    }
-
-    fn index(&mut self) -> u32 {
-        self.number() as u32
-    }
-
-    fn heap_type(&mut self) -> HeapType {
-        match self.bytes.first().copied().unwrap_or(0) {
-            0x62 => {
-                self.byte();
-                HeapType::Exact(self.index())
-            }
-            0x65 => {
-                self.byte();
-                HeapType::Abstract { shared: true, ty: self.abstract_type() }
-            }
-            0x68..=0x75 => HeapType::Abstract { shared: false, ty: self.abstract_type() },
-            _ => HeapType::Concrete(self.index()),
-        }
-    }
-
-    fn abstract_type(&mut self) -> AbstractHeapType {
-        short_heap_type(u32::from(self.byte()))
-    }
-
-    fn value_type(&mut self) -> ValType {
-        match self.bytes.first().copied().unwrap_or(0) {
-            0x7f => self.then(ValType::I32),
-            0x7e => self.then(ValType::I64),
-            0x7d => self.then(ValType::F32),
-            0x7c => self.then(ValType::F64),
-            0x7b => self.then(ValType::V128),
-            byte @ (0x63 | 0x64) => {
-                self.byte();
-                ValType::Ref(RefType::of(byte == 0x63, self.heap_type()))
-            }
-            _ => ValType::Ref(RefType::of(true, self.heap_type())),
-        }
-    }
-
-    /// This type, behind its byte.
-    fn then(&mut self, ty: ValType) -> ValType {
-        self.byte();
-        ty
-    }
-
-    /// Goes past a block type.
-    fn skip_block_type(&mut self) {
-        match self.bytes.first().copied().unwrap_or(0) {
-            0x40 => {
-                self.byte();
-            }
-            0x62..=0x7f => {
-                self.value_type();
-            }
-            _ => {
-                self.number();
-            }
-        }
-    }
-
-    fn list<T>(&mut self, mut member: impl FnMut(&mut Self) -> T) -> Vec<T> {
-        let count = self.index();
-        (0..count).map(|_| member(self)).collect()
-    }
-}
-
-/// The bytes behind an opcode of one byte.
-fn behind_opcode(bytes: &[u8]) -> Members<'_> {
-    Members { bytes: bytes.get(1..).unwrap_or(&[]) }
-}
-
-/// The labels of a `br_table`.
-#[derive(Clone, Debug, PartialEq, Eq)]
+/// The labels of a `br_table`. Its targets stay in the bytes, which the library reads again for them.
+#[derive(Clone)]
 pub struct BrTable<'a> {
-    members: Members<'a>,
+    /// The bytes from the operator on.
+    bytes: &'a [u8],
+    features: u32,
     count: u32,
     default: u32,
 }
 
 impl<'a> BrTable<'a> {
-    pub(crate) fn of(op: &PlainOperator, bytes: &'a [u8]) -> BrTable<'a> {
-        let mut members = behind_opcode(bytes);
-        members.number();
-        BrTable { members, count: op.first, default: op.second }
+    pub(crate) fn of(op: &PlainOperator, bytes: &'a [u8], features: u32) -> BrTable<'a> {
+        BrTable {
+            bytes,
+            features,
+            count: op.first,
+            default: op.second,
+        }
     }
 
     /// How many targets there are, without the default one.
@@ -138,10 +40,32 @@ impl<'a> BrTable<'a> {
         self.default
     }
 
-    /// The targets, without the default one.
-    pub fn targets(&self) -> impl Iterator<Item = u32> + use<'a> {
-        let mut members = self.members.clone();
-        (0..self.count).map(move |_| members.index())
+    /// The targets, without the default one. Each call reads them all, and each is `Ok`.
+    pub fn targets(&self) -> impl Iterator<Item = Result<u32>> + use<> {
+        native::branch_targets(self.bytes, self.features, self.count)
+            .into_iter()
+            .map(Ok)
+    }
+}
+
+impl PartialEq for BrTable<'_> {
+    fn eq(&self, other: &BrTable<'_>) -> bool {
+        self.count == other.count
+            && self.default == other.default
+            && self.targets().eq(other.targets())
+    }
+}
+
+impl Eq for BrTable<'_> {}
+
+impl fmt::Debug for BrTable<'_> {
+    fn fmt(&self, f: &mut fmt::Formatter<'_>) -> fmt::Result {
+        let targets = native::branch_targets(self.bytes, self.features, self.count);
+        f.debug_struct("BrTable")
+            .field("count", &self.count)
+            .field("default", &self.default)
+            .field("targets", &targets)
+            .finish()
     }
 }
 
@@ -177,33 +101,22 @@ pub enum Handle {
     OnSwitch { tag: u32 },
 }
 
-/// The types of a select that has none or several.
-pub(crate) fn select_types(bytes: &[u8]) -> Vec<ValType> {
-    behind_opcode(bytes).list(Members::value_type)
+/// The types of a select that has none or several, from the bytes where it begins.
+pub(crate) fn select_types(op: &PlainOperator, bytes: &[u8], features: u32) -> Vec<ValType> {
+    native::select_types(bytes, features, op.first)
 }
 
 /// The block type and the catches of a try table.
-pub(crate) fn try_table(op: &PlainOperator, bytes: &[u8]) -> TryTable {
-    let mut members = behind_opcode(bytes);
-    members.skip_block_type();
-    let catches = members.list(|it| match it.byte() {
-        0 => Catch::One { tag: it.index(), label: it.index() },
-        1 => Catch::OneRef { tag: it.index(), label: it.index() },
-        2 => Catch::All { label: it.index() },
-        _ => Catch::AllRef { label: it.index() },
-    });
-    TryTable { ty: op.block_type(), catches }
+pub(crate) fn try_table(op: &PlainOperator, bytes: &[u8], features: u32) -> TryTable {
+    TryTable {
+        ty: op.block_type(),
+        catches: native::catches(bytes, features, op.second),
+    }
 }
 
-/// The clauses of a resume table, behind so many indices.
-pub(crate) fn resume_table(bytes: &[u8], indices: usize) -> ResumeTable {
-    let mut members = behind_opcode(bytes);
-    for _ in 0..indices {
-        members.number();
+/// The clauses of a resume table, of which there are so many.
+pub(crate) fn resume_table(bytes: &[u8], features: u32, count: u32) -> ResumeTable {
+    ResumeTable {
+        handlers: native::handlers(bytes, features, count),
     }
-    let handlers = members.list(|it| match it.byte() {
-        0 => Handle::OnLabel { tag: it.index(), label: it.index() },
-        _ => Handle::OnSwitch { tag: it.index() },
-    });
-    ResumeTable { handlers }
 }

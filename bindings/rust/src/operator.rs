@@ -640,9 +640,10 @@ pub enum Operator<'a> {
 }
 
 /// The operator of this plain data, whose first byte is the first of these.
+#[inline]
 #[rustfmt::skip]
-pub(crate) fn operator_of<'a>(op: &PlainOperator, bytes: &'a [u8]) -> Option<Operator<'a>> {
-    Some(match op.opcode {
+pub(crate) fn operator_of<'a>(op: &PlainOperator, bytes: &'a [u8], features: u32) -> Operator<'a> {
+    match op.opcode {
         0x0 => Operator::Unreachable,
         0x1 => Operator::Nop,
         0x2 => Operator::Block { blockty: op.block_type() },
@@ -652,7 +653,7 @@ pub(crate) fn operator_of<'a>(op: &PlainOperator, bytes: &'a [u8]) -> Option<Ope
         0xb => Operator::End,
         0xc => Operator::Br { relative_depth: op.first },
         0xd => Operator::BrIf { relative_depth: op.first },
-        0xe => Operator::BrTable { targets: BrTable::of(op, bytes) },
+        0xe => Operator::BrTable { targets: BrTable::of(op, bytes, features) },
         0xf => Operator::Return,
         0x10 => Operator::Call { function_index: op.first },
         0x11 => Operator::CallIndirect { type_index: op.first, table_index: op.second },
@@ -875,7 +876,7 @@ pub(crate) fn operator_of<'a>(op: &PlainOperator, bytes: &'a [u8]) -> Option<Ope
         0xfc000d => Operator::ElemDrop { elem_index: op.first },
         0xfc000e => Operator::TableCopy { dst_table: op.first, src_table: op.second },
         0x1c if op.shape == 19 => Operator::TypedSelect { ty: val_type(op.kind, op.first) },
-        0x1c => Operator::TypedSelectMulti { tys: lists::select_types(bytes) },
+        0x1c => Operator::TypedSelectMulti { tys: lists::select_types(op, bytes, features) },
         0xd0 => Operator::RefNull { hty: heap_type(op.kind, op.first) },
         0xd1 => Operator::RefIsNull,
         0xd2 => Operator::RefFunc { function_index: op.first },
@@ -1210,7 +1211,7 @@ pub(crate) fn operator_of<'a>(op: &PlainOperator, bytes: &'a [u8]) -> Option<Ope
         0xfd0111 => Operator::I16x8RelaxedQ15mulrS,
         0xfd0112 => Operator::I16x8RelaxedDotI8x16I7x16S,
         0xfd0113 => Operator::I32x4RelaxedDotI8x16I7x16AddS,
-        0x1f => Operator::TryTable { try_table: lists::try_table(op, bytes) },
+        0x1f => Operator::TryTable { try_table: lists::try_table(op, bytes, features) },
         0x8 => Operator::Throw { tag_index: op.first },
         0xa => Operator::ThrowRef,
         0x6 => Operator::Try { blockty: op.block_type() },
@@ -1262,17 +1263,17 @@ pub(crate) fn operator_of<'a>(op: &PlainOperator, bytes: &'a [u8]) -> Option<Ope
         0xe0 => Operator::ContNew { cont_type_index: op.first },
         0xe1 => Operator::ContBind { argument_index: op.first, result_index: op.second },
         0xe2 => Operator::Suspend { tag_index: op.first },
-        0xe3 => Operator::Resume { cont_type_index: op.first, resume_table: lists::resume_table(bytes, 1) },
-        0xe4 => Operator::ResumeThrow { cont_type_index: op.first, tag_index: op.second, resume_table: lists::resume_table(bytes, 2) },
-        0xe5 => Operator::ResumeThrowRef { cont_type_index: op.first, resume_table: lists::resume_table(bytes, 1) },
+        0xe3 => Operator::Resume { cont_type_index: op.first, resume_table: lists::resume_table(bytes, features, op.second) },
+        0xe4 => Operator::ResumeThrow { cont_type_index: op.first, tag_index: op.second, resume_table: lists::resume_table(bytes, features, op.third) },
+        0xe5 => Operator::ResumeThrowRef { cont_type_index: op.first, resume_table: lists::resume_table(bytes, features, op.second) },
         0xe6 => Operator::Switch { cont_type_index: op.first, tag_index: op.second },
         0xfc0013 => Operator::I64Add128,
         0xfc0014 => Operator::I64Sub128,
         0xfc0015 => Operator::I64MulWideS,
         0xfc0016 => Operator::I64MulWideU,
         0xfe0004 => Operator::Pause,
-        _ => return None,
-    })
+        opcode => panic!("the library has an operator that this crate has not: {opcode:#x}"),
+    }
 }
 
 impl Operator<'_> {

@@ -20,7 +20,10 @@ pub struct RefType {
 
 impl RefType {
     pub(crate) fn of(nullable: bool, heap_type: HeapType) -> RefType {
-        RefType { nullable, heap_type }
+        RefType {
+            nullable,
+            heap_type,
+        }
     }
 
     /// Whether the null reference is in the type.
@@ -70,7 +73,7 @@ pub enum BlockType {
     /// No parameters and no results.
     Empty,
     /// No parameters, and one result of this type.
-    Value(ValType),
+    Type(ValType),
     /// Those of the function type of this index.
     FuncType(u32),
 }
@@ -125,6 +128,12 @@ impl Ieee32 {
     }
 }
 
+impl From<Ieee32> for f32 {
+    fn from(bits: Ieee32) -> f32 {
+        f32::from_bits(bits.0)
+    }
+}
+
 /// The bits of a float of 64 bits.
 #[derive(Clone, Copy, Debug, PartialEq, Eq, Hash)]
 pub struct Ieee64(pub(crate) u64);
@@ -132,6 +141,12 @@ pub struct Ieee64(pub(crate) u64);
 impl Ieee64 {
     pub fn bits(self) -> u64 {
         self.0
+    }
+}
+
+impl From<Ieee64> for f64 {
+    fn from(bits: Ieee64) -> f64 {
+        f64::from_bits(bits.0)
     }
 }
 
@@ -180,7 +195,10 @@ pub(crate) fn heap_type(kind: u32, index: u32) -> HeapType {
     match kind {
         1 => HeapType::Concrete(index),
         2 => HeapType::Exact(index),
-        _ => HeapType::Abstract { shared: kind & SHARED != 0, ty: short_heap_type(kind % SHARED) },
+        _ => HeapType::Abstract {
+            shared: kind & SHARED != 0,
+            ty: short_heap_type(kind % SHARED),
+        },
     }
 }
 

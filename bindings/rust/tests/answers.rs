@@ -1,44 +1,115 @@
 //! The answers of the original on 8,561 bodies, and its two samples of each operator.
 
-use wasm_operators::{Body, Error, OperatorsReader, WasmFeatures};
+use wasm_operators::{
+    Body, Catch, Error, Handle, Operator, OperatorsReader, ValType, VisitOperator, WasmFeatures,
+};
 
 const ANSWERS: &str = include_str!("../../../crates/wasm_tests_replay/stdin");
 
+/// The rows of the answers, in cells.
+fn answers() -> impl Iterator<Item = Vec<&'static str>> {
+    let rows = ANSWERS
+        .lines()
+        .skip(1)
+        .take_while(|line| !line.starts_with("name\t"));
+    rows.map(|row| row.split('\t').collect())
+}
+
+/// The features of a row.
+fn features_of(cells: &[&str]) -> WasmFeatures {
+    WasmFeatures::from_bits(cells[1].parse().unwrap()).unwrap()
+}
+
 fn bytes_of(hex: &str) -> Vec<u8> {
-    (0..hex.len() / 2).map(|at| u8::from_str_radix(&hex[2 * at..2 * at + 2], 16).unwrap()).collect()
+    (0..hex.len() / 2)
+        .map(|at| u8::from_str_radix(&hex[2 * at..2 * at + 2], 16).unwrap())
+        .collect()
 }
 
 fn fingerprint(sum: u64, text: &str) -> u64 {
-    text.bytes().fold(sum, |sum, byte| (sum ^ u64::from(byte)).wrapping_mul(1099511628211))
+    text.bytes().fold(sum, |sum, byte| {
+        (sum ^ u64::from(byte)).wrapping_mul(1099511628211)
+    })
+}
+
+/// Whether a body is read as these cells say: status, number, offset and text of the refusal, how many operators, and
+/// the fingerprint of their lines.
+fn look_at(body: &Body<'_>, cells: &[&str]) {
+    let mut lines = 14695981039346656037;
+    let mut found = 0;
+    for operator in body.iter().flatten() {
+        lines = fingerprint(lines, &format!("{} {}\n", operator.1, operator.0.name()));
+        found += 1;
+    }
+    assert_eq!(found.to_string(), cells[4], "{cells:?}");
+    assert_eq!(format!("{lines:016x}"), cells[5], "{cells:?}");
+    match body.error() {
+        None => assert_eq!(cells[0], "0", "{cells:?}"),
+        Some(error) => {
+            assert_eq!(
+                error.number().to_string(),
+                cells[1].trim_start_matches('E'),
+                "{cells:?}"
+            );
+            assert_eq!(error.offset().to_string(), cells[2], "{cells:?}");
+            assert_eq!(error.message(), cells[3], "{cells:?}");
+        }
+    }
+}
+
+/// All answers, by one call a body.
+fn look_at_all() -> usize {
+    answers()
+        .map(|cells| {
+            look_at(
+                &Body::read(&bytes_of(cells[2]), 0, features_of(&cells)),
+                &cells[3..],
+            )
+        })
+        .count()
 }
 
 #[test]
 fn bodies() {
-    let rows = ANSWERS.lines().skip(1).take_while(|line| !line.starts_with("name\t"));
+    assert_eq!(look_at_all(), 8561);
+}
+
+#[test]
+fn threads() {
+    let others = [
+        std::thread::spawn(look_at_all),
+        std::thread::spawn(look_at_all),
+    ];
+    assert!(
+        others
+            .into_iter()
+            .all(|other| other.join().unwrap() == 8561)
+    );
+}
+
+#[test]
+#[ignore = "wants WASM_OPERATORS_BODIES: a folder of NAME.bodies and NAME.expected.tsv"]
+fn files_of_bodies() {
+    let folder = std::env::var("WASM_OPERATORS_BODIES").expect("the folder");
+    let paths = std::fs::read_dir(folder)
+        .unwrap()
+        .map(|entry| entry.unwrap().path());
     let mut count = 0;
-    for row in rows {
-        let cells: Vec<&str> = row.split('\t').collect();
-        let bytes = bytes_of(cells[2]);
-        let body = Body::read(&bytes, 0, WasmFeatures::from_bits(cells[1].parse().unwrap()).unwrap());
-        let mut lines = 14695981039346656037;
-        let mut found = 0;
-        for operator in body.iter().flatten() {
-            lines = fingerprint(lines, &format!("{} {}\n", operator.1, operator.0.name()));
-            found += 1;
+    for path in paths.filter(|path| path.extension().is_some_and(|end| end == "bodies")) {
+        let bytes = std::fs::read(&path).unwrap();
+        let expected = std::fs::read_to_string(path.with_extension("expected.tsv")).unwrap();
+        let mut rest = bytes.as_slice();
+        for row in expected.lines() {
+            let (head, behind) = rest.split_first_chunk::<4>().unwrap();
+            let (body, others) = behind.split_at(u32::from_le_bytes(*head) as usize);
+            let cells: Vec<&str> = row.split('\t').collect();
+            look_at(&Body::read(body, 0, WasmFeatures::all()), &cells[2..]);
+            rest = others;
+            count += 1;
         }
-        assert_eq!(found.to_string(), cells[7], "{row}");
-        assert_eq!(format!("{lines:016x}"), cells[8], "{row}");
-        match body.error() {
-            None => assert_eq!(cells[3], "0", "{row}"),
-            Some(error) => {
-                assert_eq!(error.number().to_string(), cells[4].trim_start_matches('E'), "{row}");
-                assert_eq!(error.offset().to_string(), cells[5], "{row}");
-                assert_eq!(error.message(), cells[6], "{row}");
-            }
-        }
-        count += 1;
+        assert!(rest.is_empty());
     }
-    assert_eq!(count, 8561);
+    assert!(count > 0);
 }
 
 /// What one read after another answers, each also of a clone.
@@ -59,25 +130,133 @@ fn one_by_one(bytes: &[u8], features: WasmFeatures) -> (Vec<String>, Result<(), 
     (found, end)
 }
 
+/// How many operators were visited, and how many of these are constants.
+#[derive(Default)]
+struct Tally {
+    all: usize,
+    constants: usize,
+}
+
+impl<'a> VisitOperator<'a> for Tally {
+    type Output = ();
+
+    fn visit_any(&mut self, _operator: Operator<'a>) {
+        self.all += 1;
+    }
+
+    fn visit_i32_const(&mut self, _value: i32) {
+        self.all += 1;
+        self.constants += 1;
+    }
+}
+
+/// All operators of a body, visited.
+fn visited(bytes: &[u8], features: WasmFeatures) -> Tally {
+    let mut tally = Tally::default();
+    if let Ok(mut reader) = OperatorsReader::of_body(bytes, 0, features) {
+        while !reader.eof() && reader.visit_operator(&mut tally).is_ok() {}
+    }
+    tally
+}
+
 #[test]
 fn readers() {
-    let rows = ANSWERS.lines().skip(1).take_while(|line| !line.starts_with("name\t"));
-    for row in rows {
-        let cells: Vec<&str> = row.split('\t').collect();
+    for cells in answers() {
         let bytes = bytes_of(cells[2]);
-        let features = WasmFeatures::from_bits(cells[1].parse().unwrap()).unwrap();
+        let features = features_of(&cells);
         let body = Body::read(&bytes, 0, features);
+        let all: Vec<_> = body.iter().flatten().collect();
+        let wanted: Vec<String> = all
+            .iter()
+            .map(|(operator, offset)| format!("{offset} {operator:?}"))
+            .collect();
         let (found, end) = one_by_one(&bytes, features);
-        let wanted: Vec<String> = body.iter().flatten().map(|(operator, offset)| format!("{offset} {operator:?}")).collect();
-        assert_eq!(found, wanted, "{row}");
-        assert_eq!(end.err().as_ref(), body.error(), "{row}");
+        assert_eq!(found, wanted, "{cells:?}");
+        assert_eq!(end.err().as_ref(), body.error(), "{cells:?}");
+
+        let tally = visited(&bytes, features);
+        let constants = all
+            .iter()
+            .filter(|(operator, _)| matches!(operator, Operator::I32Const { .. }))
+            .count();
+        assert_eq!(
+            (tally.all, tally.constants),
+            (all.len(), constants),
+            "{cells:?}"
+        );
     }
 }
 
 #[test]
+fn iterators() {
+    for cells in answers() {
+        let bytes = bytes_of(cells[2]);
+        let features = features_of(&cells);
+        let body = Body::read(&bytes, 0, features);
+        let Ok(reader) = OperatorsReader::of_body(&bytes, 0, features) else {
+            assert!(body.is_empty() && body.error().is_some(), "{cells:?}");
+            continue;
+        };
+        let mut operators = reader.clone().into_iter_with_offsets();
+        let found: Vec<_> = operators
+            .by_ref()
+            .take_while(|operator| operator.is_ok())
+            .flatten()
+            .collect();
+        assert_eq!(
+            found,
+            body.iter().flatten().collect::<Vec<_>>(),
+            "{cells:?}"
+        );
+        assert_eq!(operators.next(), None, "{cells:?}");
+        match reader.read_all() {
+            Ok(operators) => assert_eq!((operators, body.error()), (found, None), "{cells:?}"),
+            Err(error) => assert_eq!(Some(&error), body.error(), "{cells:?}"),
+        }
+    }
+}
+
+/// The members of an operator's list as the samples write them; of a select's only type that one.
+fn list_of(operator: &Operator<'_>) -> Option<String> {
+    let type_of = |ty: &ValType| match ty {
+        ValType::Ref(ty) => format!("{}Func", if ty.is_nullable() { "?" } else { "!" }),
+        ty => format!("{ty:?}"),
+    };
+    let catch_of = |catch: &Catch| match *catch {
+        Catch::One { tag, label } => format!("one:{tag}:{label}"),
+        Catch::OneRef { tag, label } => format!("oneref:{tag}:{label}"),
+        Catch::All { label } => format!("all:{label}"),
+        Catch::AllRef { label } => format!("allref:{label}"),
+    };
+    let handle_of = |handle: &Handle| match *handle {
+        Handle::OnLabel { tag, label } => format!("label:{tag}:{label}"),
+        Handle::OnSwitch { tag } => format!("switch:{tag}"),
+    };
+    let members: Vec<String> = match operator {
+        Operator::BrTable { targets } => targets
+            .targets()
+            .map(|target| target.unwrap().to_string())
+            .collect(),
+        Operator::TypedSelect { ty } => return Some(format!("={}", type_of(ty))),
+        Operator::TypedSelectMulti { tys } => tys.iter().map(type_of).collect(),
+        Operator::TryTable { try_table } => try_table.catches.iter().map(catch_of).collect(),
+        Operator::Resume { resume_table, .. }
+        | Operator::ResumeThrow { resume_table, .. }
+        | Operator::ResumeThrowRef { resume_table, .. } => {
+            resume_table.handlers.iter().map(handle_of).collect()
+        }
+        _ => return None,
+    };
+    Some(format!("[{}]", members.join(",")))
+}
+
+#[test]
 fn samples() {
-    let rows = ANSWERS.lines().skip_while(|line| !line.starts_with("name\t")).skip(1);
-    let mut count = 0;
+    let rows = ANSWERS
+        .lines()
+        .skip_while(|line| !line.starts_with("name\t"))
+        .skip(1);
+    let (mut count, mut lists) = (0, 0);
     for row in rows {
         let cells: Vec<&str> = row.split('\t').collect();
         let bytes = bytes_of(&[cells[2], cells[3], cells[4]].concat());
@@ -86,7 +265,30 @@ fn samples() {
         let operators = body.read_all().unwrap();
         let (operator, _) = operators.iter().find(|(_, offset)| *offset == at).unwrap();
         assert_eq!(operator.name(), cells[0], "{row}");
+        if let Some(list) = list_of(operator) {
+            assert!(cells[5].contains(&list), "{row}: {list}");
+            lists += 1;
+        }
         count += 1;
     }
-    assert_eq!(count, 1256);
+    assert_eq!((count, lists), (1256, 14));
+}
+
+#[test]
+fn offsets() {
+    let at = u64::MAX - 3;
+    let body = Body::read(&[0, 1, 11], at, WasmFeatures::empty());
+    let offsets: Vec<u64> = body
+        .read_all()
+        .unwrap()
+        .iter()
+        .map(|(_, offset)| *offset)
+        .collect();
+    assert_eq!(offsets, [at + 1, at + 2]);
+    let past = Body::read(&[0, 1, 11], at + 1, WasmFeatures::empty());
+    assert_eq!(
+        past.error().unwrap().message(),
+        "offsets do not fit in 64 bits"
+    );
+    assert!(OperatorsReader::new(&[1, 11], at + 2, WasmFeatures::empty()).is_err());
 }

@@ -5,7 +5,7 @@ use Rattle.wasm_operators.specs.Expression.{Placed}
 use Rattle.wasm_operators.specs.Visiting.{VisitRun, Visited}
 use Rattle.wasm_view.specs.View.{views}
 use Rattle.wasm_view.specs.declared.view.WasmOperator.{WasmOperator}
-use Rattle.wasm_c.specs.Reads.{written}
+use Rattle.wasm_view.specs.Lists.{written}
 use Rattle.wasm_c.proofs.Written.{written_behind, views_join, views_length}
 
 counted_run : {V A : Type 0} (total : V → ℕ) (placed : Placed) (answers : List A) (before after : V) →

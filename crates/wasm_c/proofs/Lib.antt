@@ -10,3 +10,7 @@ pub mod Told
 pub mod Stepped
 pub mod Steps
 pub mod Batch
+pub mod Named
+pub mod Members
+pub mod Whole
+pub mod Room

@@ -1,7 +1,7 @@
 -- Pieces of a text, one behind the other.
 use Rattle.std.proofs.Common.{◌≡◌, ℕ, ◌≤◌, ◌<◌, List, [], ◌∷◌, ◌++◌, length, set, get_or, take, zero, suc, refl, sym, ap, subst, ◌∙◌, arith, append_assoc, length-append}
 use Rattle.std.proofs.lemmas.List.{append-nil}
-use Rattle.wasm_c.specs.Reads.{written}
+use Rattle.wasm_view.specs.Lists.{written}
 use Rattle.wasm_c.specs.Texts.{PutsPiece}
 use Rattle.wasm_c.proofs.Written.{written_none}
 

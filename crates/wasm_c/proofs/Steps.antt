@@ -59,7 +59,7 @@ opened_or_not turns_catch_all = inr (λ h. h, refl)
 opened_or_not (delegates depth) = inr (λ h. h, refl)
 opened_or_not ends = inr (λ h. h, refl)
 
-kinds_length : (list : List ℕ) (n : ℕ) → n ≤ length list → length (kinds (take n list)) ≡ n
+pub kinds_length : (list : List ℕ) (n : ℕ) → n ≤ length list → length (kinds (take n list)) ≡ n
 kinds_length list zero within = refl
 kinds_length [] (suc n) within = absurd (omega (arith, within))
 kinds_length (x ∷ xs) (suc n) within = ap suc (kinds_length xs n (omega (arith, within)))
@@ -126,6 +126,21 @@ abbrev pub Viewed : Reader → FrameKind → Reader → WasmOperator → FrameCh
 Viewed r kind ahead view change = (op : Operator) × (text : List ℕ) × EncodesAllowed r.features kind text op × Takes r ahead text ×
     (view ≡ view_of (op, offset_of r)) × (change ≡ change_of (role_of op))
 
+-- Where a reader stands behind it.
+stands_behind : (bytes : List ℕ) (old new : WasmReader) (ahead : Reader) (text : List ℕ) → Takes (reader_at bytes old) ahead text →
+    new.position ≡ ahead.position → new.offset ≡ old.offset → new.features ≡ old.features → reader_at bytes new ≡ ahead
+stands_behind bytes old new ahead text takes moved offset features =
+    ap (λ o. reader_at bytes (record new { offset = o })) offset ∙
+    ap (λ f. reader_at bytes (record new { offset = old.offset; features = f })) features ∙ ap (at_position (reader_at bytes old)) moved ∙
+    moved_to (reader_at bytes old) ahead text takes
+
+pub stands_plain : (bytes : List ℕ) (old new : WasmReader) (start ahead : Reader) (kind : FrameKind) (view : WasmOperator) (change : FrameChange) →
+    start ≡ reader_at bytes old → Viewed start kind ahead view change → new.position ≡ ahead.position → new.offset ≡ old.offset →
+    new.features ≡ old.features → ahead ≡ reader_at bytes new
+stands_plain bytes old new start ahead kind view change same viewed moved offset features =
+    let v = subst (λ r. Viewed r kind ahead view change) same viewed in
+    sym (stands_behind bytes old new ahead v.1 v.3 moved offset features)
+
 -- One that is taken.
 pub takes_plain : (bytes : List ℕ) (old new : WasmReader) (frames_old frames_new : List ℕ) (start ahead : Reader) (kind : FrameKind) (view : WasmOperator)
     (change : FrameChange) → IsReader bytes (length frames_old) old → start ≡ reader_at bytes old → Viewed start kind ahead view change → 0 < old.depth →
@@ -137,9 +152,7 @@ pub takes_plain : (bytes : List ℕ) (old new : WasmReader) (frames_old frames_n
 takes_plain bytes old new frames_old frames_new start ahead kind view change was same viewed some inside changed fits most others room moved offset features =
     let v = subst (λ r. Viewed r kind ahead view change) same viewed in
     let r = reader_at bytes old in
-    let stands : reader_at bytes new ≡ ahead =
-    ap (λ o. reader_at bytes (record new { offset = o })) offset ∙
-    ap (λ f. reader_at bytes (record new { offset = old.offset; features = f })) features ∙ ap (at_position r) moved ∙ moved_to r ahead v.1 v.3 in
+    let stands = stands_behind bytes old new ahead v.1 v.3 moved offset features in
     let place = within_taken r ahead v.1 v.3 was.position in
     record {
       op = v.0;
@@ -155,6 +168,13 @@ takes_plain bytes old new frames_old frames_new start ahead kind view change was
       };
       same_room = room;
     }
+
+-- None is read where no frame is open.
+pub outside_plain : (bytes frames : List ℕ) (r : WasmReader) (start : Reader) (e : Error) (offset : ℕ) (refusal : WasmRefusal) →
+    IsReader bytes (length frames) r → start ≡ reader_at bytes r → r.depth ≡ 0 → e.message ≡ message.OperatorsRemaining → e.offset ≡ offset →
+    offset ≡ offset_of start → refusal ≡ refusal_of e → StopsPlain refusal bytes r frames
+outside_plain bytes frames r start e offset refusal was same none is at place told =
+    inl (was, e, told, stops_outside e bytes frames r none is (at ∙ place ∙ ap offset_of same))
 
 -- One that finds no room.
 pub no_room_plain : (bytes frames : List ℕ) (r : WasmReader) (start ahead : Reader) (kind : FrameKind) (view : WasmOperator) (change : FrameChange) (offset : ℕ)

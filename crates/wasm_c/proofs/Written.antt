@@ -7,7 +7,7 @@ use Rattle.wasm_operators.specs.instr.declared.operator.Operator.{Operator}
 use Rattle.wasm_operators.specs.Expression.{Placed}
 use Rattle.wasm_view.specs.View.{view_of, views}
 use Rattle.wasm_view.specs.declared.view.WasmOperator.{WasmOperator}
-use Rattle.wasm_c.specs.Reads.{written}
+use Rattle.wasm_view.specs.Lists.{written}
 
 -- Nothing to write.
 pub written_none : {X : Type 0} (old : List X) → old ≡ written [] old

@@ -3,3 +3,4 @@ pub mod Reads
 pub mod Texts
 pub mod Frames
 pub mod Steps
+pub mod Members

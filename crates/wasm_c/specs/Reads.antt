@@ -1,6 +1,6 @@
 -- What reading a body as plain data promises.
 -- WebAssembly Core Specification 3.0: Binary Format, Modules, Code Section.
-use Rattle.std.specs.Prelude.{◌≡◌, ℕ, ◌+◌, ◌^◌, ◌<◌, List, [], ◌∷◌, length, Result, Ok, Err}
+use Rattle.std.specs.Prelude.{◌≡◌, ℕ, ◌+◌, ◌^◌, ◌<◌, List, [], length, Result, Ok, Err}
 use Rattle.wasm_operators.specs.below.bytes.error.Error.{Error}
 use Rattle.wasm_operators.specs.below.Source.{Reader, source_of, offset_of, end_of, Takes}
 use Rattle.wasm_operators.specs.Body.{EncodesBody, StopsBody}
@@ -10,16 +10,11 @@ use Rattle.wasm_operators.specs.Expression.{Placed, operators, IsAny, LaidOut, E
 use Rattle.wasm_operators.specs.Headline.{StoodBefore, ReadsBeginning}
 use Rattle.wasm_operators.specs.Locals.{Declaration}
 use Rattle.wasm_operators.specs.Reading.{State, Anywhere}
+use Rattle.wasm_view.specs.Lists.{written}
 use Rattle.wasm_view.specs.View.{views}
 use Rattle.wasm_view.specs.declared.view.WasmOperator.{WasmOperator}
 use Rattle.wasm_c.specs.declared.refusal.WasmRefusal.{WasmRefusal}
 use Rattle.wasm_c.specs.Refused.{refusal_at}
-
--- The second list with the first in place of its beginning, as far as it has room.
-abbrev pub written : {X : Type 0} → List X → List X → List X
-written items [] = []
-written [] (old ∷ olds) = old ∷ olds
-written (item ∷ items) (old ∷ olds) = item ∷ written items olds
 
 -- The offsets of the bytes, and the one behind them, fit in 64 bits.
 abbrev pub IsWithin : ℕ → List ℕ → Type 0

@@ -75,7 +75,13 @@ abbrev pub ReadsPlain : Result WasmOperator WasmRefusal → List ℕ → WasmRea
 ReadsPlain (Ok view) bytes old new frames_old frames_new = TakesPlain bytes old new frames_old frames_new view
 ReadsPlain (Err r) bytes old new frames_old frames_new = (new ≡ old) × (frames_new ≡ frames_old) × StopsPlain r bytes old frames_old
 
--- The same of a call for C, with a place for the operator.
+-- The same where the bytes that the reader has ahead are at hand, which then stand where it does.
+abbrev pub StepsPlain : Result (Unit {0}) WasmRefusal → List ℕ → WasmReader → WasmReader → List ℕ → List ℕ → WasmOperator → Reader → Type 0
+StepsPlain (Ok done) bytes old new frames_old frames_new view ahead =
+    TakesPlain bytes old new frames_old frames_new view × (ahead ≡ reader_at bytes new)
+StepsPlain (Err r) bytes old new frames_old frames_new view ahead = (new ≡ old) × (frames_new ≡ frames_old) × StopsPlain r bytes old frames_old
+
+-- One read, for C, with a place for the operator.
 abbrev pub AnswersNext : WasmRefusal → List ℕ → WasmReader → WasmReader → List ℕ → List ℕ → WasmOperator → WasmOperator → Type 0
 AnswersNext r bytes old new frames_old frames_new out_old out_new =
     ((r ≡ no_refusal (offset_of (reader_at bytes new))) × ReadsPlain (Ok out_new) bytes old new frames_old frames_new)

@@ -17,7 +17,7 @@ use Rattle.wasm_operators.specs.below.bytes.message.SizeName.TheVariants as size
 use Rattle.wasm_operators.specs.below.bytes.message.TypeName.{TypeName}
 use Rattle.wasm_operators.specs.below.bytes.message.TypeName.TheVariants as type_name
 use Rattle.wasm_operators.specs.below.Refusal.{number_name_text, size_name_text, instruction_name_text, leading_byte_name_text, type_name_text}
-use Rattle.wasm_c.specs.Reads.{written}
+use Rattle.wasm_view.specs.Lists.{written}
 use Rattle.wasm_c.specs.declared.refusal.WasmRefusal.{WasmRefusal}
 
 abbrev pub frame_name_text : FrameName → List ℕ

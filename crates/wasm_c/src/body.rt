@@ -4,7 +4,8 @@ ghost use Rattle.wasm_operators.specs.below.Source.{reader_of, end_of};
 ghost use Rattle.wasm_operators.specs.Expression.{Placed};
 ghost use Rattle.wasm_operators.specs.Headline.{StoodBefore};
 ghost use Rattle.wasm_view.specs.View.{views};
-ghost use Rattle.wasm_c.specs.Reads.{written, IsWithin, FindsBody, FindsOperators, StandsBehind};
+ghost use Rattle.wasm_c.specs.Reads.{IsWithin, FindsBody, FindsOperators, StandsBehind};
+ghost use Rattle.wasm_view.specs.Lists.{written};
 
 use crate::counter::Counter;
 use crate::viewer::Viewer;

@@ -6,9 +6,15 @@ ghost use Rattle.std.specs.Prelude.{◌≡◌, ◌<◌, ◌≤◌, ◌+◌, ◌^
 ghost use Rattle.wasm_operators.specs.below.Features.{features_of};
 ghost use Rattle.wasm_operators.specs.below.Source.{reader_of, Takes};
 ghost use Rattle.wasm_operators.specs.below.bytes.error.Error.{Error};
+ghost use Rattle.wasm_operators.specs.instr.Row.{name_of};
+ghost use Rattle.wasm_operators.specs.instr.declared.operator.Operator.{Operator};
 ghost use Rattle.wasm_operators.specs.Expression.{Placed};
 ghost use Rattle.wasm_operators.specs.Headline.{IsWithinDepth};
 ghost use Rattle.wasm_operators.specs.Reading.{State, IsFresh};
+ghost use Rattle.wasm_view.specs.Lists.{targets_of, types_of, catches_of, handles_of};
+ghost use Rattle.wasm_view.specs.Names.{name_at};
+ghost use Rattle.wasm_view.specs.View.{view_of};
+ghost use Rattle.wasm_c.specs.Members.{AnswersList};
 ghost use Rattle.wasm_c.specs.Reads.{IsWithin, FindsPlain};
 ghost use Rattle.wasm_c.specs.Refused.{misuse, refusal_of};
 ghost use Rattle.wasm_c.specs.Steps.{AnswersNext, ReadsBatch, FinishesPlain, OpensExpression, OpensPlain};
@@ -17,26 +23,32 @@ ghost use Rattle.wasm_c.specs.Texts.{message_text, text_told, AnswersText};
 mod body;
 mod counter;
 mod frames;
+pub mod laws;
+mod lists;
+mod name;
 mod reader;
 mod refusal;
 mod text;
 mod viewer;
 
 use crate::body::read_body;
+use crate::lists::{catches_at, handles_at, targets_at, types_at};
+use crate::name::write_name;
 use crate::reader::WasmReader;
 use crate::refusal::{PAST_OFFSETS, UNKNOWN_FEATURES, WasmRefusal};
 use std::alloc::Global;
 use wasm_operators::WasmFeatures;
-use wasm_view::WasmOperator;
+use wasm_view::laws::names;
+use wasm_view::{WasmHandler, WasmOperator, WasmType, name_at};
 
 /// The version of the structs and calls, which is that of `wasm_operators.h`.
-const VERSION: u32 = 2;
+const VERSION: u32 = 3;
 
 /// The version of the structs and calls. A header with another `WASM_OPERATORS_VERSION` is not this
 /// library's.
 #[unsafe(no_mangle)]
 pub extern "C" fn wasm_operators_version() -> u32
-    ensures { result ≡ 2 }
+    ensures { result ≡ 3 }
 {
     VERSION
 }
@@ -92,6 +104,18 @@ pub extern "C" fn wasm_refusal_text(refusal: &WasmRefusal, text: &mut [u8]) -> u
     ensures numbers { AnswersText (text_told refusal.now) text.old result text.new }
 {
     text::write_text(refusal.number, refusal.name, refusal.value, text)
+}
+
+/// The name of the operator of this plain data, as much of it as there is room for, without a byte 0
+/// behind it. Answers its whole length in bytes; 0 where its number is that of none.
+#[unsafe(no_mangle)]
+pub extern "C" fn wasm_operator_name(operator: &WasmOperator, name: &mut [u8]) -> usize
+    ensures named { (op : Operator) (at : ℕ) → operator.now ≡ view_of (op, at)
+        → AnswersText (Some (name_of op)) name.old result name.new }
+    ensures numbers { AnswersText (Some (name_at operator.now.opcode operator.now.shape)) name.old result name.new }
+{
+    names();
+    write_name(name_at(operator.opcode, operator.shape), name)
 }
 
 /// Opens an expression: a reader that has read none of the bytes, the first of which has this offset,
@@ -205,4 +229,91 @@ pub extern "C" fn wasm_frames_needed(bytes_length: usize) -> usize
         → IsWithinDepth opened now → length text ≤ bytes_length → length now.frames ≤ result }
 {
     bytes_length / 2 + 1
+}
+
+/// The targets of the `br_table` that begins at the offset `at` of the bytes, the first of which has the
+/// offset `offset`: those from the index `index` on, as many as there is room for, without the default
+/// one. Answers 0; `count` is how many there are, and what is behind them in `out` stays as it was.
+///
+/// Else the number of the refusal, and nothing changes but `refusal`: that of what stands there, which
+/// is read as inside a block; 104 where another operator does, or `at` is the offset of none of the
+/// bytes; 100 and 101 as `wasm_read_body`.
+#[unsafe(no_mangle)]
+pub extern "C" fn wasm_br_table_targets(
+    alloc: Global,
+    bytes: &[u8],
+    offset: u64,
+    features: u32,
+    at: u64,
+    index: usize,
+    out: &mut [u32],
+    count: &mut usize,
+    refusal: &mut WasmRefusal,
+) -> u32
+    ensures answer { result ≡ refusal.new.number }
+    ensures list { AnswersList targets_of refusal.new bytes.now offset features at index count.old count.new out.old out.new }
+{
+    *refusal = targets_at(alloc, bytes, offset, features, at, index, out, count);
+    refusal.number
+}
+
+/// The types of the `select` with types that begins there, as `wasm_br_table_targets`.
+#[unsafe(no_mangle)]
+pub extern "C" fn wasm_select_types(
+    alloc: Global,
+    bytes: &[u8],
+    offset: u64,
+    features: u32,
+    at: u64,
+    index: usize,
+    out: &mut [WasmType],
+    count: &mut usize,
+    refusal: &mut WasmRefusal,
+) -> u32
+    ensures answer { result ≡ refusal.new.number }
+    ensures list { AnswersList types_of refusal.new bytes.now offset features at index count.old count.new out.old out.new }
+{
+    *refusal = types_at(alloc, bytes, offset, features, at, index, out, count);
+    refusal.number
+}
+
+/// The catches of the `try_table` that begins there, as `wasm_br_table_targets`.
+#[unsafe(no_mangle)]
+pub extern "C" fn wasm_try_table_catches(
+    alloc: Global,
+    bytes: &[u8],
+    offset: u64,
+    features: u32,
+    at: u64,
+    index: usize,
+    out: &mut [WasmHandler],
+    count: &mut usize,
+    refusal: &mut WasmRefusal,
+) -> u32
+    ensures answer { result ≡ refusal.new.number }
+    ensures list { AnswersList catches_of refusal.new bytes.now offset features at index count.old count.new out.old out.new }
+{
+    *refusal = catches_at(alloc, bytes, offset, features, at, index, out, count);
+    refusal.number
+}
+
+/// The clauses of the `resume`, `resume_throw` or `resume_throw_ref` that begins there, as
+/// `wasm_br_table_targets`.
+#[unsafe(no_mangle)]
+pub extern "C" fn wasm_resume_handlers(
+    alloc: Global,
+    bytes: &[u8],
+    offset: u64,
+    features: u32,
+    at: u64,
+    index: usize,
+    out: &mut [WasmHandler],
+    count: &mut usize,
+    refusal: &mut WasmRefusal,
+) -> u32
+    ensures answer { result ≡ refusal.new.number }
+    ensures list { AnswersList handles_of refusal.new bytes.now offset features at index count.old count.new out.old out.new }
+{
+    *refusal = handles_at(alloc, bytes, offset, features, at, index, out, count);
+    refusal.number
 }

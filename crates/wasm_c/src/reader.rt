@@ -10,7 +10,7 @@ ghost use Rattle.wasm_view.specs.View.{view_of};
 ghost use Rattle.wasm_operators.specs.Locals.{ReadsPastLocals};
 ghost use Rattle.wasm_c.specs.Frames.{change_of};
 ghost use Rattle.wasm_c.specs.Reads.{IsWithin};
-ghost use Rattle.wasm_c.specs.Steps.{IsReader, reader_at, ReadsPlain, ReadsBatch, FinishesPlain, OpensExpression, OpensPlain, fresh_reader};
+ghost use Rattle.wasm_c.specs.Steps.{IsReader, reader_at, StepsPlain, ReadsPlain, ReadsBatch, FinishesPlain, OpensExpression, OpensPlain, fresh_reader};
 
 use crate::frames::{BLOCK, FrameChange, change_frames, innermost};
 use crate::refusal::{NO_ROOM, NOT_A_READER, PAST_OFFSETS, UNKNOWN_FEATURES, WasmRefusal};
@@ -37,35 +37,24 @@ pub struct WasmReader {
     pub reserved: u32,
 }
 
-/// An operator that was read.
-#[derive(Debug, Drop)]
-struct Viewed {
-    view: WasmOperator,
-    change: FrameChange,
-}
-
-/// Reads an operator inside this frame.
-fn read_operator(alloc: Global, reader: &mut BinaryReader<'_>, frame: FrameKind) -> Result<Viewed>
-    ensures taken { IfOk result (λ viewed. (op : Operator) × (text : List ℕ)
+/// Reads an operator inside this frame: its plain data, and what it does to the frames, are the
+/// visitor's then.
+#[inline(always)]
+fn view_operator(
+    alloc: Global,
+    reader: &mut BinaryReader<'_>,
+    frame: FrameKind,
+    viewer: &mut Viewer,
+) -> Result<()>
+    ensures taken { IfOk result (λ _. (op : Operator) × (text : List ℕ)
         × EncodesAllowed reader.old.features frame text op × Takes reader.old reader.new text
-        × (viewed.view ≡ view_of (op, offset_of reader.old)) × (viewed.change ≡ change_of (role_of op))) }
+        × (viewer.new.view ≡ view_of (op, offset_of reader.old)) × (viewer.new.change ≡ change_of (role_of op))) }
     ensures refused { IfErr result (λ e. RefusesOperator (EncodesAllowed reader.old.features frame)
         (OperatorFault reader.old.features frame) e reader.old reader.new) }
 {
-    let offset = reader.original_position();
-    let mut viewer = Viewer {
-        frame,
-        offset,
-        view: WasmOperator::bare(offset, 0, 0),
-        change: FrameChange::Stays,
-    };
-    match reader.visit_operator_simd(alloc, &mut viewer) {
-        Ok(()) => Ok(Viewed {
-            view: viewer.view,
-            change: viewer.change,
-        }),
-        Err(error) => Err(error),
-    }
+    viewer.frame = frame;
+    viewer.offset = reader.original_position();
+    reader.visit_operator_simd(alloc, viewer)
 }
 
 /// A reader of what stands behind the locals of a body.
@@ -97,6 +86,38 @@ impl WasmReader {
         }
     }
 
+    /// Reads one operator more of the bytes ahead, where this stands: its plain data is the visitor's
+    /// then.
+    #[inline(always)]
+    fn step(
+        &mut self,
+        alloc: Global,
+        ahead: &mut BinaryReader<'_>,
+        frames: &mut [u8],
+        viewer: &mut Viewer,
+    ) -> std::result::Result<(), WasmRefusal>
+        requires { self.old.depth ≤ length frames.old }
+        ensures { (bytes : List ℕ) → IsReader bytes (length frames.old) self.old → ahead.old ≡ reader_at bytes self.old
+            → StepsPlain result bytes self.old self.new frames.old frames.new viewer.new.view ahead.new }
+    {
+        let depth = self.depth as usize;
+        let offset = ahead.original_position();
+        if depth == 0 {
+            return Err(WasmRefusal::of(&Error::new(Message::OperatorsRemaining, offset)));
+        }
+        match view_operator(alloc, ahead, innermost(depth, frames), viewer) {
+            Ok(()) => {
+                if viewer.change.opens() && depth == frames.len() {
+                    return Err(WasmRefusal::misuse(NO_ROOM, offset));
+                }
+                self.depth = change_frames(viewer.change, depth, frames) as u64;
+                self.position = ahead.current_position() as u64;
+                Ok(())
+            }
+            Err(error) => Err(WasmRefusal::of(&error)),
+        }
+    }
+
     /// Reads one operator more.
     pub fn read_next(
         &mut self,
@@ -109,21 +130,10 @@ impl WasmReader {
         let Some(mut ahead) = self.bytes_ahead(bytes, frames.len()) else {
             return Err(WasmRefusal::misuse(NOT_A_READER, self.offset));
         };
-        let depth = self.depth as usize;
-        let offset = ahead.original_position();
-        if depth == 0 {
-            return Err(WasmRefusal::of(&Error::new(Message::OperatorsRemaining, offset)));
-        }
-        match read_operator(alloc, &mut ahead, innermost(depth, frames)) {
-            Ok(viewed) => {
-                if viewed.change.opens() && depth == frames.len() {
-                    return Err(WasmRefusal::misuse(NO_ROOM, offset));
-                }
-                self.depth = change_frames(viewed.change, depth, frames) as u64;
-                self.position = ahead.current_position() as u64;
-                Ok(viewed.view)
-            }
-            Err(error) => Err(WasmRefusal::of(&error)),
+        let mut viewer = Viewer::new();
+        match self.step(alloc, &mut ahead, frames, &mut viewer) {
+            Ok(()) => Ok(viewer.view),
+            Err(refused) => Err(refused),
         }
     }
 
@@ -139,10 +149,15 @@ impl WasmReader {
         ensures { ReadsBatch result count.new bytes.now self.old self.new frames.old frames.new out.old out.new }
     {
         let mut found: usize = 0;
-        'places: while found < out.len() && self.position < bytes.len() as u64 {
-            match self.read_next(alloc, bytes, frames) {
-                Ok(view) => {
-                    out[found] = view;
+        *count = found;
+        let Some(mut ahead) = self.bytes_ahead(bytes, frames.len()) else {
+            return WasmRefusal::misuse(NOT_A_READER, self.offset);
+        };
+        let mut viewer = Viewer::new();
+        'places: while found < out.len() && !ahead.eof() {
+            match self.step(alloc, &mut ahead, frames, &mut viewer) {
+                Ok(()) => {
+                    out[found] = viewer.view;
                     found += 1;
                 }
                 Err(refused) => {
@@ -152,10 +167,7 @@ impl WasmReader {
             }
         }
         *count = found;
-        match self.bytes_ahead(bytes, frames.len()) {
-            Some(ahead) => WasmRefusal::none(ahead.original_position()),
-            None => WasmRefusal::misuse(NOT_A_READER, self.offset),
-        }
+        WasmRefusal::none(ahead.original_position())
     }
 
     /// Whether an expression ends here.

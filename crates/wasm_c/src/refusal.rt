@@ -20,6 +20,9 @@ pub const NO_ROOM: u32 = 102;
 /// What is answered where plain data is not that of a reader of these bytes and frames.
 pub const NOT_A_READER: u32 = 103;
 
+/// What is answered where no operator with such a list begins at an offset.
+pub const NO_LIST: u32 = 104;
+
 /// A refusal as plain data: 24 bytes, of which the last four are 0.
 #[repr(C)]
 #[derive(Clone, Copy, Debug, PartialEq, Eq)]

@@ -3,7 +3,7 @@ ghost use Rattle.std.specs.Prelude.{◌≡◌, ◌+◌, ◌*◌, ◌^◌, ◌<�
 ghost use Rattle.std.specs.Option.{option_map};
 ghost use Rattle.wasm_operators.specs.below.bytes.message.Message.TheVariants as message;
 ghost use Rattle.std.specs.Fmt.{decimal, digit_glyph};
-ghost use Rattle.wasm_c.specs.Reads.{written};
+ghost use Rattle.wasm_view.specs.Lists.{written};
 ghost use Rattle.wasm_c.specs.Texts.{hexadecimal, eight_digits, message_text, frame_name_text, instruction_told, integer_told, size_told, frames_told, ordering_told, leading_told, type_told, bare_told, message_told, AnswersText, PutsPiece};
 
 use crate::refusal::{

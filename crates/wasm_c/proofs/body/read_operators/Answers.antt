@@ -5,7 +5,7 @@ use Rattle.wasm_operators.specs.Expression.{operators, IsAny}
 use Rattle.wasm_operators.specs.Reading.{Adds, Anywhere}
 use Rattle.wasm_operators.specs.Headline.{ReadsRest}
 use Rattle.wasm_view.specs.View.{views}
-use Rattle.wasm_c.specs.Reads.{written}
+use Rattle.wasm_view.specs.Lists.{written}
 use Rattle.wasm_c.proofs.Behind.{OneBeginning, OneLayout}
 use Rattle.wasm_c.specs.declared.counter.Counter.{Counter}
 use Rattle.wasm_c.proofs.Counted.{counted_on, array_full}

@@ -1,0 +1,42 @@
+-- Along the bytes that a reader was opened over, half of them and one are room enough for frames.
+use Rattle.std.proofs.Common.{◌≡◌, ℕ, ◌+◌, ◌*◌, ◌/◌, ◌≤◌, List, [], ◌∷◌, length, sym, ap, subst, ◌∙◌, arith, length-append, length-drop}
+use Rattle.wasm_operators.specs.below.Features.{features_of}
+use Rattle.wasm_operators.specs.below.Source.{rest}
+use Rattle.wasm_operators.specs.below.bytes.features.WasmFeatures.{WasmFeatures}
+use Rattle.wasm_operators.specs.instr.declared.operator.Operator.{Operator}
+use Rattle.wasm_operators.specs.instr.Encoding.{EncodesOperator}
+use Rattle.wasm_operators.specs.opcodes.Allowed.{EncodesAllowed}
+use Rattle.wasm_operators.specs.Expression.{Placed}
+use Rattle.wasm_operators.specs.Headline.{IsWithinDepth}
+use Rattle.wasm_operators.specs.Openings.{opened_by}
+use Rattle.wasm_operators.specs.Reading.{State, IsFresh, TakesOperator}
+use Rattle.wasm_c.specs.declared.reader.WasmReader.{WasmReader}
+use Rattle.wasm_c.specs.Steps.{IsReader, reader_at, state_at, FindsNoRoom, ReadsEach}
+use Rattle.wasm_c.proofs.Steps.{kinds_length}
+
+-- What the law `one_depth` says.
+abbrev pub OneDepth : Type 0
+OneDepth = (op : Operator) (old new : State) → TakesOperator EncodesAllowed op old new → IsWithinDepth old new
+
+-- What the law `frames_opened` says of the half.
+abbrev pub OpensHalf : WasmFeatures → Type 0
+OpensHalf f = (op : Operator) (text : List ℕ) → EncodesOperator f op text → 2 * opened_by op ≤ length text
+
+depth_along : OneDepth → (old new : State) (placed : Placed) → ReadsEach old placed new → IsWithinDepth old new
+depth_along law old new [] same = subst (λ s. IsWithinDepth old s) (sym same) (omega arith)
+depth_along law old new (p ∷ ps) (between, takes, at, others) =
+    let first = law p.0 old between takes in
+    let behind = depth_along law between new ps others in
+    omega (arith, first, behind)
+
+pub room_along : OneDepth → (features : WasmFeatures) → OpensHalf features → (bytes : List ℕ) (opened now : WasmReader) (frames_opened frames_now : List ℕ)
+    (placed : Placed) → IsFresh (state_at bytes opened frames_opened) →
+    ReadsEach (state_at bytes opened frames_opened) placed (state_at bytes now frames_now) → IsReader bytes (length frames_now) now →
+    features_of now.features ≡ features → length bytes / 2 + 1 ≤ length frames_now → FindsNoRoom (state_at bytes now frames_now) → ⊥
+room_along law features opens bytes opened now frames_opened frames_now placed fresh reads was same enough none =
+    let depth = kinds_length frames_now now.depth was.depth in
+    let along = depth_along law (state_at bytes opened frames_opened) (state_at bytes now frames_now) placed reads in
+    let one = ap length fresh in
+    let half = opens none.op none.text (subst (λ f. EncodesOperator f none.op none.text) same none.encodes.0) in
+    let left : length (rest (reader_at bytes now)) ≡ length none.text + length none.more = ap length none.there ∙ length-append none.text none.more in
+    omega (arith, depth, along, one, half, none.opens, left, length-drop now.position bytes, none.full, was.position, enough)

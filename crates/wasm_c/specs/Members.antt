@@ -1,0 +1,68 @@
+-- The members of the list of an operator, read from the bytes where it begins.
+-- WebAssembly Core Specification 3.0: Binary Format, Instructions.
+use Rattle.std.specs.Prelude.{◌≡◌, ℕ, ◌+◌, ◌-◌, ◌^◌, ◌<◌, ◌≤◌, List, ◌++◌, length, Option, Some, None, Result, Ok, Err, ◌⊎◌}
+use Rattle.wasm_operators.specs.below.bytes.error.Error.{Error}
+use Rattle.wasm_operators.specs.below.Features.{features_of}
+use Rattle.wasm_operators.specs.below.Source.{Reader, reader_of, at_position, rest}
+use Rattle.wasm_operators.specs.grammar.declared.frame_kind.FrameKind.TheVariants as frame
+use Rattle.wasm_operators.specs.instr.declared.operator.Operator.{Operator}
+use Rattle.wasm_operators.specs.instr.Encoding.{EncodesOperator}
+use Rattle.wasm_operators.specs.opcodes.Allowed.{EncodesAllowed}
+use Rattle.wasm_operators.specs.opcodes.Decoding.{RefusesOperator}
+use Rattle.wasm_operators.specs.opcodes.OperatorFaults.{OperatorFault}
+use Rattle.wasm_view.specs.Lists.{PlacesMembers}
+use Rattle.wasm_c.specs.declared.refusal.WasmRefusal.{WasmRefusal}
+use Rattle.wasm_c.specs.Reads.{IsWithin}
+use Rattle.wasm_c.specs.Refused.{no_refusal, refusal_of, misuse}
+
+-- The bytes from this offset on, of those of which the first has the offset `offset`.
+abbrev pub bytes_at : List ℕ → ℕ → ℕ → ℕ → Reader
+bytes_at bytes offset features at = at_position (reader_of (features_of features) offset bytes) (at - offset)
+
+-- The operator is encoded at the start of what is left.
+abbrev pub StandsThere : Reader → Operator → Type 0
+StandsThere input op = (text more : List ℕ) × (rest input ≡ text ++ more) × EncodesOperator input.features op text
+
+-- What stands there is refused inside a block.
+abbrev pub RefusesThere : WasmRefusal → Reader → Type 0
+RefusesThere r input =
+    (e : Error) × (r ≡ refusal_of e) × RefusesOperator (EncodesAllowed input.features frame.Block) (OperatorFault input.features frame.Block) e input input
+
+-- Nothing is answered but the refusal.
+abbrev pub Unchanged : {X : Type 0} → ℕ → ℕ → List X → List X → Type 0
+Unchanged count_old count_new old new = (count_new ≡ count_old) × (new ≡ old)
+
+-- The operator that stands there, or the refusal of what does.
+abbrev pub AnswersThere : Result Operator WasmRefusal → Reader → Type 0
+AnswersThere (Ok op) input = StandsThere input op
+AnswersThere (Err r) input = RefusesThere r input
+
+-- The operator, or why there is none: unknown features, bytes past the largest offset, an offset that is none of the bytes, or a refusal.
+pub record ReadsAt (result : Result Operator WasmRefusal) (bytes : List ℕ) (offset features at : ℕ) : Type 0 where
+  pub unknown : 64 ≤ features → result ≡ Err (misuse 100 offset)
+  pub past : features < 64 → 2 ^ 64 ≤ offset + length bytes → result ≡ Err (misuse 101 offset)
+  pub before : features < 64 → IsWithin offset bytes → at < offset → result ≡ Err (misuse 104 at)
+  pub behind : features < 64 → IsWithin offset bytes → offset + length bytes < at → result ≡ Err (misuse 104 at)
+  pub there : features < 64 → IsWithin offset bytes → offset ≤ at → at ≤ offset + length bytes → AnswersThere result (bytes_at bytes offset features at)
+
+-- The members of the list of an operator from an index on, or that it has no such list.
+abbrev pub TellsMembers : {X : Type 0} → Option (List X) → WasmRefusal → ℕ → ℕ → ℕ → ℕ → List X → List X → Type 0
+TellsMembers None r at index count_old count_new old new = (r ≡ misuse 104 at) × Unchanged count_old count_new old new
+TellsMembers (Some members) r at index count_old count_new old new = (r ≡ no_refusal at) × PlacesMembers members index old count_new new
+
+-- The same of the operator that stands there; or what does is refused.
+abbrev pub FindsMembers : {X : Type 0} → (Operator → Option (List X)) → WasmRefusal → Reader → ℕ → ℕ → ℕ → ℕ → List X → List X → Type 0
+FindsMembers members_of r input at index count_old count_new old new =
+    ((op : Operator) × StandsThere input op × TellsMembers (members_of op) r at index count_old count_new old new)
+    ⊎ (RefusesThere r input × Unchanged count_old count_new old new)
+
+-- A call that answers the members of the list of the operator that begins at an offset. Unknown features, bytes past the largest offset, and an offset that is
+-- none of the bytes are answered as such.
+pub record AnswersList {X : Type 0} (members_of : Operator → Option (List X)) (r : WasmRefusal) (bytes : List ℕ) (offset features at index : ℕ)
+    (count_old count_new : ℕ) (old new : List X) : Type 0 where
+  pub unknown : 64 ≤ features → (r ≡ misuse 100 offset) × Unchanged count_old count_new old new
+  pub past : features < 64 → 2 ^ 64 ≤ offset + length bytes → (r ≡ misuse 101 offset) × Unchanged count_old count_new old new
+  pub before : features < 64 → IsWithin offset bytes → at < offset → (r ≡ misuse 104 at) × Unchanged count_old count_new old new
+  pub behind : features < 64 → IsWithin offset bytes → offset + length bytes < at → (r ≡ misuse 104 at) × Unchanged count_old count_new old new
+  pub there : features < 64 → IsWithin offset bytes → offset ≤ at → at ≤ offset + length bytes →
+      FindsMembers members_of r (bytes_at bytes offset features at) at index count_old count_new old new

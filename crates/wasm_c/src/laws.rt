@@ -1,0 +1,71 @@
+//! Laws of readers as plain data: what their calls, one after another, say of the bytes. Each is the
+//! contract of a function that does nothing.
+ghost use Rattle.std.specs.Prelude.{◌≡◌, ℕ, ◌+◌, ◌/◌, ◌≤◌, List, [], ◌∷◌, ◌++◌, length};
+ghost use Rattle.wasm_operators.specs.below.Features.{features_of};
+ghost use Rattle.wasm_operators.specs.below.Source.{reader_of, source_of};
+ghost use Rattle.wasm_operators.specs.instr.declared.operator.Operator.{Operator};
+ghost use Rattle.wasm_operators.specs.Body.{EncodesBody};
+ghost use Rattle.wasm_operators.specs.Expression.{Placed, EncodesExpression};
+ghost use Rattle.wasm_operators.specs.Locals.{Declaration};
+ghost use Rattle.wasm_operators.specs.Reading.{State, IsFresh};
+ghost use Rattle.wasm_view.specs.View.{view_of};
+ghost use Rattle.wasm_view.specs.declared.view.WasmOperator.{WasmOperator};
+ghost use Rattle.wasm_c.specs.declared.reader.WasmReader.{WasmReader};
+ghost use Rattle.wasm_c.specs.declared.refusal.WasmRefusal.{WasmRefusal};
+ghost use Rattle.wasm_c.specs.Steps.{IsReader, state_at, FindsNoRoom, TakesPlain, ReadsEach, OpensExpression, OpensPlain, FinishesPlain};
+
+use wasm_operators::{WasmFeatures, expression_laws, run_laws};
+
+/// One read of `wasm_next` is a list of one; and the lists of two calls, one behind the other, are
+/// one list. So what any number of `wasm_next` and `wasm_read` took is a list of reads.
+pub fn reads_follow()
+    ensures next { (bytes : List ℕ) (old new : WasmReader) (frames_old frames_new : List ℕ) (view : WasmOperator)
+        → TakesPlain bytes old new frames_old frames_new view
+        → (p : Operator × ℕ) × (view ≡ view_of p)
+        × ReadsEach (state_at bytes old frames_old) (p ∷ []) (state_at bytes new frames_new) }
+    ensures joined { (old mid new : State) (first second : Placed) → ReadsEach old first mid → ReadsEach mid second new
+        → ReadsEach old (first ++ second) new }
+{}
+
+/// Where `wasm_open` and `wasm_finish` answer 0, the operators that were read between them are those of
+/// the one expression that the bytes encode. That it is the only one, the law `one_expression` of
+/// `wasm_operators` says.
+pub fn whole_expression()
+    ensures { (opening end : WasmRefusal) (bytes : List ℕ) (offset features : ℕ) (before opened last : WasmReader)
+        (frames_before frames_opened frames_last : List ℕ) (placed : Placed)
+        → OpensExpression opening bytes offset features before opened frames_before frames_opened → opening.number ≡ 0
+        → ReadsEach (state_at bytes opened frames_opened) placed (state_at bytes last frames_last)
+        → FinishesPlain end bytes last frames_last → end.number ≡ 0
+        → EncodesExpression (source_of (reader_of (features_of features) offset bytes)) placed }
+{
+    run_laws::fresh_readers();
+    run_laws::one_operator();
+}
+
+/// The same of `wasm_open_body`: the operators are those of the one body that the bytes encode. That it
+/// is the only one, the law `one_body` of `wasm_operators` says.
+pub fn whole_body()
+    ensures { (opening end : WasmRefusal) (bytes : List ℕ) (offset features : ℕ) (before opened last : WasmReader)
+        (frames_before frames_opened frames_last : List ℕ) (placed : Placed)
+        → OpensPlain opening bytes offset features before opened frames_before frames_opened → opening.number ≡ 0
+        → ReadsEach (state_at bytes opened frames_opened) placed (state_at bytes last frames_last)
+        → FinishesPlain end bytes last frames_last → end.number ≡ 0
+        → (declarations : List Declaration)
+        × EncodesBody (source_of (reader_of (features_of features) offset bytes)) declarations placed }
+{
+    run_laws::fresh_readers();
+    run_laws::one_operator();
+}
+
+/// In an array of as many frames as `wasm_frames_needed` answers, each operator finds room: no call
+/// answers 102 along the bytes that a reader was opened over.
+pub fn always_room(features: WasmFeatures)
+    ensures { (bytes : List ℕ) (opened now : WasmReader) (frames_opened frames_now : List ℕ) (placed : Placed)
+        → IsFresh (state_at bytes opened frames_opened)
+        → ReadsEach (state_at bytes opened frames_opened) placed (state_at bytes now frames_now)
+        → IsReader bytes (length frames_now) now → features_of now.features ≡ features
+        → length bytes / 2 + 1 ≤ length frames_now → ¬ FindsNoRoom (state_at bytes now frames_now) }
+{
+    run_laws::one_depth();
+    expression_laws::frames_opened(features);
+}

@@ -1,0 +1,168 @@
+//! The members of the list of an operator, from the bytes where it begins.
+ghost use Rattle.std.specs.Prelude.{◌≡◌, ◌<◌, ◌≤◌, ◌+◌, ◌^◌, length, IfSome, IfNone, Ok, Err};
+ghost use Rattle.wasm_operators.specs.below.Source.{Reader};
+ghost use Rattle.wasm_operators.specs.below.bytes.features.WasmFeatures.{WasmFeatures};
+ghost use Rattle.wasm_view.specs.Lists.{targets_of, types_of, catches_of, handles_of};
+ghost use Rattle.wasm_c.specs.Members.{bytes_at, ReadsAt, AnswersList};
+ghost use Rattle.wasm_c.specs.Reads.{IsWithin};
+ghost use Rattle.wasm_c.specs.Refused.{no_refusal, misuse};
+
+use crate::refusal::{NO_LIST, PAST_OFFSETS, UNKNOWN_FEATURES, WasmRefusal};
+use std::alloc::Global;
+use wasm_operators::{BinaryReader, FrameKind, FrameStack, Operator, ReadOperators, WasmFeatures};
+use wasm_view::{WasmHandler, WasmType, catches_of, handles_of, targets_of, types_of};
+
+/// The frame that operators with lists are read in: each frame allows them.
+#[derive(Clone, Copy, Debug)]
+struct InBlock;
+
+impl FrameStack for InBlock {
+    ghost use Rattle.std.specs.Prelude.{Some};
+    ghost use Rattle.wasm_operators.specs.grammar.declared.frame_kind.FrameKind.TheVariants as frame;
+
+    ghost frame = { λ _. Some frame.Block };
+
+    fn current_frame(&self) -> Option<FrameKind> {
+        Some(FrameKind::Block)
+    }
+}
+
+/// The bytes from the offset `at` on, of those of which the first has the offset `offset`.
+fn bytes_from<'a>(
+    bytes: &'a [u8],
+    offset: u64,
+    features: u32,
+    at: u64,
+) -> std::result::Result<BinaryReader<'a>, WasmRefusal>
+    ensures unknown { 64 ≤ features → result ≡ Err (misuse 100 offset) }
+    ensures past { features < 64 → 2 ^ 64 ≤ offset + length bytes.now → result ≡ Err (misuse 101 offset) }
+    ensures before { features < 64 → IsWithin offset bytes.now → at < offset → result ≡ Err (misuse 104 at) }
+    ensures behind { features < 64 → IsWithin offset bytes.now → offset + length bytes.now < at → result ≡ Err (misuse 104 at) }
+    ensures there { features < 64 → IsWithin offset bytes.now → offset ≤ at → at ≤ offset + length bytes.now
+        → result ≡ Ok (bytes_at bytes.now offset features at) }
+{
+    let Some(known) = WasmFeatures::from_bits(features) else {
+        return Err(WasmRefusal::misuse(UNKNOWN_FEATURES, offset));
+    };
+    let length = bytes.len() as u64;
+    if length > u64::MAX - offset {
+        return Err(WasmRefusal::misuse(PAST_OFFSETS, offset));
+    }
+    if at < offset || at - offset > length {
+        return Err(WasmRefusal::misuse(NO_LIST, at));
+    }
+    let mut ahead = BinaryReader::new_features(bytes, offset, known);
+    match ahead.read_bytes((at - offset) as usize) {
+        Ok(_) => Ok(ahead),
+        Err(_) => Err(WasmRefusal::misuse(NO_LIST, at)),
+    }
+}
+
+/// The operator that begins at an offset of the bytes, the first of which has the offset `offset`.
+fn operator_at<'a>(
+    alloc: Global,
+    bytes: &'a [u8],
+    offset: u64,
+    features: u32,
+    at: u64,
+) -> std::result::Result<Operator<'a>, WasmRefusal>
+    ensures { ReadsAt result bytes.now offset features at }
+{
+    match bytes_from(bytes, offset, features, at) {
+        Ok(ahead) => match ahead.peek_operator(alloc, &InBlock) {
+            Ok(op) => Ok(op),
+            Err(error) => Err(WasmRefusal::of(&error)),
+        },
+        Err(refused) => Err(refused),
+    }
+}
+
+/// The refusal, where this is how many members the list of an operator has, or that it has none.
+fn told(found: Option<usize>, at: u64, count: &mut usize) -> WasmRefusal
+    ensures some { IfSome found (λ members. (result ≡ no_refusal at) × (count.new ≡ members)) }
+    ensures none { IfNone found ((result ≡ misuse 104 at) × (count.new ≡ count.old)) }
+{
+    match found {
+        Some(members) => {
+            *count = members;
+            WasmRefusal::none(at)
+        }
+        None => WasmRefusal::misuse(NO_LIST, at),
+    }
+}
+
+/// The targets of the `br_table` that begins there, from an index on.
+pub fn targets_at(
+    alloc: Global,
+    bytes: &[u8],
+    offset: u64,
+    features: u32,
+    at: u64,
+    index: usize,
+    out: &mut [u32],
+    count: &mut usize,
+) -> WasmRefusal
+    ensures { AnswersList targets_of result bytes.now offset features at index count.old count.new out.old out.new }
+{
+    match operator_at(alloc, bytes, offset, features, at) {
+        Ok(op) => told(targets_of(&op, index, out), at, count),
+        Err(refused) => refused,
+    }
+}
+
+/// The types of the `select` that begins there, from an index on.
+pub fn types_at(
+    alloc: Global,
+    bytes: &[u8],
+    offset: u64,
+    features: u32,
+    at: u64,
+    index: usize,
+    out: &mut [WasmType],
+    count: &mut usize,
+) -> WasmRefusal
+    ensures { AnswersList types_of result bytes.now offset features at index count.old count.new out.old out.new }
+{
+    match operator_at(alloc, bytes, offset, features, at) {
+        Ok(op) => told(types_of(&op, index, out), at, count),
+        Err(refused) => refused,
+    }
+}
+
+/// The catches of the `try_table` that begins there, from an index on.
+pub fn catches_at(
+    alloc: Global,
+    bytes: &[u8],
+    offset: u64,
+    features: u32,
+    at: u64,
+    index: usize,
+    out: &mut [WasmHandler],
+    count: &mut usize,
+) -> WasmRefusal
+    ensures { AnswersList catches_of result bytes.now offset features at index count.old count.new out.old out.new }
+{
+    match operator_at(alloc, bytes, offset, features, at) {
+        Ok(op) => told(catches_of(&op, index, out), at, count),
+        Err(refused) => refused,
+    }
+}
+
+/// The clauses of the `resume` and its kin that begins there, from an index on.
+pub fn handles_at(
+    alloc: Global,
+    bytes: &[u8],
+    offset: u64,
+    features: u32,
+    at: u64,
+    index: usize,
+    out: &mut [WasmHandler],
+    count: &mut usize,
+) -> WasmRefusal
+    ensures { AnswersList handles_of result bytes.now offset features at index count.old count.new out.old out.new }
+{
+    match operator_at(alloc, bytes, offset, features, at) {
+        Ok(op) => told(handles_of(&op, index, out), at, count),
+        Err(refused) => refused,
+    }
+}
