@@ -20,7 +20,7 @@ use Rattle.wasm_view.specs.View.{view_of}
 use Rattle.wasm_view.specs.declared.view.WasmOperator.{WasmOperator}
 use Rattle.wasm_c.specs.declared.reader.WasmReader.{WasmReader}
 use Rattle.wasm_c.specs.declared.refusal.WasmRefusal.{WasmRefusal}
-use Rattle.wasm_c.specs.Reads.{IsWithin, StandsBehind}
+use Rattle.wasm_c.specs.Reads.{StandsBehind}
 use Rattle.wasm_c.specs.Refused.{refusal_of, refusal_at, misuse}
 use Rattle.wasm_c.specs.Steps.{reader_at, state_at, fresh_reader, TakesPlain, ReadsEach, OpensExpression, OpensBehindLocals, OpensPlain, FinishesPlain}
 use Rattle.wasm_c.proofs.Behind.{stands_first, stands_one, whole_behind}
@@ -153,6 +153,6 @@ pub whole_body_read : Fresh → OneOperator → (opening end : WasmRefusal) (byt
     end.number ≡ 0 → (declarations : List Declaration) × EncodesBody (source_of (reader_of (features_of features) offset bytes)) declarations placed
 whole_body_read fresh law opening end bytes offset features before opened last frames_before frames_opened frames_last placed opens zero reads finish done =
     let body = body_there opening bytes offset features before opened frames_before frames_opened opens zero (cases_lt features 64)
-        (cases_lt (offset + length bytes) (2 ^ 64)) in
+    (cases_lt (offset + length bytes) (2 ^ 64)) in
     ends_body {X = Unit {0}} (Ok tt) (reader_of (features_of features) offset bytes) (state_at bytes opened frames_opened) placed body
     (whole_between fresh law end bytes opened last frames_opened frames_last placed body.1 reads finish done)

@@ -1,4 +1,4 @@
-use Rattle.std.proofs.Common.{◌≡◌, take, sym, ap, ◌∙◌, arith}
+use Rattle.std.proofs.Common.{◌≡◌, take, ap, ◌∙◌, arith}
 use Rattle.std.specs.Prelude.{◌<◌, ◌+◌, length}
 use Rattle.wasm_view.specs.Lists.{written}
 use Rattle.wasm_c.proofs.Named.{none_written, one_written, room_written}
