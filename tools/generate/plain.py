@@ -35,6 +35,12 @@ SHAPES = {
 ONE_TYPE = 19
 # The types that are passed by reference.
 BORROWED = ("BlockType", "ValType", "BrTable<'a>", "SelectTypes", "TryTable", "ResumeTable")
+# The operators that bodies are full of: their plain data is made where they are visited, without a call.
+COMMON = (
+    "Else", "End", "Br", "BrIf", "Return", "Call", "Drop", "Select", "LocalGet", "LocalSet", "LocalTee", "GlobalGet",
+    "GlobalSet", "I32Load", "I64Load", "I32Load8S", "I32Load8U", "I32Load16U", "I32Store", "I64Store", "I32Store8",
+    "I32Store16", "I32Const", "I64Const",
+)
 # The names that the fields of a shape are bound to, one after another.
 BOUND = ["a", "b", "c"]
 
@@ -127,33 +133,62 @@ def shape_arms(ops, ty, by_reference):
     return arms
 
 
-def views_source(ops):
-    """The file of the fields."""
-    own = [op for op in ops if op.group == "Own"]
-    enums = [enum for enum in held() if enum.group != "Numeric"]
-    names = ", ".join(sorted(enum.type for enum in enums))
+def common_source(ops):
+    """The file of the fields of the common operators."""
+    common = [op for op in ops if op.name in COMMON]
     lines = [
-        f"//! The plain data of each operator. {HEAD}",
+        f"//! The plain data of an operator, that of the common ones inline. {HEAD}",
         "ghost use Rattle.std.specs.Prelude.{◌≡◌};",
-        *[f"ghost use Rattle.wasm_instr.specs.{enum.group}.{{{enum.module}_immediates}};" for enum in enums],
         "ghost use Rattle.wasm_instr.specs.Row.{immediates_of};",
         "ghost use Rattle.wasm_view.specs.View.{view, view_of};",
         "",
         "use crate::opcodes::opcode_of;",
         "use crate::shapes;",
         "use crate::view::WasmOperator;",
-        f"use wasm_instr::{{{names}, Operator}};",
+        "use crate::views::own;",
+        "use wasm_instr::Operator;",
         "",
         "/// The plain data of an operator that begins at this offset. It takes no memory.",
         "#[inline(always)]",
         "pub fn view_of(op: &Operator<'_>, offset: u64) -> WasmOperator",
         "    ensures { result ≡ view_of (op.now, offset) }",
         "{",
-        "own(offset, opcode_of(op), op)",
+        "common(offset, opcode_of(op), op)",
         "}",
         "",
+        "/// The fields of an operator of this number. Those of the operators that bodies are full of are made here.",
+        "#[inline(always)]",
+        "fn common(offset: u64, opcode: u32, op: &Operator<'_>) -> WasmOperator",
+        "    ensures { result ≡ view offset opcode (immediates_of op.now) }",
+        "{",
+        "match op {",
+        *shape_arms(common, "Operator", True),
+        "Operator::Numeric(_) => shapes::nothing(offset, opcode),",
+        "_ => own(offset, opcode, op),",
+        "}",
+        "}",
+    ]
+    return "\n".join(lines) + "\n"
+
+
+def views_source(ops):
+    """The file of the fields."""
+    own = [op for op in ops if op.group == "Own"]
+    enums = [enum for enum in held() if enum.group != "Numeric"]
+    names = ", ".join(sorted(enum.type for enum in enums))
+    lines = [
+        f"//! The fields of the plain data of each operator. {HEAD}",
+        "ghost use Rattle.std.specs.Prelude.{◌≡◌};",
+        *[f"ghost use Rattle.wasm_instr.specs.{enum.group}.{{{enum.module}_immediates}};" for enum in enums],
+        "ghost use Rattle.wasm_instr.specs.Row.{immediates_of};",
+        "ghost use Rattle.wasm_view.specs.View.{view};",
+        "",
+        "use crate::shapes;",
+        "use crate::view::WasmOperator;",
+        f"use wasm_instr::{{{names}, Operator}};",
+        "",
         "/// The fields of an operator of this number.",
-        "fn own(offset: u64, opcode: u32, op: &Operator<'_>) -> WasmOperator",
+        "pub fn own(offset: u64, opcode: u32, op: &Operator<'_>) -> WasmOperator",
         "    ensures { result ≡ view offset opcode (immediates_of op.now) }",
         "{",
         "match op {",
@@ -266,5 +301,6 @@ def plain_files(ops):
         "crates/wasm_view/src/names.rt": names_source(ops),
         "crates/wasm_view/specs/Names.antt": names_spec(ops),
         "crates/wasm_view/src/opcodes.rt": opcodes_source(ops),
+        "crates/wasm_view/src/common.rt": common_source(ops),
         "crates/wasm_view/src/views.rt": views_source(ops),
     }

@@ -2,6 +2,7 @@
 //! languages beside Rust take them.
 #![tactic(auto)]
 
+mod common;
 pub mod laws;
 mod lists;
 mod members;
@@ -12,8 +13,8 @@ mod shapes;
 mod view;
 mod views;
 
+pub use common::view_of;
 pub use lists::{catches_of, handles_of, targets_of, types_of};
 pub use members::{WasmHandler, WasmType, catch_of, handle_of, type_of};
 pub use names::name_at;
 pub use view::WasmOperator;
-pub use views::view_of;

@@ -1,27 +1,18 @@
-//! The plain data of each operator. Written by tools/lists.py from tools/operators.tsv.
+//! The fields of the plain data of each operator. Written by tools/lists.py from tools/operators.tsv.
 ghost use Rattle.std.specs.Prelude.{◌≡◌};
 ghost use Rattle.wasm_instr.specs.Gc.{gc_immediates};
 ghost use Rattle.wasm_instr.specs.Misc.{misc_immediates};
 ghost use Rattle.wasm_instr.specs.Simd.{simd_immediates};
 ghost use Rattle.wasm_instr.specs.Atomic.{atomic_immediates};
 ghost use Rattle.wasm_instr.specs.Row.{immediates_of};
-ghost use Rattle.wasm_view.specs.View.{view, view_of};
+ghost use Rattle.wasm_view.specs.View.{view};
 
-use crate::opcodes::opcode_of;
 use crate::shapes;
 use crate::view::WasmOperator;
 use wasm_instr::{AtomicOperator, GcOperator, MiscOperator, Operator, SimdOperator};
 
-/// The plain data of an operator that begins at this offset. It takes no memory.
-#[inline(always)]
-pub fn view_of(op: &Operator<'_>, offset: u64) -> WasmOperator
-    ensures { result ≡ view_of (op.now, offset) }
-{
-    own(offset, opcode_of(op), op)
-}
-
 /// The fields of an operator of this number.
-fn own(offset: u64, opcode: u32, op: &Operator<'_>) -> WasmOperator
+pub fn own(offset: u64, opcode: u32, op: &Operator<'_>) -> WasmOperator
     ensures { result ≡ view offset opcode (immediates_of op.now) }
 {
     match op {
