@@ -6,7 +6,7 @@ ghost use Rattle.wasm_module_listing.specs.Listing.{IsHalt};
 use crate::fault::Fault;
 use std::io::Write;
 
-/// Writes a text.
+/// Writes all bytes of a text. `Writing` where the writer refuses some of them.
 pub fn write_text<W: Write>(writer: &mut W, text: &str) -> Result<(), Fault>
     ensures ok { OnOk result (Appends (W.contents writer.old) (W.contents writer.new) text.now) }
     ensures err { IfErr result (λ fault. IsHalt fault) }

@@ -28,7 +28,7 @@ enum Next {
     Features,
 }
 
-/// Reads one word.
+/// What a word says: the value of the option before it, or what it is itself. `None` where it is neither.
 fn read_word(options: Options, next: Next, word: String) -> Option<(Options, Next)> {
     let mut read = options;
     match next {
