@@ -5,8 +5,10 @@
     tools/gate_table.py --summary LOG
 
 LOG is what `.ci/run` wrote: `.ci/run > LOG 2>&1`. NOTE, a sentence on the run, stands above the table. With
-`--summary` the same is printed in a few lines, and nothing is written: so `.ci/run` ends. The functions of a crate come from the prover's last line for it, the edits from rt's line for each, the minutes from
-the lines of tools/timed.py, and how often files are read from crates.txt.
+`--summary` the same is printed in a few lines, and nothing is written: so `.ci/run` ends. Logs of several runs may
+stand in it one behind the other, of which each took over what those before had proved: what they cost is added up. The
+functions of a crate come from the prover's last line for it, the edits from rt's line for each, the minutes from the
+lines of tools/timed.py, and how often files are read from crates.txt.
 """
 
 import re
@@ -40,14 +42,35 @@ many jobs as the run gave it.
 """
 
 
+# The crates that hold lists over all operators, which tools/lists.py writes.
+LISTS = """wasm_instr_ops wasm_instr_simd wasm_instr wasm_visit_groups wasm_visit_factory wasm_visit
+wasm_decode_groups""".split()
+
+MADE_OF = """
+## What it is made of
+
+- The proofs take {each} seconds a function. {lists} of their minutes are those of the lists over the 628 operators \
+({names}), in which a function stands for each operator.
+- Of the minutes of edits {again} are proofs: `rt` proves a crate that has two edits or more once more, and tries its \
+edits over what that proved. One edit more takes the rest, {edit} seconds: the libraries are read, and the functions that it \
+reaches are tried until the prover gives up.
+- {callers} minutes of proofs and tests are those of test crates and of `uses`, `uses_steps` and `wasm_bench`: at a \
+visitor that is known, a call is proved by comparing each visit of the traits that it is bound by.
+"""
+
+
 class Crate:
     """What the log has of a crate."""
 
     def __init__(self):
         self.functions = 0
-        self.edits = 0
+        self.tried = set()
         self.processor = {}
         self.wall = {}
+
+    @property
+    def edits(self):
+        return len(self.tried)
 
 
 def read(text):
@@ -58,13 +81,16 @@ def read(text):
             name = None if found[2] else found[1]
         elif (found := re.match(r"logic=proved (?:tests=\d+ )?functions=(\d+)", line)) and name:
             crates.setdefault(name, Crate()).functions = int(found[1])
-        elif found := re.match(r"rt: must-fail (\w+)/\S+: refused, as it must be", line):
-            crates.setdefault(found[1], Crate()).edits += 1
+        elif found := re.match(r"rt: must-fail (\w+)/(\S+): refused, as it must be", line):
+            crates.setdefault(found[1], Crate()).tried.add(found[2])
         elif found := re.fullmatch(r"cost all (\d+) (\d+) (\d+)", line):
-            whole = tuple(map(int, found.groups()))
+            processor, wall, count = map(int, found.groups())
+            before = whole or (0, 0, 0)
+            whole = before[0] + processor, before[1] + wall, count
         elif found := re.fullmatch(r"cost (\w+) (\w+) (\d+) (\d+)", line):
             crate = crates.setdefault(found[1], Crate())
-            crate.processor[found[2]], crate.wall[found[2]] = int(found[3]), int(found[4])
+            for costs, more in ((crate.processor, found[3]), (crate.wall, found[4])):
+                costs[found[2]] = costs.get(found[2], 0) + int(more)
         elif re.fullmatch(r"\d+ passed, \d+ failed", line):
             last = line
     return crates, whole, last
@@ -92,6 +118,22 @@ def readings(listed):
         return counts[name]
 
     return sum(of(name) for name in listed)
+
+
+def made_of(crates):
+    """What the minutes of a run went into, in words."""
+    proofs = {name: it.processor.get("proof", 0) for name, it in crates.items()}
+    edits = sum(it.processor.get("edits", 0) for it in crates.values())
+    again = min(edits, sum(proofs[name] for name, it in crates.items() if it.edits > 1))
+    callers = [name for name in crates if name.startswith(("wasm_tests_", "uses", "wasm_bench"))]
+    return MADE_OF.format(
+        each=f"{sum(proofs.values()) / max(1, sum(it.functions for it in crates.values())):.1f}",
+        lists=minutes(sum(proofs.get(name, 0) for name in LISTS)) or "0",
+        names=", ".join(f"`{name}`" for name in LISTS),
+        again=minutes(again) or "0",
+        edit=f"{(edits - again) / max(1, sum(it.edits for it in crates.values())):.0f}",
+        callers=minutes(sum(proofs[name] + crates[name].processor.get("tests", 0) for name in callers)) or "0",
+    )
 
 
 def measured(text):
@@ -126,7 +168,8 @@ def page(text, note=""):
     parts = [sum(it.processor.get(part, 0) for it in crates.values()) for part in ("proof", "tests", "edits")]
     proof, tests, tried = map(minutes, parts)
     total = f"| all | {functions} | {proof} | | {tests} | {tried} | {edits} |"
-    return head + "\n".join([*[row(name, crates[name]) for name in by_cost(crates)], total, ""])
+    table = "\n".join([*[row(name, crates[name]) for name in by_cost(crates)], total, ""])
+    return head + table + made_of(crates)
 
 
 def main():

@@ -6,58 +6,44 @@ use Rattle.wasm_operators.specs.below.Source.{Source, Reader, rest, offset_of, s
 use Rattle.wasm_operators.specs.opcodes.Allowed.{EncodesAllowed}
 use Rattle.wasm_operators.specs.opcodes.OperatorFaults.{OperatorFault}
 use Rattle.wasm_operators.specs.Body.{source_behind, EncodesBody, OpensBody, StopsBody}
-use Rattle.wasm_operators.specs.Expression.{Placed, OfPlaced, operators, IsAny, LaidOut, EncodesExpression}
+use Rattle.wasm_operators.specs.Expression.{Placed, OfPlaced, LaidOut, EncodesExpression}
 use Rattle.wasm_operators.specs.Locals.{Declaration, IsPastLocals, RefusesLocals}
-use Rattle.wasm_operators.specs.Reading.{State, Adds, Anywhere, StopsRun}
+use Rattle.wasm_operators.specs.Reading.{State, Adds, Anywhere, TakesOperators, EndsRun, RunsToEnd}
 use Rattle.wasm_operators.specs.Next.{NextMayAllocate}
-use Rattle.wasm_operators.specs.instr.declared.operator.Operator.{Operator}
-use Rattle.wasm_operators.specs.Headline.{ReadsRest, ReadsBeginning}
-use Rattle.wasm_c.specs.Reads.{EndsBody, EndsOperators, StandsBehind}
-use Rattle.wasm_c.proofs.Behind.{OneBeginning, OneLayout, whole_behind, beginning_behind}
+use Rattle.wasm_operators.specs.Headline.{StoodBefore}
+use Rattle.wasm_c.specs.Reads.{EndsBody, EndsOperators}
+use Rattle.wasm_c.proofs.Cited.{OfJoined, OfTree, OfBeginning, OfStops}
 
-anywhere : (e : Error) (s : State) → StopsRun EncodesAllowed OperatorFault (NextMayAllocate EncodesAllowed) e s →
-    StopsRun EncodesAllowed OperatorFault Anywhere e s
-anywhere e s (inl left) = inl left
-anywhere e s (inr (some, inl none)) = inr (some, inl none)
-anywhere e s (inr (some, inr (inl there))) = inr (some, inr (inl there))
-anywhere e s (inr (some, inr (inr memory))) = inr (some, inr (inr (memory.0, memory.1, tt)))
+-- Where memory may be refused is not said of a body.
+ends_anywhere : {X : Type 0} → OfStops → (result : Result X Error) (s : State) → EndsRun EncodesAllowed OperatorFault (NextMayAllocate EncodesAllowed) result s →
+    EndsRun EncodesAllowed OperatorFault Anywhere result s
+ends_anywhere law (Ok x) s h = h
+ends_anywhere law (Err e) s (inl left) = inl left
+ends_anywhere law (Err e) s (inr (some, stops)) = inr (some, law e s stops)
 
-stops_anywhere : (before : List Operator) (e : Error) (old new : State) (placed : Placed) →
-    ReadsBeginning IsAny EncodesAllowed OperatorFault (NextMayAllocate EncodesAllowed) before e old new placed →
-    ReadsBeginning IsAny EncodesAllowed OperatorFault Anywhere before e old new placed
-stops_anywhere before e old new placed b = record {
-  at = b.at;
-  text = b.text;
-  takes = b.takes;
-  laid = b.laid;
-  stood = b.stood;
-  stops = anywhere e new b.stops;
-}
+ends_run : {X : Type 0} → OfTree → OfBeginning → (result : Result X Error) (opened new : State) (all : Placed) → StoodBefore [] opened →
+    TakesOperators opened new all → EndsRun EncodesAllowed OperatorFault Anywhere result new → EndsOperators result opened all
+ends_run tree beginning (Ok x) opened new all stood ran (closed, taken) = (tree [] opened new all stood ran closed taken).encodes
+ends_run tree beginning (Err e) opened new all stood ran stops = (new, beginning [] e opened new all stood ran stops)
 
 -- The operators that were found before, and those that were read to the end behind them.
-pub ends_joined : {X : Type 0} (result : Result X Error) (opened old new : State) (found more : Placed) → OneBeginning opened.reader.features →
-    OneLayout opened.reader.features → StandsBehind opened old found →
-    ReadsRest (Adds [] more) IsAny EncodesAllowed OperatorFault Anywhere (operators found) result old new → EndsOperators result opened (found ++ more)
-ends_joined (Ok x) opened old new found more begins same h reads =
-    let came = reads.tree in
-    subst (λ list. EncodesExpression (source_of opened.reader) (found ++ list)) (sym came.1) (whole_behind opened old found came.0 h came.2.encodes)
-ends_joined (Err e) opened old new found more begins same h reads =
-    let came = reads.beginning in
-    subst (λ list. (stopped : State) × ReadsBeginning IsAny EncodesAllowed OperatorFault Anywhere [] e opened stopped (found ++ list)) (sym came.1)
-    (new, beginning_behind e opened old new found came.0 begins same h came.2)
+pub ends_joined : {X : Type 0} → OfJoined → OfTree → OfBeginning → (result : Result X Error) (opened old new : State) (found more : Placed) →
+    StoodBefore [] opened → TakesOperators opened old found → RunsToEnd (Adds [] more) EncodesAllowed OperatorFault Anywhere result old new →
+    EndsOperators result opened (found ++ more)
+ends_joined joined tree beginning result opened old new found more stood ran (placed, came, on, ends) =
+    subst (λ list. EndsOperators result opened (found ++ list)) (sym came)
+    (ends_run tree beginning result opened new (found ++ placed) stood (joined opened old new found placed ran on) ends)
 
 -- The same of those that were visited.
-pub ends_visited : {X : Type 0} (Happened : OfPlaced) (result : Result X Error) (opened old new : State) (found : Placed) →
-    OneBeginning opened.reader.features → OneLayout opened.reader.features → StandsBehind opened old found →
-    ReadsRest Happened IsAny EncodesAllowed OperatorFault (NextMayAllocate EncodesAllowed) (operators found) result old new →
+pub ends_visited : {X : Type 0} (Happened : OfPlaced) → OfJoined → OfTree → OfBeginning → OfStops → (result : Result X Error) (opened old new : State)
+    (found : Placed) → StoodBefore [] opened → TakesOperators opened old found →
+    RunsToEnd Happened EncodesAllowed OperatorFault (NextMayAllocate EncodesAllowed) result old new →
     (more : Placed) × Happened more × EndsOperators result opened (found ++ more)
-ends_visited Happened (Ok x) opened old new found begins same h reads =
-    let came = reads.tree in
-    (came.0, came.1, whole_behind opened old found came.0 h came.2.encodes)
-ends_visited Happened (Err e) opened old new found begins same h reads =
-    let came = reads.beginning in
-    let b = stops_anywhere (operators found) e old new came.0 came.2 in
-    (came.0, came.1, (new, beginning_behind e opened old new found came.0 begins same h b))
+ends_visited Happened joined tree beginning stops result opened old new found stood ran (placed, happened, on, ends) = (
+  placed,
+  happened,
+  ends_run tree beginning result opened new (found ++ placed) stood (joined opened old new found placed ran on) (ends_anywhere stops result new ends),
+)
 
 -- What the law `layouts` says of lengths.
 abbrev pub Lengths : WasmFeatures → Type 0

@@ -1,5 +1,4 @@
-pub mod Parts
-pub mod Behind
+pub mod Cited
 pub mod Found
 pub mod Written
 pub mod Filled

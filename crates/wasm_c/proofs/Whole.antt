@@ -8,28 +8,19 @@ use Rattle.wasm_operators.specs.below.Source.{reader_of, source_of, rest, offset
 use Rattle.wasm_operators.specs.below.bytes.error.Error.{Error}
 use Rattle.wasm_operators.specs.below.bytes.message.Message.{Message}
 use Rattle.wasm_operators.specs.below.bytes.message.Message.TheVariants as message
-use Rattle.wasm_operators.specs.grammar.OpenPath.{OpenPath}
 use Rattle.wasm_operators.specs.instr.declared.operator.Operator.{Operator}
-use Rattle.wasm_operators.specs.instr.Roles.{roles_of}
 use Rattle.wasm_operators.specs.Body.{EncodesBody, OpensBody}
-use Rattle.wasm_operators.specs.Expression.{Placed, operators, AreWalk, EncodesExpression}
-use Rattle.wasm_operators.specs.Headline.{StoodBefore}
+use Rattle.wasm_operators.specs.Expression.{Placed, EncodesExpression}
 use Rattle.wasm_operators.specs.Locals.{Declaration}
-use Rattle.wasm_operators.specs.Reading.{State, IsFresh, Finishes}
+use Rattle.wasm_operators.specs.Reading.{State, IsFresh, TakesOperators, Finishes}
 use Rattle.wasm_view.specs.View.{view_of}
 use Rattle.wasm_view.specs.declared.view.WasmOperator.{WasmOperator}
 use Rattle.wasm_c.specs.declared.reader.WasmReader.{WasmReader}
 use Rattle.wasm_c.specs.declared.refusal.WasmRefusal.{WasmRefusal}
-use Rattle.wasm_c.specs.Reads.{StandsBehind}
 use Rattle.wasm_c.specs.Refused.{refusal_of, refusal_at, misuse}
 use Rattle.wasm_c.specs.Steps.{reader_at, state_at, fresh_reader, TakesPlain, ReadsEach, OpensExpression, OpensBehindLocals, OpensPlain, FinishesPlain}
-use Rattle.wasm_c.proofs.Behind.{stands_first, stands_one, whole_behind}
-use Rattle.wasm_c.proofs.Filled.{OneOperator}
+use Rattle.wasm_c.proofs.Cited.{Fresh, OfFirst, OfNext, OfTree}
 use Rattle.wasm_c.proofs.Found.{ends_body}
-
--- What the law `fresh_readers` says.
-abbrev pub Fresh : Type 0
-Fresh = (s : State) → IsFresh s → StoodBefore [] s
 
 -- ---- reads, one behind the other
 
@@ -43,13 +34,13 @@ pub reads_join : (old mid new : State) (first second : Placed) → ReadsEach old
 reads_join old mid new [] second same others = subst (λ s. ReadsEach s second new) same others
 reads_join old mid new (p ∷ ps) second (between, takes, at, more) others = (between, takes, at, reads_join between mid new ps second more others)
 
-each_behind : OneOperator → (opened old new : State) (found placed : Placed) → StandsBehind opened old found → ReadsEach old placed new →
-    StandsBehind opened new (found ++ placed)
-each_behind law opened old new found [] h same =
-    subst (λ list. StandsBehind opened new list) (sym (append-nil found)) (subst (λ s. StandsBehind opened s found) (sym same) h)
-each_behind law opened old new found (p ∷ ps) h (between, takes, at, others) =
-    let one = stands_one opened old between found p.0 p.1 h takes at (law (operators found) p.0 old between takes h.stood) in
-    subst (λ list. StandsBehind opened new list) (append_assoc found (p ∷ []) ps)
+each_behind : OfNext → (opened old new : State) (found placed : Placed) → TakesOperators opened old found → ReadsEach old placed new →
+    TakesOperators opened new (found ++ placed)
+each_behind law opened old new found [] ran same =
+    subst (λ list. TakesOperators opened new list) (sym (append-nil found)) (subst (λ s. TakesOperators opened s found) (sym same) ran)
+each_behind law opened old new found (p ∷ ps) ran (between, takes, at, others) =
+    let one = subst (λ n. TakesOperators opened between (found ++ (p.0, n) ∷ [])) (sym at) (law opened old between found p.0 ran takes) in
+    subst (λ list. TakesOperators opened new list) (append_assoc found (p ∷ []) ps)
     (each_behind law opened between new (found ++ p ∷ []) ps one others)
 
 -- ---- the end
@@ -75,22 +66,23 @@ finished r bytes reader frames (inr (none, told)) zero =
     let n = number_at r (misuse 103 reader.offset) told zero in
     absurd (omega (arith, n))
 
--- Where all frames are closed and all bytes are read, an expression was read.
-whole : (opened last : State) (found : Placed) → StandsBehind opened last found → last.frames ≡ [] → rest last.reader ≡ [] →
-    EncodesExpression (source_of opened.reader) found
-whole opened last found h closed all =
-    let path : AreWalk (operators found) = subst (λ frames. OpenPath (roles_of (operators found)) frames) closed h.stood.path in
-    let walk : AreWalk (operators found ++ []) = subst AreWalk (sym (append-nil (operators found))) path in
-    subst (λ list. EncodesExpression (source_of opened.reader) list) (append-nil found) (whole_behind opened last found [] h (all, walk))
+-- What the laws say that a whole expression needs.
+pub record HasLaws : Type 0 where
+  pub fresh : Fresh
+  pub first : OfFirst
+  pub next : OfNext
+  pub tree : OfTree
 
-whole_between : Fresh → OneOperator → (end : WasmRefusal) (bytes : List ℕ) (opened last : WasmReader) (frames_opened frames_last : List ℕ) (placed : Placed) →
+-- Where all frames are closed and all bytes are read, an expression was read.
+whole_between : HasLaws → (end : WasmRefusal) (bytes : List ℕ) (opened last : WasmReader) (frames_opened frames_last : List ℕ) (placed : Placed) →
     IsFresh (state_at bytes opened frames_opened) → ReadsEach (state_at bytes opened frames_opened) placed (state_at bytes last frames_last) →
     FinishesPlain end bytes last frames_last → end.number ≡ 0 → EncodesExpression (source_of (reader_at bytes opened)) placed
-whole_between fresh law end bytes opened last frames_opened frames_last placed is reads finish zero =
+whole_between laws end bytes opened last frames_opened frames_last placed is reads finish zero =
     let first = state_at bytes opened frames_opened in
-    let h = each_behind law first first (state_at bytes last frames_last) [] placed (stands_first first (fresh first is)) reads in
+    let new = state_at bytes last frames_last in
+    let ran = each_behind laws.next first first new [] placed (laws.first first) reads in
     let closed = finished end bytes last frames_last finish zero in
-    whole first (state_at bytes last frames_last) placed h closed.0 closed.1
+    (laws.tree [] first new placed (laws.fresh first is) ran closed.0 closed.1).encodes
 
 -- ---- the beginning
 
@@ -111,17 +103,17 @@ opened_there r bytes offset features old new (f ∷ fs) frames_new o zero (inl k
     let opens = o.opens known within (λ none. cc none) in
     (opens.1, opens.3)
 
-pub whole_read : Fresh → OneOperator → (opening end : WasmRefusal) (bytes : List ℕ) (offset features : ℕ) (before opened last : WasmReader)
+pub whole_read : HasLaws → (opening end : WasmRefusal) (bytes : List ℕ) (offset features : ℕ) (before opened last : WasmReader)
     (frames_before frames_opened frames_last : List ℕ) (placed : Placed) →
     OpensExpression opening bytes offset features before opened frames_before frames_opened → opening.number ≡ 0 →
     ReadsEach (state_at bytes opened frames_opened) placed (state_at bytes last frames_last) → FinishesPlain end bytes last frames_last →
     end.number ≡ 0 → EncodesExpression (source_of (reader_of (features_of features) offset bytes)) placed
-whole_read fresh law opening end bytes offset features before opened last frames_before frames_opened frames_last placed opens zero reads finish done =
+whole_read laws opening end bytes offset features before opened last frames_before frames_opened frames_last placed opens zero reads finish done =
     let there =
     opened_there opening bytes offset features before opened frames_before frames_opened opens zero (cases_lt features 64)
     (cases_lt (offset + length bytes) (2 ^ 64)) in
     subst (λ (r : WasmReader). EncodesExpression (source_of (reader_at bytes r)) placed) there.0
-    (whole_between fresh law end bytes opened last frames_opened frames_last placed there.1 reads finish done)
+    (whole_between laws end bytes opened last frames_opened frames_last placed there.1 reads finish done)
 
 behind_locals : (r : WasmRefusal) (bytes : List ℕ) (offset features : ℕ) (old new : WasmReader) (frames_old frames_new : List ℕ) →
     OpensBehindLocals r bytes offset features old new frames_old frames_new → r.number ≡ 0 →
@@ -146,13 +138,13 @@ body_there r bytes offset features old new [] frames_new o zero (inl known) (inl
 body_there r bytes offset features old new (f ∷ fs) frames_new o zero (inl known) (inl within) =
     behind_locals r bytes offset features old new (f ∷ fs) frames_new (o.opens known within (λ none. cc none)) zero
 
-pub whole_body_read : Fresh → OneOperator → (opening end : WasmRefusal) (bytes : List ℕ) (offset features : ℕ) (before opened last : WasmReader)
+pub whole_body_read : HasLaws → (opening end : WasmRefusal) (bytes : List ℕ) (offset features : ℕ) (before opened last : WasmReader)
     (frames_before frames_opened frames_last : List ℕ) (placed : Placed) →
     OpensPlain opening bytes offset features before opened frames_before frames_opened → opening.number ≡ 0 →
     ReadsEach (state_at bytes opened frames_opened) placed (state_at bytes last frames_last) → FinishesPlain end bytes last frames_last →
     end.number ≡ 0 → (declarations : List Declaration) × EncodesBody (source_of (reader_of (features_of features) offset bytes)) declarations placed
-whole_body_read fresh law opening end bytes offset features before opened last frames_before frames_opened frames_last placed opens zero reads finish done =
+whole_body_read laws opening end bytes offset features before opened last frames_before frames_opened frames_last placed opens zero reads finish done =
     let body = body_there opening bytes offset features before opened frames_before frames_opened opens zero (cases_lt features 64)
     (cases_lt (offset + length bytes) (2 ^ 64)) in
     ends_body {X = Unit {0}} (Ok tt) (reader_of (features_of features) offset bytes) (state_at bytes opened frames_opened) placed body
-    (whole_between fresh law end bytes opened last frames_opened frames_last placed body.1 reads finish done)
+    (whole_between laws end bytes opened last frames_opened frames_last placed body.1 reads finish done)

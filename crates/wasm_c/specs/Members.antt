@@ -37,13 +37,18 @@ abbrev pub AnswersThere : Result Operator WasmRefusal → Reader → Type 0
 AnswersThere (Ok op) input = StandsThere input op
 AnswersThere (Err r) input = RefusesThere r input
 
--- The operator, or why there is none: unknown features, bytes past the largest offset, an offset that is none of the bytes, or a refusal.
-pub record ReadsAt (result : Result Operator WasmRefusal) (bytes : List ℕ) (offset features at : ℕ) : Type 0 where
-  pub unknown : 64 ≤ features → result ≡ Err (misuse 100 offset)
-  pub past : features < 64 → 2 ^ 64 ≤ offset + length bytes → result ≡ Err (misuse 101 offset)
-  pub before : features < 64 → IsWithin offset bytes → at < offset → result ≡ Err (misuse 104 at)
-  pub behind : features < 64 → IsWithin offset bytes → offset + length bytes < at → result ≡ Err (misuse 104 at)
-  pub there : features < 64 → IsWithin offset bytes → offset ≤ at → at ≤ offset + length bytes → AnswersThere result (bytes_at bytes offset features at)
+-- A call on what begins at an offset: unknown features, bytes past the largest offset, and an offset that is none of the bytes are misuse, with a number and an
+-- offset; of any other the second word says what is so of the bytes that stand there.
+pub record AtOffset (IsMisuse : ℕ → ℕ → Type 0) (There : Reader → Type 0) (bytes : List ℕ) (offset features at : ℕ) : Type 0 where
+  pub unknown : 64 ≤ features → IsMisuse 100 offset
+  pub past : features < 64 → 2 ^ 64 ≤ offset + length bytes → IsMisuse 101 offset
+  pub before : features < 64 → IsWithin offset bytes → at < offset → IsMisuse 104 at
+  pub behind : features < 64 → IsWithin offset bytes → offset + length bytes < at → IsMisuse 104 at
+  pub there : features < 64 → IsWithin offset bytes → offset ≤ at → at ≤ offset + length bytes → There (bytes_at bytes offset features at)
+
+-- The operator that begins there, or why there is none.
+abbrev pub ReadsAt : Result Operator WasmRefusal → List ℕ → ℕ → ℕ → ℕ → Type 0
+ReadsAt result bytes offset features at = AtOffset (λ number place. result ≡ Err (misuse number place)) (AnswersThere result) bytes offset features at
 
 -- The members of the list of an operator from an index on, or that it has no such list.
 abbrev pub TellsMembers : {X : Type 0} → Option (List X) → WasmRefusal → ℕ → ℕ → ℕ → ℕ → List X → List X → Type 0
@@ -56,13 +61,8 @@ FindsMembers members_of r input at index count_old count_new old new =
     ((op : Operator) × StandsThere input op × TellsMembers (members_of op) r at index count_old count_new old new)
     ⊎ (RefusesThere r input × Unchanged count_old count_new old new)
 
--- A call that answers the members of the list of the operator that begins at an offset. Unknown features, bytes past the largest offset, and an offset that is
--- none of the bytes are answered as such.
-pub record AnswersList {X : Type 0} (members_of : Operator → Option (List X)) (r : WasmRefusal) (bytes : List ℕ) (offset features at index : ℕ)
-    (count_old count_new : ℕ) (old new : List X) : Type 0 where
-  pub unknown : 64 ≤ features → (r ≡ misuse 100 offset) × Unchanged count_old count_new old new
-  pub past : features < 64 → 2 ^ 64 ≤ offset + length bytes → (r ≡ misuse 101 offset) × Unchanged count_old count_new old new
-  pub before : features < 64 → IsWithin offset bytes → at < offset → (r ≡ misuse 104 at) × Unchanged count_old count_new old new
-  pub behind : features < 64 → IsWithin offset bytes → offset + length bytes < at → (r ≡ misuse 104 at) × Unchanged count_old count_new old new
-  pub there : features < 64 → IsWithin offset bytes → offset ≤ at → at ≤ offset + length bytes →
-      FindsMembers members_of r (bytes_at bytes offset features at) at index count_old count_new old new
+-- A call that answers the members of the list of the operator that begins at an offset, where it is none of misuse.
+abbrev pub AnswersList : {X : Type 0} → (Operator → Option (List X)) → WasmRefusal → List ℕ → ℕ → ℕ → ℕ → ℕ → ℕ → ℕ → List X → List X → Type 0
+AnswersList members_of r bytes offset features at index count_old count_new old new =
+    AtOffset (λ number place. (r ≡ misuse number place) × Unchanged count_old count_new old new)
+    (λ input. FindsMembers members_of r input at index count_old count_new old new) bytes offset features at

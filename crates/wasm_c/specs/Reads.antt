@@ -2,12 +2,12 @@
 -- WebAssembly Core Specification 3.0: Binary Format, Modules, Code Section.
 use Rattle.std.specs.Prelude.{◌≡◌, ℕ, ◌+◌, ◌^◌, ◌<◌, List, [], length, Result, Ok, Err}
 use Rattle.wasm_operators.specs.below.bytes.error.Error.{Error}
-use Rattle.wasm_operators.specs.below.Source.{Reader, source_of, offset_of, end_of, Takes}
+use Rattle.wasm_operators.specs.below.Source.{Reader, source_of, end_of}
 use Rattle.wasm_operators.specs.Body.{EncodesBody, StopsBody}
 use Rattle.wasm_operators.specs.opcodes.Allowed.{EncodesAllowed}
 use Rattle.wasm_operators.specs.opcodes.OperatorFaults.{OperatorFault}
-use Rattle.wasm_operators.specs.Expression.{Placed, operators, IsAny, LaidOut, EncodesExpression}
-use Rattle.wasm_operators.specs.Headline.{StoodBefore, ReadsBeginning}
+use Rattle.wasm_operators.specs.Expression.{Placed, IsAny, EncodesExpression}
+use Rattle.wasm_operators.specs.Headline.{ReadsBeginning}
 use Rattle.wasm_operators.specs.Locals.{Declaration}
 use Rattle.wasm_operators.specs.Reading.{State, Anywhere}
 use Rattle.wasm_view.specs.Lists.{written}
@@ -36,13 +36,6 @@ pub record FindsBody {X : Type 0} (result : Result X Error) (input : Reader) (co
 abbrev pub FindsPlain : WasmRefusal → Reader → ℕ → List WasmOperator → List WasmOperator → Placed → Type 0
 FindsPlain r input count old new placed =
     (result : Result (Unit {0}) Error) × (r ≡ refusal_at result (end_of input)) × FindsBody result input count old new placed
-
--- The operators that were found since the reader was opened are laid out in what was taken of it, and stand before where it is now.
-pub record StandsBehind (opened now : State) (found : Placed) : Type 0 where
-  pub text : List ℕ
-  pub takes : Takes opened.reader now.reader text
-  pub laid : LaidOut opened.reader.features (offset_of opened.reader) found text
-  pub stood : StoodBefore (operators found) now
 
 -- How reading the operators of a new reader ended.
 abbrev pub EndsOperators : {X : Type 0} → Result X Error → State → Placed → Type 0

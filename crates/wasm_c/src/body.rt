@@ -3,8 +3,9 @@ ghost use Rattle.std.specs.Prelude.{◌≡◌, ◌≤◌, ◌<◌, ◌^◌, [], 
 ghost use Rattle.wasm_operators.specs.below.Source.{reader_of, end_of};
 ghost use Rattle.wasm_operators.specs.Expression.{Placed};
 ghost use Rattle.wasm_operators.specs.Headline.{StoodBefore};
+ghost use Rattle.wasm_operators.specs.Reading.{TakesOperators};
 ghost use Rattle.wasm_view.specs.View.{views};
-ghost use Rattle.wasm_c.specs.Reads.{IsWithin, FindsBody, FindsOperators, StandsBehind};
+ghost use Rattle.wasm_c.specs.Reads.{IsWithin, FindsBody, FindsOperators};
 ghost use Rattle.wasm_view.specs.Lists.{written};
 
 use crate::counter::Counter;
@@ -26,11 +27,10 @@ pub struct Found {
 /// Reads operators into the array while it has room, up to the end of the data or a refusal, and
 /// answers how many.
 fn fill(operators: &mut OperatorsReader<'_>, out: &mut [WasmOperator]) -> usize
-    requires { StoodBefore [] operators.old }
-    ensures { (found : Placed) × StandsBehind operators.old operators.new found × (result ≡ length found)
+    ensures { (found : Placed) × TakesOperators operators.old operators.new found × (result ≡ length found)
         × (length found ≤ length out.old) × (out.new ≡ views found ++ drop (length found) out.old) }
 {
-    run_laws::one_operator();
+    run_laws::single_reads();
     let mut viewer = Viewer::new();
     let mut count: usize = 0;
     'places: while count < out.len() && !operators.eof() {
@@ -74,7 +74,8 @@ fn read_operators(
     requires within { end_of operators.old.reader < 2 ^ 64 }
     ensures { (placed : Placed) × FindsOperators result.end operators.old result.count out.old out.new placed }
 {
-    expression_laws::one_layout(features);
+    run_laws::single_reads();
+    run_laws::read_to_the_end();
     expression_laws::layouts(features);
     let placed = fill(operators, out);
     if placed < out.len() {

@@ -39,7 +39,8 @@ pub fn whole_expression()
         → EncodesExpression (source_of (reader_of (features_of features) offset bytes)) placed }
 {
     run_laws::fresh_readers();
-    run_laws::one_operator();
+    run_laws::single_reads();
+    run_laws::read_to_the_end();
 }
 
 /// The same of `wasm_open_body`: the operators are those of the one body that the bytes encode. That it
@@ -54,7 +55,8 @@ pub fn whole_body()
         × EncodesBody (source_of (reader_of (features_of features) offset bytes)) declarations placed }
 {
     run_laws::fresh_readers();
-    run_laws::one_operator();
+    run_laws::single_reads();
+    run_laws::read_to_the_end();
 }
 
 /// In an array of as many frames as `wasm_frames_needed` answers, each operator finds room: no call

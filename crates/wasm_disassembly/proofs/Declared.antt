@@ -1,5 +1,6 @@
 -- Declarations of locals that were read, one after another, and their lines.
-use Rattle.std.proofs.Common.{◌≡◌, ◌≢◌, ℕ, ◌+◌, ◌^◌, ◌<◌, ◌≤◌, List, [], ◌∷◌, ◌++◌, length, Ok, Err, refl, sym, subst, ap, ◌∙◌, append_assoc, append-nil, length-append, arith}
+use Rattle.std.proofs.Common.{◌≡◌, ◌≢◌, ℕ, ◌+◌, ◌^◌, ◌<◌, ◌≤◌, List, [], ◌∷◌, ◌++◌, length, Option, Ok, Err, refl, sym, subst, ap, ◌∙◌, append_assoc, append-nil, length-append, arith}
+use Rattle.std.specs.Io.KnownBytes.{Appends}
 use Rattle.wasm_operators.specs.below.bytes.error.Error.{Error}
 use Rattle.wasm_operators.specs.below.bytes.message.Message.{Message}
 use Rattle.wasm_operators.specs.below.bytes.message.Message.TheVariants as message
@@ -9,7 +10,9 @@ use Rattle.wasm_operators.specs.imm.Lists.{EncodesEach, EncodesMany}
 use Rattle.wasm_operators.specs.Locals.{Declaration, EncodesDeclaration, max_locals, Locals, ReadsDeclaration}
 use Rattle.wasm_lines.specs.Rows.{line_of}
 use Rattle.wasm_lines.specs.Lines.{between, next_offset}
+use Rattle.wasm_disassembly.specs.declared.fault.DisassemblyFault.TheVariants as fault
 use Rattle.wasm_disassembly.specs.LocalLines.{PlacedLocals, declarations_of, locals_in, LaidOutLocals, declaration_text, declaration_lines, WritesDeclarations, ListsDeclarations}
+use Rattle.wasm_disassembly.proofs.Written.{appends_none, appends_both}
 
 pub takes_both : (a b c : Reader) (x y : List ℕ) → Takes a b x → Takes b c y → Takes a c (x ++ y)
 takes_both a b c x y p q =
@@ -66,13 +69,13 @@ lines_more start bytes end first (p ∷ ps) d at =
 -- ---- along the loop
 
 -- So many declarations were read, and this is the index of the next local.
-pub record IsOnTheWay (start : ℕ) (bytes : List ℕ) (parameters many first : ℕ) (old now : Locals) (before after : List ℕ) : Type 0 where
+pub record IsOnTheWay (start : ℕ) (bytes : List ℕ) (parameters many first : ℕ) (old now : Locals) (before after : Option (List ℕ)) : Type 0 where
   pub placed : PlacedLocals
   pub so_many : length placed ≡ many
   pub index : first ≡ parameters + locals_in (declarations_of placed)
   pub writes : WritesDeclarations start bytes parameters old now before after placed
 
-pub way_begins : (start : ℕ) (bytes : List ℕ) (parameters first : ℕ) (old : Locals) (before : List ℕ) → first ≡ parameters →
+pub way_begins : (start : ℕ) (bytes : List ℕ) (parameters first : ℕ) (old : Locals) (before : Option (List ℕ)) → first ≡ parameters →
     IsOnTheWay start bytes parameters 0 first old old before before
 way_begins start bytes parameters first old before is =
     let same : first ≡ parameters + 0 = is ∙ omega arith in
@@ -83,16 +86,16 @@ way_begins start bytes parameters first old before is =
       index = same;
       writes = record {
         takes = record { text = []; takes = takes_none old.reader; laid = refl; count = refl; total = none };
-        written = sym (append-nil before);
+        written = appends_none before;
       };
     }
 
 length_more : (placed : PlacedLocals) (p : Declaration × ℕ) → length (placed ++ p ∷ []) ≡ length placed + 1
 length_more placed p = length-append placed (p ∷ [])
 
-pub way_goes_on : (start : ℕ) (bytes shown : List ℕ) (parameters many first : ℕ) (old mid new : Locals) (before between_lines after : List ℕ) (d : Declaration)
+pub way_goes_on : (start : ℕ) (bytes shown : List ℕ) (parameters many first : ℕ) (old mid new : Locals) (before between_lines after : Option (List ℕ)) (d : Declaration)
     (at next : ℕ) → IsOnTheWay start bytes parameters many first old mid before between_lines → ReadsDeclaration (Ok d) mid new → at ≡ offset_of mid.reader →
-    shown ≡ between start bytes at (offset_of new.reader) → after ≡ between_lines ++ line_of 0 at shown (declaration_text first d) → next ≡ first + d.0 →
+    shown ≡ between start bytes at (offset_of new.reader) → Appends between_lines after (line_of 0 at shown (declaration_text first d)) → next ≡ first + d.0 →
     IsOnTheWay start bytes parameters (many + 1) next old new before after
 way_goes_on start bytes shown parameters many first old mid new before between_lines after d at next way ((text, encodes, takes), count, total) stands shows wrote goes =
     let h = way.writes.takes in
@@ -104,6 +107,10 @@ way_goes_on start bytes shown parameters many first old mid new before between_l
     let long : length (way.placed ++ (d, at) ∷ []) ≡ many + 1 = let m = way.so_many in let l = length_more way.placed (d, at) in omega (arith, m, l) in
     let lines : ℕ → List ℕ = λ end. declaration_lines start bytes end parameters way.placed in
     let line : List ℕ → ℕ → List ℕ = λ t n. line_of 0 at t (declaration_text n d) in
+    let same : lines (offset_of mid.reader) ++ line shown first ≡ declaration_lines start bytes (offset_of new.reader) parameters (way.placed ++ (d, at) ∷ []) =
+    ap (λ e. lines e ++ line shown first) (sym stands) ∙ ap (λ t. lines at ++ line t first) shows ∙
+    ap (λ n. lines at ++ line (between start bytes at (offset_of new.reader)) n) way.index ∙
+    sym (lines_more start bytes (offset_of new.reader) parameters way.placed d at) in
     record {
       placed = way.placed ++ (d, at) ∷ [];
       so_many = long;
@@ -116,14 +123,12 @@ way_goes_on start bytes shown parameters many first old mid new before between_l
           count = count ∙ h.count;
           total = sum;
         };
-        written = wrote ∙ ap (λ t. t ++ line shown first) way.writes.written ∙ append_assoc before (lines (offset_of mid.reader)) (line shown first) ∙
-            ap (λ e. before ++ (lines e ++ line shown first)) (sym stands) ∙ ap (λ t. before ++ (lines at ++ line t first)) shows ∙
-            ap (λ n. before ++ (lines at ++ line (between start bytes at (offset_of new.reader)) n)) way.index ∙
-            ap (λ t. before ++ t) (sym (lines_more start bytes (offset_of new.reader) parameters way.placed d at));
+        written = subst (Appends before after) same
+            (appends_both before between_lines after (lines (offset_of mid.reader)) (line shown first) way.writes.written wrote);
       };
     }
 
-pub few_locals : (start : ℕ) (bytes : List ℕ) (parameters many first : ℕ) (old mid new : Locals) (before after : List ℕ) (d : Declaration) →
+pub few_locals : (start : ℕ) (bytes : List ℕ) (parameters many first : ℕ) (old mid new : Locals) (before after : Option (List ℕ)) (d : Declaration) →
     IsOnTheWay start bytes parameters many first old mid before after → ReadsDeclaration (Ok d) mid new → parameters < 2 ^ 32 → first + d.0 < 2 ^ 64
 few_locals start bytes parameters many first old mid new before after d way ((text, encodes, takes), count, total) few =
     let f = way.index in
@@ -131,20 +136,19 @@ few_locals start bytes parameters many first old mid new before after d way ((te
     let most : mid.total + d.0 ≤ 4294967295 = encodes.1 in
     omega (arith, f, t, most, few)
 
-pub way_ends : (x : Unit {0}) (start : ℕ) (bytes : List ℕ) (parameters many first : ℕ) (old new : Locals) (before after : List ℕ) → many ≡ old.count →
+pub way_ends : (x : Unit {0}) (start : ℕ) (bytes : List ℕ) (parameters many first : ℕ) (old new : Locals) (before after : Option (List ℕ)) → many ≡ old.count →
     IsOnTheWay start bytes parameters many first old new before after → ListsDeclarations start bytes parameters (Ok x) old new before after
 way_ends x start bytes parameters many first old new before after all way = (way.placed, way.so_many ∙ all, way.writes)
 
-pub way_stops : (start : ℕ) (bytes : List ℕ) (parameters many first : ℕ) (old mid new : Locals) (before after : List ℕ) (e : Error) → many < old.count →
+pub way_stops : (start : ℕ) (bytes : List ℕ) (parameters many first : ℕ) (old mid new : Locals) (before after : Option (List ℕ)) (e : Error) → many < old.count →
     IsOnTheWay start bytes parameters many first old mid before after → ReadsDeclaration (Err e) mid new →
-    ListsDeclarations {X = Unit {0}} start bytes parameters (Err e) old new before after
-way_stops start bytes parameters many first old mid new before after e more way refused =
-    λ other. (
-      way.placed,
-      subst (λ n. n < old.count) (sym way.so_many) more,
-      subst (λ z. WritesDeclarations start bytes parameters old z before after way.placed) (sym refused.0) way.writes,
-      subst (λ z. ReadsDeclaration (Err e) z new) (sym refused.0) refused,
-    )
+    ListsDeclarations {X = Unit {0}} start bytes parameters (Err (fault.Refused e)) old new before after
+way_stops start bytes parameters many first old mid new before after e more way refused = (
+  way.placed,
+  subst (λ n. n < old.count) (sym way.so_many) more,
+  subst (λ z. WritesDeclarations start bytes parameters old z before after way.placed) (sym refused.0) way.writes,
+  subst (λ z. ReadsDeclaration (Err e) z new) (sym refused.0) refused,
+)
 
 -- ---- where the declarations stand, none is refused
 
@@ -189,7 +193,7 @@ next_stands offset (p ∷ ps) (d ∷ ds) a b x y code (is, t, m, parts, encodes,
     record { declaration = h.declaration; text = h.text; more = h.more; encodes = h.encodes; stands = h.stands; few = few }
 
 -- So the next read is not refused.
-pub none_refused : (P : Type 0) (start : ℕ) (bytes : List ℕ) (parameters many first : ℕ) (old mid new : Locals) (before after : List ℕ) (e : Error)
+pub none_refused : (P : Type 0) (start : ℕ) (bytes : List ℕ) (parameters many first : ℕ) (old mid new : Locals) (before after : Option (List ℕ)) (e : Error)
     (ds : List Declaration) (text more : List ℕ) → PrefixCode EncodesDeclaration → many < old.count →
     IsOnTheWay start bytes parameters many first old mid before after → ReadsDeclaration (Err e) mid new →
     EncodesMany EncodesDeclaration old.count text ds → rest old.reader ≡ text ++ more → old.total + locals_in ds ≤ max_locals → P

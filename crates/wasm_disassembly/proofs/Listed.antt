@@ -1,25 +1,23 @@
 -- How the text of a function is put together, and where only memory is refused.
-use Rattle.std.proofs.Common.{◌≡◌, ◌≢◌, ℕ, ◌+◌, inl, inr, List, [], ◌∷◌, ◌++◌, length, Result, Ok, Err, refl, sym, subst, ap, ◌∙◌, append_assoc, append-nil, length-append, arith}
+use Rattle.std.proofs.Common.{◌≡◌, ◌≢◌, ℕ, ◌+◌, inl, inr, List, [], ◌∷◌, ◌++◌, length, Option, Result, Ok, Err, refl, sym, subst, ap, ◌∙◌, append_assoc, append-nil, length-append, arith}
 use Rattle.std.proofs.lemmas.List.{length-map}
+use Rattle.std.specs.Io.KnownBytes.{Appends}
 use Rattle.wasm_operators.specs.below.bytes.error.Error.{Error}
 use Rattle.wasm_operators.specs.below.bytes.message.Message.TheVariants as message
 use Rattle.wasm_operators.specs.below.Number.{EncodesUnsigned}
 use Rattle.wasm_operators.specs.below.Refusal.{IsReadFault}
 use Rattle.wasm_operators.specs.below.Sequence.{PrefixCode}
-use Rattle.wasm_operators.specs.below.Source.{Reader, rest, offset_of, source_of, at_position, Takes}
-use Rattle.wasm_operators.specs.opcodes.Allowed.{EncodesAllowed}
-use Rattle.wasm_operators.specs.opcodes.OperatorFaults.{OperatorFault}
-use Rattle.wasm_operators.specs.Headline.{ReadsRest}
-use Rattle.wasm_operators.specs.Reading.{State, IsFresh, Adds, Anywhere}
-use Rattle.wasm_lines.specs.Lines.{lines_of}
-use Rattle.wasm_lines.specs.text.Operands.{text_of}
+use Rattle.wasm_operators.specs.below.Source.{Reader, rest, offset_of, source_of, Takes}
 use Rattle.wasm_operators.specs.imm.Lists.{EncodesEach, EncodesMany}
 use Rattle.wasm_operators.specs.Body.{EncodesBody}
-use Rattle.wasm_operators.specs.Expression.{Placed, IsAny, EncodesExpression}
+use Rattle.wasm_operators.specs.Expression.{Placed, EncodesExpression}
 use Rattle.wasm_operators.specs.Locals.{Declaration, EncodesDeclaration, Locals, OpensLocals, IsPastLocals}
+use Rattle.wasm_disassembly.specs.declared.fault.DisassemblyFault.{DisassemblyFault}
+use Rattle.wasm_disassembly.specs.declared.fault.DisassemblyFault.TheVariants as fault
 use Rattle.wasm_disassembly.specs.LocalLines.{PlacedLocals, declarations_of, LaidOutLocals, ListsDeclarations}
 use Rattle.wasm_disassembly.specs.Disassembly.{Heading, header, local_lines, operator_lines, ReadsLocals, Disassembles, ListsOperators}
 use Rattle.wasm_disassembly.proofs.Declared.{takes_both, ends_here, cancel}
+use Rattle.wasm_disassembly.proofs.Written.{appends_both, appends_three}
 
 laid_each : (offset : ℕ) (placed : PlacedLocals) (text : List ℕ) → LaidOutLocals offset placed text →
     EncodesEach EncodesDeclaration text (declarations_of placed)
@@ -45,20 +43,17 @@ locals_past body unread read locals h all =
     )
 
 -- What stands before the operators was written.
-pub record IsListedTo (h : Heading) (body reader : Reader) (before listed : List ℕ) : Type 0 where
+pub record IsListedTo (h : Heading) (body reader : Reader) (before listed : Option (List ℕ)) : Type 0 where
   pub unread : Locals
   pub read : Locals
   pub locals : PlacedLocals
   pub reads : ReadsLocals body unread read locals
   pub all : length locals ≡ unread.count
   pub stands : reader ≡ read.reader
-  pub is : listed ≡ before ++ (header h (source_of body) ++ local_lines h (source_of body) locals (offset_of read.reader))
+  pub is : Appends before listed (header h (source_of body) ++ local_lines h (source_of body) locals (offset_of read.reader))
 
-joined : (before a b now after : List ℕ) → now ≡ before ++ a → after ≡ now ++ b → after ≡ before ++ (a ++ b)
-joined before a b now after first second = second ∙ ap (λ t. t ++ b) first ∙ append_assoc before a b
-
-pub listed_to : (h : Heading) (x : Unit {0}) (body reader : Reader) (unread read : Locals) (before headed listed : List ℕ) → OpensLocals (Ok unread) body →
-    reader ≡ read.reader → headed ≡ before ++ header h (source_of body) →
+pub listed_to : (h : Heading) (x : Unit {0}) (body reader : Reader) (unread read : Locals) (before headed listed : Option (List ℕ)) →
+    OpensLocals (Ok unread) body → reader ≡ read.reader → Appends before headed (header h (source_of body)) →
     ListsDeclarations (offset_of body) (rest body) h.parameters (Ok x) unread read headed listed → IsListedTo h body reader before listed
 listed_to h x body reader unread read before headed listed opens stands begins (placed, all, writes) =
     record {
@@ -68,7 +63,7 @@ listed_to h x body reader unread read before headed listed opens stands begins (
       reads = record { opens = opens; takes = writes.takes };
       all = all;
       stands = stands;
-      is = joined before (header h (source_of body)) (local_lines h (source_of body) placed (offset_of read.reader)) headed listed begins writes.written;
+      is = appends_both before headed listed (header h (source_of body)) (local_lines h (source_of body) placed (offset_of read.reader)) begins writes.written;
     }
 
 -- What is so of the offset of a body and of its bytes.
@@ -77,24 +72,19 @@ pub at_body : (P : ℕ → List ℕ → Type 0) (start : ℕ) (bytes : List ℕ)
 at_body P start bytes body s b h = subst (λ n. P n (rest body)) s (subst (λ t. P start t) b h)
 
 -- Nothing but the header was written,
-pub stopped_at_count : (h : Heading) (e : Error) (body : Reader) (before headed : List ℕ) → OpensLocals (Err e) body →
-    headed ≡ before ++ header h (source_of body) → Disassembles {X = Unit {0}} h (Err e) body before headed
-stopped_at_count h e body before headed opens begins = λ other. (header h (source_of body), begins, inl (opens, refl))
+pub stopped_at_count : (h : Heading) (e : Error) (body : Reader) (before headed : Option (List ℕ)) → OpensLocals (Err e) body →
+    Appends before headed (header h (source_of body)) → Disassembles {X = Unit {0}} h (Err (fault.Refused e)) body before headed
+stopped_at_count h e body before headed opens begins = (header h (source_of body), begins, inl (opens, refl))
 
 -- or some declarations were.
-pub stopped_at_locals : (h : Heading) (e : Error) (body : Reader) (unread read : Locals) (before headed listed : List ℕ) → OpensLocals (Ok unread) body →
-    headed ≡ before ++ header h (source_of body) →
-    ListsDeclarations {X = Unit {0}} (offset_of body) (rest body) h.parameters (Err e) unread read headed listed →
-    Disassembles {X = Unit {0}} h (Err e) body before listed
-stopped_at_locals h e body unread read before headed listed opens begins lists =
-    λ other.
-    let placed = (lists other).0 in
-    let more = (lists other).1 in
-    let writes = (lists other).2 in
-    let refused = (lists other).3 in
+stopped_at_locals : (h : Heading) (e : Error) (body : Reader) (unread read : Locals) (before headed listed : Option (List ℕ)) →
+    OpensLocals (Ok unread) body → Appends before headed (header h (source_of body)) →
+    ListsDeclarations {X = Unit {0}} (offset_of body) (rest body) h.parameters (Err (fault.Refused e)) unread read headed listed →
+    Disassembles {X = Unit {0}} h (Err (fault.Refused e)) body before listed
+stopped_at_locals h e body unread read before headed listed opens begins (placed, more, writes, refused) =
     let lines = local_lines h (source_of body) placed (offset_of read.reader) in (
       header h (source_of body) ++ lines,
-      joined before (header h (source_of body)) lines headed listed begins writes.written,
+      appends_both before headed listed (header h (source_of body)) lines begins writes.written,
       inr (inl (record {
         unread = unread;
         read = read;
@@ -105,6 +95,16 @@ stopped_at_locals h e body unread read before headed listed opens begins lists =
         is = refl;
       })),
     )
+
+-- However the declarations ended.
+pub stopped_in_locals : (h : Heading) (f : DisassemblyFault) (body : Reader) (unread read : Locals) (before headed listed : Option (List ℕ)) →
+    OpensLocals (Ok unread) body → Appends before headed (header h (source_of body)) →
+    ListsDeclarations {X = Unit {0}} (offset_of body) (rest body) h.parameters (Err f) unread read headed listed →
+    Disassembles {X = Unit {0}} h (Err f) body before listed
+stopped_in_locals h (fault.Refused e) body unread read before headed listed opens begins lists =
+    stopped_at_locals h e body unread read before headed listed opens begins lists
+stopped_in_locals h fault.Memory body unread read before headed listed opens begins lists = tt
+stopped_in_locals h fault.Writing body unread read before headed listed opens begins lists = tt
 
 -- What the law `past_locals` says of the locals of a body and an expression behind them.
 abbrev pub IsBodyBehind : Type 0
@@ -117,12 +117,8 @@ same_end a b text t =
     let place : offset_of b ≡ offset_of a + length text = ap offset_of t.moved ∙ omega arith in
     omega (arith, long, place)
 
-whole_joined : (before a b c listed after : List ℕ) → listed ≡ before ++ (a ++ b) → after ≡ listed ++ c → after ≡ before ++ (a ++ (b ++ c))
-whole_joined before a b c listed after first second =
-    joined before (a ++ b) c listed after first second ∙ ap (λ t. before ++ t) (append_assoc a b c)
-
 -- The operators were read to their end, or not.
-pub operators_ended : (h : Heading) (r : Result (Unit {0}) Error) (body reader : Reader) (before listed after : List ℕ) → IsBodyBehind →
+pub operators_ended : (h : Heading) (r : Result (Unit {0}) DisassemblyFault) (body reader : Reader) (before listed after : Option (List ℕ)) → IsBodyBehind →
     IsListedTo h body reader before listed → ListsOperators (offset_of body) (rest body) r reader listed after → Disassembles h r body before after
 operators_ended h (Ok x) body reader before listed after law to (placed, encodes, is) =
     let past = locals_past body to.unread to.read to.locals to.reads to.all in
@@ -132,9 +128,9 @@ operators_ended h (Ok x) body reader before listed after law to (placed, encodes
     ap (λ (z : Reader). offset_of z + length (rest z)) to.stands ∙ same_end body to.read.reader past.0 past.2 in
     let locals = local_lines h s to.locals (offset_of to.read.reader) in
     let ops = operator_lines s placed (offset_of body + length (rest body)) in
-    let wrote : after ≡ listed ++ ops = is ∙ ap (λ n. listed ++ operator_lines s placed n) end in (
+    let wrote : Appends listed after ops = subst (λ n. Appends listed after (operator_lines s placed n)) end is in (
       header h s ++ (locals ++ ops),
-      whole_joined before (header h s) locals ops listed after to.is wrote,
+      appends_three before listed after (header h s) locals ops to.is wrote,
       record {
         unread = to.unread;
         read = to.read;
@@ -146,21 +142,13 @@ operators_ended h (Ok x) body reader before listed after law to (placed, encodes
         is = refl;
       },
     )
-operators_ended h (Err e) body reader before listed after law to lists =
-    λ other.
-    let opened = (lists other).0 in
-    let stopped = (lists other).1 in
-    let same = (lists other).2 in
-    let fresh = (lists other).3 in
-    let placed = (lists other).4 in
-    let reads = (lists other).5 in
-    let is = (lists other).6 in
+operators_ended h (Err (fault.Refused e)) body reader before listed after law to (opened, stopped, same, fresh, placed, reads, is) =
     let past = locals_past body to.unread to.read to.locals to.reads to.all in
     let s = source_of body in
     let locals = local_lines h s to.locals (offset_of to.read.reader) in
     let ops = operator_lines s placed (offset_of stopped.reader) in (
       header h s ++ (locals ++ ops),
-      whole_joined before (header h s) locals ops listed after to.is is,
+      appends_three before listed after (header h s) locals ops to.is is,
       inr (inr (record {
         unread = to.unread;
         read = to.read;
@@ -177,34 +165,8 @@ operators_ended h (Err e) body reader before listed after law to lists =
         is = refl;
       })),
     )
-
--- The operators were read into an empty list, and their lines written.
-pub operators_listed : (r : Result (Unit {0}) Error) (reader : Reader) (opened stopped : State) (first items shown : Placed) (start : ℕ) (bytes : List ℕ)
-    (end : ℕ) (before after : List ℕ) → opened.reader ≡ reader → IsFresh opened →
-    ReadsRest (Adds first items) IsAny EncodesAllowed OperatorFault Anywhere [] r opened stopped → first ≡ [] → shown ≡ items →
-    end ≡ offset_of stopped.reader → after ≡ before ++ lines_of text_of start bytes end shown → ListsOperators start bytes r reader before after
-operators_listed (Ok x) reader opened stopped first items shown start bytes end before after same fresh h none shows stands wrote =
-    let placed = h.tree.0 in
-    let tree = h.tree.2 in
-    let is : shown ≡ placed = shows ∙ h.tree.1 ∙ ap (λ f. f ++ placed) none in
-    let behind : end ≡ offset_of reader + length (rest reader) = stands ∙ ap offset_of tree.takes.moved ∙
-    ap (λ (z : Reader). offset_of (at_position z (z.position + length (rest z)))) same ∙ omega arith in (
-      placed,
-      subst (λ z. EncodesExpression (source_of z) placed) same tree.encodes,
-      wrote ∙ ap (λ ps. before ++ lines_of text_of start bytes end ps) is ∙ ap (λ n. before ++ lines_of text_of start bytes n placed) behind,
-    )
-operators_listed (Err e) reader opened stopped first items shown start bytes end before after same fresh h none shows stands wrote =
-    λ other.
-    let placed = h.beginning.0 in
-    let is : shown ≡ placed = shows ∙ h.beginning.1 ∙ ap (λ f. f ++ placed) none in (
-      opened,
-      stopped,
-      same,
-      fresh,
-      placed,
-      h.beginning.2,
-      wrote ∙ ap (λ ps. before ++ lines_of text_of start bytes end ps) is ∙ ap (λ n. before ++ lines_of text_of start bytes n placed) stands,
-    )
+operators_ended h (Err fault.Memory) body reader before listed after law to lists = tt
+operators_ended h (Err fault.Writing) body reader before listed after law to lists = tt
 
 -- ---- where the bytes encode a body
 

@@ -1,8 +1,8 @@
 -- The text of a function: its header, the lines of its locals, and the lines of its operators.
 -- WebAssembly Core Specification 3.0: Binary Format, Modules, Code Section.
-use Rattle.std.specs.Prelude.{◌≡◌, ◌≢◌, ◌<◌, ◌⊎◌, ℕ, ◌+◌, List, [], ◌++◌, length, Result, Ok, Err}
+use Rattle.std.specs.Prelude.{◌≡◌, ◌<◌, ◌⊎◌, ℕ, ◌+◌, List, [], ◌++◌, length, Option, Result, Ok, Err}
+use Rattle.std.specs.Io.KnownBytes.{Appends}
 use Rattle.wasm_operators.specs.below.bytes.error.Error.{Error}
-use Rattle.wasm_operators.specs.below.bytes.message.Message.TheVariants as message
 use Rattle.wasm_operators.specs.below.Source.{Source, Reader, rest, offset_of, source_of}
 use Rattle.wasm_operators.specs.opcodes.Allowed.{EncodesAllowed}
 use Rattle.wasm_operators.specs.opcodes.OperatorFaults.{OperatorFault}
@@ -13,6 +13,8 @@ use Rattle.wasm_operators.specs.Locals.{Locals, OpensLocals, ReadsDeclaration}
 use Rattle.wasm_operators.specs.Reading.{State, IsFresh, Anywhere}
 use Rattle.wasm_lines.specs.Lines.{header_of, lines_of}
 use Rattle.wasm_lines.specs.text.Operands.{text_of}
+use Rattle.wasm_disassembly.specs.declared.fault.DisassemblyFault.{DisassemblyFault}
+use Rattle.wasm_disassembly.specs.declared.fault.DisassemblyFault.TheVariants as fault
 use Rattle.wasm_disassembly.specs.LocalLines.{PlacedLocals, declarations_of, TakesDeclarations, declaration_lines}
 
 -- What is told of a function beside its body: its index, its name, which is empty where it has none, and how many parameters it has: they are its first locals.
@@ -75,21 +77,24 @@ pub record StopsAtOperators (h : Heading) (e : Error) (body : Reader) (text : Li
   pub is : text ≡ header h (source_of body) ++ (local_lines h (source_of body) locals (offset_of read.reader) ++
       operator_lines (source_of body) placed (offset_of stops.stopped.reader))
 
--- The text of a function, and how it ended. Where memory was refused nothing is said of it.
+-- The text of a function, and how it ended.
 abbrev pub IsText : {X : Type 0} → Heading → Result X Error → Reader → List ℕ → Type 0
 IsText h (Ok x) body text = IsWhole h body text
 IsText h (Err e) body text = StopsAtCount h e body text ⊎ (StopsAtLocals h e body text ⊎ StopsAtOperators h e body text)
 
-abbrev pub Disassembles : {X : Type 0} → Heading → Result X Error → Reader → List ℕ → List ℕ → Type 0
-Disassembles h (Ok x) body before after = (text : List ℕ) × (after ≡ before ++ text) × IsWhole h body text
-Disassembles h (Err e) body before after = e.message ≢ message.OutOfMemory → (text : List ℕ) × (after ≡ before ++ text) × IsText {X = Unit {0}} h (Err e) body text
+-- The text of a function was written, to its end or up to a refusal. Where memory or the writer failed, nothing is said here.
+abbrev pub Disassembles : {X : Type 0} → Heading → Result X DisassemblyFault → Reader → Option (List ℕ) → Option (List ℕ) → Type 0
+Disassembles {X} h (Ok x) body before after = (text : List ℕ) × Appends before after text × IsText {X = X} h (Ok x) body text
+Disassembles {X} h (Err (fault.Refused e)) body before after = (text : List ℕ) × Appends before after text × IsText {X = X} h (Err e) body text
+Disassembles h (Err _) body before after = Unit {0}
 
 -- Reading the operators of an expression, and writing their lines: `bytes` are those of the body or of more, from the offset `start` on.
-abbrev pub ListsOperators : {X : Type 0} → ℕ → List ℕ → Result X Error → Reader → List ℕ → List ℕ → Type 0
+abbrev pub ListsOperators : {X : Type 0} → ℕ → List ℕ → Result X DisassemblyFault → Reader → Option (List ℕ) → Option (List ℕ) → Type 0
 ListsOperators start bytes (Ok x) reader before after =
     (placed : Placed) × EncodesExpression (source_of reader) placed ×
-    (after ≡ before ++ lines_of text_of start bytes (offset_of reader + length (rest reader)) placed)
-ListsOperators start bytes (Err e) reader before after = e.message ≢ message.OutOfMemory →
+    Appends before after (lines_of text_of start bytes (offset_of reader + length (rest reader)) placed)
+ListsOperators start bytes (Err (fault.Refused e)) reader before after =
     (opened stopped : State) × (opened.reader ≡ reader) × IsFresh opened × (placed : Placed) ×
     ReadsBeginning IsAny EncodesAllowed OperatorFault Anywhere [] e opened stopped placed ×
-    (after ≡ before ++ lines_of text_of start bytes (offset_of stopped.reader) placed)
+    Appends before after (lines_of text_of start bytes (offset_of stopped.reader) placed)
+ListsOperators start bytes (Err _) reader before after = Unit {0}

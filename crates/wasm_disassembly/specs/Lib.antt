@@ -1,3 +1,4 @@
+pub mod Faults
 pub mod LocalLines
 pub mod Disassembly
 pub use Rattle.wasm_lines.specs as lines

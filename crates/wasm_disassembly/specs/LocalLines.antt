@@ -1,14 +1,15 @@
 -- The declarations of a body's locals that were read, and their lines. The form is that of `wasm-objdump -d` of wabt.
 -- WebAssembly Core Specification 3.0: Binary Format, Modules, Code Section.
-use Rattle.std.specs.Prelude.{◌≡◌, ◌≢◌, ◌<◌, ℕ, ◌+◌, List, [], ◌∷◌, ◌++◌, length, drop, map, Result, Ok, Err}
-use Rattle.wasm_operators.specs.below.bytes.error.Error.{Error}
-use Rattle.wasm_operators.specs.below.bytes.message.Message.TheVariants as message
+use Rattle.std.specs.Prelude.{◌≡◌, ◌<◌, ℕ, ◌+◌, List, [], ◌∷◌, ◌++◌, length, drop, map, Option, Result, Ok, Err}
+use Rattle.std.specs.Io.KnownBytes.{Appends}
 use Rattle.wasm_operators.specs.below.declared.types.ValType.{ValType}
 use Rattle.wasm_operators.specs.below.Source.{offset_of, Takes}
 use Rattle.wasm_operators.specs.Locals.{Declaration, EncodesDeclaration, Locals, ReadsDeclaration}
 use Rattle.wasm_lines.specs.Rows.{line_of}
 use Rattle.wasm_lines.specs.Lines.{shown_indices, between, next_offset}
 use Rattle.wasm_lines.specs.text.Values.{value_type_text}
+use Rattle.wasm_disassembly.specs.declared.fault.DisassemblyFault.{DisassemblyFault}
+use Rattle.wasm_disassembly.specs.declared.fault.DisassemblyFault.TheVariants as fault
 
 -- Declarations, each with the offset at which it begins.
 abbrev pub PlacedLocals : Type 0
@@ -51,14 +52,16 @@ declaration_lines start bytes end first [] = []
 declaration_lines start bytes end first (p ∷ ps) =
     line_of 0 p.1 (between start bytes p.1 (next_offset end ps)) (declaration_text first p.0) ++ declaration_lines start bytes end (first + p.0.0) ps
 
--- These declarations were read, and their lines stand behind what was written before.
-pub record WritesDeclarations (start : ℕ) (bytes : List ℕ) (first : ℕ) (old new : Locals) (before after : List ℕ) (placed : PlacedLocals) : Type 0 where
+-- These declarations were read, and their lines written.
+pub record WritesDeclarations (start : ℕ) (bytes : List ℕ) (first : ℕ) (old new : Locals) (before after : Option (List ℕ)) (placed : PlacedLocals) : Type 0 where
   pub takes : TakesDeclarations old new placed
-  pub written : after ≡ before ++ declaration_lines start bytes (offset_of new.reader) first placed
+  pub written : Appends before after (declaration_lines start bytes (offset_of new.reader) first placed)
 
--- Reading all declarations that were announced, and writing their lines; or those before one that is refused.
-abbrev pub ListsDeclarations : {X : Type 0} → ℕ → List ℕ → ℕ → Result X Error → Locals → Locals → List ℕ → List ℕ → Type 0
+-- Reading all declarations that were announced, and writing their lines; or those before one that is refused. Where memory or the writer failed, nothing is
+-- said here.
+abbrev pub ListsDeclarations : {X : Type 0} → ℕ → List ℕ → ℕ → Result X DisassemblyFault → Locals → Locals → Option (List ℕ) → Option (List ℕ) → Type 0
 ListsDeclarations start bytes first (Ok x) old new before after =
     (placed : PlacedLocals) × (length placed ≡ old.count) × WritesDeclarations start bytes first old new before after placed
-ListsDeclarations start bytes first (Err e) old new before after = e.message ≢ message.OutOfMemory →
+ListsDeclarations start bytes first (Err (fault.Refused e)) old new before after =
     (placed : PlacedLocals) × (length placed < old.count) × WritesDeclarations start bytes first old new before after placed × ReadsDeclaration (Err e) new new
+ListsDeclarations start bytes first (Err _) old new before after = Unit {0}

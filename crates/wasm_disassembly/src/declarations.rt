@@ -1,15 +1,20 @@
 //! The lines of the declarations of a body's locals.
 ghost use Rattle.std.specs.Prelude.{◌≡◌, ◌++◌, ◌+◌, ◌^◌, ◌<◌, ◌≤◌, ℕ, List, OnOk, IfErr, string_bytes, length};
+ghost use Rattle.std.specs.Io.KnownBytes.{Appends};
 ghost use Rattle.wasm_operators.specs.below.Source.{rest};
 ghost use Rattle.wasm_operators.specs.imm.Lists.{EncodesMany};
 ghost use Rattle.wasm_operators.specs.Locals.{Declaration, EncodesDeclaration, max_locals};
 ghost use Rattle.wasm_lines.specs.Rows.{line_of};
+ghost use Rattle.wasm_disassembly.specs.Faults.{IsHalt};
 ghost use Rattle.wasm_disassembly.specs.LocalLines.{type_name, declaration_text, locals_in, ListsDeclarations};
 
+use crate::fault::DisassemblyFault;
+use crate::writing::write_text;
 use std::alloc::Global;
+use std::io::Write;
 use wasm_lines::text::{Written, write_value_type};
 use wasm_lines::{begin_line, bytes_between, end_line, write_indices};
-use wasm_operators::{Error, LocalsReader, Message, Result, ValType, body_laws};
+use wasm_operators::{LocalsReader, ValType, body_laws};
 
 /// Writes a type, without the space before it.
 fn write_type_name(alloc: Global, out: &mut String, ty: ValType) -> Written
@@ -23,9 +28,9 @@ fn write_type_name(alloc: Global, out: &mut String, ty: ValType) -> Written
     }
 }
 
-/// Writes the lines of a declaration that stands at an offset. The first of its locals has the index
+/// Makes the lines of a declaration that stands at an offset. The first of its locals has the index
 /// `first`.
-fn write_declaration(
+fn push_declaration(
     alloc: Global,
     out: &mut String,
     offset: u64,
@@ -44,24 +49,49 @@ fn write_declaration(
     end_line(out, offset, bytes)
 }
 
-/// Reads the declarations that were announced, and writes their lines. `bytes` are those of the body,
-/// from the offset `start` on, and `parameters` of the function are its first locals.
-///
-/// Refused as `LocalsReader::read`; the lines of the declarations before are then written.
-pub fn write_declarations(
+/// Writes the lines of a declaration. They are made in `line`.
+fn write_declaration<W: Write>(
     alloc: Global,
-    out: &mut String,
+    writer: &mut W,
+    line: &mut String,
+    offset: u64,
+    bytes: &[u8],
+    first: u64,
+    declaration: (u32, ValType),
+) -> Result<(), DisassemblyFault>
+    requires fits { offset + length bytes.now < 2 ^ 64 }
+    requires few { first + declaration.0 < 2 ^ 64 }
+    ensures ok { OnOk result (Appends (W.contents writer.old) (W.contents writer.new)
+        (line_of 0 offset bytes.now (declaration_text first declaration))) }
+    ensures halts { IfErr result (λ fault. IsHalt fault) }
+{
+    line.clear();
+    if push_declaration(alloc, line, offset, bytes, first, declaration).is_err() {
+        return Err(DisassemblyFault::Memory);
+    }
+    write_text(writer, line.as_str())
+}
+
+/// Reads the declarations that were announced, and writes the lines of each before the next is read.
+/// `bytes` are those of the body, from the offset `start` on, and `parameters` of the function are its
+/// first locals.
+///
+/// `Refused` as `LocalsReader::read`; the lines of the declarations before are then written.
+pub fn write_declarations<W: Write>(
+    alloc: Global,
+    writer: &mut W,
+    line: &mut String,
     bytes: &[u8],
     start: u64,
     parameters: u32,
     locals: &mut LocalsReader<'_>,
-) -> Result<()>
+) -> Result<(), DisassemblyFault>
     ensures lists { ListsDeclarations start bytes.now parameters result locals.old locals.new
-        (string_bytes out.old) (string_bytes out.new) }
-    // Where the declarations stand, and are not too many, only memory is refused.
+        (W.contents writer.old) (W.contents writer.new) }
+    // Where the declarations stand, and are not too many, nothing else is refused than memory or by the writer.
     ensures whole { (declarations : List Declaration) → (text more : List ℕ)
         → EncodesMany EncodesDeclaration locals.old.count text declarations → rest locals.old.reader ≡ text ++ more
-        → locals.old.total + locals_in declarations ≤ max_locals → IfErr result (λ e. e.message ≡ Message.OutOfMemory) }
+        → locals.old.total + locals_in declarations ≤ max_locals → IfErr result (λ fault. IsHalt fault) }
 {
     body_laws::declarations();
     let mut first = u64::from(parameters);
@@ -69,13 +99,13 @@ pub fn write_declarations(
         let offset = locals.original_position();
         let declaration = match locals.read() {
             Ok(declaration) => declaration,
-            Err(e) => return Err(e),
+            Err(e) => return Err(DisassemblyFault::Refused(e)),
         };
         let number = declaration.0;
         let shown = bytes_between(bytes, start, offset, locals.original_position());
-        match write_declaration(alloc, out, offset, shown, first, declaration) {
+        match write_declaration(alloc, writer, line, offset, shown, first, declaration) {
             Ok(()) => {}
-            Err(_) => return Err(Error::new(Message::OutOfMemory, offset)),
+            Err(fault) => return Err(fault),
         }
         first += u64::from(number);
     }

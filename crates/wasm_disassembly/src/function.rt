@@ -1,81 +1,93 @@
 //! The text of a function.
-ghost use Rattle.std.specs.Prelude.{◌≡◌, ◌≤◌, List, IfErr, string_bytes};
+ghost use Rattle.std.specs.Prelude.{◌≡◌, ◌≤◌, List, IfErr, OnOk};
+ghost use Rattle.std.specs.Io.KnownBytes.{Appends};
 ghost use Rattle.wasm_operators.specs.below.Source.{source_of};
 ghost use Rattle.wasm_operators.specs.Body.{EncodesBody};
-ghost use Rattle.wasm_operators.specs.Expression.{Placed, EncodesExpression};
+ghost use Rattle.wasm_operators.specs.Expression.{Placed};
 ghost use Rattle.wasm_operators.specs.Locals.{Declaration, max_locals};
+ghost use Rattle.wasm_lines.specs.Lines.{header_of};
 ghost use Rattle.wasm_disassembly.specs.LocalLines.{locals_in};
-ghost use Rattle.wasm_disassembly.specs.Disassembly.{Disassembles, ListsOperators};
+ghost use Rattle.wasm_disassembly.specs.Disassembly.{Disassembles};
+ghost use Rattle.wasm_disassembly.specs.Faults.{IsHalt};
 
 use crate::declarations::write_declarations;
+use crate::expression::write_operators;
+use crate::fault::DisassemblyFault;
+use crate::writing::write_text;
 use std::alloc::Global;
-use wasm_lines::{write_header, write_lines};
-use wasm_operators::{
-    BinaryReader, Error, FunctionBody, Message, OperatorsReader, Result, body_laws, byte_laws,
-};
+use std::io::Write;
+use wasm_lines::write_header;
+use wasm_operators::{FunctionBody, body_laws, byte_laws};
 
-/// Reads the operators of the expression that begins where the reader stands, and writes their lines.
-/// `bytes` are those of the body, from the offset `start` on.
-fn write_operators(
-    alloc: Global,
-    out: &mut String,
-    bytes: &[u8],
-    start: u64,
-    reader: BinaryReader<'_>,
-) -> Result<()>
-    ensures lists { ListsOperators start bytes.now result reader.entry (string_bytes out.old) (string_bytes out.new) }
-    ensures whole { (placed : Placed) → EncodesExpression (source_of reader.entry) placed
-        → IfErr result (λ e. e.message ≡ Message.OutOfMemory) }
+/// Writes the line of a function. It is made in `line`.
+fn write_heading<W: Write>(
+    writer: &mut W,
+    line: &mut String,
+    offset: u64,
+    index: u32,
+    name: &str,
+) -> Result<(), DisassemblyFault>
+    ensures ok { OnOk result (Appends (W.contents writer.old) (W.contents writer.new) (header_of offset index name.now)) }
+    ensures halts { IfErr result (λ fault. IsHalt fault) }
 {
-    let mut operators = Vec::new(alloc);
-    let mut reader = OperatorsReader::new(alloc, reader);
-    let answer = reader.read_all(&mut operators);
-    let end = reader.original_position();
-    match write_lines(out, bytes, start, end, operators.as_slice()) {
-        Ok(()) => answer,
-        Err(_) => Err(Error::new(Message::OutOfMemory, end)),
+    line.clear();
+    if write_header(line, offset, index, name).is_err() {
+        return Err(DisassemblyFault::Memory);
     }
+    write_text(writer, line.as_str())
 }
 
 /// Writes the text of a function: its header, a line for each declaration of its locals, and a line
-/// for each of its operators. The name may be empty; the `parameters` are the first locals.
+/// for each of its operators. The name may be empty; the `parameters` are the first locals. Each line
+/// is written before what is behind it is read.
 ///
-/// Refused as the locals and the operators are: of a body that is none the lines of what was read are
+/// `Refused` as the locals and the operators are: of a body that is none the lines of what was read are
 /// written, up to where its locals or the longest beginning of an expression end. Where memory is
-/// refused, nothing is said of how much was written.
-pub fn disassemble(
+/// refused, or by the writer, nothing is said of how much was written.
+pub fn disassemble<W: Write>(
     alloc: Global,
-    out: &mut String,
+    writer: &mut W,
     index: u32,
     name: &str,
     parameters: u32,
     body: &FunctionBody<'_>,
-) -> Result<()>
+) -> Result<(), DisassemblyFault>
     ensures text { Disassembles (record { index = index; name = name.now; parameters = parameters }) result body.now
-        (string_bytes out.old) (string_bytes out.new) }
-    // Where the bytes encode a body that has no more locals than a function may have, only memory is refused.
+        (W.contents writer.old) (W.contents writer.new) }
+    // Where the bytes encode a body that has no more locals than a function may have, nothing else is refused than memory
+    // or by the writer.
     ensures whole { (declarations : List Declaration) → (placed : Placed)
         → EncodesBody (source_of body.now) declarations placed → locals_in declarations ≤ max_locals
-        → IfErr result (λ e. e.message ≡ Message.OutOfMemory) }
+        → IfErr result (λ fault. IsHalt fault) }
 {
     body_laws::past_locals();
     byte_laws::unsigned_numbers();
     let start = body.get_binary_reader().original_position();
-    match write_header(out, start, index, name) {
+    let mut line = String::new(alloc);
+    match write_heading(writer, &mut line, start, index, name) {
         Ok(()) => {}
-        Err(_) => return Err(Error::new(Message::OutOfMemory, start)),
+        Err(fault) => return Err(fault),
     }
     let mut locals = match body.get_locals_reader() {
         Ok(locals) => locals,
-        Err(e) => return Err(e),
+        Err(e) => return Err(DisassemblyFault::Refused(e)),
     };
-    match write_declarations(alloc, out, body.as_bytes(), start, parameters, &mut locals) {
+    match write_declarations(
+        alloc,
+        writer,
+        &mut line,
+        body.as_bytes(),
+        start,
+        parameters,
+        &mut locals,
+    ) {
         Ok(()) => {}
-        Err(e) => return Err(e),
+        Err(fault) => return Err(fault),
     }
     write_operators(
         alloc,
-        out,
+        writer,
+        &mut line,
         body.as_bytes(),
         start,
         locals.get_binary_reader(),

@@ -4,10 +4,14 @@
 #![tactic(auto)]
 
 mod declarations;
+mod expression;
+mod fault;
 mod function;
 #[cfg(test)]
 mod tests;
+mod writing;
 
+pub use fault::DisassemblyFault;
 pub use function::disassemble;
 pub use wasm_lines as lines;
 pub use wasm_operators as operators;

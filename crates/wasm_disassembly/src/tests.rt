@@ -1,4 +1,5 @@
 //! Functions as `wasm-objdump -d` of wabt prints them, but for the indices of locals behind parameters.
+use crate::fault::DisassemblyFault;
 use crate::function::disassemble;
 use std::process::Abort;
 use std::test::Fail;
@@ -13,19 +14,20 @@ fn row<R: AllocGlobal + Abort>(
     ended: &str,
 ) -> Result<(), Fail> {
     let body = FunctionBody::new(BinaryReader::new(bytes, 0x30));
-    let mut out = String::new(rt.alloc());
+    let mut out = Vec::new(rt.alloc());
     match disassemble(rt.alloc(), &mut out, 3, "f", parameters, &body) {
         Ok(()) => {
             assert_eq!(rt; "", ended);
         }
-        Err(e) => {
+        Err(DisassemblyFault::Refused(e)) => {
             let offset = e.offset();
             let message = e.message();
             let said = format!(in rt.alloc(); "{offset}: {message}")?;
             assert_eq!(rt; said.as_str(), ended);
         }
+        Err(_) => assert!(rt; false),
     }
-    assert_eq!(rt; out.as_str(), text);
+    assert_eq!(rt; out.as_slice(), text.as_bytes());
     Ok(())
 }
 

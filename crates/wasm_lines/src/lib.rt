@@ -1,14 +1,14 @@
 //! The lines of a disassembly, in the form of `wasm-objdump -d` of wabt: an address, at most nine bytes,
 //! and a text.
 //!
-//! The theorem stands on [`write_lines`].
+//! The theorem stands on [`write_line`].
 #![tactic(auto)]
 
 mod function;
-mod listing;
+mod operator;
 mod rows;
 
 pub use function::{write_header, write_indices};
-pub use listing::{bytes_between, write_lines};
+pub use operator::{bytes_between, write_line};
 pub use rows::{begin_line, end_line};
 pub use wasm_text as text;

@@ -1,7 +1,6 @@
 -- Functions that are asked for, and others; and the next body of a section.
-use Rattle.std.proofs.Common.{◌≡◌, ◌+◌, Bool, true, false, Some, Result, Ok, Err, IsOk, IsErrAnd, IfErr, refl, sym, subst, ◌∙◌}
+use Rattle.std.proofs.Common.{◌≡◌, ◌+◌, Bool, true, false, Some, Result, Ok, sym, subst, ◌∙◌}
 use Rattle.wasm_disassembly.specs.operators.below.bytes.error.Error.{Error}
-use Rattle.wasm_disassembly.specs.operators.below.bytes.message.Message.TheVariants as message
 use Rattle.wasm_disassembly.specs.operators.below.FromReader.{ReadsValue, EncodesReader, ReaderFault}
 use Rattle.wasm_disassembly.specs.operators.below.Source.{Reader, offset_of, end_of}
 use Rattle.wasm_disassembly.specs.operators.Section.{SectionItems, StepsSection}
@@ -43,9 +42,3 @@ later_writes (fault.Code _) h w = w
 later_writes fault.Reading h w = h
 later_writes fault.Writing h w = w
 later_writes fault.Memory h w = w
-
--- a body that is read is refused for memory alone
-pub read_whole : {X : Type 0} (answer : Result X Error) → (IsErrAnd answer (λ e. e.message ≡ message.OutOfMemory) → ⊥) →
-    IfErr answer (λ e. e.message ≡ message.OutOfMemory) → IsOk answer
-read_whole (Ok x) other memory = refl
-read_whole (Err e) other memory = absurd (other memory)

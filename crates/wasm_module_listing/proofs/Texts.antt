@@ -1,9 +1,12 @@
 -- The text of a function.
-use Rattle.std.proofs.Common.{◌≡◌, ℕ, List, [], ◌++◌, Result, Ok, Err, IsErrAnd, sym, subst, ap, ◌∙◌}
+use Rattle.std.proofs.Common.{◌≡◌, ℕ, List, Option, Ok, Err, subst, ap, ◌∙◌}
+use Rattle.std.specs.Io.KnownBytes.{Appends}
 use Rattle.wasm_disassembly.specs.operators.below.bytes.error.Error.{Error}
-use Rattle.wasm_disassembly.specs.operators.below.bytes.message.Message.TheVariants as message
 use Rattle.wasm_disassembly.specs.operators.below.Source.{Reader}
-use Rattle.wasm_disassembly.specs.Disassembly.{Heading, IsText, IsWhole, Disassembles}
+use Rattle.wasm_disassembly.specs.declared.fault.DisassemblyFault.{DisassemblyFault}
+use Rattle.wasm_disassembly.specs.declared.fault.DisassemblyFault.TheVariants as disassembly_fault
+use Rattle.wasm_disassembly.specs.Faults.{IsHalt}
+use Rattle.wasm_disassembly.specs.Disassembly.{Heading, IsText, Disassembles}
 
 abbrev heading_by : ℕ → List ℕ → ℕ → Heading
 heading_by index name parameters = record { index = index; name = name; parameters = parameters }
@@ -12,13 +15,17 @@ pub same_heading : (i j : ℕ) (a b : List ℕ) (n m : ℕ) → i ≡ j → a �
 same_heading i j a b n m index name parameters =
     ap (λ z. heading_by z a n) index ∙ ap (λ z. heading_by j z n) name ∙ ap (λ z. heading_by j b z) parameters
 
--- where it was written into an empty text, and memory was not refused
-pub text_written : {X : Type 0} (h k : Heading) (answer : Result X Error) (body : Reader) (before after shown : List ℕ) → h ≡ k → before ≡ [] →
-    shown ≡ after → (IsErrAnd answer (λ e. e.message ≡ message.OutOfMemory) → ⊥) → Disassembles h answer body before after → IsText k answer body shown
-text_written {X} h k (Ok x) body before after shown same empty is other (text, parts, whole) =
-    let all : text ≡ shown = sym (is ∙ parts ∙ ap (λ z. z ++ text) empty) in
-    subst (λ z. IsWhole z body shown) same (subst (λ z. IsWhole h body z) all whole)
-text_written {X} h k (Err e) body before after shown same empty is other listed =
-    let (text, parts, stops) = listed other in
-    let all : text ≡ shown = sym (is ∙ parts ∙ ap (λ z. z ++ text) empty) in
-    subst (λ z. IsText {X = X} z (Err e) body shown) same (subst (λ z. IsText {X = X} h (Err e) body z) all stops)
+-- under the heading that the module gives it
+pub text_whole : (h k : Heading) (body : Reader) (old new : Option (List ℕ)) → h ≡ k → Disassembles {X = Unit {0}} h (Ok tt) body old new →
+    (text : List ℕ) × Appends old new text × IsText {X = Unit {0}} k (Ok tt) body text
+text_whole h k body old new same (text, appends, whole) = (text, appends, subst (λ z. IsText {X = Unit {0}} z (Ok tt) body text) same whole)
+
+pub text_part : (h k : Heading) (f : DisassemblyFault) (e : Error) (body : Reader) (old new : Option (List ℕ)) → h ≡ k → f ≡ disassembly_fault.Refused e →
+    Disassembles {X = Unit {0}} h (Err f) body old new → (text : List ℕ) × Appends old new text × IsText {X = Unit {0}} k (Err e) body text
+text_part h k f e body old new same is disassembles =
+    let (text, appends, part) = subst (λ z. Disassembles {X = Unit {0}} h (Err z) body old new) is disassembles in
+    (text, appends, subst (λ z. IsText {X = Unit {0}} z (Err e) body text) same part)
+
+-- a refusal is no fault of memory or the writer
+pub no_halt : (P : Type 0) (f : DisassemblyFault) (e : Error) → f ≡ disassembly_fault.Refused e → IsHalt f → P
+no_halt P f e is halts = absurd (subst IsHalt is halts)

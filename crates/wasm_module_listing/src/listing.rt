@@ -1,5 +1,5 @@
 //! The texts of the functions of a code section.
-ghost use Rattle.std.specs.Prelude.{◌≡◌, ◌↔◌, true, List, ℕ, IsTrue, IsOk, IsErrAnd, IfOk, IfErr};
+ghost use Rattle.std.specs.Prelude.{◌≡◌, true, List, ℕ, IsOk, IfOk, IfErr};
 ghost use Rattle.std.specs.Io.KnownBytes.{Appends, Keeps};
 ghost use Rattle.wasm_disassembly.specs.Disassembly.{IsText};
 ghost use Rattle.wasm_disassembly.specs.operators.below.Source.{Reader};
@@ -10,24 +10,13 @@ ghost use Rattle.wasm_module_listing.specs.Listing.{IsCode, ListsCode, IsFunctio
 use crate::code_laws;
 use crate::complaints::Complaints;
 use crate::fault::Fault;
-use crate::writing::write_text;
 use std::alloc::Global;
 use std::io::Write;
-use wasm_disassembly::disassemble;
-use wasm_disassembly::operators::{BinaryReader, CodeSectionReader, Error, FunctionBody, Message};
+use wasm_disassembly::operators::{BinaryReader, CodeSectionReader, Error, FunctionBody};
+use wasm_disassembly::{DisassemblyFault, disassemble};
 use wasm_functions::Functions;
 
-/// Whether reading ended for allocation failure.
-fn is_memory(answer: &Result<(), Error>) -> bool
-    ensures { IsTrue result ↔ IsErrAnd answer.now (λ e. e.message ≡ Message.OutOfMemory) }
-{
-    match answer {
-        Ok(()) => false,
-        Err(error) => matches!(error.message(), Message::OutOfMemory),
-    }
-}
-
-/// Writes the text of the function at a place, and answers how its reading ended.
+/// Writes the text of the function at a place, a line at a time, and answers how its reading ended.
 fn list_function<W: Write>(
     alloc: Global,
     functions: &Functions<'_>,
@@ -40,17 +29,14 @@ fn list_function<W: Write>(
     ensures whole { IfOk result (λ answer. IsFunction body.now → IsOk answer) }
     ensures halts { IfErr result (λ fault. IsHalt fault) }
 {
-    let mut text = String::new(alloc);
     let index = functions.index(place);
     let name = functions.name(place);
     let parameters = functions.parameters(place);
-    let answer = disassemble(alloc, &mut text, index, name, parameters, body);
-    if is_memory(&answer) {
-        return Err(Fault::Memory);
-    }
-    match write_text(writer, text.as_str()) {
-        Ok(()) => Ok(answer),
-        Err(fault) => Err(fault),
+    match disassemble(alloc, writer, index, name, parameters, body) {
+        Ok(()) => Ok(Ok(())),
+        Err(DisassemblyFault::Refused(e)) => Ok(Err(e)),
+        Err(DisassemblyFault::Memory) => Err(Fault::Memory),
+        Err(DisassemblyFault::Writing) => Err(Fault::Writing),
     }
 }
 

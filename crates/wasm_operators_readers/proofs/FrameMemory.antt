@@ -42,6 +42,10 @@ pub little_both : (m frames bytes mid inside more now : ℕ) → IsLittleMemory 
     IsLittleMemory mid inside (more + 10) now → IsLittleMemory m frames ((bytes + more) + 10) now
 little_both m frames bytes mid inside more now first few next = omega (arith, first, next, few)
 
+-- Over more bytes.
+pub little_longer : (m frames bytes now : ℕ) → IsLittleMemory m frames 10 now → IsLittleMemory m frames (bytes + 10) now
+little_longer m frames bytes now h = omega (arith, h)
+
 -- One step after others.
 pub little_more : (m frames bytes mid inside more now : ℕ) → IsLittleMemory m frames (bytes + 10) mid → IsLittleMemory mid inside 10 now →
     2 * inside ≤ 2 * frames + bytes → IsLittleMemory m frames ((bytes + more) + 10) now

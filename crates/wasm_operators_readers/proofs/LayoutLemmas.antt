@@ -28,21 +28,6 @@ roles_of-append (x ∷ xs) ys = ap (λ r. role_of x ∷ r) (roles_of-append xs y
 pub operators-append : (ps qs : Placed) → operators (ps ++ qs) ≡ operators ps ++ operators qs
 operators-append ps qs = map-append (λ (p : Operator × ℕ). p.0) ps qs
 
-pub laid_push : (f : WasmFeatures) (offset : ℕ) (ps : Placed) (bytes : List ℕ) (op : Operator) (at : ℕ) (text : List ℕ) → LaidOut f offset ps bytes →
-    at ≡ offset + length bytes → EncodesOperator f op text → LaidOut f offset (ps ++ (op, at) ∷ []) (bytes ++ text)
-laid_push f offset [] bytes op at text l e s =
-    let n : length bytes ≡ 0 = ap length l in
-    (omega (arith, n), text, [], ap (λ b. b ++ text) l ∙ sym (append-nil text), s, refl)
-laid_push f offset (p ∷ ps) bytes op at text (eo, beginning, more, eb, s0, l) e s =
-    let n : length bytes ≡ length beginning + length more = ap length eb ∙ length-append beginning more in (
-      eo,
-      beginning,
-      more ++ text,
-      ap (λ b. b ++ text) eb ∙ append_assoc beginning more text,
-      s0,
-      laid_push f (offset + length beginning) ps more op at text l (omega arith) s,
-    )
-
 pub laid_encoded : (f : WasmFeatures) (offset : ℕ) (ps : Placed) (bytes : List ℕ) → LaidOut f offset ps bytes → AreEncoded f (operators ps)
 laid_encoded f offset [] bytes l = tt
 laid_encoded f offset (p ∷ ps) bytes (eo, beginning, more, eb, s, l) = ((beginning, s), laid_encoded f (offset + length beginning) ps more l)

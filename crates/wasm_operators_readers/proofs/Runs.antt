@@ -1,5 +1,5 @@
 -- A run of reads, and what its end says.
-use Rattle.std.proofs.Common.{◌≡◌, ℕ, ◌+◌, ◌≤◌, List, [], ◌∷◌, ◌++◌, length, Bool, true, cond, None, Some, Result, Ok, Err, refl, sym, subst, ap, ◌∙◌, append_assoc, length-append, arith, inl, inr}
+use Rattle.std.proofs.Common.{◌≡◌, ℕ, ◌+◌, ◌<◌, ◌≤◌, List, [], ◌∷◌, ◌++◌, length, Bool, true, cond, None, Some, Result, Ok, Err, refl, sym, subst, ap, ◌∙◌, append_assoc, length-append, arith, inl, inr}
 use Rattle.std.proofs.lemmas.Bool.{cases_lt}
 use Rattle.std.proofs.lemmas.List.{append-nil}
 use Rattle.std.specs.Option.{option_and_then}
@@ -22,14 +22,14 @@ use Rattle.wasm_decode.specs.instr.Roles.{role_of, roles_of}
 use Rattle.wasm_operators_readers.specs.Expression.{Placed, OfPlaced, operators, LaidOut, AreEncoded, EncodesRest, IsBeginningBehind, IsLongestOf}
 use Rattle.wasm_operators_readers.specs.Flat.{IsAllowedFrom, IsFlatOf}
 use Rattle.wasm_operators_readers.specs.Openings.{opened_by, opened_along}
-use Rattle.wasm_operators_readers.specs.Reading.{Taking, Refusing, Allocating, State, StopsRead, IsFresh, GrowsLittle, IsUnchanged, TakesOperator, TakesOperators, StopsRun, Finishes, StopsFinish, EndsRun}
+use Rattle.wasm_operators_readers.specs.Reading.{Taking, Refusing, Allocating, State, StopsRead, IsFresh, GrowsLittle, IsUnchanged, TakesOperator, TakesOperators, StopsRun, FramesLeft, Finishes, StopsFinish, EndsRun}
 use Rattle.wasm_operators_readers.specs.Stack.{frame_memory}
 use Rattle.wasm_operators_readers.specs.Headline.{StoodBefore, ReadsTree, BeginningAt, ReadsBeginning, IsWithinDepth, IsNotOutOfMemory}
 use Rattle.wasm_operators_readers.proofs.FlatLemmas.{allowed_begins, flat_longest}
-use Rattle.wasm_operators_readers.proofs.LayoutLemmas.{roles_of-append, operators-append, laid_push, laid_encoded, both_encoded, path_begins, not_empty, laid_goes_on, laid_no_longer, laid_same, one_longest, GoesOn, next_allowed}
+use Rattle.wasm_operators_readers.proofs.LayoutLemmas.{roles_of-append, operators-append, laid_append, laid_encoded, both_encoded, encoded_some, path_begins, not_empty, laid_goes_on, laid_no_longer, laid_same, one_longest, GoesOn, next_allowed}
 use Rattle.wasm_operators_readers.proofs.OneRead.{may_end, refused_none, is_memory, path_on, read_depth}
 use Rattle.wasm_operators_readers.proofs.OpeningLemmas.{twice_opened_along, along_length, opened_along-append}
-use Rattle.wasm_operators_readers.proofs.FrameMemory.{memory_stays, little_more, few_frames}
+use Rattle.wasm_operators_readers.proofs.FrameMemory.{memory_stays, little_longer, little_both, little_more, few_frames}
 use Rattle.wasm_operators_readers.proofs.Premises.{AreEach, IsSound, Keeps, TakesEach}
 
 pub ran_start : (s : State) → TakesOperators s s []
@@ -38,31 +38,49 @@ ran_start s = record { text = []; takes = takes_none s.reader; laid = refl; fram
 pub features_stay : (old new : Reader) (text : List ℕ) → Takes old new text → new.features ≡ old.features
 features_stay old new text t = ap (λ (r : Reader). r.features) t.moved
 
-pub ran_push : (Encodes : Taking) → IsSound Encodes → (old mid new : State) (placed : Placed) (op : Operator) → TakesOperators old mid placed →
-    TakesOperator Encodes op mid new → TakesOperators old new (placed ++ (op, offset_of mid.reader) ∷ [])
-ran_push Encodes sound old mid new placed op r t =
-    let at : Operator × ℕ = (op, offset_of mid.reader) in
-    let encodes : EncodesOperator old.reader.features op t.text =
-    subst (λ f. EncodesOperator f op t.text) (features_stay old.reader mid.reader r.text r.takes) (sound mid.reader.features t.kind t.text op t.encodes) in
+-- One read,
+pub ran_one : (Encodes : Taking) → IsSound Encodes → (old new : State) (op : Operator) → TakesOperator Encodes op old new →
+    TakesOperators old new ((op, offset_of old.reader) ∷ [])
+ran_one Encodes sound old new op t = record {
+  text = t.text;
+  takes = t.takes;
+  laid = (refl, t.text, [], sym (append-nil t.text), sound old.reader.features t.kind t.text op t.encodes, refl);
+  frames = ap (option_and_then (λ frames. frames_along {A = Operator} frames [])) t.frames;
+  room = let room = t.room in omega (arith, room);
+  memory = little_longer (frame_memory old.frames old.room) (length old.frames) (length t.text) (frame_memory new.frames new.room) t.memory;
+}
+
+-- and reads behind others.
+pub ran_join : (old mid new : State) (first second : Placed) → TakesOperators old mid first → TakesOperators mid new second →
+    TakesOperators old new (first ++ second)
+ran_join old mid new first second r t =
     let offset : offset_of mid.reader ≡ offset_of old.reader + length r.text = ap offset_of r.takes.moved ∙ omega arith in
-    let roles : roles_of (operators (placed ++ at ∷ [])) ≡ roles_of (operators placed) ++ role_of op ∷ [] = ap roles_of (operators-append placed (at ∷ [])) ∙
-    roles_of-append (operators placed) (op ∷ []) in
-    let opened = opened_along-append placed (at ∷ []) in
+    let laid : LaidOut old.reader.features (offset_of old.reader + length r.text) second t.text =
+    subst (λ n. LaidOut old.reader.features n second t.text) offset
+    (subst (λ f. LaidOut f (offset_of mid.reader) second t.text) (features_stay old.reader mid.reader r.text r.takes) t.laid) in
+    let roles : roles_of (operators (first ++ second)) ≡ roles_of (operators first) ++ roles_of (operators second) = ap roles_of (operators-append first second) ∙
+    roles_of-append (operators first) (operators second) in
+    let opened = opened_along-append first second in
     record {
       text = r.text ++ t.text;
       takes = takes_then old.reader mid.reader new.reader r.text t.text r.takes t.takes;
-      laid = laid_push old.reader.features (offset_of old.reader) placed r.text op (offset_of mid.reader) t.text r.laid offset encodes;
-      frames = ap (frames_along old.frames) roles ∙ frames_along-append old.frames (roles_of (operators placed)) (role_of op ∷ []) ∙
-          ap (option_and_then (λ frames. frames_along frames (role_of op ∷ []))) r.frames ∙
-          ap (option_and_then (λ frames. frames_along {A = Operator} frames [])) t.frames;
-      room = pushed_room old.room mid.room new.room (opened_along placed) (opened_by op) (opened_along (placed ++ at ∷ [])) r.room t.room opened;
+      laid = laid_append old.reader.features (offset_of old.reader) first second r.text t.text r.laid laid;
+      frames = ap (frames_along old.frames) roles ∙ frames_along-append old.frames (roles_of (operators first)) (roles_of (operators second)) ∙
+          ap (option_and_then (λ frames. frames_along frames (roles_of (operators second)))) r.frames ∙ t.frames;
+      room = joined_room old.room mid.room new.room (opened_along first) (opened_along second) (opened_along (first ++ second)) r.room t.room opened;
       memory = subst (λ n. GrowsLittle n old new) (sym (length-append r.text t.text))
-          (little_more (frame_memory old.frames old.room) (length old.frames) (length r.text) (frame_memory mid.frames mid.room) (length mid.frames)
-          (length t.text) (frame_memory new.frames new.room) r.memory t.memory (few_frames old.reader.features (offset_of old.reader) placed r.text old.frames mid.frames r.laid r.frames));
+          (little_both (frame_memory old.frames old.room) (length old.frames) (length r.text) (frame_memory mid.frames mid.room) (length mid.frames)
+          (length t.text) (frame_memory new.frames new.room) r.memory
+          (few_frames old.reader.features (offset_of old.reader) first r.text old.frames mid.frames r.laid r.frames) t.memory);
     }
   where
-    pushed_room : (a b c m n k : ℕ) → a ≤ b + m → b ≤ c + n → k ≡ m + (n + 0) → a ≤ c + k
-    pushed_room a b c m n k p q e = omega (arith, p, q, e)
+    joined_room : (a b c m n k : ℕ) → a ≤ b + m → b ≤ c + n → k ≡ m + n → a ≤ c + k
+    joined_room a b c m n k p q e = omega (arith, p, q, e)
+
+pub ran_push : (Encodes : Taking) → IsSound Encodes → (old mid new : State) (placed : Placed) (op : Operator) → TakesOperators old mid placed →
+    TakesOperator Encodes op mid new → TakesOperators old new (placed ++ (op, offset_of mid.reader) ∷ [])
+ran_push Encodes sound old mid new placed op r t =
+    ran_join old mid new placed ((op, offset_of mid.reader) ∷ []) r (ran_one Encodes sound mid new op t)
 
 right-zero : (n : ℕ) → n + 0 ≡ n
 right-zero n = omega arith
@@ -128,6 +146,14 @@ taken_depth Encodes sound op old new t =
     let few = read_depth Encodes sound op old new t in
     let position : new.reader.position ≡ old.reader.position + length t.text = ap (λ (r : Reader). r.position) t.takes.moved in
     omega (arith, few, position)
+
+-- It took a byte at the least.
+pub taken_ahead : (Encodes : Taking) → IsSound Encodes → (op : Operator) (old new : State) → TakesOperator Encodes op old new →
+    offset_of old.reader < offset_of new.reader
+taken_ahead Encodes sound op old new t =
+    let some = encoded_some old.reader.features op t.text (sound old.reader.features t.kind t.text op t.encodes) in
+    let offset : offset_of new.reader ≡ offset_of old.reader + length t.text = ap offset_of t.takes.moved ∙ omega arith in
+    omega (arith, some, offset)
 
 -- Twice the frames that were added is at most the bytes that were taken.
 pub run_depth : (old new : State) (placed : Placed) → TakesOperators old new placed → IsWithinDepth old new
@@ -292,17 +318,18 @@ module _ (Sort : Operator → Type 0) (Kept : OfPlaced) (Encodes : Taking) (Faul
             )
       ]
 
--- The reader's answer, by what it finds at the end of the data.
-finish_stops : (Encodes : Taking) (Fault : Refusing) (Allocates : Allocating) (m : Message) (e : Error) (s : State) → e.message ≡ m → rest s.reader ≡ [] →
-    e.offset ≡ offset_of s.reader → StopsFinish m (s.frames ≡ []) s.reader → StopsRun Encodes Fault Allocates e s
-finish_stops Encodes Fault Allocates message.FramesRemain e s is all at h = inl (all, h, is, at)
-finish_stops Encodes Fault Allocates message.UnexpectedData e s is all at h = absurd (h.1 all)
-finish_stops Encodes Fault Allocates _ e s is all at h = absurd h
+-- Finishing at the end of the data refuses frames that are left open.
+pub finish_left : (m : Message) (e : Error) (s : State) → e.message ≡ m → rest s.reader ≡ [] → e.offset ≡ offset_of s.reader →
+    StopsFinish m (s.frames ≡ []) s.reader → FramesLeft e s
+finish_left message.FramesRemain e s is all at h = (all, h, is, at)
+finish_left message.UnexpectedData e s is all at h = absurd (h.1 all)
+finish_left _ e s is all at h = absurd h
 
+-- The reader's answer, by what it finds at the end of the data.
 pub finish_ends : {X : Type 0} (Encodes : Taking) (Fault : Refusing) (Allocates : Allocating) (result : Result X Error) (s : State) → rest s.reader ≡ [] →
     Finishes result s → EndsRun Encodes Fault Allocates result s
 finish_ends Encodes Fault Allocates (Ok x) s all h = h
-finish_ends Encodes Fault Allocates (Err e) s all (at, h) = finish_stops Encodes Fault Allocates e.message e s refl all at h
+finish_ends Encodes Fault Allocates (Err e) s all (at, h) = inl (finish_left e.message e s refl all at h)
 
 -- one operator more at the end
 pub pushed : (b : Bool) (new now old placed : Placed) (p q : Operator × ℕ) → new ≡ cond b (now ++ p ∷ []) now → b ≡ true → now ≡ old ++ placed → p ≡ q →

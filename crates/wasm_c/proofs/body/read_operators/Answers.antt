@@ -1,12 +1,9 @@
 use Rattle.std.proofs.Common.{◌++◌, length, take, drop, ap, sym, subst, ◌∙◌, arith, length-append}
 use Rattle.wasm_operators.specs.opcodes.Allowed.{EncodesAllowed}
 use Rattle.wasm_operators.specs.opcodes.OperatorFaults.{OperatorFault}
-use Rattle.wasm_operators.specs.Expression.{operators, IsAny}
-use Rattle.wasm_operators.specs.Reading.{Adds, Anywhere}
-use Rattle.wasm_operators.specs.Headline.{ReadsRest}
+use Rattle.wasm_operators.specs.Reading.{Adds, Anywhere, RunsToEnd}
 use Rattle.wasm_view.specs.View.{views}
 use Rattle.wasm_view.specs.Lists.{written}
-use Rattle.wasm_c.proofs.Behind.{OneBeginning, OneLayout}
 use Rattle.wasm_c.specs.declared.counter.Counter.{Counter}
 use Rattle.wasm_c.proofs.Counted.{counted_on, array_full}
 use Rattle.wasm_c.proofs.Found.{Lengths, ends_joined, ends_visited, ends_few}
@@ -17,17 +14,16 @@ pub returns-then-placed-out : goal.returns-then-placed-out
 returns-then-placed-out c =
     let f = c.fill-placed.ensures in
     let more = c.read_all-end.new.out.items in
-    let begins = subst OneBeginning (sym c.requires.features) c.one_layout.ensures.beginning in
-    let same = subst OneLayout (sym c.requires.features) c.one_layout.ensures.same in
-    let reads =
-    subst (λ start. ReadsRest (Adds start more) IsAny EncodesAllowed OperatorFault Anywhere (operators f.0) c.read_all-end.result
-    c.fill-placed.new.operators c.read_all-end.new.self) c.new-rest.ensures.items (c.read_all-end.ensures.rest (operators f.0) f.1.stood) in
+    let runs =
+    subst (λ start. RunsToEnd (Adds start more) EncodesAllowed OperatorFault Anywhere c.read_all-end.result c.fill-placed.new.operators
+    c.read_all-end.new.self) c.new-rest.ensures.items c.read_all-end.ensures.runs in
     let placed = c.place.ensures ∙
     ap (λ list. take c.fill-placed.result c.fill-placed.new.out ++ written (views list) (drop c.fill-placed.result c.fill-placed.new.out))
     c.as_slice.ensures.value in (
       f.0 ++ more,
       record {
-        ends = ends_joined c.read_all-end.result c.args.operators.now c.fill-placed.new.operators c.read_all-end.new.self f.0 more begins same f.1 reads;
+        ends = ends_joined c.single_reads.ensures.joined c.read_to_the_end.ensures.tree c.read_to_the_end.ensures.beginning c.read_all-end.result
+            c.args.operators.now c.fill-placed.new.operators c.read_all-end.new.self f.0 more c.requires.stood f.1 runs;
         counted = omega (arith, f.2, c.len.ensures, c.as_slice.ensures.len, ap length c.as_slice.ensures.value, length-append f.0 more);
         in_array = array_joined f.0 more c.args.out.now c.fill-placed.new.out c.place.new.out c.fill-placed.result f.2 f.3 f.4 placed;
       },
@@ -37,12 +33,10 @@ pub returns : goal.returns
 returns c =
     let f = c.fill-placed.ensures in
     let features = c.args.operators.now.reader.features in
-    let begins = subst OneBeginning (sym c.requires.features) c.one_layout.ensures.beginning in
-    let same = subst OneLayout (sym c.requires.features) c.one_layout.ensures.same in
     let result = c.visit_all_simd-end.result in
     let end =
-    ends_visited _ result c.args.operators.now c.fill-placed.new.operators c.visit_all_simd-end.new.self f.0 begins same f.1
-    (c.visit_all_simd-end.ensures.rest (operators f.0) f.1.stood) in
+    ends_visited _ c.single_reads.ensures.joined c.read_to_the_end.ensures.tree c.read_to_the_end.ensures.beginning c.read_to_the_end.ensures.refused result
+    c.args.operators.now c.fill-placed.new.operators c.visit_all_simd-end.new.self f.0 c.requires.stood f.1 c.visit_all_simd-end.ensures.runs in
     let few = ends_few result c.args.operators.now (f.0 ++ end.0) (subst Lengths (sym c.requires.features) c.layouts.ensures.length) end.2 in (
       f.0 ++ end.0,
       record {

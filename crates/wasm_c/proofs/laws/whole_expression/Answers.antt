@@ -2,4 +2,9 @@ use Rattle.wasm_c.proofs.Whole.{whole_read}
 use Rattle.wasm_c.proofs.laws.whole_expression.Goals as goal
 
 pub returns : goal.returns
-returns c = whole_read c.fresh_readers.ensures c.one_operator.ensures.any
+returns c = whole_read (record {
+  fresh = c.fresh_readers.ensures;
+  first = c.single_reads.ensures.first;
+  next = c.single_reads.ensures.next;
+  tree = c.read_to_the_end.ensures.tree;
+})

@@ -1,41 +1,51 @@
-use Rattle.std.proofs.Common.{◌+◌, ◌≤◌, ◌++◌, ap, ◌∙◌, sym, subst, string_bytes, Ok, Err, arith}
+use Rattle.std.proofs.Common.{◌+◌, ◌≤◌, ap, ◌∙◌, sym, subst, Ok, Err, arith}
+use Rattle.std.specs.Io.KnownBytes.{Appends}
 use Rattle.wasm_operators.specs.below.Source.{offset_of, source_of}
 use Rattle.wasm_operators.specs.Expression.{EncodesExpression}
 use Rattle.wasm_operators.specs.Locals.{max_locals}
 use Rattle.wasm_lines.specs.Lines.{header_of}
 use Rattle.wasm_disassembly.specs.LocalLines.{declarations_of, locals_in, ListsDeclarations}
-use Rattle.wasm_disassembly.specs.Disassembly.{Heading, ListsOperators}
-use Rattle.wasm_disassembly.proofs.Listed.{listed_to, at_body, stopped_at_count, stopped_at_locals, operators_ended, locals_past, count_stands, announced}
+use Rattle.wasm_disassembly.specs.Disassembly.{Heading, Disassembles, ListsOperators}
+use Rattle.wasm_disassembly.proofs.Halts.{at_halt}
+use Rattle.wasm_disassembly.proofs.Listed.{listed_to, at_body, stopped_at_count, stopped_in_locals, operators_ended, locals_past, count_stands, announced}
 use Rattle.wasm_disassembly.proofs.function.disassemble.Goals as goal
 
+pub returns-in-Err-clause-text : goal.returns-in-Err-clause-text
+returns-in-Err-clause-text g c =
+    let h : Heading = record { index = c.args.index; name = c.args.name.now; parameters = c.args.parameters } in
+    at_halt (λ f. Disassembles {X = Unit {0}} h (Err f) c.args.body.now (g.W.Write.contents c.args.writer.now) (g.W.Write.contents c.write_heading.new.writer))
+    c.in-Err.fault c.in-Err.ensures.halts tt tt
+
 pub returns-in-Err-get_locals_reader-clause-text : goal.returns-in-Err-get_locals_reader-clause-text
-returns-in-Err-get_locals_reader-clause-text c =
+returns-in-Err-get_locals_reader-clause-text g c =
     let body = c.args.body.now in
     let h : Heading = record { index = c.args.index; name = c.args.name.now; parameters = c.args.parameters } in
     let start = c.original_position-start.ensures ∙ ap offset_of c.get_binary_reader.ensures in
-    let headed = c.in-Ok.ensures ∙ ap (λ n. string_bytes c.args.out.now ++ header_of n c.args.index c.args.name.now) start in
-    stopped_at_count h c.in-Err-get_locals_reader.e body (string_bytes c.args.out.now) (string_bytes c.write_header.new.out) c.in-Err-get_locals_reader.ensures headed
+    let before = g.W.Write.contents c.args.writer.now in
+    let headed = subst (λ n. Appends before (g.W.Write.contents c.write_heading.new.writer) (header_of n c.args.index c.args.name.now)) start c.in-Ok.ensures.ok in
+    stopped_at_count h c.in-Err-get_locals_reader.e body before (g.W.Write.contents c.write_heading.new.writer) c.in-Err-get_locals_reader.ensures headed
 
 pub returns-in-Err-get_locals_reader-clause-whole : goal.returns-in-Err-get_locals_reader-clause-whole
-returns-in-Err-get_locals_reader-clause-whole c =
+returns-in-Err-get_locals_reader-clause-whole g c =
     λ declarations placed encodes few. count_stands _ c.in-Err-get_locals_reader.e c.args.body.now declarations placed c.in-Err-get_locals_reader.ensures encodes
 
 pub returns-in-Err-write_declarations-clause-text : goal.returns-in-Err-write_declarations-clause-text
-returns-in-Err-write_declarations-clause-text c =
+returns-in-Err-write_declarations-clause-text g c =
     let body = c.args.body.now in
     let h : Heading = record { index = c.args.index; name = c.args.name.now; parameters = c.args.parameters } in
     let start = c.original_position-start.ensures ∙ ap offset_of c.get_binary_reader.ensures in
-    let headed = c.in-Ok.ensures ∙ ap (λ n. string_bytes c.args.out.now ++ header_of n c.args.index c.args.name.now) start in
+    let before = g.W.Write.contents c.args.writer.now in
+    let headed = subst (λ n. Appends before (g.W.Write.contents c.write_heading.new.writer) (header_of n c.args.index c.args.name.now)) start c.in-Ok.ensures.ok in
     let unread = c.in-Ok-get_locals_reader.locals in
-    let e = c.in-Err-write_declarations.e in
-    let now = string_bytes c.write_header.new.out in
-    let new = string_bytes c.write_declarations.new.out in
-    let lists = at_body (λ n t. ListsDeclarations {X = Unit {0}} n t c.args.parameters (Err e) unread c.write_declarations.new.locals now new)
+    let f = c.in-Err-write_declarations.fault in
+    let now = g.W.Write.contents c.write_heading.new.writer in
+    let new = g.W.Write.contents c.write_declarations.new.writer in
+    let lists = at_body (λ n t. ListsDeclarations {X = Unit {0}} n t c.args.parameters (Err f) unread c.write_declarations.new.locals now new)
     c.original_position-start.result c.as_bytes.result.now body start c.as_bytes.ensures c.in-Err-write_declarations.ensures.lists in
-    stopped_at_locals h e body unread c.write_declarations.new.locals (string_bytes c.args.out.now) now new c.in-Ok-get_locals_reader.ensures headed lists
+    stopped_in_locals h f body unread c.write_declarations.new.locals before now new c.in-Ok-get_locals_reader.ensures headed lists
 
 pub returns-in-Err-write_declarations-clause-whole : goal.returns-in-Err-write_declarations-clause-whole
-returns-in-Err-write_declarations-clause-whole c =
+returns-in-Err-write_declarations-clause-whole g c =
     λ declarations placed encodes few.
     let a = announced c.args.body.now c.in-Ok-get_locals_reader.locals declarations placed (c.unsigned_numbers.ensures 32)
     c.in-Ok-get_locals_reader.ensures encodes in
@@ -44,26 +54,27 @@ returns-in-Err-write_declarations-clause-whole c =
     c.in-Err-write_declarations.ensures.whole declarations a.text a.more a.each a.stands fits
 
 pub returns-clause-text : goal.returns-clause-text
-returns-clause-text c =
+returns-clause-text g c =
     let body = c.args.body.now in
     let h : Heading = record { index = c.args.index; name = c.args.name.now; parameters = c.args.parameters } in
     let start = c.original_position-start.ensures ∙ ap offset_of c.get_binary_reader.ensures in
-    let headed = c.in-Ok.ensures ∙ ap (λ n. string_bytes c.args.out.now ++ header_of n c.args.index c.args.name.now) start in
+    let before = g.W.Write.contents c.args.writer.now in
+    let headed = subst (λ n. Appends before (g.W.Write.contents c.write_heading.new.writer) (header_of n c.args.index c.args.name.now)) start c.in-Ok.ensures.ok in
     let unread = c.in-Ok-get_locals_reader.locals in
     let read = c.write_declarations.new.locals in
-    let now = string_bytes c.write_header.new.out in
-    let new = string_bytes c.write_declarations.new.out in
+    let now = g.W.Write.contents c.write_heading.new.writer in
+    let new = g.W.Write.contents c.write_declarations.new.writer in
     let lists = at_body (λ n t. ListsDeclarations {X = Unit {0}} n t c.args.parameters (Ok tt) unread read now new)
     c.original_position-start.result c.as_bytes.result.now body start c.as_bytes.ensures c.in-Ok-write_declarations.ensures.lists in
-    let to = listed_to h tt body c.get_binary_reader-2.result unread read (string_bytes c.args.out.now) now new c.in-Ok-get_locals_reader.ensures
+    let to = listed_to h tt body c.get_binary_reader-2.result unread read before now new c.in-Ok-get_locals_reader.ensures
     c.get_binary_reader-2.ensures headed lists in
-    let ends = at_body (λ n t. ListsOperators n t c.write_operators.result c.get_binary_reader-2.result new (string_bytes c.write_operators.new.out))
+    let ends = at_body (λ n t. ListsOperators n t c.write_operators.result c.get_binary_reader-2.result new (g.W.Write.contents c.write_operators.new.writer))
     c.original_position-start.result c.as_bytes-2.result.now body start c.as_bytes-2.ensures c.write_operators.ensures.lists in
-    operators_ended h c.write_operators.result body c.get_binary_reader-2.result (string_bytes c.args.out.now) new (string_bytes c.write_operators.new.out)
+    operators_ended h c.write_operators.result body c.get_binary_reader-2.result before new (g.W.Write.contents c.write_operators.new.writer)
     c.past_locals.ensures.body to ends
 
 pub returns-clause-whole : goal.returns-clause-whole
-returns-clause-whole c =
+returns-clause-whole g c =
     let body = c.args.body.now in
     let unread = c.in-Ok-get_locals_reader.locals in
     let read = c.write_declarations.new.locals in

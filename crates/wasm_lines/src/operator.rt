@@ -1,12 +1,13 @@
-//! The lines of a body's operators.
-ghost use Rattle.std.specs.Prelude.{◌≡◌, ◌++◌, ◌+◌, ◌^◌, ◌<◌, ◌≤◌, OnOk, string_bytes, length, slice_index};
+//! The lines of an operator.
+ghost use Rattle.std.specs.Prelude.{◌≡◌, ◌++◌, ◌+◌, ◌^◌, ◌<◌, OnOk, IfOk, string_bytes, length, slice_index};
 ghost use Rattle.wasm_lines.specs.Rows.{line_of};
-ghost use Rattle.wasm_lines.specs.Lines.{is_outside, opens, closes, depth_of, depth_behind, between, next_offset, lines_of};
+ghost use Rattle.wasm_lines.specs.Lines.{is_outside, opens, closes, depth_of, depth_behind, between};
 ghost use Rattle.wasm_text.specs.Operands.{text_of};
 
 use crate::rows::{begin_line, end_line};
+use std::alloc::AllocError;
 use wasm_text::instr::Operator;
-use wasm_text::{Written, write_operator};
+use wasm_text::write_operator;
 
 /// Whether the line of an operator with this opcode stands outside of the construct that it turns or
 /// ends: `else`, `catch`, `end`, `delegate` and `catch_all`.
@@ -82,54 +83,26 @@ pub fn bytes_between(bytes: &[u8], start: u64, from: u64, to: u64) -> &[u8]
     &left[..wanted as usize]
 }
 
-/// Where the next operator begins, or where the last one ends.
-fn next_offset(behind: &[(Operator<'_>, u64)], end: u64) -> u64
-    ensures { result ≡ next_offset end behind.now }
-{
-    match behind {
-        [(_, next), ..] => *next,
-        [] => end,
-    }
-}
-
-/// Writes the lines of an operator that stands at an offset, in this many constructs.
-fn write_line(
+/// Writes the lines of an operator that stands at an offset, where this many constructs are open, and
+/// answers how many are behind it. `bytes` are its own, the first of them its opcode.
+///
+/// Where memory is refused, nothing is said of how much of it was written.
+pub fn write_line(
     out: &mut String,
     depth: usize,
     offset: u64,
     bytes: &[u8],
     op: &Operator<'_>,
-) -> Written
-    requires { offset + length bytes.now < 2 ^ 64 }
-    ensures { OnOk result (string_bytes out.new ≡ string_bytes out.old ++ line_of depth offset bytes.now (text_of op.now)) }
+) -> Result<usize, AllocError>
+    requires fits { offset + length bytes.now < 2 ^ 64 }
+    requires deep { depth + 1 < 2 ^ 64 }
+    ensures lines { OnOk result (string_bytes out.new ≡ string_bytes out.old
+        ++ line_of (depth_of (slice_index bytes.now 0) depth) offset bytes.now (text_of op.now)) }
+    ensures behind { IfOk result (λ behind. behind ≡ depth_behind (slice_index bytes.now 0) depth) }
 {
-    begin_line(out, depth, offset, bytes)?;
+    let opcode = opcode_of(bytes);
+    begin_line(out, depth_of(opcode, depth), offset, bytes)?;
     write_operator(out, op)?;
-    end_line(out, offset, bytes)
-}
-
-/// Writes the lines of a body's operators with their offsets. `bytes` are those of the body or of more,
-/// from the offset `start` on; the last operator ends at `end`.
-///
-/// Where memory is refused, nothing is said of how much of it was written.
-pub fn write_lines(
-    out: &mut String,
-    bytes: &[u8],
-    start: u64,
-    end: u64,
-    operators: &[(Operator<'_>, u64)],
-) -> Written
-    ensures { OnOk result
-        (string_bytes out.new ≡ string_bytes out.old ++ lines_of text_of start bytes.now end operators.now) }
-{
-    let mut depth = 0;
-    let mut left = operators;
-    'lines: while let [first, behind @ ..] = left {
-        let shown = bytes_between(bytes, start, first.1, next_offset(behind, end));
-        let opcode = opcode_of(shown);
-        write_line(out, depth_of(opcode, depth), first.1, shown, &first.0)?;
-        depth = depth_behind(opcode, depth);
-        left = behind;
-    }
-    Ok(())
+    end_line(out, offset, bytes)?;
+    Ok(depth_behind(opcode, depth))
 }

@@ -1,0 +1,132 @@
+-- Operators that were read one after another, and the lines of each that were written before the next was read.
+use Rattle.std.proofs.Common.{◌≡◌, ℕ, ◌+◌, ◌-◌, ◌<◌, ◌≤◌, Bool, true, false, cond, List, [], ◌∷◌, ◌++◌, length, Option, Ok, Err, refl, sym, subst, ap, ◌∙◌, append_assoc, append-nil, length-append, arith}
+use Rattle.std.specs.Prelude.{slice_index}
+use Rattle.std.specs.Io.KnownBytes.{Appends}
+use Rattle.wasm_operators.specs.below.bytes.error.Error.{Error}
+use Rattle.wasm_operators.specs.below.Source.{Reader, rest, offset_of, source_of}
+use Rattle.wasm_operators.specs.instr.declared.operator.Operator.{Operator}
+use Rattle.wasm_operators.specs.opcodes.Allowed.{EncodesAllowed}
+use Rattle.wasm_operators.specs.opcodes.OperatorFaults.{OperatorFault}
+use Rattle.wasm_operators.specs.Expression.{Placed, IsAny, EncodesExpression}
+use Rattle.wasm_operators.specs.Headline.{ReadsTree, ReadsBeginning}
+use Rattle.wasm_operators.specs.Reading.{State, IsFresh, Anywhere, TakesOperator, TakesOperators}
+use Rattle.wasm_lines.specs.Rows.{line_of}
+use Rattle.wasm_lines.specs.Lines.{opens, closes, depth_of, depth_behind, between, next_offset, lines_from, lines_of}
+use Rattle.wasm_lines.specs.text.Operands.{text_of}
+use Rattle.wasm_disassembly.specs.declared.fault.DisassemblyFault.TheVariants as fault
+use Rattle.wasm_disassembly.specs.Disassembly.{ListsOperators}
+use Rattle.wasm_disassembly.proofs.Written.{appends_none, appends_both}
+
+-- ---- along the loop
+
+-- These operators were read, and their lines written: whatever follows them, its lines stand behind.
+pub record AreListed (start : ℕ) (bytes : List ℕ) (opened now : State) (depth : ℕ) (before after : Option (List ℕ)) : Type 0 where
+  pub placed : Placed
+  pub ran : TakesOperators opened now placed
+  pub written : List ℕ
+  pub appends : Appends before after written
+  pub behind : (end : ℕ) (more : Placed) → next_offset end more ≡ offset_of now.reader →
+      lines_of text_of start bytes end (placed ++ more) ≡ written ++ lines_from text_of start bytes end depth more
+  pub few : depth ≤ offset_of now.reader
+
+-- What the law `single_reads` says of the first read, and of one more.
+abbrev pub OfFirst : Type 0
+OfFirst = (s : State) → TakesOperators s s []
+
+abbrev pub OfNext : Type 0
+OfNext = (old mid new : State) (placed : Placed) (op : Operator) → TakesOperators old mid placed → TakesOperator EncodesAllowed op mid new →
+    TakesOperators old new (placed ++ (op, offset_of mid.reader) ∷ [])
+
+abbrev pub Progresses : Type 0
+Progresses = (op : Operator) (old new : State) → TakesOperator EncodesAllowed op old new → offset_of old.reader < offset_of new.reader
+
+pub listed_none : (start : ℕ) (bytes : List ℕ) (opened : State) (before : Option (List ℕ)) → OfFirst → AreListed start bytes opened opened 0 before before
+listed_none start bytes opened before first = record {
+  placed = [];
+  ran = first opened;
+  written = [];
+  appends = appends_none before;
+  behind = λ end more next. refl;
+  few = omega arith;
+}
+
+one_deeper : (b c : Bool) (n : ℕ) → cond b (n + 1) (cond c (n - 1) n) ≤ n + 1
+one_deeper true c n = omega arith
+one_deeper false true n = omega arith
+one_deeper false false n = omega arith
+
+pub listed_more : (start depth deeper at : ℕ) (bytes shown : List ℕ) (opened mid new : State) (before between_lines after : Option (List ℕ)) (op : Operator) →
+    OfNext → Progresses → AreListed start bytes opened mid depth before between_lines → TakesOperator EncodesAllowed op mid new →
+    at ≡ offset_of mid.reader → shown ≡ between start bytes at (offset_of new.reader) →
+    Appends between_lines after (line_of (depth_of (slice_index shown 0) depth) at shown (text_of op)) → deeper ≡ depth_behind (slice_index shown 0) depth →
+    AreListed start bytes opened new deeper before after
+listed_more start depth deeper at bytes shown opened mid new before between_lines after op next_law progresses l takes stands shows wrote goes =
+    let p : Operator × ℕ = (op, offset_of mid.reader) in
+    let code = slice_index shown 0 in
+    let line : List ℕ = line_of (depth_of code depth) at shown (text_of op) in
+    let on = progresses op mid new takes in
+    let most = one_deeper (opens code) (closes code) depth in
+    record {
+      placed = l.placed ++ p ∷ [];
+      ran = next_law opened mid new l.placed op l.ran takes;
+      written = l.written ++ line;
+      appends = appends_both before between_lines after l.written line l.appends wrote;
+      behind = λ end more follows.
+          let here : shown ≡ between start bytes (offset_of mid.reader) (next_offset end more) =
+          shows ∙ ap (λ n. between start bytes n (offset_of new.reader)) stands ∙ ap (λ n. between start bytes (offset_of mid.reader) n) (sym follows) in
+          ap (lines_of text_of start bytes end) (append_assoc l.placed (p ∷ []) more) ∙ l.behind end (p ∷ more) refl ∙
+          ap (λ t. l.written ++ (line_of (depth_of (slice_index t 0) depth) (offset_of mid.reader) t (text_of op) ++
+          lines_from text_of start bytes end (depth_behind (slice_index t 0) depth) more)) (sym here) ∙
+          ap (λ n. l.written ++ (line_of (depth_of code depth) n shown (text_of op) ++
+          lines_from text_of start bytes end (depth_behind code depth) more)) (sym stands) ∙
+          ap (λ d. l.written ++ (line ++ lines_from text_of start bytes end d more)) (sym goes) ∙
+          sym (append_assoc l.written line (lines_from text_of start bytes end deeper more));
+      few = let f = l.few in omega (arith, f, on, most, goes);
+    }
+
+-- Fewer bytes are left.
+pub fewer_left : (op : Operator) (old new : State) → Progresses → TakesOperator EncodesAllowed op old new → length (rest new.reader) < length (rest old.reader)
+fewer_left op old new progresses t =
+    let on = progresses op old new t in
+    let place : offset_of new.reader ≡ offset_of old.reader + length t.text = ap offset_of t.takes.moved ∙ omega arith in
+    let sum : length (rest old.reader) ≡ length t.text + length (rest new.reader) = ap length t.takes.parts ∙ length-append t.text (rest new.reader) in
+    omega (arith, on, place, sum)
+
+-- All that were read have their lines.
+all_listed : (start : ℕ) (bytes : List ℕ) (opened now : State) (depth end : ℕ) (before after : Option (List ℕ))
+    (l : AreListed start bytes opened now depth before after) → end ≡ offset_of now.reader →
+    Appends before after (lines_of text_of start bytes end l.placed)
+all_listed start bytes opened now depth end before after l stands =
+    let all : l.written ≡ lines_of text_of start bytes end l.placed =
+    sym (append-nil l.written) ∙ sym (l.behind end [] stands) ∙ ap (lines_of text_of start bytes end) (append-nil l.placed) in
+    subst (Appends before after) all l.appends
+
+-- ---- at the end
+
+-- All was read, and all frames are closed.
+pub listed_whole : (x : Unit {0}) (start depth : ℕ) (bytes : List ℕ) (reader : Reader) (opened now : State) (before after : Option (List ℕ))
+    (l : AreListed start bytes opened now depth before after) → opened.reader ≡ reader → ReadsTree [] opened now l.placed →
+    ListsOperators start bytes (Ok x) reader before after
+listed_whole x start depth bytes reader opened now before after l same tree =
+    let all = tree.takes in
+    let end : offset_of reader + length (rest reader) ≡ offset_of now.reader =
+    ap (λ (r : Reader). offset_of r + length (rest r)) (sym same) ∙ omega arith ∙ sym (ap offset_of all.moved) in (
+      l.placed,
+      subst (λ r. EncodesExpression (source_of r) l.placed) same tree.encodes,
+      all_listed start bytes opened now depth (offset_of reader + length (rest reader)) before after l end,
+    )
+
+-- Reading was refused, or frames are left at the end of the data.
+pub listed_part : (start depth : ℕ) (bytes : List ℕ) (reader : Reader) (e : Error) (opened now stopped : State) (before after : Option (List ℕ))
+    (l : AreListed start bytes opened now depth before after) → opened.reader ≡ reader → IsFresh opened → stopped.reader ≡ now.reader →
+    ReadsBeginning IsAny EncodesAllowed OperatorFault Anywhere [] e opened stopped l.placed →
+    ListsOperators {X = Unit {0}} start bytes (Err (fault.Refused e)) reader before after
+listed_part start depth bytes reader e opened now stopped before after l same fresh still b = (
+  opened,
+  stopped,
+  same,
+  fresh,
+  l.placed,
+  b,
+  all_listed start bytes opened now depth (offset_of stopped.reader) before after l (ap offset_of still),
+)
