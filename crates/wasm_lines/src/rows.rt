@@ -60,6 +60,25 @@ fn write_times(out: &mut String, times: usize, text: &str) -> Written
     Ok(())
 }
 
+/// Three spaces for each byte that is missing.
+fn room_for(missing: usize) -> &'static str
+    requires { missing ≤ 9 }
+    ensures { result.now ≡ repeat missing (codes "   ") }
+{
+    match missing {
+        0 => "",
+        1 => "   ",
+        2 => "      ",
+        3 => "         ",
+        4 => "            ",
+        5 => "               ",
+        6 => "                  ",
+        7 => "                     ",
+        8 => "                        ",
+        _ => "                           ",
+    }
+}
+
 /// Writes bytes, and room for those that are missing.
 fn write_room(out: &mut String, bytes: &[u8]) -> Written
     requires { length bytes.now ≤ 9 }
@@ -68,7 +87,7 @@ fn write_room(out: &mut String, bytes: &[u8]) -> Written
         ++ (repeat (9 - length bytes.now) (codes "   ") ++ codes " | "))) }
 {
     write_shown_bytes(out, bytes)?;
-    write_times(out, BYTES - bytes.len(), "   ")?;
+    out.push_str(room_for(BYTES - bytes.len()))?;
     out.push_str(" | ")
 }
 

@@ -32,6 +32,9 @@ Ends with 0; with 1 where a function, the module or its code section is refused,
 with 2 where these words are others; with 3 where a file or memory fails.
 ";
 
+/// How many bytes are kept, to be written together.
+const WRITTEN: usize = 0x1_0000;
+
 /// The words behind the program's name. `None` where one is no text.
 fn words_of<R: Env + AllocGlobal>(rt: &R) -> Result<Option<Vec<String>>, Fault> {
     let mut args = match env::args(rt) {
@@ -60,7 +63,7 @@ fn write_module(rt: &HostRuntime, options: &Options) -> Result<bool, Fault> {
         Some(path) => last_part(path.as_str()),
         None => "<stdin>",
     };
-    let Ok(mut writer) = BufWriter::new(rt.alloc(), io::writer(rt)) else {
+    let Ok(mut writer) = BufWriter::with_capacity(rt.alloc(), WRITTEN, io::writer(rt)) else {
         return Err(Fault::Memory);
     };
     let answer = run(
