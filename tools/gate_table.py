@@ -50,11 +50,11 @@ MADE_OF = """
 ## What it is made of
 
 - The proofs take {each} seconds a function. {lists} of their minutes are those of the lists over the 628 operators \
-({names}), in which a function stands for each operator.
-- Of the minutes of edits {again} are proofs: `rt` proves a crate that has two edits or more once more, and tries its \
+({names}), in which a function, or an arm of one, stands for each operator.
+- Of the minutes of edits about {again} are proofs: `rt` proves a crate that has two edits or more once more, and tries its \
 edits over what that proved. One edit more takes the rest, {edit} seconds: the libraries are read, and the functions that it \
 reaches are tried until the prover gives up.
-- {callers} minutes of proofs and tests are those of test crates and of `uses`, `uses_steps` and `wasm_bench`: at a \
+- {callers} minutes of proofs and tests are those of test crates and of `uses`, `uses_steps` and `wasm_bench`. At a \
 visitor that is known, a call is proved by comparing each visit of the traits that it is bound by.
 """
 

@@ -44,7 +44,7 @@ class GateTable(unittest.TestCase):
         self.assertIn("took 2.1 minutes on 4 processors, and 3.1 minutes of a processor", page)
         self.assertIn("`2 passed, 1 failed`", page)
         self.assertIn("The proofs take 17.1 seconds a function. 0 of their minutes", page)
-        self.assertIn("Of the minutes of edits 0 are proofs", page)
+        self.assertIn("Of the minutes of edits about 0 are proofs", page)
 
     def test_summary(self):
         head, crates = gate_table.summary(LOG).split("\n")
@@ -54,7 +54,7 @@ class GateTable(unittest.TestCase):
     def test_of_two_runs(self):
         behind = "cost wasm_low proof 60 30\ncost all 60 60 4\n3 passed, 0 failed\n"
         other = "rt: must-fail wasm_low/lost.edit: refused, as it must be: src/lib.rt:1:1: error\n"
-        self.assertIn("Of the minutes of edits 0.5 are proofs", gate_table.page(other + LOG))
+        self.assertIn("Of the minutes of edits about 0.5 are proofs", gate_table.page(other + LOG))
         crates, whole, last = gate_table.read(LOG + LOG + behind)
         once, before, _ = gate_table.read(LOG)
         self.assertEqual(whole, (2 * before[0] + 60, 2 * before[1] + 60, 4))
