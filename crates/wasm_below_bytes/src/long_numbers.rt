@@ -92,13 +92,23 @@ pub fn two_bytes(buffer: &[u8], start: usize) -> Option<Unsigned>
 }
 
 /// The unsigned number of 32 bits at this position.
+#[inline(always)]
+pub fn u32_at(buffer: &[u8], start: usize) -> Result<Unsigned, NumberRefusal>
+    ensures number { IfOk result (λ n. NumberAt (EncodesUnsigned 32) buffer.now start n.value n.behind) }
+    ensures within { IfOk result (λ n. n.value < 2 ^ 32) }
+    ensures refused { IfErr result (λ r. NoNumber (EncodesUnsigned 32) r 32 buffer.now start) }
+{
+    read_unsigned(buffer, start, 32)
+}
+
+/// The same by a call, for readers of which most numbers take another way.
 #[inline(never)]
 pub fn long_u32(buffer: &[u8], start: usize) -> Result<Unsigned, NumberRefusal>
     ensures number { IfOk result (λ n. NumberAt (EncodesUnsigned 32) buffer.now start n.value n.behind) }
     ensures within { IfOk result (λ n. n.value < 2 ^ 32) }
     ensures refused { IfErr result (λ r. NoNumber (EncodesUnsigned 32) r 32 buffer.now start) }
 {
-    read_unsigned(buffer, start, 32)
+    u32_at(buffer, start)
 }
 
 /// The unsigned number of 64 bits at this position.

@@ -111,7 +111,7 @@ fn read_targets(reader: &mut BinaryReader<'_>, count: usize) -> Result<usize>
 {
     let start = reader.current_position();
     for _target in 0..count {
-        match reader.read_var_u32() {
+        match reader.read_var_u32_in_place() {
             Ok(_) => {}
             Err(e) => {
                 reader.rewind(start);

@@ -8,7 +8,7 @@ use super::BinaryReader;
 use crate::error::{Error, Result};
 use crate::long_numbers::{
     NumberRefusal, last_value, long_i32, long_i64, long_s33, long_u32, long_u64, number_error,
-    two_bytes,
+    two_bytes, u32_at,
 };
 use crate::message::{Message, NumberName};
 
@@ -25,6 +25,22 @@ impl<'a> BinaryReader<'a> {
             return Ok(u32::from(byte));
         }
         self.read_long_u32()
+    }
+
+    /// What `read_var_u32` reads, with all of its code where it is called: for a loop that goes past
+    /// many numbers and looks at none, so that their values are not computed.
+    #[inline(always)]
+    pub fn read_var_u32_in_place(&mut self) -> Result<u32>
+        ensures reads { Reads (EncodesUnsigned 32) result self.old self.new }
+        ensures fault { IfErr result (λ e. U32Fault e.message self.old e.offset) }
+    {
+        match u32_at(self.buffer, self.position) {
+            Ok(number) => {
+                self.position = number.behind;
+                Ok(number.value as u32)
+            }
+            Err(refusal) => Err(self.no_number(refusal, 32, NumberName::VarU32)),
+        }
     }
 
     /// An unsigned LEB128 number of 64 bits, in at most ten bytes. Values, Integers.
