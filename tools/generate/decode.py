@@ -364,16 +364,69 @@ def group_arms(those, takes):
     return out
 
 
+def is_plain(part):
+    """Whether it is the part of a group of vector operators that have no immediates: they are told by a table."""
+    return part.group.enum == "Simd" and part.form is None
+
+
 def whole_group(ops, group, those, name):
     """The call that decodes each operator of a group."""
     more = " Each of them is an arm here." if name in ALL.values() else ""
-    out = [*group_head(group, those, name, "inline(always)", "pub ", more), "    match code {", *group_arms(those, lambda code: True)]
+    out = group_head(group, those, name, "inline(always)", "pub ", more)
+    is_own = group.enum == "Own"
+    unknown = "unknown_opcode(reader, start, code)" if is_own else f"unknown_subopcode(reader, start, 0x{those[0].prefix}, code)"
+    last = f"Err({unknown})"
+    if group.enum == "Simd":
+        plain, those = [it for it in those if is_plain(it)], [it for it in those if not is_plain(it)]
+        out += ["    if has_no_immediates(code) {", f"        return {plain[0].function}(v, reader, start, code);", "    }"]
+        last = "unreachable!()"
+        if not those:
+            return [*out, f"    Err({unknown})", "}", ""]
+    out += ["    match code {", *group_arms(those, lambda code: True)]
     for it, codes in calls(ops, group).items():
         if it != "TypedSelectMulti":
             out += [f"        {run_pattern(run)} => {apart(it)}," for run in runs(codes)]
-    is_own = group.enum == "Own"
-    unknown = "unknown_opcode(reader, start, code)" if is_own else f"unknown_subopcode(reader, start, 0x{those[0].prefix}, code)"
-    return [*out, f"        _ => Err({unknown}),", "    }", "}", ""]
+    return [*out, f"        _ => {last},", "    }", "}", ""]
+
+
+def plain_vectors(ops):
+    """The file that tells which vector operators have no immediates."""
+    plain = {op.code for group in GROUPS for part in parts(ops, group) if is_plain(part) for op in part.ops}
+    count = max(op.code for op in ops if op.prefix == "fd") + 1
+    table = ", ".join("true" if code in plain else "false" for code in range(count))
+    return "\n".join(
+        [
+            f"//! Which vector operators have no immediates. {HEAD}",
+            "ghost use Rattle.std.specs.Prelude.{◌≡◌, Some, map};",
+            "ghost use Rattle.wasm_decode_opcodes.specs.Entries.{entry_at, simd_entries};",
+            "ghost use Rattle.wasm_decode_groups.specs.Plain.{is_plain};",
+            "",
+            "/// Of each subopcode behind the byte fd, whether it is that of an operator without immediates.",
+            f"static PLAIN: [bool; {count}] = [{table}];",
+            "",
+            "/// What a table of them says of a subopcode.",
+            "#[inline(always)]",
+            f"fn plain_in(plain: &[bool; {count}], code: u32) -> bool",
+            "    requires { plain.now ≡ map is_plain simd_entries }",
+            "    ensures { result ≡ is_plain (entry_at (Some 0xfd) code) }",
+            "{",
+            "    let place = code as usize;",
+            "    if place >= plain.len() {",
+            "        return false;",
+            "    }",
+            "    plain[place]",
+            "}",
+            "",
+            "/// Whether an operator without immediates has this subopcode behind the byte fd.",
+            "#[inline(always)]",
+            "pub fn has_no_immediates(code: u32) -> bool",
+            "    ensures { result ≡ is_plain (entry_at (Some 0xfd) code) }",
+            "{",
+            "    plain_in(&PLAIN, code)",
+            "}",
+            "",
+        ]
+    )
 
 
 def group_decode(ops, group):
@@ -408,11 +461,12 @@ def group_decode(ops, group):
         *(["ghost use Rattle.wasm_decode_groups.specs.OneByte.{IsOneByteCode};"] if is_own else []),
         "",
         *(["use crate::guarded::{%s};" % ", ".join(sorted(set(APART.values())))] if is_own else []),
+        *(["use crate::plain_vectors::has_no_immediates;"] if "has_no_immediates(" in text else []),
         *(["use std::alloc::Global;"] if is_own else []),
         f"use wasm_below::{{{', '.join(below)}}};",
         *(["use wasm_grammar::FrameKind;"] if is_own else []),
         *([f"use wasm_imm::{{{', '.join(types)}}};"] if types else []),
-        f"use wasm_decode_opcodes::{{immediates, {'unknown_opcode' if is_own else 'unknown_subopcode'}}};",
+        f"use wasm_decode_opcodes::{{{', '.join(['immediates', *(it for it in ('unknown_opcode', 'unknown_subopcode') if f'{it}(' in text)])}}};",
         f"use wasm_visit_groups::{group.trait};",
         "",
     ]
@@ -593,6 +647,26 @@ def kinds_lemma(part):
     return out
 
 
+def simd_lemmas(ops):
+    """Where the entries of the vector operators with immediates stand, and that each code below 80 is an operator's."""
+    those = [part for group in GROUPS if group.enum == "Simd" for part in parts(ops, group)]
+    others = ranges([op.code for part in those if not is_plain(part) for op in part.ops])
+    each = "tt"
+    for _ in range(0x80):
+        each = f"(refl, {each})"
+    return [
+        "abbrev pub simd_other_codes : List (ℕ × ℕ)",
+        f"simd_other_codes = {others}",
+        "",
+        "pub simd_others : (code : ℕ) → is_other (entry_at (Some 0xfd) code) ≡ true → InRanges code simd_other_codes",
+        "simd_others code other = codes_in is_other simd_other_codes simd_entries code refl refl other",
+        "",
+        "pub simd_low_known : (code : ℕ) → code < 0x80 → is_known (entry_at (Some 0xfd) code) ≡ true",
+        f"simd_low_known code low = in_run (λ c. is_known (entry_at (Some 0xfd) c) ≡ true) 0x80 0 code {each} (omega arith) (omega (arith, low))",
+        "",
+    ]
+
+
 def codes_file(ops):
     """Where the entries of each part stand."""
     body = []
@@ -625,17 +699,18 @@ def codes_file(ops):
                 f"{group.module}_unknown code outside = unknown_outside ({ranges(known)}) {entries_name(those)} code refl outside",
                 "",
             ]
+    body += simd_lemmas(ops)
     text = "\n".join(body)
     lists = imported(text, ["opcode_entries", *[f"{it.lower()}_entries" for it in PREFIXES.values()]])
     uses = [
         f"-- {HEAD}",
         "-- Where the entries of some kinds stand, by the groups of visits.",
-        "use Rattle.std.proofs.Common.{◌≡◌, ℕ, ◌≤◌, Bool, true, false, [], ◌∷◌, Some, None, refl, ap, arith}",
+        "use Rattle.std.proofs.Common.{◌≡◌, ℕ, ◌<◌, ◌≤◌, Bool, true, false, List, [], ◌∷◌, Some, None, refl, ap, arith}",
         "use Rattle.wasm_imm.specs.declared.memory_argument.MemArgKind.TheVariants as kind",
         f"use Rattle.wasm_instr.specs.Immediate.{{{', '.join(imported(text, KIND_WORDS))}}}",
         "use Rattle.wasm_decode_opcodes.specs.Entry.{Entry, unknown, prefixes, free}",
         f"use Rattle.wasm_decode_opcodes.specs.Entries.{{{', '.join(lists)}, entry_at, align_at}}",
-        "use Rattle.wasm_decode_groups.proofs.Ranges.{InRanges, codes_in, unknown_outside, unknown_byte, in_run}",
+        "use Rattle.wasm_decode_groups.proofs.Ranges.{InRanges, codes_in, unknown_outside, unknown_byte, in_run, is_known, is_other}",
     ]
     return "\n".join([*uses, "", text.rstrip(), ""])
 
@@ -704,6 +779,8 @@ def common_file(ops, group, name, takes):
 def group_file(ops, group):
     """The proofs of the call that has all of a group: each arm has its kinds, and the last no operator."""
     is_own = group.enum == "Own"
+    if group.enum == "Simd":
+        return simd_file(ops, group)
     body, lemmas = kinds_proofs(parts(ops, group), lambda code: True)
     name = "unknown_opcode" if is_own else "unknown_subopcode"
     if group.module != "simd_low":
@@ -717,6 +794,35 @@ def group_file(ops, group):
     given, frame = ("g c", "c.args.frame") if is_own else ("g c k", "k")
     body += ["pub returns-in_default : goal.returns-in_default", f"returns-in_default {given} = (refl, c.{name}.ensures {frame})"]
     return "\n".join([*proof_head(group, ALL.get(group.module, group.module), "refl, arith", lemmas), *body, ""])
+
+
+def simd_file(ops, group):
+    """The same of vector operators: those without immediates are told by a table, and the others by their codes."""
+    those = [it for it in parts(ops, group) if not is_plain(it)]
+    body, lemmas = kinds_proofs(those, lambda code: True)
+    plain = "without_immediates-requires-clause-kinds"
+    told = "c.has_no_immediates.ensures"
+    body += [f"pub {plain} : goal.{plain}", f"{plain} g c = plain (entry_at (Some 0xfd) c.args.code) (sym {told} ∙ c.if-has_no_immediates.true)", ""]
+    words = ["plain", "no_operator"]
+    if those:
+        words = ["plain", "others"]
+        body += ["pub unreachable-requires : goal.unreachable-requires", f"unreachable-requires g c = let h = others c.args.code (omega (arith, c.requires.half)) (sym {told} ∙ c.if-has_no_immediates.false) in grind (arith, h)", ""]
+    else:
+        goal = "unknown_subopcode-requires-clause-unknown"
+        body += [f"pub {goal} : goal.{goal}", f"{goal} g c = no_operator c.args.code c.requires.half (sym {told} ∙ c.if-has_no_immediates.false)", ""]
+        body += ["pub returns : goal.returns", "returns g c k = (refl, c.unknown_subopcode.ensures k)", ""]
+    return "\n".join(
+        [
+            f"-- {HEAD}",
+            f"use Rattle.std.proofs.Common.{{{'arith' if those else 'refl'}, Some, sym, ◌∙◌}}",
+            "use Rattle.wasm_decode_opcodes.specs.Entries.{entry_at}",
+            *([f"use Rattle.wasm_decode_groups.proofs.Codes.{{{', '.join(lemmas)}}}"] if lemmas else []),
+            f"use Rattle.wasm_decode_groups.proofs.PlainVectors.{{{', '.join(words)}}}",
+            f"use Rattle.wasm_decode_groups.proofs.{group.module}_operators.{group.module}.Goals as goal",
+            "",
+            *body,
+        ]
+    )
 
 
 def decode_files(ops):
@@ -741,5 +847,6 @@ def decode_files(ops):
                 out[f"{at}/visit_{part.title}/Answers.antt"] = unreachable_file(part, f"visit_{part.title}")
             if part.has_align:
                 out[f"{at}/align_of_{part.title}/Answers.antt"] = unreachable_file(part, f"align_of_{part.title}")
+    out["crates/wasm_decode_groups/src/plain_vectors.rt"] = plain_vectors(ops)
     out["crates/wasm_decode_groups/proofs/Codes.antt"] = codes_file(ops)
     return out

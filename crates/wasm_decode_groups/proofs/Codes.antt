@@ -1,11 +1,11 @@
 -- Written by tools/lists.py from tools/operators.tsv.
 -- Where the entries of some kinds stand, by the groups of visits.
-use Rattle.std.proofs.Common.{◌≡◌, ℕ, ◌≤◌, Bool, true, false, [], ◌∷◌, Some, None, refl, ap, arith}
+use Rattle.std.proofs.Common.{◌≡◌, ℕ, ◌<◌, ◌≤◌, Bool, true, false, List, [], ◌∷◌, Some, None, refl, ap, arith}
 use Rattle.wasm_visit_groups.specs.imm.declared.memory_argument.MemArgKind.TheVariants as kind
 use Rattle.wasm_visit_groups.specs.instr.Immediate.{is_unsigned_32, is_one_lane, is_memory_index, is_order, is_heap_type, is_cast, is_block_type, is_memory_argument}
 use Rattle.wasm_decode_opcodes.specs.Entry.{Entry, unknown, prefixes, free}
 use Rattle.wasm_decode_opcodes.specs.Entries.{opcode_entries, gc_entries, misc_entries, simd_entries, atomic_entries, entry_at, align_at}
-use Rattle.wasm_decode_groups.proofs.Ranges.{InRanges, codes_in, unknown_outside, unknown_byte, in_run}
+use Rattle.wasm_decode_groups.proofs.Ranges.{InRanges, codes_in, unknown_outside, unknown_byte, in_run, is_known, is_other}
 
 abbrev has_without_immediates : Entry → Bool
 has_without_immediates (free ([])) = true
@@ -380,3 +380,12 @@ simd_high_without_immediates_ef code from to = in_run simd_high_without_immediat
 
 pub simd_high_unknown : (code : ℕ) → (InRanges code ((0x00, 0x99) ∷ (0x9b, 0xa1) ∷ (0xa3, 0xa4) ∷ (0xa7, 0xae) ∷ (0xb1, 0xb1) ∷ (0xb5, 0xba) ∷ (0xbc, 0xc1) ∷ (0xc3, 0xc4) ∷ (0xc7, 0xce) ∷ (0xd1, 0xd1) ∷ (0xd5, 0xe1) ∷ (0xe3, 0xed) ∷ (0xef, 0x113) ∷ []) → ⊥) → entry_at (Some 0xfd) code ≡ unknown
 simd_high_unknown code outside = unknown_outside ((0x00, 0x99) ∷ (0x9b, 0xa1) ∷ (0xa3, 0xa4) ∷ (0xa7, 0xae) ∷ (0xb1, 0xb1) ∷ (0xb5, 0xba) ∷ (0xbc, 0xc1) ∷ (0xc3, 0xc4) ∷ (0xc7, 0xce) ∷ (0xd1, 0xd1) ∷ (0xd5, 0xe1) ∷ (0xe3, 0xed) ∷ (0xef, 0x113) ∷ []) simd_entries code refl outside
+
+abbrev pub simd_other_codes : List (ℕ × ℕ)
+simd_other_codes = (0x00, 0x0d) ∷ (0x15, 0x22) ∷ (0x54, 0x5d) ∷ []
+
+pub simd_others : (code : ℕ) → is_other (entry_at (Some 0xfd) code) ≡ true → InRanges code simd_other_codes
+simd_others code other = codes_in is_other simd_other_codes simd_entries code refl refl other
+
+pub simd_low_known : (code : ℕ) → code < 0x80 → is_known (entry_at (Some 0xfd) code) ≡ true
+simd_low_known code low = in_run (λ c. is_known (entry_at (Some 0xfd) c) ≡ true) 0x80 0 code (refl, (refl, (refl, (refl, (refl, (refl, (refl, (refl, (refl, (refl, (refl, (refl, (refl, (refl, (refl, (refl, (refl, (refl, (refl, (refl, (refl, (refl, (refl, (refl, (refl, (refl, (refl, (refl, (refl, (refl, (refl, (refl, (refl, (refl, (refl, (refl, (refl, (refl, (refl, (refl, (refl, (refl, (refl, (refl, (refl, (refl, (refl, (refl, (refl, (refl, (refl, (refl, (refl, (refl, (refl, (refl, (refl, (refl, (refl, (refl, (refl, (refl, (refl, (refl, (refl, (refl, (refl, (refl, (refl, (refl, (refl, (refl, (refl, (refl, (refl, (refl, (refl, (refl, (refl, (refl, (refl, (refl, (refl, (refl, (refl, (refl, (refl, (refl, (refl, (refl, (refl, (refl, (refl, (refl, (refl, (refl, (refl, (refl, (refl, (refl, (refl, (refl, (refl, (refl, (refl, (refl, (refl, (refl, (refl, (refl, (refl, (refl, (refl, (refl, (refl, (refl, (refl, (refl, (refl, (refl, (refl, (refl, (refl, (refl, (refl, (refl, (refl, (refl, tt)))))))))))))))))))))))))))))))))))))))))))))))))))))))))))))))))))))))))))))))))))))))))))))))))))))))))))))))))))))))))))))))) (omega arith) (omega (arith, low))

@@ -93,3 +93,9 @@ in_run P (suc n) low c r from to =
       | inl lt ↦ in_run P n (suc low) c r.1 (omega arith) (omega arith)
       | inr le ↦ (let same : low ≡ c = omega arith in subst P same r.0)
     ]
+
+-- Entries of operators that have immediates.
+abbrev pub is_other : Entry → Bool
+is_other unknown = false
+is_other (free []) = false
+is_other _ = true

@@ -8,6 +8,7 @@ mod guarded;
 mod misc_operators;
 mod numeric_operators;
 mod one_byte_operators;
+mod plain_vectors;
 mod simd_high_operators;
 mod simd_low_operators;
 

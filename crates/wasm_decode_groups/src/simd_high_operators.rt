@@ -6,6 +6,7 @@ ghost use Rattle.wasm_decode_opcodes.specs.Decoding.{DecodesAt, StandsBehind, Vi
 ghost use Rattle.wasm_decode_opcodes.specs.Entries.{entry_at};
 ghost use Rattle.wasm_decode_opcodes.specs.Entry.{free};
 
+use crate::plain_vectors::has_no_immediates;
 use wasm_decode_opcodes::{immediates, unknown_subopcode};
 use wasm_visit_groups::VisitSimdHigh;
 use wasm_visit_groups::below::{BinaryReader, Result};
@@ -22,22 +23,10 @@ pub fn simd_high<V: VisitSimdHigh>(
     requires half { 0x80 ≤ code }
     ensures { (frame : FrameKind) → DecodesAt V.visits frame start result reader.old reader.new v.old v.new }
 {
-    match code {
-        0x80..=0x99 => without_immediates(v, reader, start, code),
-        0x9b..=0xa1 => without_immediates(v, reader, start, code),
-        0xa3..=0xa4 => without_immediates(v, reader, start, code),
-        0xa7..=0xae => without_immediates(v, reader, start, code),
-        0xb1 => without_immediates(v, reader, start, code),
-        0xb5..=0xba => without_immediates(v, reader, start, code),
-        0xbc..=0xc1 => without_immediates(v, reader, start, code),
-        0xc3..=0xc4 => without_immediates(v, reader, start, code),
-        0xc7..=0xce => without_immediates(v, reader, start, code),
-        0xd1 => without_immediates(v, reader, start, code),
-        0xd5..=0xe1 => without_immediates(v, reader, start, code),
-        0xe3..=0xed => without_immediates(v, reader, start, code),
-        0xef..=0x113 => without_immediates(v, reader, start, code),
-        _ => Err(unknown_subopcode(reader, start, 0xfd, code)),
+    if has_no_immediates(code) {
+        return without_immediates(v, reader, start, code);
     }
+    Err(unknown_subopcode(reader, start, 0xfd, code))
 }
 
 /// The operators without immediates.

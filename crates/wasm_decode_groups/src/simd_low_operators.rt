@@ -6,7 +6,8 @@ ghost use Rattle.wasm_decode_opcodes.specs.Decoding.{DecodesAt, StandsBehind, Vi
 ghost use Rattle.wasm_decode_opcodes.specs.Entries.{entry_at, align_at};
 ghost use Rattle.wasm_decode_opcodes.specs.Entry.{free};
 
-use wasm_decode_opcodes::{immediates, unknown_subopcode};
+use crate::plain_vectors::has_no_immediates;
+use wasm_decode_opcodes::immediates;
 use wasm_visit_groups::VisitSimdLow;
 use wasm_visit_groups::below::{BinaryReader, Result};
 use wasm_visit_groups::imm::{MemArg, MemArgKind, V128};
@@ -23,6 +24,9 @@ pub fn simd_low<V: VisitSimdLow>(
     requires half { code < 0x80 }
     ensures { (frame : FrameKind) → DecodesAt V.visits frame start result reader.old reader.new v.old v.new }
 {
+    if has_no_immediates(code) {
+        return without_immediates(v, reader, start, code);
+    }
     match code {
         0x00..=0x0b => memory(v, reader, start, code),
         0x5c..=0x5d => memory(v, reader, start, code),
@@ -30,10 +34,7 @@ pub fn simd_low<V: VisitSimdLow>(
         0x0c => v128_const(v, reader, start),
         0x0d => i8x16_shuffle(v, reader, start),
         0x15..=0x22 => lane(v, reader, start, code),
-        0x0e..=0x14 => without_immediates(v, reader, start, code),
-        0x23..=0x53 => without_immediates(v, reader, start, code),
-        0x5e..=0x7f => without_immediates(v, reader, start, code),
-        _ => Err(unknown_subopcode(reader, start, 0xfd, code)),
+        _ => unreachable!(),
     }
 }
 

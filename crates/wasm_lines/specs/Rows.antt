@@ -2,7 +2,7 @@
 use Rattle.std.specs.Prelude.{ℕ, zero, suc, ◌+◌, ◌-◌, ◌*◌, ◌/◌, ◌%◌, ◌^◌, ltb, false, List, [], ◌∷◌, ◌++◌, length, take, drop, codes, flat_map, if◌then◌else◌}
 use Rattle.std.specs.Fmt.{radix_digits}
 use Rattle.std.specs.List.{repeat}
-use Rattle.wasm_text.specs.Values.{byte_text}
+use Rattle.wasm_text.specs.Values.{byte_text, spaced_byte}
 
 -- An offset in hexadecimal: six digits, or as many as it has.
 abbrev pub offset_text : ℕ → List ℕ
@@ -11,14 +11,10 @@ offset_text offset =
     then byte_text (offset / 2 ^ 16) ++ (byte_text (offset / 2 ^ 8 % 2 ^ 8) ++ byte_text (offset % 2 ^ 8))
     else radix_digits 16 false offset
 
--- A byte as two digits, behind a space.
-abbrev pub shown_byte : ℕ → List ℕ
-shown_byte byte = 32 ∷ byte_text byte
-
 -- An address, the bytes that stand there, of which there are at most nine, and three spaces for each that is missing.
 abbrev pub column : ℕ → List ℕ → List ℕ
 column offset bytes =
-    (codes " " ++ (offset_text offset ++ codes ":")) ++ (flat_map shown_byte bytes ++ (repeat (9 - length bytes) (codes "   ") ++ codes " | "))
+    (codes " " ++ (offset_text offset ++ codes ":")) ++ (flat_map spaced_byte bytes ++ (repeat (9 - length bytes) (codes "   ") ++ codes " | "))
 
 -- The column of one row of the bytes at an offset: the rows have nine bytes each, the last what is left.
 abbrev pub row : ℕ → List ℕ → ℕ → List ℕ

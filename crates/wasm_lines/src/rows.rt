@@ -1,9 +1,10 @@
 //! Rows: an address, at most nine bytes, and a text.
 ghost use Rattle.std.specs.Prelude.{◌≡◌, ◌++◌, ◌+◌, ◌-◌, ◌*◌, ◌/◌, ◌^◌, ◌<◌, ◌≤◌, ◌∷◌, OnOk, string_bytes, length, codes, flat_map};
 ghost use Rattle.std.specs.List.{repeat};
-ghost use Rattle.wasm_lines.specs.Rows.{offset_text, shown_byte, column, row, line_begin, line_end};
+ghost use Rattle.wasm_text.specs.Values.{spaced_byte};
+ghost use Rattle.wasm_lines.specs.Rows.{offset_text, column, row, line_begin, line_end};
 
-use wasm_text::{Written, write_byte};
+use wasm_text::{Written, write_byte, write_spaced_byte};
 
 /// How many bytes a row has.
 const BYTES: usize = 9;
@@ -32,20 +33,12 @@ fn write_address(out: &mut String, offset: u64) -> Written
     out.push_str(":")
 }
 
-/// Writes a byte as two digits, behind a space.
-fn write_shown_byte(out: &mut String, byte: u8) -> Written
-    ensures { OnOk result (string_bytes out.new ≡ string_bytes out.old ++ shown_byte byte) }
-{
-    out.push_str(" ")?;
-    write_byte(out, byte)
-}
-
 /// Writes bytes, each behind a space.
 fn write_shown_bytes(out: &mut String, bytes: &[u8]) -> Written
-    ensures { OnOk result (string_bytes out.new ≡ string_bytes out.old ++ flat_map shown_byte bytes.now) }
+    ensures { OnOk result (string_bytes out.new ≡ string_bytes out.old ++ flat_map spaced_byte bytes.now) }
 {
     for byte in bytes {
-        write_shown_byte(out, *byte)?;
+        write_spaced_byte(out, *byte)?;
     }
     Ok(())
 }
@@ -60,22 +53,22 @@ fn write_times(out: &mut String, times: usize, text: &str) -> Written
     Ok(())
 }
 
-/// Three spaces for each byte that is missing.
-fn room_for(missing: usize) -> &'static str
+/// Three spaces for each byte that is missing, and the bar behind them.
+fn bar_behind(missing: usize) -> &'static str
     requires { missing ≤ 9 }
-    ensures { result.now ≡ repeat missing (codes "   ") }
+    ensures { result.now ≡ repeat missing (codes "   ") ++ codes " | " }
 {
     match missing {
-        0 => "",
-        1 => "   ",
-        2 => "      ",
-        3 => "         ",
-        4 => "            ",
-        5 => "               ",
-        6 => "                  ",
-        7 => "                     ",
-        8 => "                        ",
-        _ => "                           ",
+        0 => " | ",
+        1 => "    | ",
+        2 => "       | ",
+        3 => "          | ",
+        4 => "             | ",
+        5 => "                | ",
+        6 => "                   | ",
+        7 => "                      | ",
+        8 => "                         | ",
+        _ => "                            | ",
     }
 }
 
@@ -83,12 +76,11 @@ fn room_for(missing: usize) -> &'static str
 fn write_room(out: &mut String, bytes: &[u8]) -> Written
     requires { length bytes.now ≤ 9 }
     ensures { OnOk result
-        (string_bytes out.new ≡ string_bytes out.old ++ (flat_map shown_byte bytes.now
+        (string_bytes out.new ≡ string_bytes out.old ++ (flat_map spaced_byte bytes.now
         ++ (repeat (9 - length bytes.now) (codes "   ") ++ codes " | "))) }
 {
     write_shown_bytes(out, bytes)?;
-    out.push_str(room_for(BYTES - bytes.len()))?;
-    out.push_str(" | ")
+    out.push_str(bar_behind(BYTES - bytes.len()))
 }
 
 /// Writes the column of an address and its bytes.

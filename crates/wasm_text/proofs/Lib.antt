@@ -1,3 +1,4 @@
 pub mod Fractions
 pub mod Pieces
+pub mod Tables
 pub mod Targets

@@ -36,6 +36,10 @@ signed_text n = codes " " ++ signed_decimal n
 abbrev pub byte_text : ℕ → List ℕ
 byte_text byte = digit_glyph false (byte / 16) ∷ digit_glyph false (byte % 16) ∷ []
 
+-- The same behind a space.
+abbrev pub spaced_byte : ℕ → List ℕ
+spaced_byte byte = 32 ∷ byte_text byte
+
 -- Four bytes from a place on, the highest first.
 abbrev pub word_text : List ℕ → ℕ → List ℕ
 word_text bytes at = codes " 0x" ++ (byte_text (slice_index bytes (at + 3)) ++ (byte_text (slice_index bytes (at + 2)) ++ (byte_text (slice_index bytes (at + 1)) ++ byte_text (slice_index bytes at))))

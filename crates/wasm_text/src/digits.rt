@@ -1,8 +1,9 @@
-//! Bytes in hexadecimal.
+//! Digits, and words of four bytes, in hexadecimal.
 ghost use Rattle.std.specs.Prelude.{◌≡◌, ◌++◌, OnOk, string_bytes, false, ◌∷◌, [], ◌<◌};
 ghost use Rattle.std.specs.Fmt.{digit_glyph};
-ghost use Rattle.wasm_text.specs.Values.{byte_text, words_text, word_text};
+ghost use Rattle.wasm_text.specs.Values.{words_text, word_text};
 
+use crate::bytes::write_byte;
 use crate::values::Written;
 
 /// The digits.
@@ -24,16 +25,6 @@ pub fn write_digit(out: &mut String, value: u8) -> Written
     ensures { OnOk result (string_bytes out.new ≡ string_bytes out.old ++ digit_glyph false value ∷ []) }
 {
     out.push_str(digit_of(value))
-}
-
-/// Writes a byte as two digits in hexadecimal.
-///
-/// Where memory is refused, nothing is said of how much of it was written.
-pub fn write_byte(out: &mut String, byte: u8) -> Written
-    ensures { OnOk result (string_bytes out.new ≡ string_bytes out.old ++ byte_text byte) }
-{
-    write_digit(out, byte / 16)?;
-    write_digit(out, byte % 16)
 }
 
 /// Writes four bytes from a place on, the highest first.

@@ -3,6 +3,7 @@
 //! The theorem stands on [`write_operator`].
 #![tactic(auto)]
 
+mod bytes;
 mod digits;
 mod floats;
 mod lists;
@@ -13,7 +14,7 @@ mod types;
 mod values;
 mod write;
 
-pub use digits::write_byte;
+pub use bytes::{write_byte, write_spaced_byte};
 pub use names::text_name;
 pub use types::write_value_type;
 pub use values::Written;
