@@ -1,5 +1,5 @@
 -- The faults that say nothing of the bytes.
-use Rattle.std.proofs.Common.{◌≡◌, sym, subst}
+use Rattle.std.proofs.Common.{◌≡◌, ◌≢◌, sym, subst}
 use Rattle.wasm_operators.specs.below.bytes.error.Error.{Error}
 use Rattle.wasm_operators.specs.below.bytes.message.Message.{Message}
 use Rattle.wasm_operators.specs.below.bytes.message.Message.TheVariants as message
@@ -13,10 +13,14 @@ at_halt P (fault.Refused e) halts memory writing = absurd halts
 at_halt P fault.Memory halts memory writing = memory
 at_halt P fault.Writing halts memory writing = writing
 
+abbrev IsOther : Message → Type 0
+IsOther message.OutOfMemory = ⊥
+IsOther _ = Unit {0}
+
 -- A refusal of memory is no refusal of the bytes.
-pub at_fault : (P : DisassemblyFault → Type 0) (m : Message) (e : Error) → P fault.Memory → P (fault.Refused e) → P (fault_at m e)
+pub at_fault : (P : DisassemblyFault → Type 0) (m : Message) (e : Error) → P fault.Memory → (m ≢ message.OutOfMemory → P (fault.Refused e)) → P (fault_at m e)
 at_fault P message.OutOfMemory e memory refused = memory
-at_fault P _ e memory refused = refused
+at_fault P _ e memory refused = refused (λ is. absurd (subst IsOther is tt))
 
 pub memory_halts : (e : Error) → e.message ≡ message.OutOfMemory → IsHalt (fault_at e.message e)
 memory_halts e is = subst (λ m. IsHalt (fault_at m e)) (sym is) tt

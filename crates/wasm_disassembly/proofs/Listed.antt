@@ -142,7 +142,7 @@ operators_ended h (Ok x) body reader before listed after law to (placed, encodes
         is = refl;
       },
     )
-operators_ended h (Err (fault.Refused e)) body reader before listed after law to (opened, stopped, same, fresh, placed, reads, is) =
+operators_ended h (Err (fault.Refused e)) body reader before listed after law to (other, opened, stopped, same, fresh, placed, reads, is) =
     let past = locals_past body to.unread to.read to.locals to.reads to.all in
     let s = source_of body in
     let locals = local_lines h s to.locals (offset_of to.read.reader) in
@@ -162,6 +162,7 @@ operators_ended h (Err (fault.Refused e)) body reader before listed after law to
           stopped = stopped;
           reads = reads;
         };
+        other = other;
         is = refl;
       })),
     )

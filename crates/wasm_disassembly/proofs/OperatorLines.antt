@@ -1,8 +1,9 @@
 -- Operators that were read one after another, and the lines of each that were written before the next was read.
-use Rattle.std.proofs.Common.{◌≡◌, ℕ, ◌+◌, ◌-◌, ◌<◌, ◌≤◌, Bool, true, false, cond, List, [], ◌∷◌, ◌++◌, length, Option, Ok, Err, refl, sym, subst, ap, ◌∙◌, append_assoc, append-nil, length-append, arith}
+use Rattle.std.proofs.Common.{◌≡◌, ◌≢◌, ℕ, ◌+◌, ◌-◌, ◌<◌, ◌≤◌, Bool, true, false, cond, List, [], ◌∷◌, ◌++◌, length, Option, Ok, Err, refl, sym, subst, ap, ◌∙◌, append_assoc, append-nil, length-append, arith}
 use Rattle.std.specs.Prelude.{slice_index}
 use Rattle.std.specs.Io.KnownBytes.{Appends}
 use Rattle.wasm_operators.specs.below.bytes.error.Error.{Error}
+use Rattle.wasm_operators.specs.below.bytes.message.Message.TheVariants as message
 use Rattle.wasm_operators.specs.below.Source.{Reader, rest, offset_of, source_of}
 use Rattle.wasm_operators.specs.instr.declared.operator.Operator.{Operator}
 use Rattle.wasm_operators.specs.opcodes.Allowed.{EncodesAllowed}
@@ -119,9 +120,10 @@ listed_whole x start depth bytes reader opened now before after l same tree =
 -- Reading was refused, or frames are left at the end of the data.
 pub listed_part : (start depth : ℕ) (bytes : List ℕ) (reader : Reader) (e : Error) (opened now stopped : State) (before after : Option (List ℕ))
     (l : AreListed start bytes opened now depth before after) → opened.reader ≡ reader → IsFresh opened → stopped.reader ≡ now.reader →
-    ReadsBeginning IsAny EncodesAllowed OperatorFault Anywhere [] e opened stopped l.placed →
+    ReadsBeginning IsAny EncodesAllowed OperatorFault Anywhere [] e opened stopped l.placed → e.message ≢ message.OutOfMemory →
     ListsOperators {X = Unit {0}} start bytes (Err (fault.Refused e)) reader before after
-listed_part start depth bytes reader e opened now stopped before after l same fresh still b = (
+listed_part start depth bytes reader e opened now stopped before after l same fresh still b other = (
+  other,
   opened,
   stopped,
   same,

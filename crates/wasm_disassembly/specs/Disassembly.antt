@@ -1,8 +1,9 @@
 -- The text of a function: its header, the lines of its locals, and the lines of its operators.
 -- WebAssembly Core Specification 3.0: Binary Format, Modules, Code Section.
-use Rattle.std.specs.Prelude.{◌≡◌, ◌<◌, ◌⊎◌, ℕ, ◌+◌, List, [], ◌++◌, length, Option, Result, Ok, Err}
+use Rattle.std.specs.Prelude.{◌≡◌, ◌≢◌, ◌<◌, ◌⊎◌, ℕ, ◌+◌, List, [], ◌++◌, length, Option, Result, Ok, Err}
 use Rattle.std.specs.Io.KnownBytes.{Appends}
 use Rattle.wasm_operators.specs.below.bytes.error.Error.{Error}
+use Rattle.wasm_operators.specs.below.bytes.message.Message.TheVariants as message
 use Rattle.wasm_operators.specs.below.Source.{Source, Reader, rest, offset_of, source_of}
 use Rattle.wasm_operators.specs.opcodes.Allowed.{EncodesAllowed}
 use Rattle.wasm_operators.specs.opcodes.OperatorFaults.{OperatorFault}
@@ -65,7 +66,7 @@ pub record StopsAtLocals (h : Heading) (e : Error) (body : Reader) (text : List 
   pub refused : ReadsDeclaration (Err e) read read
   pub is : text ≡ header h (source_of body) ++ local_lines h (source_of body) locals (offset_of read.reader)
 
--- Behind the locals stands no expression: these operators are the longest beginning of one, and what stands behind it is refused.
+-- Behind the locals stands no expression: these operators are the longest beginning of one, and what stands behind it is refused. Memory was not.
 pub record StopsAtOperators (h : Heading) (e : Error) (body : Reader) (text : List ℕ) : Type 0 where
   pub unread : Locals
   pub read : Locals
@@ -74,6 +75,7 @@ pub record StopsAtOperators (h : Heading) (e : Error) (body : Reader) (text : Li
   pub all : length locals ≡ unread.count
   pub placed : Placed
   pub stops : NoExpression e body placed
+  pub other : e.message ≢ message.OutOfMemory
   pub is : text ≡ header h (source_of body) ++ (local_lines h (source_of body) locals (offset_of read.reader) ++
       operator_lines (source_of body) placed (offset_of stops.stopped.reader))
 
@@ -94,7 +96,7 @@ ListsOperators start bytes (Ok x) reader before after =
     (placed : Placed) × EncodesExpression (source_of reader) placed ×
     Appends before after (lines_of text_of start bytes (offset_of reader + length (rest reader)) placed)
 ListsOperators start bytes (Err (fault.Refused e)) reader before after =
-    (opened stopped : State) × (opened.reader ≡ reader) × IsFresh opened × (placed : Placed) ×
+    (e.message ≢ message.OutOfMemory) × (opened stopped : State) × (opened.reader ≡ reader) × IsFresh opened × (placed : Placed) ×
     ReadsBeginning IsAny EncodesAllowed OperatorFault Anywhere [] e opened stopped placed ×
     Appends before after (lines_of text_of start bytes (offset_of stopped.reader) placed)
 ListsOperators start bytes (Err _) reader before after = Unit {0}

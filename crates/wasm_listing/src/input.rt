@@ -13,7 +13,7 @@ pub fn read_input<R: Read>(alloc: Global, reader: &mut R) -> Result<Vec<u8>, Dum
     ensures fault { IfErr result (λ fault. WritesNothing fault) }
 {
     let mut input = Vec::new(alloc);
-    let mut chunk = [0u8; 4096];
+    let mut chunk = [0u8; 65536];
     loop {
         let Ok(count) = reader.read(&mut chunk) else {
             return Err(DumpFault::Reading);

@@ -1,4 +1,5 @@
-use Rattle.std.proofs.Common.{◌≡◌, [], Err, ap, ◌∙◌, sym, subst, refl, rules, inl, inr}
+use Rattle.std.proofs.Common.{◌≡◌, ◌≢◌, [], Err, ap, ◌∙◌, sym, subst, refl, rules, inl, inr}
+use Rattle.wasm_operators.specs.below.bytes.message.Message.TheVariants as message
 use Rattle.wasm_operators.specs.below.Source.{rest, source_of}
 use Rattle.wasm_operators.specs.Expression.{EncodesExpression}
 use Rattle.wasm_lines.specs.Lines.{between}
@@ -36,10 +37,10 @@ returns-in-Err-clause-lists g c =
     let stops = inr (λ none. some (ap rest (sym same.0) ∙ none), c.read_to_the_end.ensures.refused e new c.in-Err.ensures.1) in
     let before = g.W.Write.contents c.args.writer.now in
     let after = g.W.Write.contents c.operators.writer in
-    let part =
+    let part = λ (other : e.message ≢ message.OutOfMemory).
     listed_part c.args.start c.operators.depth c.args.bytes.now c.args.reader e opened c.operators.operators new before after l c.new-operators.ensures.reader
     c.new-operators.ensures.fresh same.0
-    (c.read_to_the_end.ensures.beginning [] e opened new l.placed c.new-operators.ensures.stood ran stops) in
+    (c.read_to_the_end.ensures.beginning [] e opened new l.placed c.new-operators.ensures.stood ran stops) other in
     subst (λ f. ListsOperators {X = Unit {0}} c.args.start c.args.bytes.now (Err f) c.args.reader before after) (sym c.fault_of.ensures)
     (at_fault (λ f. ListsOperators {X = Unit {0}} c.args.start c.args.bytes.now (Err f) c.args.reader before after) e.message e tt part)
 
@@ -78,6 +79,7 @@ returns-clause-lists g c =
     listed_part c.args.start c.operators.depth c.args.bytes.now c.args.reader e opened now now (g.W.Write.contents c.args.writer.now)
     (g.W.Write.contents c.operators.writer) l c.new-operators.ensures.reader c.new-operators.ensures.fresh refl
     (c.read_to_the_end.ensures.beginning [] e opened now l.placed c.new-operators.ensures.stood l.ran (inl left))
+    (λ is. absurd (cc (is, left.2)))
 
 pub returns-clause-whole : goal.returns-clause-whole
 returns-clause-whole g c =
