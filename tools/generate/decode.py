@@ -238,7 +238,7 @@ def function(part):
     params = "" if part.is_one else f", code: {part.code_type}"
     form = part.form
     out = [
-        f"fn {part.function}<V: {part.group.trait}>(v: &mut V, reader: &mut BinaryReader<'_>, start: usize{params}) -> Result<V::Output>",
+        f"{'pub ' if is_plain(part) else ''}fn {part.function}<V: {part.group.trait}>(v: &mut V, reader: &mut BinaryReader<'_>, start: usize{params}) -> Result<V::Output>",
         f"    requires behind {{ StandsBehind start {part.place} {code} reader.old }}",
     ]
     if not part.is_one:
@@ -397,8 +397,9 @@ def plain_vectors(ops):
     return "\n".join(
         [
             f"//! Which vector operators have no immediates. {HEAD}",
-            "ghost use Rattle.std.specs.Prelude.{◌≡◌, Some, map};",
+            "ghost use Rattle.std.specs.Prelude.{◌≡◌, [], true, Some, map};",
             "ghost use Rattle.wasm_decode_opcodes.specs.Entries.{entry_at, simd_entries};",
+            "ghost use Rattle.wasm_decode_opcodes.specs.Entry.{free};",
             "ghost use Rattle.wasm_decode_groups.specs.Plain.{is_plain};",
             "",
             "/// Of each subopcode behind the byte fd, whether it is that of an operator without immediates.",
@@ -420,7 +421,8 @@ def plain_vectors(ops):
             "/// Whether an operator without immediates has this subopcode behind the byte fd.",
             "#[inline(always)]",
             "pub fn has_no_immediates(code: u32) -> bool",
-            "    ensures { result ≡ is_plain (entry_at (Some 0xfd) code) }",
+            "    ensures told { result ≡ is_plain (entry_at (Some 0xfd) code) }",
+            "    ensures plain { result ≡ true → entry_at (Some 0xfd) code ≡ free [] }",
             "{",
             "    plain_in(&PLAIN, code)",
             "}",
@@ -801,11 +803,11 @@ def simd_file(ops, group):
     those = [it for it in parts(ops, group) if not is_plain(it)]
     body, lemmas = kinds_proofs(those, lambda code: True)
     plain = "without_immediates-requires-clause-kinds"
-    told = "c.has_no_immediates.ensures"
-    body += [f"pub {plain} : goal.{plain}", f"{plain} g c = plain (entry_at (Some 0xfd) c.args.code) (sym {told} ∙ c.if-has_no_immediates.true)", ""]
-    words = ["plain", "no_operator"]
+    told = "c.has_no_immediates.ensures.told"
+    body += [f"pub {plain} : goal.{plain}", f"{plain} g c = c.has_no_immediates.ensures.plain c.if-has_no_immediates.true", ""]
+    words = ["no_operator"]
     if those:
-        words = ["plain", "others"]
+        words = ["others"]
         body += ["pub unreachable-requires : goal.unreachable-requires", f"unreachable-requires g c = let h = others c.args.code (omega (arith, c.requires.half)) (sym {told} ∙ c.if-has_no_immediates.false) in grind (arith, h)", ""]
     else:
         goal = "unknown_subopcode-requires-clause-unknown"
@@ -814,8 +816,7 @@ def simd_file(ops, group):
     return "\n".join(
         [
             f"-- {HEAD}",
-            f"use Rattle.std.proofs.Common.{{{'arith' if those else 'refl'}, Some, sym, ◌∙◌}}",
-            "use Rattle.wasm_decode_opcodes.specs.Entries.{entry_at}",
+            f"use Rattle.std.proofs.Common.{{{'arith' if those else 'refl'}, sym, ◌∙◌}}",
             *([f"use Rattle.wasm_decode_groups.proofs.Codes.{{{', '.join(lemmas)}}}"] if lemmas else []),
             f"use Rattle.wasm_decode_groups.proofs.PlainVectors.{{{', '.join(words)}}}",
             f"use Rattle.wasm_decode_groups.proofs.{group.module}_operators.{group.module}.Goals as goal",

@@ -17,7 +17,7 @@ use wasm_visit::{VisitGroups, VisitSimdOperator};
 /// The subopcode behind a prefix byte that was read at the position `start`: a LEB128 number of 32
 /// bits, overlong ones too. Where it is refused the reader goes back.
 #[inline(always)]
-fn subopcode(reader: &mut BinaryReader<'_>, start: usize, prefix: u8) -> Result<u32>
+pub fn subopcode(reader: &mut BinaryReader<'_>, start: usize, prefix: u8) -> Result<u32>
     requires behind { StandsBehind start None prefix reader.old }
     requires prefix { entry_at None prefix ≡ prefixes }
     ensures read { IfOk result (λ code. StandsBehind start (Some prefix) code reader.new) }
@@ -163,30 +163,43 @@ pub fn simd_behind<V: VisitSimdOperator>(
     requires { StandsBehind start None 0xfd reader.old }
     ensures { (frame : FrameKind) → DecodesAt V.visits frame start result reader.old reader.new v.old v.new }
 {
-    match simd_out_of_line(v, reader, start) {
+    match subopcode(reader, start, 0xfd) {
+        Ok(code) => simd_of(v, reader, start, code),
+        Err(e) => Err(e),
+    }
+}
+
+/// The vector operator of a subopcode.
+#[inline(always)]
+pub fn simd_of<V: VisitSimdOperator>(
+    v: &mut V,
+    reader: &mut BinaryReader<'_>,
+    start: usize,
+    code: u32,
+) -> Result<V::Output>
+    requires { StandsBehind start (Some 0xfd) code reader.old }
+    ensures { (frame : FrameKind) → DecodesAt V.visits frame start result reader.old reader.new v.old v.new }
+{
+    match simd_out_of_line(v, reader, start, code) {
         Ok(answer) => Ok(answer),
         Err(e) => Err(e),
     }
 }
 
-/// The subopcode behind the byte fd, and the operator's visit.
+/// What stands behind the subopcode, and the operator's visit.
 #[inline(never)]
 fn simd_out_of_line<V: VisitSimdOperator>(
     v: &mut V,
     reader: &mut BinaryReader<'_>,
     start: usize,
+    code: u32,
 ) -> Result<V::Output>
-    requires { StandsBehind start None 0xfd reader.old }
+    requires { StandsBehind start (Some 0xfd) code reader.old }
     ensures { (frame : FrameKind) → DecodesAt V.visits frame start result reader.old reader.new v.old v.new }
 {
-    match subopcode(reader, start, 0xfd) {
-        Ok(code) => {
-            if code < 0x80 {
-                v.decode_simd_low(reader, start, code)
-            } else {
-                v.decode_simd_high(reader, start, code)
-            }
-        }
-        Err(e) => Err(e),
+    if code < 0x80 {
+        v.decode_simd_low(reader, start, code)
+    } else {
+        v.decode_simd_high(reader, start, code)
     }
 }

@@ -1,6 +1,7 @@
 //! Which vector operators have no immediates. Written by tools/lists.py from tools/operators.tsv.
-ghost use Rattle.std.specs.Prelude.{◌≡◌, Some, map};
+ghost use Rattle.std.specs.Prelude.{◌≡◌, [], true, Some, map};
 ghost use Rattle.wasm_decode_opcodes.specs.Entries.{entry_at, simd_entries};
+ghost use Rattle.wasm_decode_opcodes.specs.Entry.{free};
 ghost use Rattle.wasm_decode_groups.specs.Plain.{is_plain};
 
 /// Of each subopcode behind the byte fd, whether it is that of an operator without immediates.
@@ -42,7 +43,8 @@ fn plain_in(plain: &[bool; 276], code: u32) -> bool
 /// Whether an operator without immediates has this subopcode behind the byte fd.
 #[inline(always)]
 pub fn has_no_immediates(code: u32) -> bool
-    ensures { result ≡ is_plain (entry_at (Some 0xfd) code) }
+    ensures told { result ≡ is_plain (entry_at (Some 0xfd) code) }
+    ensures plain { result ≡ true → entry_at (Some 0xfd) code ≡ free [] }
 {
     plain_in(&PLAIN, code)
 }

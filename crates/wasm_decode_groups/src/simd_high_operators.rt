@@ -31,7 +31,7 @@ pub fn simd_high<V: VisitSimdHigh>(
 
 /// The operators without immediates.
 #[inline(always)]
-fn without_immediates<V: VisitSimdHigh>(
+pub fn without_immediates<V: VisitSimdHigh>(
     v: &mut V,
     reader: &mut BinaryReader<'_>,
     start: usize,

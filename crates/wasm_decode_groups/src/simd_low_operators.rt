@@ -245,7 +245,7 @@ fn visit_lane<V: VisitSimdLow>(v: &mut V, code: u32, it: u8) -> V::Output
 
 /// The operators without immediates.
 #[inline(always)]
-fn without_immediates<V: VisitSimdLow>(
+pub fn without_immediates<V: VisitSimdLow>(
     v: &mut V,
     reader: &mut BinaryReader<'_>,
     start: usize,

@@ -10,6 +10,7 @@ use wasm_decode_groups as decode;
 use wasm_decode_groups::below::{BinaryReader, Result};
 use wasm_decode_groups::groups::Visitor;
 use wasm_decode_groups::instr::{Operator, SimdOperator};
+use wasm_visit_factory::Factory;
 
 /// A visitor of the vector operators: for each of the two groups of their visits, the calls by
 /// which it is reached, from an operator and from bytes. Vector Instructions.
@@ -57,6 +58,12 @@ pub trait VisitSimdOperator: Visitor {
         ensures { (frame : FrameKind)
             → DecodesAt Self.visits frame start result reader.old reader.new self.old self.new }
     {
+        if decode::has_no_immediates(code) {
+            return match decode::simd_low_plain(&mut Factory, reader, start, code) {
+                Ok(op) => Ok(self.visit_any(op)),
+                Err(e) => Err(e),
+            };
+        }
         decode::simd_low(&mut ByAny { visitor: self }, reader, start, code)
     }
 
@@ -78,6 +85,9 @@ pub trait VisitSimdOperator: Visitor {
         ensures { (frame : FrameKind)
             → DecodesAt Self.visits frame start result reader.old reader.new self.old self.new }
     {
-        decode::simd_high(&mut ByAny { visitor: self }, reader, start, code)
+        match decode::simd_high(&mut Factory, reader, start, code) {
+            Ok(op) => Ok(self.visit_any(op)),
+            Err(e) => Err(e),
+        }
     }
 }
