@@ -632,6 +632,10 @@ def kinds_lemma(part):
         f"pub {name}_codes : (code : ℕ) {align}→ entry_at {place} code ≡ free ({kinds}) → InRanges code ({ranges(codes)})",
         f"{name}_codes code {'align ' if part.has_align else ''}e = {every}",
         "",
+    ]
+    if is_plain(part):
+        return out
+    out += [
         f"abbrev {name}_at : ℕ → Type 0",
         f"{name}_at code = entry_at {place} code ≡ free ({part.kinds('code', 'kind')})",
         "",
@@ -695,7 +699,7 @@ def codes_file(ops):
                 f"one_byte_unknown code apart outside = unknown_byte ({ranges(known)}) opcode_entries code refl apart outside",
                 "",
             ]
-        elif group.module != "simd_low":
+        elif group.enum != "Simd":
             body += [
                 f"pub {group.module}_unknown : (code : ℕ) → (InRanges code ({ranges(known)}) → ⊥) → entry_at {those.place} code ≡ unknown",
                 f"{group.module}_unknown code outside = unknown_outside ({ranges(known)}) {entries_name(those)} code refl outside",
@@ -785,14 +789,13 @@ def group_file(ops, group):
         return simd_file(ops, group)
     body, lemmas = kinds_proofs(parts(ops, group), lambda code: True)
     name = "unknown_opcode" if is_own else "unknown_subopcode"
-    if group.module != "simd_low":
-        goal = f"{name}-requires-clause-unknown"
-        lemmas.append(f"{group.module}_unknown")
-        outside = "(λ h. grind (arith, h))"
-        if is_own:
-            apart = "c.requires.apart"
-            outside = f"{apart}.apart (λ h. grind (arith, h, {apart}.table, {apart}.numeric))"
-        body += [f"pub {goal} : goal.{goal}", f"{goal} g c = {lemmas[-1]} c.args.code {outside}", ""]
+    goal = f"{name}-requires-clause-unknown"
+    lemmas.append(f"{group.module}_unknown")
+    outside = "(λ h. grind (arith, h))"
+    if is_own:
+        apart = "c.requires.apart"
+        outside = f"{apart}.apart (λ h. grind (arith, h, {apart}.table, {apart}.numeric))"
+    body += [f"pub {goal} : goal.{goal}", f"{goal} g c = {lemmas[-1]} c.args.code {outside}", ""]
     given, frame = ("g c", "c.args.frame") if is_own else ("g c k", "k")
     body += ["pub returns-in_default : goal.returns-in_default", f"returns-in_default {given} = (refl, c.{name}.ensures {frame})"]
     return "\n".join([*proof_head(group, ALL.get(group.module, group.module), "refl, arith", lemmas), *body, ""])

@@ -327,59 +327,8 @@ simd_low_lane_15 code from to = in_run simd_low_lane_at 14 0x15 code (refl, (ref
 pub simd_low_without_immediates_codes : (code : ℕ) → entry_at (Some 0xfd) code ≡ free ([]) → InRanges code ((0x0e, 0x14) ∷ (0x23, 0x53) ∷ (0x5e, 0x99) ∷ (0x9b, 0xa1) ∷ (0xa3, 0xa4) ∷ (0xa7, 0xae) ∷ (0xb1, 0xb1) ∷ (0xb5, 0xba) ∷ (0xbc, 0xc1) ∷ (0xc3, 0xc4) ∷ (0xc7, 0xce) ∷ (0xd1, 0xd1) ∷ (0xd5, 0xe1) ∷ (0xe3, 0xed) ∷ (0xef, 0x113) ∷ [])
 simd_low_without_immediates_codes code e = codes_in has_without_immediates ((0x0e, 0x14) ∷ (0x23, 0x53) ∷ (0x5e, 0x99) ∷ (0x9b, 0xa1) ∷ (0xa3, 0xa4) ∷ (0xa7, 0xae) ∷ (0xb1, 0xb1) ∷ (0xb5, 0xba) ∷ (0xbc, 0xc1) ∷ (0xc3, 0xc4) ∷ (0xc7, 0xce) ∷ (0xd1, 0xd1) ∷ (0xd5, 0xe1) ∷ (0xe3, 0xed) ∷ (0xef, 0x113) ∷ []) simd_entries code refl refl (ap has_without_immediates e)
 
-abbrev simd_low_without_immediates_at : ℕ → Type 0
-simd_low_without_immediates_at code = entry_at (Some 0xfd) code ≡ free ([])
-
-pub simd_low_without_immediates_0e : (code : ℕ) → 0x0e ≤ code → code ≤ 0x14 → entry_at (Some 0xfd) code ≡ free ([])
-simd_low_without_immediates_0e code from to = in_run simd_low_without_immediates_at 7 0x0e code (refl, (refl, (refl, (refl, (refl, (refl, (refl, tt))))))) from (omega arith)
-
-pub simd_low_without_immediates_23 : (code : ℕ) → 0x23 ≤ code → code ≤ 0x53 → entry_at (Some 0xfd) code ≡ free ([])
-simd_low_without_immediates_23 code from to = in_run simd_low_without_immediates_at 49 0x23 code (refl, (refl, (refl, (refl, (refl, (refl, (refl, (refl, (refl, (refl, (refl, (refl, (refl, (refl, (refl, (refl, (refl, (refl, (refl, (refl, (refl, (refl, (refl, (refl, (refl, (refl, (refl, (refl, (refl, (refl, (refl, (refl, (refl, (refl, (refl, (refl, (refl, (refl, (refl, (refl, (refl, (refl, (refl, (refl, (refl, (refl, (refl, (refl, (refl, tt))))))))))))))))))))))))))))))))))))))))))))))))) from (omega arith)
-
-pub simd_low_without_immediates_5e : (code : ℕ) → 0x5e ≤ code → code ≤ 0x7f → entry_at (Some 0xfd) code ≡ free ([])
-simd_low_without_immediates_5e code from to = in_run simd_low_without_immediates_at 34 0x5e code (refl, (refl, (refl, (refl, (refl, (refl, (refl, (refl, (refl, (refl, (refl, (refl, (refl, (refl, (refl, (refl, (refl, (refl, (refl, (refl, (refl, (refl, (refl, (refl, (refl, (refl, (refl, (refl, (refl, (refl, (refl, (refl, (refl, (refl, tt)))))))))))))))))))))))))))))))))) from (omega arith)
-
 pub simd_high_without_immediates_codes : (code : ℕ) → entry_at (Some 0xfd) code ≡ free ([]) → InRanges code ((0x0e, 0x14) ∷ (0x23, 0x53) ∷ (0x5e, 0x99) ∷ (0x9b, 0xa1) ∷ (0xa3, 0xa4) ∷ (0xa7, 0xae) ∷ (0xb1, 0xb1) ∷ (0xb5, 0xba) ∷ (0xbc, 0xc1) ∷ (0xc3, 0xc4) ∷ (0xc7, 0xce) ∷ (0xd1, 0xd1) ∷ (0xd5, 0xe1) ∷ (0xe3, 0xed) ∷ (0xef, 0x113) ∷ [])
 simd_high_without_immediates_codes code e = codes_in has_without_immediates ((0x0e, 0x14) ∷ (0x23, 0x53) ∷ (0x5e, 0x99) ∷ (0x9b, 0xa1) ∷ (0xa3, 0xa4) ∷ (0xa7, 0xae) ∷ (0xb1, 0xb1) ∷ (0xb5, 0xba) ∷ (0xbc, 0xc1) ∷ (0xc3, 0xc4) ∷ (0xc7, 0xce) ∷ (0xd1, 0xd1) ∷ (0xd5, 0xe1) ∷ (0xe3, 0xed) ∷ (0xef, 0x113) ∷ []) simd_entries code refl refl (ap has_without_immediates e)
-
-abbrev simd_high_without_immediates_at : ℕ → Type 0
-simd_high_without_immediates_at code = entry_at (Some 0xfd) code ≡ free ([])
-
-pub simd_high_without_immediates_80 : (code : ℕ) → 0x80 ≤ code → code ≤ 0x99 → entry_at (Some 0xfd) code ≡ free ([])
-simd_high_without_immediates_80 code from to = in_run simd_high_without_immediates_at 26 0x80 code (refl, (refl, (refl, (refl, (refl, (refl, (refl, (refl, (refl, (refl, (refl, (refl, (refl, (refl, (refl, (refl, (refl, (refl, (refl, (refl, (refl, (refl, (refl, (refl, (refl, (refl, tt)))))))))))))))))))))))))) from (omega arith)
-
-pub simd_high_without_immediates_9b : (code : ℕ) → 0x9b ≤ code → code ≤ 0xa1 → entry_at (Some 0xfd) code ≡ free ([])
-simd_high_without_immediates_9b code from to = in_run simd_high_without_immediates_at 7 0x9b code (refl, (refl, (refl, (refl, (refl, (refl, (refl, tt))))))) from (omega arith)
-
-pub simd_high_without_immediates_a3 : (code : ℕ) → 0xa3 ≤ code → code ≤ 0xa4 → entry_at (Some 0xfd) code ≡ free ([])
-simd_high_without_immediates_a3 code from to = in_run simd_high_without_immediates_at 2 0xa3 code (refl, (refl, tt)) from (omega arith)
-
-pub simd_high_without_immediates_a7 : (code : ℕ) → 0xa7 ≤ code → code ≤ 0xae → entry_at (Some 0xfd) code ≡ free ([])
-simd_high_without_immediates_a7 code from to = in_run simd_high_without_immediates_at 8 0xa7 code (refl, (refl, (refl, (refl, (refl, (refl, (refl, (refl, tt)))))))) from (omega arith)
-
-pub simd_high_without_immediates_b5 : (code : ℕ) → 0xb5 ≤ code → code ≤ 0xba → entry_at (Some 0xfd) code ≡ free ([])
-simd_high_without_immediates_b5 code from to = in_run simd_high_without_immediates_at 6 0xb5 code (refl, (refl, (refl, (refl, (refl, (refl, tt)))))) from (omega arith)
-
-pub simd_high_without_immediates_bc : (code : ℕ) → 0xbc ≤ code → code ≤ 0xc1 → entry_at (Some 0xfd) code ≡ free ([])
-simd_high_without_immediates_bc code from to = in_run simd_high_without_immediates_at 6 0xbc code (refl, (refl, (refl, (refl, (refl, (refl, tt)))))) from (omega arith)
-
-pub simd_high_without_immediates_c3 : (code : ℕ) → 0xc3 ≤ code → code ≤ 0xc4 → entry_at (Some 0xfd) code ≡ free ([])
-simd_high_without_immediates_c3 code from to = in_run simd_high_without_immediates_at 2 0xc3 code (refl, (refl, tt)) from (omega arith)
-
-pub simd_high_without_immediates_c7 : (code : ℕ) → 0xc7 ≤ code → code ≤ 0xce → entry_at (Some 0xfd) code ≡ free ([])
-simd_high_without_immediates_c7 code from to = in_run simd_high_without_immediates_at 8 0xc7 code (refl, (refl, (refl, (refl, (refl, (refl, (refl, (refl, tt)))))))) from (omega arith)
-
-pub simd_high_without_immediates_d5 : (code : ℕ) → 0xd5 ≤ code → code ≤ 0xe1 → entry_at (Some 0xfd) code ≡ free ([])
-simd_high_without_immediates_d5 code from to = in_run simd_high_without_immediates_at 13 0xd5 code (refl, (refl, (refl, (refl, (refl, (refl, (refl, (refl, (refl, (refl, (refl, (refl, (refl, tt))))))))))))) from (omega arith)
-
-pub simd_high_without_immediates_e3 : (code : ℕ) → 0xe3 ≤ code → code ≤ 0xed → entry_at (Some 0xfd) code ≡ free ([])
-simd_high_without_immediates_e3 code from to = in_run simd_high_without_immediates_at 11 0xe3 code (refl, (refl, (refl, (refl, (refl, (refl, (refl, (refl, (refl, (refl, (refl, tt))))))))))) from (omega arith)
-
-pub simd_high_without_immediates_ef : (code : ℕ) → 0xef ≤ code → code ≤ 0x113 → entry_at (Some 0xfd) code ≡ free ([])
-simd_high_without_immediates_ef code from to = in_run simd_high_without_immediates_at 37 0xef code (refl, (refl, (refl, (refl, (refl, (refl, (refl, (refl, (refl, (refl, (refl, (refl, (refl, (refl, (refl, (refl, (refl, (refl, (refl, (refl, (refl, (refl, (refl, (refl, (refl, (refl, (refl, (refl, (refl, (refl, (refl, (refl, (refl, (refl, (refl, (refl, (refl, tt))))))))))))))))))))))))))))))))))))) from (omega arith)
-
-pub simd_high_unknown : (code : ℕ) → (InRanges code ((0x00, 0x99) ∷ (0x9b, 0xa1) ∷ (0xa3, 0xa4) ∷ (0xa7, 0xae) ∷ (0xb1, 0xb1) ∷ (0xb5, 0xba) ∷ (0xbc, 0xc1) ∷ (0xc3, 0xc4) ∷ (0xc7, 0xce) ∷ (0xd1, 0xd1) ∷ (0xd5, 0xe1) ∷ (0xe3, 0xed) ∷ (0xef, 0x113) ∷ []) → ⊥) → entry_at (Some 0xfd) code ≡ unknown
-simd_high_unknown code outside = unknown_outside ((0x00, 0x99) ∷ (0x9b, 0xa1) ∷ (0xa3, 0xa4) ∷ (0xa7, 0xae) ∷ (0xb1, 0xb1) ∷ (0xb5, 0xba) ∷ (0xbc, 0xc1) ∷ (0xc3, 0xc4) ∷ (0xc7, 0xce) ∷ (0xd1, 0xd1) ∷ (0xd5, 0xe1) ∷ (0xe3, 0xed) ∷ (0xef, 0x113) ∷ []) simd_entries code refl outside
 
 abbrev pub simd_other_codes : List (ℕ × ℕ)
 simd_other_codes = (0x00, 0x0d) ∷ (0x15, 0x22) ∷ (0x54, 0x5d) ∷ []
