@@ -319,17 +319,6 @@ def group_call(ops, group, those):
         "    }",
         "}",
         "",
-        *group_head(group, those, "others", "inline(always)", "", " What the call out of line answers is matched and made again, so that it is not held in memory where the common operators end."),
-        f"    match out_of_line{given} {{",
-        "        Ok(answer) => Ok(answer),",
-        "        Err(e) => Err(e),",
-        "    }",
-        "}",
-        "",
-        *group_head(group, those, "out_of_line", "inline(never)", "", " All of it out of line."),
-        f"    {ALL[group.module]}{given}",
-        "}",
-        "",
     ]
     return [*common, *whole_group(ops, group, those, ALL[group.module])]
 
@@ -463,6 +452,7 @@ def group_decode(ops, group):
         *(["ghost use Rattle.wasm_decode_groups.specs.OneByte.{IsOneByteCode};"] if is_own else []),
         "",
         *(["use crate::guarded::{%s};" % ", ".join(sorted(set(APART.values())))] if is_own else []),
+        *(["use crate::out_of_line::others;"] if is_own else []),
         *(["use crate::plain_vectors::has_no_immediates;"] if "has_no_immediates(" in text else []),
         *(["use std::alloc::Global;"] if is_own else []),
         f"use wasm_below::{{{', '.join(below)}}};",

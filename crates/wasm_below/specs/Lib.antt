@@ -9,4 +9,5 @@ pub use Rattle.wasm_below_bytes.specs.Sequence
 pub use Rattle.wasm_below_bytes.specs.Source
 pub use Rattle.wasm_below_bytes.specs.declared as bytes
 pub mod Reference
+pub mod ShortTypes
 pub mod TypeEncoding

@@ -2,9 +2,13 @@
 ghost use Rattle.std.specs.Prelude.{◌≡◌, ℕ, ◌≤◌, IsTrue, ◌↔◌, IsSome, IfSome, IfNone, IfOk, IfErr, codes};
 ghost use Rattle.wasm_below.specs.Reference.{IsIndexed};
 
+use std::fmt::{self, Debug, Formatter};
 use std::marker::Model;
 
 mod reading;
+mod short;
+
+use short::ShortHeapType;
 
 /// The greatest index of a type that is read.
 const MAX_TYPE_INDEX: u32 = 1048575;
@@ -51,22 +55,36 @@ pub enum HeapType {
 }
 
 /// A reference type, whose index of a type is at most 1048575. Types, Reference Types.
-#[derive(Clone, Copy, Debug, PartialEq, Eq)]
+///
+/// It is held in five bytes.
+#[derive(Clone, Copy, PartialEq, Eq)]
 pub struct RefType {
     nullable: bool,
-    heap_type: HeapType,
+    heap_type: ShortHeapType,
 }
 
 impl Model for RefType {
     ghost use Rattle.wasm_below.specs.Reference.{Reference, IsIndexed};
+    ghost use Rattle.wasm_below.specs.ShortTypes.{heap_type_of, short_of, held_again};
 
     ghost Value = { Reference };
 
-    ghost view = { λ r. record { nullable = r.nullable; heap_type = r.heap_type } };
+    ghost view = { λ r. record { nullable = r.nullable; heap_type = heap_type_of r.heap_type } };
 
-    ghost invariant = { λ r. IsIndexed r.heap_type };
+    ghost invariant = { λ r. IsIndexed (heap_type_of r.heap_type) };
 
-    ghost inverse = { λ r. record { nullable = r.nullable; heap_type = r.heap_type } };
+    ghost inverse = { λ r. record { nullable = r.nullable; heap_type = short_of r.heap_type } };
+
+    ghost inverse_ok = { λ r h i. record { nullable = r.nullable; heap_type = held_again r.heap_type i } };
+}
+
+impl Debug for RefType {
+    fn fmt<W: fmt::Write>(&self, f: &mut Formatter<W>) -> fmt::Result {
+        f.debug_struct("RefType")
+            .field("nullable", &self.nullable)
+            .field("heap_type", &self.heap_type())
+            .finish()
+    }
 }
 
 impl RefType {
@@ -77,12 +95,22 @@ impl RefType {
         ensures value { IfSome result (λ r. (r.nullable ≡ nullable) × (r.heap_type ≡ heap_type)) }
     {
         if is_indexed(heap_type) {
-            Some(RefType {
-                nullable,
-                heap_type,
-            })
+            Some(RefType::of(nullable, heap_type))
         } else {
             None
+        }
+    }
+
+    /// The type of references to what has no index above the limit.
+    #[inline(always)]
+    fn of(nullable: bool, heap_type: HeapType) -> RefType
+        requires { IsIndexed heap_type }
+        ensures nullable { result.nullable ≡ nullable }
+        ensures referred { result.heap_type ≡ heap_type }
+    {
+        RefType {
+            nullable,
+            heap_type: ShortHeapType::new(heap_type),
         }
     }
 
@@ -98,7 +126,7 @@ impl RefType {
         ensures value { result ≡ self.now.heap_type }
         ensures indexed { IsIndexed result }
     {
-        self.heap_type
+        self.heap_type.heap_type()
     }
 }
 

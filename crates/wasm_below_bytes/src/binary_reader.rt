@@ -20,6 +20,9 @@ const END: u8 = 0x0b;
 /// Borrowed bytes that are read from their start.
 ///
 /// Offsets in errors count from the offset that the reader was given for its first byte.
+///
+/// A loop that holds a reader in a variable of its own keeps it in registers, as long as no call out of
+/// line is lent it: so what refuses is inline here, and a call out of line is lent a copy.
 #[derive(Debug, Drop)]
 pub struct BinaryReader<'a> {
     buffer: &'a [u8],
@@ -226,8 +229,7 @@ impl<'a> BinaryReader<'a> {
     }
 
     /// The data ends here.
-    #[cold]
-    #[inline(never)]
+    #[inline(always)]
     fn end_of_data(&self) -> Error
         requires { offset_of self.now ≡ end_of self.now }
         ensures { IsEndHere result self.now }
@@ -252,8 +254,7 @@ impl<'a> BinaryReader<'a> {
     }
 
     /// The data has fewer bytes than these.
-    #[cold]
-    #[inline(never)]
+    #[inline(always)]
     fn block_missing(&self, n: usize) -> Error
         requires { end_of self.now < offset_of self.now + n }
         ensures { IsShort n result self.now }
@@ -312,8 +313,7 @@ impl<'a> BinaryReader<'a> {
     }
 
     /// Goes back to where this many bytes were read, and refuses what stands there.
-    #[cold]
-    #[inline(never)]
+    #[inline(always)]
     pub fn refuse(&mut self, position: usize, message: Message) -> Error
         requires { position ≤ self.old.position }
         ensures rewound { self.new ≡ at_position self.old position }

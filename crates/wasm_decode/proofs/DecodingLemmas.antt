@@ -1,16 +1,15 @@
 -- From the first byte of an operator to its visit.
-use Rattle.std.proofs.Common.{◌≡◌, ◌≢◌, ℕ, suc, ◌+◌, ◌-◌, ◌≤◌, ◌<◌, inl, inr, Bool, true, false, List, [], ◌∷◌, ◌++◌, length, length-append, Option, Some, None, Result, Ok, Err, refl, sym, subst, ap, ◌∙◌, append_assoc, arith}
+use Rattle.std.proofs.Common.{◌≡◌, ◌≢◌, ℕ, suc, ◌+◌, ◌≤◌, ◌<◌, inl, inr, Bool, true, false, List, [], ◌∷◌, ◌++◌, length, length-append, Option, Some, None, Result, Ok, Err, refl, sym, subst, ap, ◌∙◌, append_assoc, arith}
 use Rattle.wasm_visit.specs.below.bytes.error.Error.{Error}
 use Rattle.wasm_visit.specs.below.bytes.features.WasmFeatures.{WasmFeatures}
 use Rattle.wasm_visit.specs.below.bytes.message.Message.{Message}
 use Rattle.wasm_visit.specs.below.bytes.message.Message.TheVariants as message
-use Rattle.wasm_visit.specs.below.Fault.{HasFault}
 use Rattle.wasm_visit.specs.below.Number.{EncodesUnsigned}
 use Rattle.wasm_visit.specs.below.Refusal.{IsReadFault}
-use Rattle.wasm_visit.specs.below.Source.{Reader, rest, offset_of, end_of, at_position, Takes, NoPrefix, MayFollow, BeginsWith, IsAhead, IsRefusal, Reads, IsByte, IsEndHere, U32Fault}
+use Rattle.wasm_visit.specs.below.Source.{Reader, rest, offset_of, end_of, at_position, Takes, NoPrefix, MayFollow, BeginsWith, IsRefusal, Reads, IsByte, IsEndHere, U32Fault}
 use Rattle.wasm_visit.proofs.of_below.Blocks.{refused_now}
 use Rattle.wasm_visit.proofs.of_below.Faults.{none_here}
-use Rattle.wasm_visit.proofs.of_below.TakesLemmas.{takes_then, takes_none, rewound, first_byte_read}
+use Rattle.wasm_visit.proofs.of_below.TakesLemmas.{takes_then, rewound, first_byte_read}
 use Rattle.wasm_visit.specs.grammar.declared.frame_kind.FrameKind.{FrameKind}
 use Rattle.wasm_visit.specs.instr.declared.operator.Operator.{Operator}
 use Rattle.wasm_visit.specs.instr.declared.operator.Operator.TheVariants as operator
@@ -19,12 +18,12 @@ use Rattle.wasm_visit.specs.instr.Immediate.{Kind}
 use Rattle.wasm_visit.specs.instr.Kinds.{IsVector}
 use Rattle.wasm_visit.specs.instr.Row.{prefix_of, opcode_of}
 use Rattle.wasm_visit.specs.opcodes.Allowed.{EncodesAllowed, EncodesScalar, EncodesIn}
-use Rattle.wasm_visit.specs.opcodes.Decoding.{Decodes, RefusesOperator, StandsBehind, VisitsRow}
+use Rattle.wasm_visit.specs.opcodes.Decoding.{Decodes, RefusesOperator, StandsBehind}
 use Rattle.wasm_visit.specs.opcodes.declared.guard.Guard.{Guard}
 use Rattle.wasm_visit.specs.opcodes.Entry.{Entry, prefixes, guard_of, kinds_of, guarded_entry, entry_of}
 use Rattle.wasm_visit.specs.opcodes.Entries.{opcode_entries, entry_at}
-use Rattle.wasm_visit.specs.opcodes.OperatorFaults.{SubopcodeFault, EntryFault, OperatorFault, ScalarOperatorFault, FaultIn}
-use Rattle.wasm_visit.specs.opcodes.Refused.{IsRefusedOperator, MayAllocate}
+use Rattle.wasm_visit.specs.opcodes.OperatorFaults.{EntryFault, OperatorFault, ScalarOperatorFault, FaultIn}
+use Rattle.wasm_visit.specs.opcodes.Refused.{IsRefusedOperator}
 use Rattle.wasm_visit.proofs.of_opcodes.OperatorLemmas.{within_behind}
 use Rattle.wasm_visit.proofs.of_opcodes.Told.{told}
 use Rattle.wasm_visit.proofs.of_decode.Ranges.{InRanges, codes_in}

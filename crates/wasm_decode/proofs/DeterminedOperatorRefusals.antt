@@ -1,5 +1,5 @@
 -- What the fault of an operator says determines its refusal.
-use Rattle.std.proofs.Common.{◌≡◌, ℕ, inl, inr, List, [], ◌∷◌, Option, Some, None, refl, sym, ◌∙◌}
+use Rattle.std.proofs.Common.{ℕ, List, [], ◌∷◌, Option, Some, None, sym, ◌∙◌}
 use Rattle.wasm_visit.specs.below.bytes.features.WasmFeatures.{WasmFeatures}
 use Rattle.wasm_visit.specs.below.bytes.message.Message.{Message}
 use Rattle.wasm_visit.specs.below.bytes.message.Message.TheVariants as message

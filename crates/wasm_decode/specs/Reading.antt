@@ -1,5 +1,5 @@
 -- A call that reads an operator and answers it.
-use Rattle.std.specs.Prelude.{◌≡◌, ℕ, List, Option, Result, Ok, Err}
+use Rattle.std.specs.Prelude.{ℕ, List, Option, Result, Ok, Err}
 use Rattle.wasm_visit.specs.below.bytes.error.Error.{Error}
 use Rattle.wasm_visit.specs.below.bytes.message.Message.{Message}
 use Rattle.wasm_visit.specs.below.Source.{Reader, at_position, Takes}

@@ -1,8 +1,8 @@
 //! What stands behind an opcode, but for the branch table. Operators behind a prefix byte are decoded
-//! out of line, by a call for each prefix, so that the code for all others stays small; what these calls
-//! answer is matched and made again where they are made, so that it is not held in memory where the
-//! others end.
-ghost use Rattle.std.specs.Prelude.{◌≡◌, ◌≢◌, Some, None, IfOk, IfErr};
+//! out of line, by a call for each prefix, so that the code for all others stays small. These calls are
+//! lent a copy of the reader and a place for a refusal, so that a caller's reader stays in registers, and
+//! so does what a call answers that visits.
+ghost use Rattle.std.specs.Prelude.{◌≡◌, ◌≢◌, Some, None, Ok, Err, IfOk, IfErr, IfSome, IfNone};
 ghost use Rattle.wasm_visit.specs.below.Source.{at_position};
 ghost use Rattle.wasm_visit.specs.grammar.declared.frame_kind.FrameKind.{FrameKind};
 ghost use Rattle.wasm_visit.specs.opcodes.Decoding.{StandsBehind, DecodesAt, RefusesAt};
@@ -10,9 +10,15 @@ ghost use Rattle.wasm_visit.specs.opcodes.Entries.{entry_at};
 ghost use Rattle.wasm_visit.specs.opcodes.Entry.{prefixes};
 
 use std::alloc::Global;
-use wasm_visit::below::{BinaryReader, Result};
+use wasm_visit::below::{BinaryReader, Error, Message, Result};
 use wasm_visit::grammar::FrameKind;
 use wasm_visit::{VisitGroups, VisitSimdOperator};
+
+/// A place for a refusal.
+#[inline(always)]
+fn place() -> Error {
+    Error::new(Message::EndOfData, 0)
+}
 
 /// The subopcode behind a prefix byte that was read at the position `start`: a LEB128 number of 32
 /// bits, overlong ones too. Where it is refused the reader goes back.
@@ -67,15 +73,42 @@ fn gc_behind<V: VisitGroups>(
     requires { StandsBehind start None 0xfb reader.old }
     ensures { (frame : FrameKind) → DecodesAt V.visits frame start result reader.old reader.new v.old v.new }
 {
-    match gc_out_of_line(v, reader, start) {
-        Ok(answer) => Ok(answer),
-        Err(e) => Err(e),
+    let mut lent = reader.clone();
+    let mut refusal = place();
+    let answer = gc_out_of_line(v, &mut lent, start, &mut refusal);
+    *reader = lent;
+    match answer {
+        Some(answer) => Ok(answer),
+        None => Err(refusal),
     }
 }
 
-/// The subopcode behind the byte fb, and the operator's visit.
+/// The subopcode behind the byte fb, and the operator's visit; else the refusal in the place for it.
 #[inline(never)]
 fn gc_out_of_line<V: VisitGroups>(
+    v: &mut V,
+    reader: &mut BinaryReader<'_>,
+    start: usize,
+    refusal: &mut Error,
+) -> Option<V::Output>
+    requires { StandsBehind start None 0xfb reader.old }
+    ensures visited { IfSome result (λ answer. (frame : FrameKind)
+        → DecodesAt V.visits frame start (Ok answer) reader.old reader.new v.old v.new) }
+    ensures refused { IfNone result ((frame : FrameKind)
+        → DecodesAt V.visits frame start (Err refusal.new) reader.old reader.new v.old v.new) }
+{
+    match gc_of(v, reader, start) {
+        Ok(answer) => Some(answer),
+        Err(e) => {
+            *refusal = e;
+            None
+        }
+    }
+}
+
+/// The same inline.
+#[inline(always)]
+fn gc_of<V: VisitGroups>(
     v: &mut V,
     reader: &mut BinaryReader<'_>,
     start: usize,
@@ -99,15 +132,42 @@ fn misc_behind<V: VisitGroups>(
     requires { StandsBehind start None 0xfc reader.old }
     ensures { (frame : FrameKind) → DecodesAt V.visits frame start result reader.old reader.new v.old v.new }
 {
-    match misc_out_of_line(v, reader, start) {
-        Ok(answer) => Ok(answer),
-        Err(e) => Err(e),
+    let mut lent = reader.clone();
+    let mut refusal = place();
+    let answer = misc_out_of_line(v, &mut lent, start, &mut refusal);
+    *reader = lent;
+    match answer {
+        Some(answer) => Ok(answer),
+        None => Err(refusal),
     }
 }
 
-/// The subopcode behind the byte fc, and the operator's visit.
+/// The subopcode behind the byte fc, and the operator's visit; else the refusal in the place for it.
 #[inline(never)]
 fn misc_out_of_line<V: VisitGroups>(
+    v: &mut V,
+    reader: &mut BinaryReader<'_>,
+    start: usize,
+    refusal: &mut Error,
+) -> Option<V::Output>
+    requires { StandsBehind start None 0xfc reader.old }
+    ensures visited { IfSome result (λ answer. (frame : FrameKind)
+        → DecodesAt V.visits frame start (Ok answer) reader.old reader.new v.old v.new) }
+    ensures refused { IfNone result ((frame : FrameKind)
+        → DecodesAt V.visits frame start (Err refusal.new) reader.old reader.new v.old v.new) }
+{
+    match misc_of(v, reader, start) {
+        Ok(answer) => Some(answer),
+        Err(e) => {
+            *refusal = e;
+            None
+        }
+    }
+}
+
+/// The same inline.
+#[inline(always)]
+fn misc_of<V: VisitGroups>(
     v: &mut V,
     reader: &mut BinaryReader<'_>,
     start: usize,
@@ -131,15 +191,42 @@ fn atomic_behind<V: VisitGroups>(
     requires { StandsBehind start None 0xfe reader.old }
     ensures { (frame : FrameKind) → DecodesAt V.visits frame start result reader.old reader.new v.old v.new }
 {
-    match atomic_out_of_line(v, reader, start) {
-        Ok(answer) => Ok(answer),
-        Err(e) => Err(e),
+    let mut lent = reader.clone();
+    let mut refusal = place();
+    let answer = atomic_out_of_line(v, &mut lent, start, &mut refusal);
+    *reader = lent;
+    match answer {
+        Some(answer) => Ok(answer),
+        None => Err(refusal),
     }
 }
 
-/// The subopcode behind the byte fe, and the operator's visit.
+/// The subopcode behind the byte fe, and the operator's visit; else the refusal in the place for it.
 #[inline(never)]
 fn atomic_out_of_line<V: VisitGroups>(
+    v: &mut V,
+    reader: &mut BinaryReader<'_>,
+    start: usize,
+    refusal: &mut Error,
+) -> Option<V::Output>
+    requires { StandsBehind start None 0xfe reader.old }
+    ensures visited { IfSome result (λ answer. (frame : FrameKind)
+        → DecodesAt V.visits frame start (Ok answer) reader.old reader.new v.old v.new) }
+    ensures refused { IfNone result ((frame : FrameKind)
+        → DecodesAt V.visits frame start (Err refusal.new) reader.old reader.new v.old v.new) }
+{
+    match atomic_of(v, reader, start) {
+        Ok(answer) => Some(answer),
+        Err(e) => {
+            *refusal = e;
+            None
+        }
+    }
+}
+
+/// The same inline.
+#[inline(always)]
+fn atomic_of<V: VisitGroups>(
     v: &mut V,
     reader: &mut BinaryReader<'_>,
     start: usize,
@@ -180,15 +267,43 @@ pub fn simd_of<V: VisitSimdOperator>(
     requires { StandsBehind start (Some 0xfd) code reader.old }
     ensures { (frame : FrameKind) → DecodesAt V.visits frame start result reader.old reader.new v.old v.new }
 {
-    match simd_out_of_line(v, reader, start, code) {
-        Ok(answer) => Ok(answer),
-        Err(e) => Err(e),
+    let mut lent = reader.clone();
+    let mut refusal = place();
+    let answer = simd_out_of_line(v, &mut lent, start, code, &mut refusal);
+    *reader = lent;
+    match answer {
+        Some(answer) => Ok(answer),
+        None => Err(refusal),
     }
 }
 
-/// What stands behind the subopcode, and the operator's visit.
+/// What stands behind the subopcode, and the operator's visit; else the refusal in the place for it.
 #[inline(never)]
 fn simd_out_of_line<V: VisitSimdOperator>(
+    v: &mut V,
+    reader: &mut BinaryReader<'_>,
+    start: usize,
+    code: u32,
+    refusal: &mut Error,
+) -> Option<V::Output>
+    requires { StandsBehind start (Some 0xfd) code reader.old }
+    ensures visited { IfSome result (λ answer. (frame : FrameKind)
+        → DecodesAt V.visits frame start (Ok answer) reader.old reader.new v.old v.new) }
+    ensures refused { IfNone result ((frame : FrameKind)
+        → DecodesAt V.visits frame start (Err refusal.new) reader.old reader.new v.old v.new) }
+{
+    match simd_half(v, reader, start, code) {
+        Ok(answer) => Some(answer),
+        Err(e) => {
+            *refusal = e;
+            None
+        }
+    }
+}
+
+/// The same inline, in the half of the subopcode.
+#[inline(always)]
+fn simd_half<V: VisitSimdOperator>(
     v: &mut V,
     reader: &mut BinaryReader<'_>,
     start: usize,

@@ -8,8 +8,7 @@ use wasm_visit::below::{BinaryReader, Error, Message};
 
 /// The refusal where no frame is open, so that no operator may stand there: `OperatorsRemaining` at
 /// the position.
-#[cold]
-#[inline(never)]
+#[inline(always)]
 pub fn no_frame(reader: &BinaryReader<'_>) -> Error
     ensures message { result.message ≡ Message.OperatorsRemaining }
     ensures offset { result.offset ≡ offset_of reader.now }
@@ -20,8 +19,7 @@ pub fn no_frame(reader: &BinaryReader<'_>) -> Error
 }
 
 /// The byte fd, at which a scalar visitor is refused, whatever stands behind it.
-#[cold]
-#[inline(never)]
+#[inline(always)]
 pub fn unexpected_simd(reader: &mut BinaryReader<'_>, start: usize) -> Error
     requires { StandsBehind start None 0xfd reader.old }
     ensures { (frame : FrameKind) → RefusesScalarAt frame start result reader.old reader.new }

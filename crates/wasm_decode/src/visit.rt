@@ -1,13 +1,15 @@
 //! An operator is read and visited.
-ghost use Rattle.std.specs.Prelude.{◌≡◌, ◌<◌, None};
+ghost use Rattle.std.specs.Prelude.{◌≡◌, ◌<◌, ◌≤◌, [], ◌∷◌, false, None};
 ghost use Rattle.wasm_visit.specs.grammar.declared.frame_kind.FrameKind.{FrameKind};
-ghost use Rattle.wasm_visit.specs.opcodes.Decoding.{DecodesIn, DecodesScalarIn, StandsBehind, DecodesAt, DecodesScalarAt};
+ghost use Rattle.wasm_visit.specs.instr.Immediate.{branch_table, is_branch_table};
+ghost use Rattle.wasm_visit.specs.opcodes.Decoding.{DecodesIn, DecodesScalarIn, StandsBehind, DecodesAt, DecodesScalarAt, ReadsKinds};
 
 use crate::behind::{group_behind, simd_behind};
 use crate::refusals::{no_frame, unexpected_simd};
 use std::alloc::Global;
 use wasm_visit::below::{BinaryReader, Result};
 use wasm_visit::grammar::FrameKind;
+use wasm_visit::imm::BrTable;
 use wasm_visit::opcodes::immediates;
 use wasm_visit::{VisitOperator, VisitSimdOperator};
 
@@ -144,8 +146,20 @@ fn table_behind<'a, V: VisitOperator<'a>>(
     requires { StandsBehind start None 0x0e reader.old }
     ensures { (frame : FrameKind) → DecodesAt V.visits frame start result reader.old reader.new v.old v.new }
 {
-    match immediates::branch_table(reader, start) {
+    match branch_table(reader, start) {
         Ok(targets) => Ok(v.visit_br_table(targets)),
         Err(e) => Err(e),
     }
+}
+
+/// The targets, read out of line by a copy of the reader, which is lent.
+#[inline(always)]
+fn branch_table<'a>(reader: &mut BinaryReader<'a>, start: usize) -> Result<BrTable<'a>>
+    requires { start ≤ reader.old.position }
+    ensures { ReadsKinds (is_branch_table ∷ []) (λ t. branch_table t ∷ []) false start result reader.old reader.new }
+{
+    let mut lent = reader.clone();
+    let targets = immediates::branch_table(&mut lent, start);
+    *reader = lent;
+    targets
 }

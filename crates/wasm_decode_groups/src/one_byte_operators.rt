@@ -11,6 +11,7 @@ use crate::guarded::{
     else_in_if, legacy_catch, legacy_catch_all, legacy_delegate, legacy_try, resume, resume_throw,
     resume_throw_ref, try_table, typed_select,
 };
+use crate::out_of_line::others;
 use std::alloc::Global;
 use wasm_decode_opcodes::{immediates, unknown_opcode};
 use wasm_visit_groups::VisitOneByte;
@@ -68,43 +69,6 @@ fn control_or_parametric<V: VisitOneByte>(
         0x1b => select_alone(v, reader, start),
         _ => others(v, alloc, reader, start, frame, code),
     }
-}
-
-/// Reads what stands behind the opcode of one of the operators of one byte, and visits the operator. What the call out of line answers is matched and made again, so that it is not held in memory where the common operators end.
-#[inline(always)]
-fn others<V: VisitOneByte>(
-    v: &mut V,
-    alloc: Global,
-    reader: &mut BinaryReader<'_>,
-    start: usize,
-    frame: FrameKind,
-    code: u8,
-) -> Result<V::Output>
-    requires behind { StandsBehind start None code reader.old }
-    requires apart { IsOneByteCode code }
-    ensures { DecodesAt V.visits frame start result reader.old reader.new v.old v.new }
-{
-    match out_of_line(v, alloc, reader, start, frame, code) {
-        Ok(answer) => Ok(answer),
-        Err(e) => Err(e),
-    }
-}
-
-/// Reads what stands behind the opcode of one of the operators of one byte, and visits the operator. All of it out of line.
-#[inline(never)]
-fn out_of_line<V: VisitOneByte>(
-    v: &mut V,
-    alloc: Global,
-    reader: &mut BinaryReader<'_>,
-    start: usize,
-    frame: FrameKind,
-    code: u8,
-) -> Result<V::Output>
-    requires behind { StandsBehind start None code reader.old }
-    requires apart { IsOneByteCode code }
-    ensures { DecodesAt V.visits frame start result reader.old reader.new v.old v.new }
-{
-    any_one_byte(v, alloc, reader, start, frame, code)
 }
 
 /// Reads what stands behind the opcode of one of the operators of one byte, and visits the operator. Each of them is an arm here.

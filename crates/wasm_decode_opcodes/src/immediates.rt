@@ -17,8 +17,7 @@ use wasm_instr::imm::{
 };
 
 /// Goes back to where an operator began, with this refusal of what stands behind its opcode.
-#[cold]
-#[inline(never)]
+#[inline(always)]
 fn back(reader: &mut BinaryReader<'_>, start: usize, e: Error) -> Error
     requires { start ≤ reader.old.position }
     ensures back { reader.new ≡ at_position reader.old start }

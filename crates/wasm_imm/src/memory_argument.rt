@@ -7,22 +7,38 @@ ghost use Rattle.wasm_imm.specs.FlagsNumber.{Announces, NamesBoth, OrdersPlain, 
 ghost use Rattle.wasm_imm.specs.MemoryArgumentFaults.{TargetFault, OrderingFault, OffsetFault, FlagsFault, MemArgFault};
 
 use crate::ordering::Ordering;
+use std::fmt::{self, Debug, Formatter};
 use wasm_imm_control::below::{BinaryReader, Error, Message, Result, WasmFeatures};
 
 /// The memory argument of a load, a store or an atomic access: its alignment, its static offset, and
 /// what it accesses. Memory Instructions.
-#[derive(Clone, Copy, Debug, PartialEq, Eq)]
+///
+/// Wide fields stand first, so that it takes 24 bytes.
+#[derive(Clone, Copy, PartialEq, Eq)]
 pub struct MemArg {
-    /// The alignment that the argument gives, as the exponent of a power of two, at most 15.
-    pub align: u8,
-    /// The operator's natural alignment, as the exponent of a power of two; not read from the format.
-    pub max_align: u8,
     /// The static offset in bytes, added to the address.
     pub offset: u64,
     /// The memory or the array that is accessed.
     pub target: MemArgTarget,
+    /// The alignment that the argument gives, as the exponent of a power of two, at most 15.
+    pub align: u8,
+    /// The operator's natural alignment, as the exponent of a power of two; not read from the format.
+    pub max_align: u8,
     /// The memory ordering, where the argument announces one.
     pub ordering: Option<MemArgOrdering>,
+}
+
+/// The fields in the order of the format.
+impl Debug for MemArg {
+    fn fmt<W: fmt::Write>(&self, f: &mut Formatter<W>) -> fmt::Result {
+        f.debug_struct("MemArg")
+            .field("align", &self.align)
+            .field("max_align", &self.max_align)
+            .field("offset", &self.offset)
+            .field("target", &self.target)
+            .field("ordering", &self.ordering)
+            .finish()
+    }
 }
 
 /// What a memory operator accesses.
@@ -112,11 +128,35 @@ impl MemArg {
     }
 }
 
+/// The rest of a memory argument that began at `start`, whose flags number announces something: read by
+/// a copy of the reader, which is lent out of line.
+#[inline(always)]
+fn read_announced(
+    reader: &mut BinaryReader<'_>,
+    start: usize,
+    flags: u32,
+    max_align: u8,
+    kind: MemArgKind,
+) -> Result<MemArg>
+    requires begun { start ≤ reader.old.position }
+    requires flagged { Reads (EncodesUnsigned 32) (Ok flags)
+        (at_position reader.old start) reader.old }
+    ensures reads { Reads (EncodesMemArg reader.old.features kind max_align)
+        result (at_position reader.old start) reader.new }
+    ensures fault { IfErr result (λ e. FlagsFault reader.old.features kind flags
+        (offset_of (at_position reader.old start)) e.message reader.old e.offset) }
+{
+    let mut lent = reader.clone();
+    let answer = read_announced_out_of_line(&mut lent, start, flags, max_align, kind);
+    *reader = lent;
+    answer
+}
+
 /// The rest of a memory argument that began at `start`, whose flags number announces something.
 ///
 /// What reads it stands twice in the built code: where a memory's index alone is announced, the
 /// compiler drops the checks of all else.
-fn read_announced(
+fn read_announced_out_of_line(
     reader: &mut BinaryReader<'_>,
     start: usize,
     flags: u32,

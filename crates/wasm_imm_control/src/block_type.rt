@@ -41,7 +41,7 @@ impl BlockType {
                 reader.advance();
                 Ok(BlockType::FuncType(u32::from(byte)))
             }
-            _ => read_other(reader),
+            _ => read_by_copy(reader),
         }
     }
 }
@@ -60,6 +60,18 @@ fn short_value_type(byte: u8) -> ValType
         0x7c => ValType::F64,
         _ => ValType::V128,
     }
+}
+
+/// A block type of any form, read by a copy of the reader, which is lent out of line.
+#[inline(always)]
+fn read_by_copy(reader: &mut BinaryReader<'_>) -> Result<BlockType>
+    ensures reads { Reads EncodesBlockType result reader.old reader.new }
+    ensures fault { IfErr result (λ e. BlockTypeFault e.message reader.old e.offset) }
+{
+    let mut lent = reader.clone();
+    let answer = read_other(&mut lent);
+    *reader = lent;
+    answer
 }
 
 /// A block type of any form.

@@ -1,11 +1,10 @@
 -- A missing feature and a wrong frame: where they are refused, and that they are refused nowhere else.
-use Rattle.std.proofs.Common.{◌≡◌, ℕ, ◌+◌, ◌<◌, List, [], ◌∷◌, length, Ok, None, inl, inr, refl, sym, subst, ap, ◌∙◌, arith}
+use Rattle.std.proofs.Common.{◌≡◌, ℕ, ◌+◌, ◌<◌, List, [], ◌∷◌, Ok, None, inl, inr, refl, sym, subst, ap, ◌∙◌, arith}
 use Rattle.wasm_decode.specs.below.bytes.features.WasmFeatures.{WasmFeatures}
 use Rattle.wasm_decode.specs.below.bytes.message.FrameName.{FrameName}
 use Rattle.wasm_decode.specs.below.bytes.message.InstructionName.{InstructionName}
-use Rattle.wasm_decode.specs.below.bytes.message.Message.{Message}
 use Rattle.wasm_decode.specs.below.bytes.message.Message.TheVariants as message
-use Rattle.wasm_decode.specs.below.Source.{Reader, rest, offset_of, at_position, IsByte, Reads, Takes, BeginsWith}
+use Rattle.wasm_decode.specs.below.Source.{Reader, rest, offset_of, at_position, IsByte, Reads, BeginsWith}
 use Rattle.wasm_decode.proofs.of_below.Prefixes.{advanced}
 use Rattle.wasm_decode.proofs.of_below.TakesLemmas.{first_byte_read}
 use Rattle.wasm_decode.specs.grammar.declared.frame_kind.FrameKind.{FrameKind}

@@ -14,10 +14,9 @@ use Rattle.wasm_decode.specs.below.Features.{multi_memory, call_indirect_overlon
 use Rattle.wasm_decode.specs.below.Number.{EncodesUnsigned, EncodesSigned, EncodesSize}
 use Rattle.wasm_decode.specs.below.PartFaults.{CheckedByteFault}
 use Rattle.wasm_decode.specs.below.Refusal.{IsReadFault}
-use Rattle.wasm_decode.specs.below.Source.{Reader, rest, offset_of, BeginsWith, IsByte, NumberFault, U32Fault, U64Fault, S33Fault, CountFault, EndFault}
+use Rattle.wasm_decode.specs.below.Source.{Reader, offset_of, IsByte, NumberFault, U32Fault, U64Fault, S33Fault, CountFault, EndFault}
 use Rattle.wasm_decode.specs.below.TypeEncoding.{behind_byte, EncodesHeapType, EncodesValType, ShortFault, ByteFault, NoIndex, HeapTypeFault, RefTypeFault, ValTypeFault}
 use Rattle.wasm_decode.specs.grammar.declared.frame_kind.FrameKind.{FrameKind}
-use Rattle.wasm_decode.specs.grammar.Frames.{Allows}
 use Rattle.wasm_decode.specs.imm.declared.memory_argument.MemArgKind.{MemArgKind}
 use Rattle.wasm_decode.specs.imm.BlockTypeFaults.{BlockTypeFault, NegativeFault}
 use Rattle.wasm_decode.specs.imm.BlockTypes.{EncodesBlockType}
@@ -34,10 +33,10 @@ use Rattle.wasm_decode.specs.imm.MemoryArgumentFaults.{CheckFault, TargetFault, 
 use Rattle.wasm_decode.specs.imm.Orderings.{OrderingByteFault, FenceFault}
 use Rattle.wasm_decode.specs.instr.Immediate.{Kind, is_unsigned_32, is_signed_32, is_signed_64, is_float_32, is_float_64, is_vector, is_one_lane, is_sixteen_lanes, is_memory_argument, is_memory_index, is_table_index, is_order, is_fence_order, is_heap_type, is_cast, is_block_type, is_branch_table, is_select_types, is_try_clauses, is_resume_clauses}
 use Rattle.wasm_decode.specs.opcodes.declared.guard.Guard.{Guard}
-use Rattle.wasm_decode.specs.opcodes.Entry.{Entry, unknown, prefixes, free, guarded, role_behind, instruction_behind, frame_behind}
+use Rattle.wasm_decode.specs.opcodes.Entry.{Entry, unknown, prefixes, free, guarded}
 use Rattle.wasm_decode.specs.opcodes.Entries.{entry_at}
 use Rattle.wasm_decode.specs.opcodes.Kinds.{EncodesKind}
-use Rattle.wasm_decode.specs.opcodes.OperatorFaults.{KindFault, KindsFault, FreeFault, SubopcodeFault, unknown_message, LacksFeature, GuardFault, EntryFault, OpcodeFault, OperatorFault, ScalarOperatorFault}
+use Rattle.wasm_decode.specs.opcodes.OperatorFaults.{KindFault, KindsFault, FreeFault, SubopcodeFault, unknown_message, GuardFault, EntryFault, OperatorFault, ScalarOperatorFault}
 
 -- One of reading values that asks for no feature and for no frame.
 abbrev pub IsUnguarded : Message → Type 0

@@ -1,5 +1,5 @@
 -- The offsets of refusals, and where readers stand.
-use Rattle.std.proofs.Common.{◌≡◌, ℕ, ◌+◌, ◌-◌, ◌≤◌, List, ◌++◌, length, Err, inl, inr, refl, sym, ap, ◌∙◌, length-append, length-drop, arith}
+use Rattle.std.proofs.Common.{◌≡◌, ℕ, ◌+◌, ◌-◌, ◌≤◌, List, length, Err, inl, inr, sym, ap, ◌∙◌, length-append, length-drop, arith}
 use Rattle.wasm_decode.specs.below.bytes.error.Error.{Error}
 use Rattle.wasm_decode.specs.below.Source.{Reader, rest, offset_of, end_of, Takes, IsAhead}
 use Rattle.wasm_operators_readers.specs.Reading.{Taking, Refusing, Allocating, State, Finishes, StopsRead, StopsRun}

@@ -21,7 +21,7 @@ use Rattle.wasm_decode.specs.instr.Encoding.{EncodesOperator}
 use Rattle.wasm_decode.specs.instr.Roles.{role_of, roles_of}
 use Rattle.wasm_operators_readers.specs.Expression.{Placed, OfPlaced, operators, LaidOut, AreEncoded, EncodesRest, IsBeginningBehind, IsLongestOf}
 use Rattle.wasm_operators_readers.specs.Flat.{IsAllowedFrom, IsFlatOf}
-use Rattle.wasm_operators_readers.specs.Openings.{opened_by, opened_along}
+use Rattle.wasm_operators_readers.specs.Openings.{opened_along}
 use Rattle.wasm_operators_readers.specs.Reading.{Taking, Refusing, Allocating, State, StopsRead, IsFresh, GrowsLittle, IsUnchanged, TakesOperator, TakesOperators, StopsRun, FramesLeft, Finishes, StopsFinish, EndsRun}
 use Rattle.wasm_operators_readers.specs.Stack.{frame_memory}
 use Rattle.wasm_operators_readers.specs.Headline.{StoodBefore, ReadsTree, BeginningAt, ReadsBeginning, IsWithinDepth, IsNotOutOfMemory}

@@ -1,9 +1,8 @@
 -- Lists without vector operators: how they lie in the longest beginning, and what is refused where one stands.
-use Rattle.std.proofs.Common.{◌≡◌, ℕ, ◌+◌, ◌≤◌, Bool, true, false, cond, List, [], ◌∷◌, ◌++◌, length, Some, Result, Ok, Err, IfErr, refl, sym, subst, ap, ◌∙◌, append_assoc, length-append, arith, ◌⊎◌, inl, inr}
+use Rattle.std.proofs.Common.{◌≡◌, ℕ, ◌+◌, ◌≤◌, Bool, true, false, cond, List, [], ◌∷◌, ◌++◌, length, Result, Ok, Err, IfErr, refl, sym, subst, ap, ◌∙◌, append_assoc, length-append, arith, ◌⊎◌, inl, inr}
 use Rattle.std.specs.Prelude.{◌↔◌}
 use Rattle.std.proofs.lemmas.Bool.{cases_lt}
 use Rattle.std.proofs.lemmas.List.{append-nil}
-use Rattle.std.specs.Option.{option_and_then}
 use Rattle.wasm_decode.specs.below.bytes.error.Error.{Error}
 use Rattle.wasm_decode.specs.below.bytes.features.WasmFeatures.{WasmFeatures}
 use Rattle.wasm_decode.specs.below.bytes.message.Message.TheVariants as message
@@ -18,7 +17,7 @@ use Rattle.wasm_decode.specs.instr.Encoding.{EncodesOperator}
 use Rattle.wasm_decode.specs.instr.Kinds.{IsVector}
 use Rattle.wasm_decode.specs.instr.Roles.{role_of, roles_of}
 use Rattle.wasm_decode.specs.instr.Row.{prefix_of, opcode_of}
-use Rattle.wasm_operators_readers.specs.Expression.{Placed, OfPlaced, operators, LaidOut, AreEncoded, Begins, IsBeginningBehind, IsLongestOf, IsLongestBehind, IsBeginningOf}
+use Rattle.wasm_operators_readers.specs.Expression.{Placed, OfPlaced, operators, LaidOut, AreEncoded, IsBeginningBehind, IsLongestOf, IsLongestBehind, IsBeginningOf}
 use Rattle.wasm_operators_readers.specs.Flat.{IsAllowedFrom, IsFlatOf, IsFlatFrom}
 use Rattle.wasm_operators_readers.specs.Reading.{Taking, Refusing, Allocating, State, TakesOperators, StopsRun, RunsToEnd}
 use Rattle.wasm_operators_readers.specs.Headline.{StoodBefore, ClosesFrom}
@@ -28,7 +27,7 @@ use Rattle.wasm_operators_readers.proofs.OneRead.{is_memory}
 use Rattle.wasm_operators_readers.proofs.OpeningLemmas.{first_byte, begins_encoding}
 use Rattle.wasm_operators_readers.proofs.Premises.{AreEach, IsNoVector, Keeps, RefusesVectors}
 use Rattle.wasm_operators_readers.proofs.Runs.{features_stay, stood_on, beginning_of_run, IsStuckFor, stuck_run}
-use Rattle.wasm_operators_readers.proofs.VisitLemmas.{no_vector_of, vector_of, scalar_append, scalar_begins, scalar_longest, scalar_none}
+use Rattle.wasm_operators_readers.proofs.VisitLemmas.{no_vector_of, vector_of, scalar_begins, scalar_longest, scalar_none}
 
 -- A scalar list has no vector operator.
 pub each_scalar : (placed : Placed) → IsScalar placed → AreEach IsNoVector placed

@@ -18,32 +18,6 @@ use wasm_decode::instr::Operator;
 use wasm_decode::visitors::{HoldTable, VisitOperator, VisitSimdOperator};
 
 impl<'a> OperatorsReader<'a> {
-    /// Visits up to the end of the data or a refusal, and finishes. Each visit adds an item to the
-    /// list, where it is made: an operator that is read is copied there.
-    ///
-    /// It is generic over the items, since the prover compares all calls of a visitor that is known.
-    fn collect_to_end<T>(&mut self, list: &mut Collector<T>) -> Result<()>
-    where
-        T: HoldTable<'a> + Drop,
-        ensures runs { RunsToEnd (Collects T.holds list.old.items.items list.new.items.items) EncodesAllowed OperatorFault
-            Anywhere result self.old self.new }
-        ensures memory { IfErr result
-            (λ e. e.message ≡ Message.OutOfMemory
-            → NextMayAllocate EncodesAllowed self.new ⊎ (vec_capacity list.new.items < vec_len list.new.items + 1)) }
-    {
-        'operators: while !self.eof() {
-            list.offset = self.original_position();
-            if list.items.try_reserve(1).is_err() {
-                return Err(Error::new(Message::OutOfMemory, list.offset));
-            }
-            match self.visit_operator_simd(list) {
-                Ok(_) => {}
-                Err(e) => return Err(e),
-            }
-        }
-        self.finish()
-    }
-
     /// Reads up to the end of the data or a refusal, and finishes. The items are added to this list.
     fn read_to_end<T>(&mut self, out: &mut Vec<(T, u64)>) -> Result<()>
     where
@@ -100,23 +74,6 @@ impl<'a> OperatorsReader<'a> {
         self.read_to_end(out)
     }
 
-    /// Visits up to the end of the data or a refusal, and finishes.
-    fn visit_to_end_simd<V>(&mut self, v: &mut V) -> Result<()>
-    where
-        V: VisitOperator<'a> + VisitSimdOperator,
-        V::Output: Copy,
-        ensures { RunsToEnd (Visited V.visits v.old v.new) EncodesAllowed OperatorFault (NextMayAllocate EncodesAllowed)
-            result self.old self.new }
-    {
-        'visits: while !self.eof() {
-            match self.visit_operator_simd(v) {
-                Ok(_) => {}
-                Err(e) => return Err(e),
-            }
-        }
-        self.finish()
-    }
-
     /// Visits all operators up to the end of the data or a refusal, vector operators too, and
     /// finishes. What the visits answer is not kept.
     ///
@@ -151,23 +108,6 @@ impl<'a> OperatorsReader<'a> {
         ensures depth { IsWithinDepth self.old self.new }
     {
         self.visit_to_end_simd(v)
-    }
-
-    /// Visits up to the end of the data or a refusal, and finishes.
-    fn visit_to_end<V: VisitOperator<'a>>(&mut self, v: &mut V) -> Result<()>
-    where
-        V::Output: Copy,
-        ensures { RunsToEnd (VisitedScalar V.visits v.old v.new) EncodesScalar ScalarOperatorFault
-            (NextMayAllocate EncodesScalar)
-            result self.old self.new }
-    {
-        'scalar_visits: while !self.eof() {
-            match self.visit_operator(v) {
-                Ok(_) => {}
-                Err(e) => return Err(e),
-            }
-        }
-        self.finish()
     }
 
     /// Visits all operators up to the end of the data, a vector operator or another refusal, and

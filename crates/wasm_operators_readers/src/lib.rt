@@ -14,6 +14,7 @@ pub mod expression_laws;
 pub mod frame_laws;
 mod iterators;
 pub mod laws;
+mod next;
 mod operators;
 pub mod position_laws;
 pub mod run_laws;

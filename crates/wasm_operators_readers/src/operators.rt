@@ -7,17 +7,18 @@ ghost use Rattle.wasm_operators_readers.specs.Headline.{StoodBefore};
 ghost use Rattle.wasm_operators_readers.specs.Next.{ReadsNext, VisitsNext, VisitsNextScalar};
 
 mod stack;
+mod to_end;
 
 use crate::begin::{advance, begin};
-use crate::step::leaves_frames;
+use crate::next::{finish, visit_next, visit_next_simd};
 use crate::{ControlStack, OperatorsReaderAllocations};
 use std::alloc::Global;
 use std::marker::Model;
-use wasm_decode::below::{BinaryReader, Error, Message, Result};
+use wasm_decode::below::{BinaryReader, Result};
 use wasm_decode::grammar::FrameKind;
 use wasm_decode::instr::Operator;
+use wasm_decode::read_behind;
 use wasm_decode::visitors::{VisitOperator, VisitSimdOperator};
-use wasm_decode::{read_behind, visit_behind, visit_behind_simd, visit_below_20};
 
 /// Reads the operators of an expression one after another, and keeps the kinds of the open frames.
 ///
@@ -161,28 +162,7 @@ impl<'a> OperatorsReader<'a> {
         V: VisitOperator<'a> + VisitSimdOperator,
         ensures { VisitsNext V.visits result self.old self.new v.old v.new }
     {
-        match begin(&mut self.reader, &mut self.control) {
-            Ok(at) => {
-                if leaves_frames(at.code) {
-                    return visit_behind_simd(
-                        v,
-                        self.alloc,
-                        &mut self.reader,
-                        at.start,
-                        at.frame,
-                        at.code,
-                    );
-                }
-                match visit_below_20(v, self.alloc, &mut self.reader, at.start, at.frame, at.code) {
-                    Ok(answer) => {
-                        advance(&mut self.control, at.code);
-                        Ok(answer)
-                    }
-                    Err(e) => Err(e),
-                }
-            }
-            Err(e) => Err(e),
-        }
+        visit_next_simd(v, self.alloc, &mut self.reader, &mut self.control)
     }
 
     /// Visits the next operator, which is no vector operator.
@@ -192,28 +172,7 @@ impl<'a> OperatorsReader<'a> {
     pub fn visit_operator<V: VisitOperator<'a>>(&mut self, v: &mut V) -> Result<V::Output>
         ensures { VisitsNextScalar V.visits result self.old self.new v.old v.new }
     {
-        match begin(&mut self.reader, &mut self.control) {
-            Ok(at) => {
-                if leaves_frames(at.code) {
-                    return visit_behind(
-                        v,
-                        self.alloc,
-                        &mut self.reader,
-                        at.start,
-                        at.frame,
-                        at.code,
-                    );
-                }
-                match visit_below_20(v, self.alloc, &mut self.reader, at.start, at.frame, at.code) {
-                    Ok(answer) => {
-                        advance(&mut self.control, at.code);
-                        Ok(answer)
-                    }
-                    Err(e) => Err(e),
-                }
-            }
-            Err(e) => Err(e),
-        }
+        visit_next(v, self.alloc, &mut self.reader, &mut self.control)
     }
 
     /// Whether all frames are closed and all data is taken.
@@ -232,13 +191,6 @@ impl<'a> OperatorsReader<'a> {
     pub fn finish(&self) -> Result<()>
         ensures { Finishes result self.now }
     {
-        let position = self.reader.original_position();
-        if !self.control.is_empty() {
-            return Err(Error::new(Message::FramesRemain, position));
-        }
-        if !self.reader.eof() {
-            return Err(Error::new(Message::UnexpectedData, position));
-        }
-        Ok(())
+        finish(&self.reader, &self.control)
     }
 }

@@ -1,5 +1,5 @@
 //! The stack of open frames.
-ghost use Rattle.std.specs.Prelude.{◌≡◌, ◌↔◌, ◌+◌, ◌≤◌, ◌<◌, [], ◌∷◌, ◌++◌, length, IsTrue, IsSome, IsOk, Some, OnOk, IfOk, IfErr};
+ghost use Rattle.std.specs.Prelude.{◌≡◌, ◌↔◌, ◌+◌, ◌≤◌, ◌<◌, [], ◌∷◌, ◌++◌, length, IsTrue, IsSome, IsOk, Some, OnOk, OnErr, IfOk, IfErr, max, vec_capacity, vec_len};
 ghost use Rattle.wasm_decode.specs.grammar.Frames.{frames_after, innermost, without_innermost};
 ghost use Rattle.wasm_decode.specs.imm.OutOfMemory.{IsOutOfMemoryAt};
 ghost use Rattle.wasm_operators_readers.specs.Stack.{HasRoom, GrowsByDoubling, IsSameMemory, frame_memory};
@@ -7,8 +7,9 @@ ghost use Rattle.wasm_operators_readers.specs.Step.{Opens, role_of_step};
 
 use crate::allocations::OperatorsReaderAllocations;
 use crate::step::FrameStep;
-use std::alloc::Global;
+use std::alloc::{AllocError, Global};
 use std::marker::Model;
+use std::mem::replace;
 use wasm_decode::below::{Error, Message, Result};
 use wasm_decode::grammar::FrameKind;
 
@@ -116,8 +117,10 @@ impl ControlStack {
     }
 
     /// Asks for room for this many frames, or for as many as are open, or for the least.
-    #[cold]
-    #[inline(never)]
+    ///
+    /// The memory is moved into a variable, which is lent: so a stack that stands in a variable itself
+    /// stays in registers.
+    #[inline(always)]
     fn grow(&mut self, frames: usize) -> Result<()>
         ensures frames { self.new.frames ≡ self.old.frames }
         ensures room { OnOk result (frames ≤ self.new.room) }
@@ -126,7 +129,11 @@ impl ControlStack {
         ensures refused { IfErr result (λ e. IsOutOfMemoryAt 0 e × (self.new ≡ self.old)) }
     {
         let more = frames.max(self.around.len()).max(LEAST);
-        if self.around.try_reserve_exact(more).is_err() {
+        let alloc = *self.around.allocator();
+        let mut lent = replace(&mut self.around, Vec::new(alloc));
+        let grown = reserve_exact(&mut lent, more);
+        self.around = lent;
+        if grown.is_err() {
             return Err(Error::new(Message::OutOfMemory, 0));
         }
         Ok(())
@@ -250,4 +257,17 @@ impl ControlStack {
             current: self.current,
         })
     }
+}
+
+/// Asks for memory for just this many frames more.
+#[cold]
+#[inline(never)]
+fn reserve_exact(around: &mut Vec<FrameKind>, more: usize) -> std::result::Result<(), AllocError>
+    ensures items { around.new.items ≡ around.old.items }
+    ensures kept { vec_capacity around.old ≤ vec_capacity around.new }
+    ensures room { OnOk result (vec_len around.new + more ≤ vec_capacity around.new) }
+    ensures exact { OnOk result (vec_capacity around.new ≡ max (vec_capacity around.old) (vec_len around.old + more)) }
+    ensures refused { OnErr result (vec_capacity around.new ≡ vec_capacity around.old) }
+{
+    around.try_reserve_exact(more)
 }

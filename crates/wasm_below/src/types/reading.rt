@@ -152,10 +152,7 @@ impl RefType {
         ensures fault { IfErr result (λ e. ShortFault TypeName.ReferenceType e.message reader.old e.offset) }
     {
         let heap_type = HeapType::read_short(reader, TypeName::ReferenceType)?;
-        Ok(RefType {
-            nullable: true,
-            heap_type,
-        })
+        Ok(RefType::of(true, heap_type))
     }
 
     /// A heap type behind the byte 63 or 64.
@@ -167,10 +164,7 @@ impl RefType {
         let start = reader.current_position();
         reader.advance();
         match HeapType::read(reader) {
-            Ok(heap_type) => Ok(RefType {
-                nullable,
-                heap_type,
-            }),
+            Ok(heap_type) => Ok(RefType::of(nullable, heap_type)),
             Err(e) => {
                 reader.rewind(start);
                 Err(e)

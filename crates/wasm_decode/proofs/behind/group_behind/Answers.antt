@@ -1,5 +1,4 @@
 use Rattle.std.proofs.Common.{arith}
-use Rattle.wasm_visit.specs.decode.OneByte.{IsOneByteCode}
 use Rattle.wasm_decode.proofs.DecodingLemmas.{prefix_bytes}
 use Rattle.wasm_decode.proofs.behind.group_behind.Goals as goal
 

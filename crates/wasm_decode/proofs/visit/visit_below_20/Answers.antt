@@ -1,5 +1,4 @@
 use Rattle.std.proofs.Common.{arith}
-use Rattle.wasm_visit.specs.decode.OneByte.{IsOneByteCode}
 use Rattle.wasm_decode.proofs.DecodingLemmas.{prefix_bytes, to_scalar}
 use Rattle.wasm_decode.proofs.visit.visit_below_20.Goals as goal
 

@@ -1,4 +1,4 @@
-use Rattle.std.proofs.Common.{◌∷◌, [], refl, subst, ap, ◌∙◌}
+use Rattle.std.proofs.Common.{◌∷◌, [], subst, sym, ap, ◌∙◌}
 use Rattle.wasm_below_bytes.specs.Source.{at_position}
 use Rattle.wasm_below.specs.TypeEncoding.{ref_byte, HeapTypeFault, EncodesHeapType, EncodesLongRef}
 use Rattle.wasm_below_bytes.proofs.TakesLemmas.{takes_then, back}
@@ -11,7 +11,8 @@ returns-in-Ok-clause-reads c =
     let r = c.in-Ok.ensures.reads in
     let code = ref_byte c.args.nullable in
     let first = advanced c.args.reader.now c.advance.new.self code c.requires c.advance.ensures in
-    (code ∷ r.0, (r.0, refl, r.1), takes_then c.args.reader.now c.advance.new.self c.read.new.reader (code ∷ []) r.0 first r.2)
+    let referred = subst (EncodesHeapType r.0) (sym c.of.ensures.referred) r.1 in
+    (code ∷ r.0, (r.0, ap (λ z. ref_byte z ∷ r.0) (sym c.of.ensures.nullable), referred), takes_then c.args.reader.now c.advance.new.self c.read.new.reader (code ∷ []) r.0 first r.2)
 
 pub returns-in-Err-clause-reads : goal.returns-in-Err-clause-reads
 returns-in-Err-clause-reads c =

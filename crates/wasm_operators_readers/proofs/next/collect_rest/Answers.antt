@@ -4,46 +4,46 @@ use Rattle.wasm_decode.specs.below.Source.{rest, offset_of}
 use Rattle.wasm_decode.specs.opcodes.Allowed.{EncodesAllowed}
 use Rattle.wasm_decode.specs.opcodes.OperatorFaults.{OperatorFault}
 use Rattle.wasm_operators_readers.specs.Collecting.{CollectsOne, Collects}
-use Rattle.wasm_operators_readers.specs.Next.{NextMayAllocate}
+use Rattle.wasm_operators_readers.specs.Next.{NextMayAllocate, state_of}
 use Rattle.wasm_operators_readers.specs.Reading.{Anywhere}
 use Rattle.wasm_operators_readers.proofs.CollectedLemmas.{collected_push}
 use Rattle.wasm_operators_readers.proofs.DecoderPremises.{sound, is_reading}
 use Rattle.wasm_operators_readers.proofs.MemoryLemmas.{memory_needs}
 use Rattle.wasm_operators_readers.proofs.OneRead.{needs_more}
 use Rattle.wasm_operators_readers.proofs.Runs.{ran_push, ran_unchanged, run_stops}
-use Rattle.wasm_operators_readers.proofs.operators.OperatorsReader.collect_to_end.Goals as goal
+use Rattle.wasm_operators_readers.proofs.next.collect_rest.Goals as goal
 
 pub operators-preserved : goal.operators-preserved
 operators-preserved g c =
     let i = c.operators.invariant in
     let h = c.in-Ok.ensures in
-    let s = c.operators.self in
+    let s = state_of c.operators.reader c.operators.control in
     let op = h.0 in
     let at = offset_of s.reader in
     let old = c.args.list.now.items.items in
     let mid = c.try_reserve.new.self.items in
-    let new = c.visit_operator_simd.new.v.items.items in
+    let new = c.visit_next_simd.new.v.items.items in
     let room : vec_len c.try_reserve.new.self < vec_capacity c.try_reserve.new.self = search rules in (
       i.0 ++ (op, at) ∷ [],
       collected_push g.T.HoldOperator.holds old mid new i.0 op at (subst (λ x. Collects g.T.HoldOperator.holds old x i.0) (sym c.try_reserve.ensures.items) i.1)
           (subst (λ n. CollectsOne g.T.HoldOperator.holds n mid op new) c.original_position-list.ensures (h.2 room)),
-      ran_push EncodesAllowed sound c.args.self.now s c.visit_operator_simd.new.self i.0 op i.2 h.1,
+      ran_push EncodesAllowed sound (state_of c.args.reader.now c.args.control.now) s (state_of c.visit_next_simd.new.reader c.visit_next_simd.new.control) i.0 op i.2 h.1,
     )
 
 pub returns-in-Err-clause-runs : goal.returns-in-Err-clause-runs
 returns-in-Err-clause-runs g c =
     let i = c.operators.invariant in
     let h = c.in-Err.ensures in
-    let left : rest c.operators.self.reader ≡ [] → ⊥ = search rules in
-    let stops = needs_more EncodesAllowed OperatorFault (NextMayAllocate EncodesAllowed) Anywhere (λ s h. tt) c.in-Err.e c.visit_operator_simd.new.self h.2 in
+    let left : rest c.operators.reader ≡ [] → ⊥ = search rules in
+    let stops = needs_more EncodesAllowed OperatorFault (NextMayAllocate EncodesAllowed) Anywhere (λ s h. tt) c.in-Err.e (state_of c.visit_next_simd.new.reader c.visit_next_simd.new.control) h.2 in
     let old = c.args.list.now.items.items in (
       i.0,
       subst (λ w. Collects g.T.HoldOperator.holds old w.items.items i.0) (sym h.1)
           (subst (λ x. Collects g.T.HoldOperator.holds old x i.0) (sym c.try_reserve.ensures.items) i.1),
-      ran_unchanged c.args.self.now c.operators.self c.visit_operator_simd.new.self i.0 i.2 h.0,
-      run_stops EncodesAllowed OperatorFault Anywhere c.in-Err.e c.operators.self c.visit_operator_simd.new.self left h.0 stops,
+      ran_unchanged (state_of c.args.reader.now c.args.control.now) (state_of c.operators.reader c.operators.control) (state_of c.visit_next_simd.new.reader c.visit_next_simd.new.control) i.0 i.2 h.0,
+      run_stops EncodesAllowed OperatorFault Anywhere c.in-Err.e (state_of c.operators.reader c.operators.control) (state_of c.visit_next_simd.new.reader c.visit_next_simd.new.control) left h.0 stops,
     )
 
 pub returns-in-Err-clause-memory : goal.returns-in-Err-clause-memory
 returns-in-Err-clause-memory g c = λ is. inl (memory_needs EncodesAllowed OperatorFault (NextMayAllocate EncodesAllowed) is_reading c.in-Err.e
-    c.visit_operator_simd.new.self c.in-Err.ensures.2 is)
+    (state_of c.visit_next_simd.new.reader c.visit_next_simd.new.control) c.in-Err.ensures.2 is)

@@ -2,12 +2,13 @@ use Rattle.std.proofs.Common.{length}
 use Rattle.wasm_decode.specs.below.Source.{rest}
 use Rattle.wasm_operators_readers.specs.Expression.{Placed}
 use Rattle.wasm_operators_readers.specs.Collecting.{Collects}
+use Rattle.wasm_operators_readers.specs.Next.{state_of}
 use Rattle.wasm_operators_readers.specs.Reading.{TakesOperators}
-use Rattle.wasm_operators_readers.proofs.operators.OperatorsReader.collect_to_end.Given as goal
+use Rattle.wasm_operators_readers.proofs.next.collect_rest.Given as goal
 
 -- the items so far are made of the operators that were taken so far
 abbrev pub invariant-operators : goal.invariant-operators
-invariant-operators g l = (placed : Placed) × Collects g.T.HoldOperator.holds l.fn.list.items.items l.list.items.items placed × TakesOperators l.fn.self l.self placed
+invariant-operators g l = (placed : Placed) × Collects g.T.HoldOperator.holds l.fn.list.items.items l.list.items.items placed × TakesOperators (state_of l.fn.reader l.fn.control) (state_of l.reader l.control) placed
 
 abbrev pub decreases-operators : goal.decreases-operators
-decreases-operators g l = length (rest l.self.reader)
+decreases-operators g l = length (rest l.reader)

@@ -2,12 +2,13 @@ use Rattle.std.proofs.Common.{length}
 use Rattle.wasm_decode.specs.below.Source.{rest}
 use Rattle.wasm_operators_readers.specs.Expression.{Placed}
 use Rattle.wasm_operators_readers.specs.Visiting.{VisitedScalar}
+use Rattle.wasm_operators_readers.specs.Next.{state_of}
 use Rattle.wasm_operators_readers.specs.Reading.{TakesOperators}
-use Rattle.wasm_operators_readers.proofs.operators.OperatorsReader.visit_to_end.Given as goal
+use Rattle.wasm_operators_readers.proofs.next.visit_rest.Given as goal
 
 -- the visitor went along the operators of the visits so far
 abbrev pub invariant-scalar_visits : goal.invariant-scalar_visits
-invariant-scalar_visits g l = (placed : Placed) × VisitedScalar g.V.Visitor.visits l.fn.v l.v placed × TakesOperators l.fn.self l.self placed
+invariant-scalar_visits g l = (placed : Placed) × VisitedScalar g.V.Visitor.visits l.fn.v l.v placed × TakesOperators (state_of l.fn.reader l.fn.control) (state_of l.reader l.control) placed
 
 abbrev pub decreases-scalar_visits : goal.decreases-scalar_visits
-decreases-scalar_visits g l = length (rest l.self.reader)
+decreases-scalar_visits g l = length (rest l.reader)

@@ -1,0 +1,64 @@
+//! The operators of one byte that bodies are not full of, by one call that stays a call.
+//!
+//! That call is lent a copy of the reader and a place for a refusal, so that a caller's reader stays in
+//! registers, and so does what a call answers that visits.
+ghost use Rattle.std.specs.Prelude.{◌≡◌, None, Ok, Err, IfSome, IfNone};
+ghost use Rattle.wasm_decode_groups.specs.OneByte.{IsOneByteCode};
+ghost use Rattle.wasm_decode_opcodes.specs.Decoding.{DecodesAt, StandsBehind};
+
+use crate::one_byte_operators::any_one_byte;
+use std::alloc::Global;
+use wasm_visit_groups::VisitOneByte;
+use wasm_visit_groups::below::{BinaryReader, Error, Message, Result};
+use wasm_visit_groups::grammar::FrameKind;
+
+/// Reads what stands behind the opcode of one of the operators of one byte, and visits the operator.
+#[inline(always)]
+pub fn others<V: VisitOneByte>(
+    v: &mut V,
+    alloc: Global,
+    reader: &mut BinaryReader<'_>,
+    start: usize,
+    frame: FrameKind,
+    code: u8,
+) -> Result<V::Output>
+    requires behind { StandsBehind start None code reader.old }
+    requires apart { IsOneByteCode code }
+    ensures { DecodesAt V.visits frame start result reader.old reader.new v.old v.new }
+{
+    let mut lent = reader.clone();
+    let mut refusal = Error::new(Message::EndOfData, 0);
+    let answer = out_of_line(v, alloc, &mut lent, start, frame, code, &mut refusal);
+    *reader = lent;
+    match answer {
+        Some(answer) => Ok(answer),
+        None => Err(refusal),
+    }
+}
+
+/// The same out of line: the answer of the visit, else the refusal in the place for it.
+#[inline(never)]
+fn out_of_line<V: VisitOneByte>(
+    v: &mut V,
+    alloc: Global,
+    reader: &mut BinaryReader<'_>,
+    start: usize,
+    frame: FrameKind,
+    code: u8,
+    refusal: &mut Error,
+) -> Option<V::Output>
+    requires behind { StandsBehind start None code reader.old }
+    requires apart { IsOneByteCode code }
+    ensures visited { IfSome result
+        (λ answer. DecodesAt V.visits frame start (Ok answer) reader.old reader.new v.old v.new) }
+    ensures refused { IfNone result
+        (DecodesAt V.visits frame start (Err refusal.new) reader.old reader.new v.old v.new) }
+{
+    match any_one_byte(v, alloc, reader, start, frame, code) {
+        Ok(answer) => Some(answer),
+        Err(e) => {
+            *refusal = e;
+            None
+        }
+    }
+}

@@ -1,0 +1,171 @@
+//! The next operator of a reader with its stack of open frames, visited, and all that follow up to the end
+//! of the data.
+//!
+//! Reader and stack are lent apart, so that a loop can hold the reader in a variable of its own: that stays
+//! in registers, as long as no call out of line is lent it.
+ghost use Rattle.std.specs.Prelude.{◌≡◌, ◌+◌, ◌<◌, ◌⊎◌, IfErr, vec_capacity, vec_len};
+ghost use Rattle.wasm_decode.specs.opcodes.Allowed.{EncodesAllowed, EncodesScalar};
+ghost use Rattle.wasm_decode.specs.opcodes.OperatorFaults.{OperatorFault, ScalarOperatorFault};
+ghost use Rattle.wasm_operators_readers.specs.Collecting.{Collects};
+ghost use Rattle.wasm_operators_readers.specs.Next.{NextMayAllocate, VisitsNext, VisitsNextScalar, state_of};
+ghost use Rattle.wasm_operators_readers.specs.Reading.{Anywhere, Finishes, RunsToEnd};
+ghost use Rattle.wasm_operators_readers.specs.Visiting.{Visited, VisitedScalar};
+
+use crate::ControlStack;
+use crate::begin::{advance, begin};
+use crate::collector::Collector;
+use crate::step::leaves_frames;
+use std::alloc::Global;
+use wasm_decode::below::{BinaryReader, Error, Message, Result};
+use wasm_decode::visitors::{HoldTable, VisitOperator, VisitSimdOperator};
+use wasm_decode::{visit_behind, visit_behind_simd, visit_below_20};
+
+/// Visits the next operator, a vector operator too.
+#[inline(always)]
+pub fn visit_next_simd<'a, V>(
+    v: &mut V,
+    alloc: Global,
+    reader: &mut BinaryReader<'a>,
+    control: &mut ControlStack,
+) -> Result<V::Output>
+where
+    V: VisitOperator<'a> + VisitSimdOperator,
+    ensures { VisitsNext V.visits result (state_of reader.old control.old) (state_of reader.new control.new)
+        v.old v.new }
+{
+    match begin(reader, control) {
+        Ok(at) => {
+            if leaves_frames(at.code) {
+                return visit_behind_simd(v, alloc, reader, at.start, at.frame, at.code);
+            }
+            match visit_below_20(v, alloc, reader, at.start, at.frame, at.code) {
+                Ok(answer) => {
+                    advance(control, at.code);
+                    Ok(answer)
+                }
+                Err(e) => Err(e),
+            }
+        }
+        Err(e) => Err(e),
+    }
+}
+
+/// Visits the next operator, which is no vector operator.
+#[inline(always)]
+pub fn visit_next<'a, V: VisitOperator<'a>>(
+    v: &mut V,
+    alloc: Global,
+    reader: &mut BinaryReader<'a>,
+    control: &mut ControlStack,
+) -> Result<V::Output>
+    ensures { VisitsNextScalar V.visits result (state_of reader.old control.old) (state_of reader.new control.new)
+        v.old v.new }
+{
+    match begin(reader, control) {
+        Ok(at) => {
+            if leaves_frames(at.code) {
+                return visit_behind(v, alloc, reader, at.start, at.frame, at.code);
+            }
+            match visit_below_20(v, alloc, reader, at.start, at.frame, at.code) {
+                Ok(answer) => {
+                    advance(control, at.code);
+                    Ok(answer)
+                }
+                Err(e) => Err(e),
+            }
+        }
+        Err(e) => Err(e),
+    }
+}
+
+/// Whether all frames are closed and all data is taken.
+pub fn finish(reader: &BinaryReader<'_>, control: &ControlStack) -> Result<()>
+    ensures { Finishes result (state_of reader.now control.now) }
+{
+    let position = reader.original_position();
+    if !control.is_empty() {
+        return Err(Error::new(Message::FramesRemain, position));
+    }
+    if !reader.eof() {
+        return Err(Error::new(Message::UnexpectedData, position));
+    }
+    Ok(())
+}
+
+/// Visits up to the end of the data or a refusal, and finishes.
+#[inline(always)]
+pub fn visit_rest_simd<'a, V>(
+    v: &mut V,
+    alloc: Global,
+    reader: &mut BinaryReader<'a>,
+    control: &mut ControlStack,
+) -> Result<()>
+where
+    V: VisitOperator<'a> + VisitSimdOperator,
+    V::Output: Copy,
+    ensures { RunsToEnd (Visited V.visits v.old v.new) EncodesAllowed OperatorFault (NextMayAllocate EncodesAllowed)
+        result (state_of reader.old control.old) (state_of reader.new control.new) }
+{
+    'visits: while !reader.eof() {
+        match visit_next_simd(v, alloc, reader, control) {
+            Ok(_) => {}
+            Err(e) => return Err(e),
+        }
+    }
+    finish(reader, control)
+}
+
+/// Visits up to the end of the data, a vector operator or another refusal, and finishes.
+#[inline(always)]
+pub fn visit_rest<'a, V: VisitOperator<'a>>(
+    v: &mut V,
+    alloc: Global,
+    reader: &mut BinaryReader<'a>,
+    control: &mut ControlStack,
+) -> Result<()>
+where
+    V::Output: Copy,
+    ensures { RunsToEnd (VisitedScalar V.visits v.old v.new) EncodesScalar ScalarOperatorFault
+        (NextMayAllocate EncodesScalar) result (state_of reader.old control.old) (state_of reader.new control.new) }
+{
+    'scalar_visits: while !reader.eof() {
+        match visit_next(v, alloc, reader, control) {
+            Ok(_) => {}
+            Err(e) => return Err(e),
+        }
+    }
+    finish(reader, control)
+}
+
+/// Visits up to the end of the data or a refusal, and finishes. Each visit adds an item to the list,
+/// where it is made: an operator that is read is copied there.
+///
+/// It is generic over the items, since the prover compares all calls of a visitor that is known.
+#[inline(always)]
+pub fn collect_rest<'a, T>(
+    list: &mut Collector<T>,
+    alloc: Global,
+    reader: &mut BinaryReader<'a>,
+    control: &mut ControlStack,
+) -> Result<()>
+where
+    T: HoldTable<'a> + Drop,
+    ensures runs { RunsToEnd (Collects T.holds list.old.items.items list.new.items.items) EncodesAllowed OperatorFault
+        Anywhere result (state_of reader.old control.old) (state_of reader.new control.new) }
+    ensures memory { IfErr result
+        (λ e. e.message ≡ Message.OutOfMemory
+        → NextMayAllocate EncodesAllowed (state_of reader.new control.new)
+        ⊎ (vec_capacity list.new.items < vec_len list.new.items + 1)) }
+{
+    'operators: while !reader.eof() {
+        list.offset = reader.original_position();
+        if list.items.try_reserve(1).is_err() {
+            return Err(Error::new(Message::OutOfMemory, list.offset));
+        }
+        match visit_next_simd(list, alloc, reader, control) {
+            Ok(_) => {}
+            Err(e) => return Err(e),
+        }
+    }
+    finish(reader, control)
+}

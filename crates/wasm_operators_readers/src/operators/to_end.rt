@@ -1,0 +1,68 @@
+//! Up to the end of the data: the reader of the bytes, and for visits the stack of open frames, stand in
+//! variables meanwhile.
+ghost use Rattle.std.specs.Prelude.{◌≡◌, ◌+◌, ◌<◌, ◌⊎◌, IfErr, vec_capacity, vec_len};
+ghost use Rattle.wasm_decode.specs.opcodes.Allowed.{EncodesAllowed, EncodesScalar};
+ghost use Rattle.wasm_decode.specs.opcodes.OperatorFaults.{OperatorFault, ScalarOperatorFault};
+ghost use Rattle.wasm_operators_readers.specs.Collecting.{Collects};
+ghost use Rattle.wasm_operators_readers.specs.Next.{NextMayAllocate};
+ghost use Rattle.wasm_operators_readers.specs.Reading.{Anywhere, RunsToEnd};
+ghost use Rattle.wasm_operators_readers.specs.Visiting.{Visited, VisitedScalar};
+
+use super::OperatorsReader;
+use crate::ControlStack;
+use crate::collector::Collector;
+use crate::next::{collect_rest, visit_rest, visit_rest_simd};
+use std::mem::replace;
+use wasm_decode::below::{Message, Result};
+use wasm_decode::visitors::{HoldTable, VisitOperator, VisitSimdOperator};
+
+impl<'a> OperatorsReader<'a> {
+    /// Visits up to the end of the data or a refusal, and finishes. Each visit adds an item to the
+    /// list.
+    pub(crate) fn collect_to_end<T>(&mut self, list: &mut Collector<T>) -> Result<()>
+    where
+        T: HoldTable<'a> + Drop,
+        ensures runs { RunsToEnd (Collects T.holds list.old.items.items list.new.items.items) EncodesAllowed OperatorFault
+            Anywhere result self.old self.new }
+        ensures memory { IfErr result
+            (λ e. e.message ≡ Message.OutOfMemory
+            → NextMayAllocate EncodesAllowed self.new ⊎ (vec_capacity list.new.items < vec_len list.new.items + 1)) }
+    {
+        let mut reader = self.reader.clone();
+        let answer = collect_rest(list, self.alloc, &mut reader, &mut self.control);
+        self.reader = reader;
+        answer
+    }
+
+    /// Visits up to the end of the data or a refusal, and finishes.
+    pub(crate) fn visit_to_end_simd<V>(&mut self, v: &mut V) -> Result<()>
+    where
+        V: VisitOperator<'a> + VisitSimdOperator,
+        V::Output: Copy,
+        ensures { RunsToEnd (Visited V.visits v.old v.new) EncodesAllowed OperatorFault (NextMayAllocate EncodesAllowed)
+            result self.old self.new }
+    {
+        let mut reader = self.reader.clone();
+        let mut control = replace(&mut self.control, ControlStack::new(self.alloc));
+        let answer = visit_rest_simd(v, self.alloc, &mut reader, &mut control);
+        self.reader = reader;
+        self.control = control;
+        answer
+    }
+
+    /// Visits up to the end of the data, a vector operator or another refusal, and finishes.
+    pub(crate) fn visit_to_end<V: VisitOperator<'a>>(&mut self, v: &mut V) -> Result<()>
+    where
+        V::Output: Copy,
+        ensures { RunsToEnd (VisitedScalar V.visits v.old v.new) EncodesScalar ScalarOperatorFault
+            (NextMayAllocate EncodesScalar)
+            result self.old self.new }
+    {
+        let mut reader = self.reader.clone();
+        let mut control = replace(&mut self.control, ControlStack::new(self.alloc));
+        let answer = visit_rest(v, self.alloc, &mut reader, &mut control);
+        self.reader = reader;
+        self.control = control;
+        answer
+    }
+}
