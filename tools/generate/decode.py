@@ -210,6 +210,11 @@ def decodes():
     return "(frame : FrameKind) → DecodesAt V.visits frame start result reader.old reader.new v.old v.new"
 
 
+def closed(answers):
+    """The arms of a match on codes, each with its answer. The last is the arm of all other codes, of which there is none: one that is never reached would be compiled as the others are."""
+    return [*[f"        {code} => {answer}," for code, answer in answers[:-1]], f"        _ => {answers[-1][1]},"]
+
+
 def arms(part):
     """The visits of a part's operators, by their codes."""
     value = "it"
@@ -223,8 +228,7 @@ def arms(part):
         f"    ensures {{ VisitsRow V.visits {part.place} code ({part.term(value, 'code')}) v.old result v.new }}",
         "{",
         "    match code {",
-        *[f"        {op.hex()} => v.{op.visit}({values})," for op in part.ops],
-        "        _ => unreachable!(),",
+        *closed([(op.hex(), f"v.{op.visit}({values})") for op in part.ops]),
         "    }",
         "}",
         "",
@@ -275,8 +279,7 @@ def alignment(part):
         f"    ensures {{ result ≡ align_at {part.place} code }}",
         "{",
         "    match code {",
-        *[f"        {op.hex()} => {op.immediates[0].split()[2]}," for op in part.ops],
-        "        _ => unreachable!(),",
+        *closed([(op.hex(), op.immediates[0].split()[2]) for op in part.ops]),
         "    }",
         "}",
         "",
@@ -368,9 +371,10 @@ def whole_group(ops, group, those, name):
     if group.enum == "Simd":
         plain, those = [it for it in those if is_plain(it)], [it for it in those if not is_plain(it)]
         out += ["    if has_no_immediates(code) {", f"        return {plain[0].function}(v, reader, start, code);", "    }"]
-        last = "unreachable!()"
         if not those:
             return [*out, f"    Err({unknown})", "}", ""]
+        *others, last = group_arms(those, lambda code: True)
+        return [*out, "    match code {", *others, f"        _ => {last.partition(' => ')[2]}", "    }", "}", ""]
     out += ["    match code {", *group_arms(those, lambda code: True)]
     for it, codes in calls(ops, group).items():
         if it != "TypedSelectMulti":
@@ -378,18 +382,40 @@ def whole_group(ops, group, those, name):
     return [*out, f"        _ => {last},", "    }", "}", ""]
 
 
+def plain_operators(part):
+    """The call that makes a vector operator of a group that has no immediates."""
+    low = part.group.module == "simd_low"
+    return [
+        "",
+        f"/// The vector operator without immediates of this subopcode {'below 80' if low else 'from 80 on'}.",
+        "#[inline(always)]",
+        f"pub fn plain_{part.group.module}(code: u32) -> SimdOperator",
+        "    requires plain { entry_at (Some 0xfd) code ≡ free [] }",
+        f"    requires half {{ {'code < 0x80' if low else '0x80 ≤ code'} }}",
+        "    ensures { IsPlainVector code result }",
+        "{",
+        "    match code {",
+        *closed([(op.hex(), f"SimdOperator::{op.name}") for op in part.ops]),
+        "    }",
+        "}",
+    ]
+
+
 def plain_vectors(ops):
     """The file that tells which vector operators have no immediates."""
-    plain = {op.code for group in GROUPS for part in parts(ops, group) if is_plain(part) for op in part.ops}
+    those = [part for group in GROUPS for part in parts(ops, group) if is_plain(part)]
+    plain = {op.code for part in those for op in part.ops}
     count = max(op.code for op in ops if op.prefix == "fd") + 1
     table = ", ".join("true" if code in plain else "false" for code in range(count))
     return "\n".join(
         [
-            f"//! Which vector operators have no immediates. {HEAD}",
-            "ghost use Rattle.std.specs.Prelude.{◌≡◌, [], true, Some, map};",
+            f"//! Which vector operators have no immediates, and these by their subopcodes. {HEAD}",
+            "ghost use Rattle.std.specs.Prelude.{◌≡◌, ◌<◌, ◌≤◌, [], true, Some, map};",
             "ghost use Rattle.wasm_decode_opcodes.specs.Entries.{entry_at, simd_entries};",
             "ghost use Rattle.wasm_decode_opcodes.specs.Entry.{free};",
-            "ghost use Rattle.wasm_decode_groups.specs.Plain.{is_plain};",
+            "ghost use Rattle.wasm_decode_groups.specs.Plain.{IsPlainVector, is_plain};",
+            "",
+            "use wasm_visit_groups::instr::SimdOperator;",
             "",
             "/// Of each subopcode behind the byte fd, whether it is that of an operator without immediates.",
             f"static PLAIN: [bool; {count}] = [{table}];",
@@ -415,6 +441,7 @@ def plain_vectors(ops):
             "{",
             "    plain_in(&PLAIN, code)",
             "}",
+            *[line for part in those for line in plain_operators(part)],
             "",
         ]
     )
@@ -483,12 +510,21 @@ def numeric_decode(ops, group):
         "    ensures { VisitsRow V.visits None code [] v.old result v.new }",
         "{",
         "    match code {",
-        *[f"        {op.hex()} => v.{op.visit}()," for op in sorted(those, key=lambda op: op.code)],
-        "        _ => unreachable!(),",
+        *closed([(op.hex(), f"v.{op.visit}()") for op in sorted(those, key=lambda op: op.code)]),
         "    }",
         "}",
         "",
     ])
+
+
+def operands(part, value):
+    """The operands of an operator of a part, as the logic has them."""
+    return " ".join(f"({value}{it.removeprefix('{0}')})" if it != "{0}" else value for it in (part.form.values if part.form else []))
+
+
+def made(op, names):
+    """An operator of these operands, as the logic has it."""
+    return f"operator.{op.name} {names}" if op.group == "Own" else f"operator.{op.group} ({op.group.lower()}.{op.name} {names})"
 
 
 def answers(part):
@@ -508,7 +544,7 @@ def answers(part):
     is_code = "(refl, omega arith)" if part.prefix else f"((λ h. cc ({'sym ' + is_entry + ' ∙ ' if not part.is_one else ''}h)), omega arith)"
     if part.is_one:
         op = part.ops[0]
-        names = " ".join(f"(c.in-Ok.it{it.removeprefix('{0}')})" if it != "{0}" else "c.in-Ok.it" for it in (part.form.values if part.form else []))
+        names = operands(part, "c.in-Ok.it")
         same = "refl"
         if part.key and part.key[0] in SIGNED:
             # the visit is handed the number of its bits
@@ -516,8 +552,7 @@ def answers(part):
             names = f"(to_z {width} (of_z {width} c.in-Ok.it))"
             same = f"ap (λ z. {part.key[0]} z ∷ []) (to_z-of_z {width} c.in-Ok.it fits)"
             fits = [f"    let fits : SFits {width} c.in-Ok.it = search rules in"]
-        made = f"operator.{op.name} {names}" if op.group == "Own" else f"operator.{op.group} ({op.group.lower()}.{op.name} {names})"
-        row = f"({made}, refl, refl, {same}, {vis}.ensures)"
+        row = f"({made(op, names)}, refl, refl, {same}, {vis}.ensures)"
     out = []
     if part.form is None:
         out += [
@@ -559,10 +594,15 @@ def answers(part):
 
 
 def answer_file(part):
-    body = answers(part)
+    return proof_file(part, f"{part.group.module}_operators.{part.function}", answers(part))
+
+
+def proof_file(part, function, body):
+    """Proofs of a function of a part, and the names that they use."""
     text = "\n".join(body)
-    path = f"Rattle.wasm_decode_groups.proofs.{part.group.module}_operators.{part.function}.Goals"
-    common = [it for it in ("[]", "Some", "None", "refl", "sym", "subst", "ap", "arith") if it in imported(text, [it]) or it in text and it == "[]"] + [f"◌{it}◌" for it in ("∷", "∙") if it in text]
+    path = f"Rattle.wasm_decode_groups.proofs.{function}.Goals"
+    common = [it for it in ("[]", "Some", "None", "refl", "sym", "subst", "ap", "arith") if it in imported(text, [it]) or it in text and it == "[]"] + [f"◌{it}◌" for it in ("≡", "∷", "∙") if it in text]
+    codes = [f"{part_lemma(part)}_codes"] if f"{part_lemma(part)}_codes" in text else []
     lemmas = [it for it in ("refuses_free", "visited_free", "visited_without_immediates") if it in text]
     words = [it for it in imported(text, ROW_WORDS + KIND_WORDS) if f"{it} " in text.replace("c.", "@")]
     enum = part.ops[0].group
@@ -581,11 +621,18 @@ def answer_file(part):
     if words:
         uses.append(f"use Rattle.wasm_instr.specs.Immediate.{{{', '.join(words)}}}")
     if "VisitsRow" in text:
-        uses += ["use Rattle.wasm_decode_opcodes.specs.Decoding.{VisitsRow}", "use Rattle.wasm_decode_opcodes.specs.Entry.{free}"]
+        uses.append("use Rattle.wasm_decode_opcodes.specs.Decoding.{VisitsRow}")
+    if "align_at" in text:
+        uses.append("use Rattle.wasm_decode_opcodes.specs.Entries.{align_at}")
+    if " free " in text or "(free " in text:
+        uses.append("use Rattle.wasm_decode_opcodes.specs.Entry.{free}")
     if "OperatorFault" in text:
         uses.append("use Rattle.wasm_decode_opcodes.specs.OperatorFaults.{OperatorFault}")
-    uses += [f"use Rattle.wasm_decode_opcodes.proofs.OperatorLemmas.{{{', '.join(lemmas)}}}", f"use {path} as goal"]
-    return "\n".join([f"-- {HEAD}", *uses, "", text, ""])
+    if lemmas:
+        uses.append(f"use Rattle.wasm_decode_opcodes.proofs.OperatorLemmas.{{{', '.join(lemmas)}}}")
+    if codes:
+        uses.append(f"use Rattle.wasm_decode_groups.proofs.Codes.{{{', '.join(codes)}}}")
+    return "\n".join([f"-- {HEAD}", *uses, f"use {path} as goal", "", text, ""])
 
 
 def entries_name(part):
@@ -711,24 +758,65 @@ def codes_file(ops):
     return "\n".join([*uses, "", text.rstrip(), ""])
 
 
-def unreachable_file(part, function):
-    """The proof that an arm for no operator is never reached."""
-    name = part_lemma(part)
-    align = f"(align_at {part.place} c.args.code) " if part.has_align else ""
-    common = ["arith"] + (["Some"] if "Some" in align else []) + (["None"] if "None" in align else [])
-    uses = [
-        f"-- {HEAD}",
-        f"use Rattle.std.proofs.Common.{{{', '.join(common)}}}",
-        *(["use Rattle.wasm_decode_opcodes.specs.Entries.{align_at}"] if align else []),
-        f"use Rattle.wasm_decode_groups.proofs.Codes.{{{name}_codes}}",
-        f"use Rattle.wasm_decode_groups.proofs.{part.group.module}_operators.{function}.Goals as goal",
+def last_is(part, given, code="c.args.code"):
+    """That the code is the last one, where it is none of the others of a part's arms."""
+    codes = f"{part_lemma(part)}_codes {code} {f'(align_at {part.place} {code}) ' if part.has_align else ''}{given}"
+    return [
+        f"    let h = {codes} in",
+        f"    let same : {part.ops[-1].hex()} ≡ {code} = first_of (omega (arith, h), grind (arith, h)) in",
     ]
-    given = "c" if function.startswith("align_of") else "g c"
+
+
+def last_visit_file(part):
+    """The proof that the visit of the last arm is that of the last operator."""
+    last = part.ops[-1]
+    visit = f"c.{last.visit}"
+    row = f"({made(last, operands(part, 'c.args.it'))}, refl, refl, refl, {visit}.ensures)"
     body = [
-        "pub unreachable-requires : goal.unreachable-requires",
-        f"unreachable-requires {given} = let h = {name}_codes c.args.code {align}c.requires{'.kinds' if part.bound else ''} in first_of (omega (arith, h), grind (arith, h))",
+        "pub returns-in_default : goal.returns-in_default",
+        "returns-in_default g c =",
+        *last_is(part, "c.requires.kinds" if part.bound else "c.requires"),
+        f"    subst (λ k. VisitsRow g.V.Visitor.visits {part.place} k ({part.term('c.args.it', 'k', 'kind')}) c.args.v.now {visit}.result {visit}.new.self) same {row}",
     ]
-    return "\n".join([*uses, "", *body, ""])
+    return proof_file(part, f"{part.group.module}_operators.visit_{part.title}", body)
+
+
+def last_alignment_file(part):
+    """The proof that the alignment of the last arm is that of the last operator."""
+    body = [
+        "pub returns-in_default : goal.returns-in_default",
+        "returns-in_default c =",
+        *last_is(part, "c.requires"),
+        f"    subst (λ k. {part.ops[-1].immediates[0].split()[2]} ≡ align_at {part.place} k) same refl",
+    ]
+    return proof_file(part, f"{part.group.module}_operators.align_of_{part.title}", body)
+
+
+def last_plain_file(part):
+    """The proof that the operator of the last arm has the subopcode."""
+    body = ["pub returns-in_default : goal.returns-in_default", "returns-in_default c =", *last_is(part, "c.requires.plain"), "    (same, refl)"]
+    return proof_file(part, f"plain_vectors.plain_{part.group.module}", body)
+
+
+def last_numeric_file(last):
+    """The proof that the visit of the last arm is that of the last numeric operator."""
+    visit = f"c.{last.visit}"
+    return "\n".join(
+        [
+            f"-- {HEAD}",
+            "use Rattle.std.proofs.Common.{◌≡◌, [], None, refl, subst, arith}",
+            "use Rattle.wasm_visit_groups.specs.instr.declared.operator.Operator.TheVariants as operator",
+            "use Rattle.wasm_visit_groups.specs.instr.ops.numeric.NumericOperator.TheVariants as numeric",
+            "use Rattle.wasm_decode_opcodes.specs.Decoding.{VisitsRow}",
+            "use Rattle.wasm_decode_groups.proofs.numeric_operators.numeric.Goals as goal",
+            "",
+            "pub returns-in_default : goal.returns-in_default",
+            "returns-in_default g c =",
+            f"    let same : {last.hex()} ≡ c.args.code = omega (arith, c.requires.from, c.requires.to) in",
+            f"    subst (λ k. VisitsRow g.V.Visitor.visits None k [] c.args.v.now {visit}.result {visit}.new.self) same ({made(last, '').rstrip(' )')}), refl, refl, refl, {visit}.ensures)",
+            "",
+        ]
+    )
 
 
 def kinds_proofs(those, takes):
@@ -797,12 +885,13 @@ def simd_file(ops, group):
     body, lemmas = kinds_proofs(those, lambda code: True)
     plain = "without_immediates-requires-clause-kinds"
     told = "c.has_no_immediates.ensures.told"
-    body += [f"pub {plain} : goal.{plain}", f"{plain} g c = c.has_no_immediates.ensures.plain c.if-has_no_immediates.true", ""]
-    words = ["no_operator"]
     if those:
-        words = ["others"]
-        body += ["pub unreachable-requires : goal.unreachable-requires", f"unreachable-requires g c = let h = others c.args.code (omega (arith, c.requires.half)) (sym {told} ∙ c.if-has_no_immediates.false) in grind (arith, h)", ""]
-    else:
+        # the last arm is that of all codes which are left
+        goal = body[-3].split()[1]
+        left = f"others c.args.code (omega (arith, c.requires.half)) (sym {told} ∙ c.if-has_no_immediates.false)"
+        body[-2] = f"{goal} g c = let h = {left} in {lemmas[-1]} c.args.code (grind (arith, h)) (grind (arith, h))"
+    body += [f"pub {plain} : goal.{plain}", f"{plain} g c = c.has_no_immediates.ensures.plain c.if-has_no_immediates.true", ""]
+    if not those:
         goal = "unknown_subopcode-requires-clause-unknown"
         body += [f"pub {goal} : goal.{goal}", f"{goal} g c = no_operator c.args.code c.requires.half (sym {told} ∙ c.if-has_no_immediates.false)", ""]
         body += ["pub returns : goal.returns", "returns g c k = (refl, c.unknown_subopcode.ensures k)", ""]
@@ -811,7 +900,7 @@ def simd_file(ops, group):
             f"-- {HEAD}",
             f"use Rattle.std.proofs.Common.{{{'arith' if those else 'refl'}, sym, ◌∙◌}}",
             *([f"use Rattle.wasm_decode_groups.proofs.Codes.{{{', '.join(lemmas)}}}"] if lemmas else []),
-            f"use Rattle.wasm_decode_groups.proofs.PlainVectors.{{{', '.join(words)}}}",
+            f"use Rattle.wasm_decode_groups.proofs.PlainVectors.{{{'others' if those else 'no_operator'}}}",
             f"use Rattle.wasm_decode_groups.proofs.{group.module}_operators.{group.module}.Goals as goal",
             "",
             *body,
@@ -826,6 +915,8 @@ def decode_files(ops):
         at = f"crates/wasm_decode_groups/src/{group.module}_operators.rt"
         if group.module == "numeric":
             out[at] = numeric_decode(ops, group)
+            last = max(group.of(ops), key=lambda op: op.code)
+            out["crates/wasm_decode_groups/proofs/numeric_operators/numeric/Answers.antt"] = last_numeric_file(last)
             continue
         out[at] = group_decode(ops, group)
         at = f"crates/wasm_decode_groups/proofs/{group.module}_operators"
@@ -838,9 +929,11 @@ def decode_files(ops):
         for part in parts(ops, group):
             out[f"{at}/{part.function}/Answers.antt"] = answer_file(part)
             if not part.is_one:
-                out[f"{at}/visit_{part.title}/Answers.antt"] = unreachable_file(part, f"visit_{part.title}")
+                out[f"{at}/visit_{part.title}/Answers.antt"] = last_visit_file(part)
             if part.has_align:
-                out[f"{at}/align_of_{part.title}/Answers.antt"] = unreachable_file(part, f"align_of_{part.title}")
+                out[f"{at}/align_of_{part.title}/Answers.antt"] = last_alignment_file(part)
+            if is_plain(part):
+                out[f"crates/wasm_decode_groups/proofs/plain_vectors/plain_{group.module}/Answers.antt"] = last_plain_file(part)
     out["crates/wasm_decode_groups/src/plain_vectors.rt"] = plain_vectors(ops)
     out["crates/wasm_decode_groups/proofs/Codes.antt"] = codes_file(ops)
     return out

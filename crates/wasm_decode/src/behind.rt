@@ -1,18 +1,19 @@
-//! What stands behind an opcode, but for the branch table. Operators behind a prefix byte are decoded
-//! out of line, by a call for each prefix, so that the code for all others stays small. These calls are
-//! lent a copy of the reader and a place for a refusal, so that a caller's reader stays in registers, and
-//! so does what a call answers that visits.
-ghost use Rattle.std.specs.Prelude.{◌≡◌, ◌≢◌, Some, None, Ok, Err, IfOk, IfErr, IfSome, IfNone};
+//! What stands behind an opcode, but for the branch table. Vector operators without immediates are
+//! visited where the call stands. All others behind a prefix byte are decoded out of line, by a call for
+//! each prefix, so that the code for operators of one byte stays small. These calls are lent a copy of
+//! the reader and a place for a refusal, so that a caller's reader stays in registers, and so does what
+//! a call answers that visits.
+ghost use Rattle.std.specs.Prelude.{◌≡◌, ◌≢◌, [], Some, None, Ok, Err, IfOk, IfErr, IfSome, IfNone};
 ghost use Rattle.wasm_visit.specs.below.Source.{at_position};
 ghost use Rattle.wasm_visit.specs.grammar.declared.frame_kind.FrameKind.{FrameKind};
-ghost use Rattle.wasm_visit.specs.opcodes.Decoding.{StandsBehind, DecodesAt, RefusesAt};
+ghost use Rattle.wasm_visit.specs.opcodes.Decoding.{StandsBehind, DecodesAt, RefusesAt, VisitsRow};
 ghost use Rattle.wasm_visit.specs.opcodes.Entries.{entry_at};
-ghost use Rattle.wasm_visit.specs.opcodes.Entry.{prefixes};
+ghost use Rattle.wasm_visit.specs.opcodes.Entry.{free, prefixes};
 
 use std::alloc::Global;
 use wasm_visit::below::{BinaryReader, Error, Message, Result};
 use wasm_visit::grammar::FrameKind;
-use wasm_visit::{VisitGroups, VisitSimdOperator};
+use wasm_visit::{VisitGroups, VisitSimdOperator, decode};
 
 /// A place for a refusal.
 #[inline(always)]
@@ -23,7 +24,7 @@ fn place() -> Error {
 /// The subopcode behind a prefix byte that was read at the position `start`: a LEB128 number of 32
 /// bits, overlong ones too. Where it is refused the reader goes back.
 #[inline(always)]
-pub fn subopcode(reader: &mut BinaryReader<'_>, start: usize, prefix: u8) -> Result<u32>
+fn subopcode(reader: &mut BinaryReader<'_>, start: usize, prefix: u8) -> Result<u32>
     requires behind { StandsBehind start None prefix reader.old }
     requires prefix { entry_at None prefix ≡ prefixes }
     ensures read { IfOk result (λ code. StandsBehind start (Some prefix) code reader.new) }
@@ -258,7 +259,7 @@ pub fn simd_behind<V: VisitSimdOperator>(
 
 /// The vector operator of a subopcode.
 #[inline(always)]
-pub fn simd_of<V: VisitSimdOperator>(
+fn simd_of<V: VisitSimdOperator>(
     v: &mut V,
     reader: &mut BinaryReader<'_>,
     start: usize,
@@ -267,6 +268,9 @@ pub fn simd_of<V: VisitSimdOperator>(
     requires { StandsBehind start (Some 0xfd) code reader.old }
     ensures { (frame : FrameKind) → DecodesAt V.visits frame start result reader.old reader.new v.old v.new }
 {
+    if decode::has_no_immediates(code) {
+        return Ok(visit_plain(v, code));
+    }
     let mut lent = reader.clone();
     let mut refusal = place();
     let answer = simd_out_of_line(v, &mut lent, start, code, &mut refusal);
@@ -274,6 +278,18 @@ pub fn simd_of<V: VisitSimdOperator>(
     match answer {
         Some(answer) => Ok(answer),
         None => Err(refusal),
+    }
+}
+
+/// Visits the vector operator without immediates of a subopcode, from the operator.
+#[inline(always)]
+fn visit_plain<V: VisitSimdOperator>(v: &mut V, code: u32) -> V::Output
+    requires { entry_at (Some 0xfd) code ≡ free [] }
+    ensures { VisitsRow V.visits (Some 0xfd) code [] v.old result v.new }
+{
+    match code {
+        0x00..=0x7f => v.dispatch_simd_low(decode::plain_simd_low(code)),
+        _ => v.dispatch_simd_high(decode::plain_simd_high(code)),
     }
 }
 

@@ -64,8 +64,7 @@ fn align_of_memory(code: u32) -> u8
     match code {
         0x00 => 2,
         0x01 => 2,
-        0x02 => 3,
-        _ => unreachable!(),
+        _ => 3,
     }
 }
 
@@ -79,8 +78,7 @@ fn visit_memory<V: VisitAtomic>(v: &mut V, code: u32, it: MemArg) -> V::Output
     match code {
         0x00 => v.visit_memory_atomic_notify(it),
         0x01 => v.visit_memory_atomic_wait32(it),
-        0x02 => v.visit_memory_atomic_wait64(it),
-        _ => unreachable!(),
+        _ => v.visit_memory_atomic_wait64(it),
     }
 }
 
@@ -139,8 +137,7 @@ fn align_of_memory_op(code: u32) -> u8
         0x1a => 1,
         0x1b => 0,
         0x1c => 1,
-        0x1d => 2,
-        _ => unreachable!(),
+        _ => 2,
     }
 }
 
@@ -165,8 +162,7 @@ fn visit_memory_op<V: VisitAtomic>(v: &mut V, code: u32, it: MemArg) -> V::Outpu
         0x1a => v.visit_i32_atomic_store16(it),
         0x1b => v.visit_i64_atomic_store8(it),
         0x1c => v.visit_i64_atomic_store16(it),
-        0x1d => v.visit_i64_atomic_store32(it),
-        _ => unreachable!(),
+        _ => v.visit_i64_atomic_store32(it),
     }
 }
 
@@ -244,8 +240,7 @@ fn align_of_memory_rmw(code: u32) -> u8
         0x4b => 1,
         0x4c => 0,
         0x4d => 1,
-        0x4e => 2,
-        _ => unreachable!(),
+        _ => 2,
     }
 }
 
@@ -305,8 +300,7 @@ fn visit_memory_rmw<V: VisitAtomic>(v: &mut V, code: u32, it: MemArg) -> V::Outp
         0x4b => v.visit_i32_atomic_rmw16_cmpxchg_u(it),
         0x4c => v.visit_i64_atomic_rmw8_cmpxchg_u(it),
         0x4d => v.visit_i64_atomic_rmw16_cmpxchg_u(it),
-        0x4e => v.visit_i64_atomic_rmw32_cmpxchg_u(it),
-        _ => unreachable!(),
+        _ => v.visit_i64_atomic_rmw32_cmpxchg_u(it),
     }
 }
 
@@ -358,8 +352,7 @@ fn visit_ordered<V: VisitAtomic>(v: &mut V, code: u32, it: (Ordering, u32)) -> V
         0x6e => v.visit_array_atomic_rmw_or(it.0, it.1),
         0x6f => v.visit_array_atomic_rmw_xor(it.0, it.1),
         0x70 => v.visit_array_atomic_rmw_xchg(it.0, it.1),
-        0x71 => v.visit_array_atomic_rmw_cmpxchg(it.0, it.1),
-        _ => unreachable!(),
+        _ => v.visit_array_atomic_rmw_cmpxchg(it.0, it.1),
     }
 }
 
@@ -399,8 +392,7 @@ fn visit_ordered_two<V: VisitAtomic>(v: &mut V, code: u32, it: (Ordering, (u32, 
         0x63 => v.visit_struct_atomic_rmw_or(it.0, it.1.0, it.1.1),
         0x64 => v.visit_struct_atomic_rmw_xor(it.0, it.1.0, it.1.1),
         0x65 => v.visit_struct_atomic_rmw_xchg(it.0, it.1.0, it.1.1),
-        0x66 => v.visit_struct_atomic_rmw_cmpxchg(it.0, it.1.0, it.1.1),
-        _ => unreachable!(),
+        _ => v.visit_struct_atomic_rmw_cmpxchg(it.0, it.1.0, it.1.1),
     }
 }
 
@@ -427,7 +419,6 @@ fn visit_without_immediates<V: VisitAtomic>(v: &mut V, code: u32) -> V::Output
 {
     match code {
         0x04 => v.visit_pause(),
-        0x72 => v.visit_ref_i31_shared(),
-        _ => unreachable!(),
+        _ => v.visit_ref_i31_shared(),
     }
 }

@@ -77,8 +77,7 @@ fn visit_unsigned<V: VisitGc>(v: &mut V, code: u32, it: u32) -> V::Output
         0x10 => v.visit_array_fill(it),
         0x20 => v.visit_struct_new_desc(it),
         0x21 => v.visit_struct_new_default_desc(it),
-        0x22 => v.visit_ref_get_desc(it),
-        _ => unreachable!(),
+        _ => v.visit_ref_get_desc(it),
     }
 }
 
@@ -116,8 +115,7 @@ fn visit_two_unsigned<V: VisitGc>(v: &mut V, code: u32, it: (u32, u32)) -> V::Ou
         0x0a => v.visit_array_new_elem(it.0, it.1),
         0x11 => v.visit_array_copy(it.0, it.1),
         0x12 => v.visit_array_init_data(it.0, it.1),
-        0x13 => v.visit_array_init_elem(it.0, it.1),
-        _ => unreachable!(),
+        _ => v.visit_array_init_elem(it.0, it.1),
     }
 }
 
@@ -148,8 +146,7 @@ fn visit_without_immediates<V: VisitGc>(v: &mut V, code: u32) -> V::Output
         0x1b => v.visit_extern_convert_any(),
         0x1c => v.visit_ref_i31(),
         0x1d => v.visit_i31_get_s(),
-        0x1e => v.visit_i31_get_u(),
-        _ => unreachable!(),
+        _ => v.visit_i31_get_u(),
     }
 }
 
@@ -183,8 +180,7 @@ fn visit_heap_type<V: VisitGc>(v: &mut V, code: u32, it: HeapType) -> V::Output
         0x16 => v.visit_ref_cast_non_null(it),
         0x17 => v.visit_ref_cast_nullable(it),
         0x23 => v.visit_ref_cast_desc_eq_non_null(it),
-        0x24 => v.visit_ref_cast_desc_eq_nullable(it),
-        _ => unreachable!(),
+        _ => v.visit_ref_cast_desc_eq_nullable(it),
     }
 }
 
@@ -216,7 +212,6 @@ fn visit_cast<V: VisitGc>(v: &mut V, code: u32, it: Cast) -> V::Output
         0x18 => v.visit_br_on_cast(it.relative_depth, it.from, it.to),
         0x19 => v.visit_br_on_cast_fail(it.relative_depth, it.from, it.to),
         0x25 => v.visit_br_on_cast_desc_eq(it.relative_depth, it.from, it.to),
-        0x26 => v.visit_br_on_cast_desc_eq_fail(it.relative_depth, it.from, it.to),
-        _ => unreachable!(),
+        _ => v.visit_br_on_cast_desc_eq_fail(it.relative_depth, it.from, it.to),
     }
 }

@@ -18,9 +18,9 @@ pub use gc_operators::gc;
 pub use misc_operators::misc;
 pub use numeric_operators::numeric;
 pub use one_byte_operators::one_byte;
-pub use plain_vectors::has_no_immediates;
-pub use simd_high_operators::{simd_high, without_immediates as simd_high_plain};
-pub use simd_low_operators::{simd_low, without_immediates as simd_low_plain};
+pub use plain_vectors::{has_no_immediates, plain_simd_high, plain_simd_low};
+pub use simd_high_operators::simd_high;
+pub use simd_low_operators::simd_low;
 pub use wasm_visit_groups::{below, grammar, imm, instr};
 
 /// The visits of operators, in groups.

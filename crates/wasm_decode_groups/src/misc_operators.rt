@@ -69,8 +69,7 @@ fn visit_without_immediates<V: VisitMisc>(v: &mut V, code: u32) -> V::Output
         0x13 => v.visit_i64_add128(),
         0x14 => v.visit_i64_sub128(),
         0x15 => v.visit_i64_mul_wide_s(),
-        0x16 => v.visit_i64_mul_wide_u(),
-        _ => unreachable!(),
+        _ => v.visit_i64_mul_wide_u(),
     }
 }
 
@@ -102,8 +101,7 @@ fn visit_two_unsigned<V: VisitMisc>(v: &mut V, code: u32, it: (u32, u32)) -> V::
         0x08 => v.visit_memory_init(it.0, it.1),
         0x0a => v.visit_memory_copy(it.0, it.1),
         0x0c => v.visit_table_init(it.0, it.1),
-        0x0e => v.visit_table_copy(it.0, it.1),
-        _ => unreachable!(),
+        _ => v.visit_table_copy(it.0, it.1),
     }
 }
 
@@ -138,7 +136,6 @@ fn visit_unsigned<V: VisitMisc>(v: &mut V, code: u32, it: u32) -> V::Output
         0x0f => v.visit_table_grow(it),
         0x10 => v.visit_table_size(it),
         0x11 => v.visit_table_fill(it),
-        0x12 => v.visit_memory_discard(it),
-        _ => unreachable!(),
+        _ => v.visit_memory_discard(it),
     }
 }

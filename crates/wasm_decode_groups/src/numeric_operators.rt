@@ -139,7 +139,6 @@ pub fn numeric<V: VisitNumeric>(v: &mut V, code: u8) -> V::Output
         0xc1 => v.visit_i32_extend16_s(),
         0xc2 => v.visit_i64_extend8_s(),
         0xc3 => v.visit_i64_extend16_s(),
-        0xc4 => v.visit_i64_extend32_s(),
-        _ => unreachable!(),
+        _ => v.visit_i64_extend32_s(),
     }
 }

@@ -161,8 +161,7 @@ fn visit_without_immediates<V: VisitOneByte>(v: &mut V, code: u8) -> V::Output
         0x1b => v.visit_select(),
         0xd1 => v.visit_ref_is_null(),
         0xd3 => v.visit_ref_eq(),
-        0xd4 => v.visit_ref_as_non_null(),
-        _ => unreachable!(),
+        _ => v.visit_ref_as_non_null(),
     }
 }
 
@@ -193,8 +192,7 @@ fn visit_block_type<V: VisitOneByte>(v: &mut V, code: u8, it: BlockType) -> V::O
     match code {
         0x02 => v.visit_block(it),
         0x03 => v.visit_loop(it),
-        0x04 => v.visit_if(it),
-        _ => unreachable!(),
+        _ => v.visit_if(it),
     }
 }
 
@@ -242,8 +240,7 @@ fn visit_unsigned<V: VisitOneByte>(v: &mut V, code: u8, it: u32) -> V::Output
         0xd5 => v.visit_br_on_null(it),
         0xd6 => v.visit_br_on_non_null(it),
         0xe0 => v.visit_cont_new(it),
-        0xe2 => v.visit_suspend(it),
-        _ => unreachable!(),
+        _ => v.visit_suspend(it),
     }
 }
 
@@ -310,8 +307,7 @@ fn align_of_memory(code: u8) -> u8
         0x3b => 1,
         0x3c => 0,
         0x3d => 1,
-        0x3e => 2,
-        _ => unreachable!(),
+        _ => 2,
     }
 }
 
@@ -345,8 +341,7 @@ fn visit_memory<V: VisitOneByte>(v: &mut V, code: u8, it: MemArg) -> V::Output
         0x3b => v.visit_i32_store16(it),
         0x3c => v.visit_i64_store8(it),
         0x3d => v.visit_i64_store16(it),
-        0x3e => v.visit_i64_store32(it),
-        _ => unreachable!(),
+        _ => v.visit_i64_store32(it),
     }
 }
 
@@ -376,8 +371,7 @@ fn visit_memory_index<V: VisitOneByte>(v: &mut V, code: u8, it: u32) -> V::Outpu
 {
     match code {
         0x3f => v.visit_memory_size(it),
-        0x40 => v.visit_memory_grow(it),
-        _ => unreachable!(),
+        _ => v.visit_memory_grow(it),
     }
 }
 
@@ -488,8 +482,7 @@ fn visit_two_unsigned<V: VisitOneByte>(v: &mut V, code: u8, it: (u32, u32)) -> V
     match code {
         0x13 => v.visit_return_call_indirect(it.0, it.1),
         0xe1 => v.visit_cont_bind(it.0, it.1),
-        0xe6 => v.visit_switch(it.0, it.1),
-        _ => unreachable!(),
+        _ => v.visit_switch(it.0, it.1),
     }
 }
 

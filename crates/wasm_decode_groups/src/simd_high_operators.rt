@@ -180,7 +180,6 @@ fn visit_without_immediates<V: VisitSimdHigh>(v: &mut V, code: u32) -> V::Output
         0x110 => v.visit_f64x2_relaxed_max(),
         0x111 => v.visit_i16x8_relaxed_q15mulr_s(),
         0x112 => v.visit_i16x8_relaxed_dot_i8x16_i7x16_s(),
-        0x113 => v.visit_i32x4_relaxed_dot_i8x16_i7x16_add_s(),
-        _ => unreachable!(),
+        _ => v.visit_i32x4_relaxed_dot_i8x16_i7x16_add_s(),
     }
 }

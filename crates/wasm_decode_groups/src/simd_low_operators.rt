@@ -33,8 +33,7 @@ pub fn simd_low<V: VisitSimdLow>(
         0x54..=0x5b => memory_lane(v, reader, start, code),
         0x0c => v128_const(v, reader, start),
         0x0d => i8x16_shuffle(v, reader, start),
-        0x15..=0x22 => lane(v, reader, start, code),
-        _ => unreachable!(),
+        _ => lane(v, reader, start, code),
     }
 }
 
@@ -77,8 +76,7 @@ fn align_of_memory(code: u32) -> u8
         0x0a => 3,
         0x0b => 4,
         0x5c => 2,
-        0x5d => 3,
-        _ => unreachable!(),
+        _ => 3,
     }
 }
 
@@ -103,8 +101,7 @@ fn visit_memory<V: VisitSimdLow>(v: &mut V, code: u32, it: MemArg) -> V::Output
         0x0a => v.visit_v128_load64_splat(it),
         0x0b => v.visit_v128_store(it),
         0x5c => v.visit_v128_load32_zero(it),
-        0x5d => v.visit_v128_load64_zero(it),
-        _ => unreachable!(),
+        _ => v.visit_v128_load64_zero(it),
     }
 }
 
@@ -142,8 +139,7 @@ fn align_of_memory_lane(code: u32) -> u8
         0x58 => 0,
         0x59 => 1,
         0x5a => 2,
-        0x5b => 3,
-        _ => unreachable!(),
+        _ => 3,
     }
 }
 
@@ -163,8 +159,7 @@ fn visit_memory_lane<V: VisitSimdLow>(v: &mut V, code: u32, it: (MemArg, u8)) ->
         0x58 => v.visit_v128_store8_lane(it.0, it.1),
         0x59 => v.visit_v128_store16_lane(it.0, it.1),
         0x5a => v.visit_v128_store32_lane(it.0, it.1),
-        0x5b => v.visit_v128_store64_lane(it.0, it.1),
-        _ => unreachable!(),
+        _ => v.visit_v128_store64_lane(it.0, it.1),
     }
 }
 
@@ -238,8 +233,7 @@ fn visit_lane<V: VisitSimdLow>(v: &mut V, code: u32, it: u8) -> V::Output
         0x1f => v.visit_f32x4_extract_lane(it),
         0x20 => v.visit_f32x4_replace_lane(it),
         0x21 => v.visit_f64x2_extract_lane(it),
-        0x22 => v.visit_f64x2_replace_lane(it),
-        _ => unreachable!(),
+        _ => v.visit_f64x2_replace_lane(it),
     }
 }
 
@@ -356,7 +350,6 @@ fn visit_without_immediates<V: VisitSimdLow>(v: &mut V, code: u32) -> V::Output
         0x7c => v.visit_i16x8_extadd_pairwise_i8x16_s(),
         0x7d => v.visit_i16x8_extadd_pairwise_i8x16_u(),
         0x7e => v.visit_i32x4_extadd_pairwise_i16x8_s(),
-        0x7f => v.visit_i32x4_extadd_pairwise_i16x8_u(),
-        _ => unreachable!(),
+        _ => v.visit_i32x4_extadd_pairwise_i16x8_u(),
     }
 }

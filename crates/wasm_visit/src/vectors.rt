@@ -20,7 +20,8 @@ use wasm_visit_factory::Factory;
 /// it has in the group are not made. A visitor of all operators is bound by
 /// `VisitOperator<'a> + VisitSimdOperator`.
 pub trait VisitSimdOperator: Visitor {
-    /// Visits a vector operator of a subopcode below 80.
+    /// Visits a vector operator of a subopcode below 80. So one without immediates is visited from its
+    /// bytes too.
     ///
     /// A visitor with visits in `VisitSimdLow` says `dispatch::simd_low(self, op)` here.
     fn dispatch_simd_low(&mut self, op: SimdOperator) -> Self::Output
@@ -30,7 +31,8 @@ pub trait VisitSimdOperator: Visitor {
         self.visit_any(Operator::Simd(op))
     }
 
-    /// Visits a vector operator of a subopcode from 80 on.
+    /// Visits a vector operator of a subopcode from 80 on. So one without immediates is visited from its
+    /// bytes too.
     ///
     /// A visitor with visits in `VisitSimdHigh` says `dispatch::simd_high(self, op)` here.
     fn dispatch_simd_high(&mut self, op: SimdOperator) -> Self::Output
@@ -59,10 +61,7 @@ pub trait VisitSimdOperator: Visitor {
             → DecodesAt Self.visits frame start result reader.old reader.new self.old self.new }
     {
         if decode::has_no_immediates(code) {
-            return match decode::simd_low_plain(&mut Factory, reader, start, code) {
-                Ok(op) => Ok(self.visit_any(op)),
-                Err(e) => Err(e),
-            };
+            return Ok(self.visit_any(Operator::Simd(decode::plain_simd_low(code))));
         }
         decode::simd_low(&mut ByAny { visitor: self }, reader, start, code)
     }

@@ -1,8 +1,11 @@
 -- Written by tools/lists.py from tools/operators.tsv.
-use Rattle.std.proofs.Common.{arith, Some}
+use Rattle.std.proofs.Common.{Some, refl, subst, arith, ◌≡◌}
 use Rattle.wasm_decode_opcodes.specs.Entries.{align_at}
 use Rattle.wasm_decode_groups.proofs.Codes.{atomic_memory_codes}
 use Rattle.wasm_decode_groups.proofs.atomic_operators.align_of_memory.Goals as goal
 
-pub unreachable-requires : goal.unreachable-requires
-unreachable-requires c = let h = atomic_memory_codes c.args.code (align_at (Some 0xfe) c.args.code) c.requires in first_of (omega (arith, h), grind (arith, h))
+pub returns-in_default : goal.returns-in_default
+returns-in_default c =
+    let h = atomic_memory_codes c.args.code (align_at (Some 0xfe) c.args.code) c.requires in
+    let same : 0x02 ≡ c.args.code = first_of (omega (arith, h), grind (arith, h)) in
+    subst (λ k. 3 ≡ align_at (Some 0xfe) k) same refl

@@ -14,10 +14,7 @@ pub memory_lane-requires-clause-kinds : goal.memory_lane-requires-clause-kinds
 memory_lane-requires-clause-kinds g c = simd_low_memory_lane_54 c.args.code (omega (arith, c.in-84-to-91)) (omega (arith, c.in-84-to-91))
 
 pub lane-requires-clause-kinds : goal.lane-requires-clause-kinds
-lane-requires-clause-kinds g c = simd_low_lane_15 c.args.code (omega (arith, c.in-21-to-34)) (omega (arith, c.in-21-to-34))
+lane-requires-clause-kinds g c = let h = others c.args.code (omega (arith, c.requires.half)) (sym c.has_no_immediates.ensures.told ∙ c.if-has_no_immediates.false) in simd_low_lane_15 c.args.code (grind (arith, h)) (grind (arith, h))
 
 pub without_immediates-requires-clause-kinds : goal.without_immediates-requires-clause-kinds
 without_immediates-requires-clause-kinds g c = c.has_no_immediates.ensures.plain c.if-has_no_immediates.true
-
-pub unreachable-requires : goal.unreachable-requires
-unreachable-requires g c = let h = others c.args.code (omega (arith, c.requires.half)) (sym c.has_no_immediates.ensures.told ∙ c.if-has_no_immediates.false) in grind (arith, h)

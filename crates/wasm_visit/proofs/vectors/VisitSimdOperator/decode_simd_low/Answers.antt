@@ -1,17 +1,22 @@
-use Rattle.std.proofs.Common.{refl, subst}
+use Rattle.std.proofs.Common.{Some, refl}
 use Rattle.wasm_decode_groups.specs.below.Source.{at_position}
+use Rattle.wasm_decode_groups.specs.instr.declared.operator.Operator.TheVariants as operator
 use Rattle.wasm_decode_groups.specs.opcodes.Allowed.{EncodesAllowed}
 use Rattle.wasm_decode_groups.specs.opcodes.OperatorFaults.{OperatorFault}
+use Rattle.wasm_decode_groups.proofs.of_opcodes.OperatorLemmas.{visited_without_immediates}
 use Rattle.wasm_visit.proofs.Passing.{through_holder}
 use Rattle.wasm_visit.proofs.vectors.VisitSimdOperator.decode_simd_low.Goals as goal
 
-pub returns-in-Ok : goal.returns-in-Ok
-returns-in-Ok g c k =
-    let m = c.in-Ok.ensures k in
-    (m.0, m.1, m.2, m.3, subst (λ z. g.Self.Visitor.visits c.args.self.now z c.visit_any.result c.visit_any.new.self) m.4 c.visit_any.ensures)
+pub plain_simd_low-requires-clause-plain : goal.plain_simd_low-requires-clause-plain
+plain_simd_low-requires-clause-plain g c = c.has_no_immediates.ensures.plain c.if-has_no_immediates.true
 
-pub returns-in-Err : goal.returns-in-Err
-returns-in-Err g c k = (refl, (c.in-Err.ensures k).1)
+pub returns-then-has_no_immediates : goal.returns-then-has_no_immediates
+returns-then-has_no_immediates g c k =
+    let r = c.args.reader.now in
+    let is = c.has_no_immediates.ensures.plain c.if-has_no_immediates.true in
+    let op = c.plain_simd_low in
+    visited_without_immediates g.Self.Visitor.visits (OperatorFault r.features k) k (Some 0xfd) c.args.code c.args.start r c.args.self.now c.visit_any.new.self c.visit_any.result is c.requires.behind
+    (operator.Simd op.result, refl, op.ensures.0, op.ensures.1, c.visit_any.ensures)
 
 pub returns : goal.returns
 returns g c k =
