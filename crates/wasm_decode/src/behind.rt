@@ -9,10 +9,12 @@ ghost use Rattle.wasm_visit.specs.grammar.declared.frame_kind.FrameKind.{FrameKi
 ghost use Rattle.wasm_visit.specs.opcodes.Decoding.{StandsBehind, DecodesAt, RefusesAt, VisitsRow};
 ghost use Rattle.wasm_visit.specs.opcodes.Entries.{entry_at};
 ghost use Rattle.wasm_visit.specs.opcodes.Entry.{free, prefixes};
+ghost use Rattle.wasm_visit.specs.decode.Plain.{IsPlainVector};
 
 use std::alloc::Global;
 use wasm_visit::below::{BinaryReader, Error, Message, Result};
 use wasm_visit::grammar::FrameKind;
+use wasm_visit::instr::SimdOperator;
 use wasm_visit::{VisitGroups, VisitSimdOperator, decode};
 
 /// A place for a refusal.
@@ -24,7 +26,7 @@ fn place() -> Error {
 /// The subopcode behind a prefix byte that was read at the position `start`: a LEB128 number of 32
 /// bits, overlong ones too. Where it is refused the reader goes back.
 #[inline(always)]
-fn subopcode(reader: &mut BinaryReader<'_>, start: usize, prefix: u8) -> Result<u32>
+pub fn subopcode(reader: &mut BinaryReader<'_>, start: usize, prefix: u8) -> Result<u32>
     requires behind { StandsBehind start None prefix reader.old }
     requires prefix { entry_at None prefix ≡ prefixes }
     ensures read { IfOk result (λ code. StandsBehind start (Some prefix) code reader.new) }
@@ -259,7 +261,7 @@ pub fn simd_behind<V: VisitSimdOperator>(
 
 /// The vector operator of a subopcode.
 #[inline(always)]
-fn simd_of<V: VisitSimdOperator>(
+pub fn simd_of<V: VisitSimdOperator>(
     v: &mut V,
     reader: &mut BinaryReader<'_>,
     start: usize,
@@ -278,6 +280,18 @@ fn simd_of<V: VisitSimdOperator>(
     match answer {
         Some(answer) => Ok(answer),
         None => Err(refusal),
+    }
+}
+
+/// The vector operator without immediates of a subopcode.
+#[inline(always)]
+pub fn plain_vector(code: u32) -> SimdOperator
+    requires { entry_at (Some 0xfd) code ≡ free [] }
+    ensures { IsPlainVector code result }
+{
+    match code {
+        0x00..=0x7f => decode::plain_simd_low(code),
+        _ => decode::plain_simd_high(code),
     }
 }
 

@@ -4,10 +4,11 @@ ghost use Rattle.wasm_decode.specs.Reading.{DecodesOperatorIn, DecodesOperatorAt
 ghost use Rattle.wasm_visit.specs.grammar.declared.frame_kind.FrameKind.{FrameKind};
 ghost use Rattle.wasm_visit.specs.opcodes.Decoding.{StandsBehind};
 
-use crate::behind::{group_behind, simd_behind};
+use crate::behind::{group_behind, plain_vector, simd_of, subopcode};
 use crate::refusals::no_frame;
 use std::alloc::Global;
 use wasm_visit::below::{BinaryReader, Result};
+use wasm_visit::decode;
 use wasm_visit::grammar::FrameKind;
 use wasm_visit::instr::Operator;
 use wasm_visit::layer_factory::Factory;
@@ -74,7 +75,23 @@ fn read_simd(reader: &mut BinaryReader<'_>, start: usize) -> Result<Operator<'st
     requires { StandsBehind start None 0xfd reader.old }
     ensures { (frame : FrameKind) → DecodesOperatorAt frame start result reader.old reader.new }
 {
-    simd_behind(&mut Factory, reader, start)
+    match subopcode(reader, start, 0xfd) {
+        Ok(code) => read_simd_of(reader, start, code),
+        Err(e) => Err(e),
+    }
+}
+
+/// The vector operator of a subopcode. One without immediates is made here, and not by the factory's
+/// call, which would answer it through memory.
+#[inline(always)]
+fn read_simd_of(reader: &mut BinaryReader<'_>, start: usize, code: u32) -> Result<Operator<'static>>
+    requires { StandsBehind start (Some 0xfd) code reader.old }
+    ensures { (frame : FrameKind) → DecodesOperatorAt frame start result reader.old reader.new }
+{
+    if decode::has_no_immediates(code) {
+        return Ok(Operator::Simd(plain_vector(code)));
+    }
+    simd_of(&mut Factory, reader, start, code)
 }
 
 /// An operator that is neither a branch table nor a vector operator, behind its opcode.

@@ -1,0 +1,25 @@
+use Rattle.std.proofs.Common.{◌≡◌, Some, Ok, refl}
+use Rattle.wasm_visit.specs.below.Source.{Reader, at_position}
+use Rattle.wasm_visit.specs.instr.declared.operator.Operator.TheVariants as operator
+use Rattle.wasm_visit.specs.opcodes.Allowed.{EncodesAllowed}
+use Rattle.wasm_visit.specs.opcodes.OperatorFaults.{OperatorFault}
+use Rattle.wasm_visit.proofs.of_opcodes.OperatorLemmas.{visited_without_immediates}
+use Rattle.wasm_decode.proofs.DecodingLemmas.{as_read}
+use Rattle.wasm_decode.proofs.read.read_simd_of.Goals as goal
+
+pub plain_vector-requires : goal.plain_vector-requires
+plain_vector-requires c = c.has_no_immediates.ensures.plain c.if-has_no_immediates.true
+
+pub returns-then-has_no_immediates : goal.returns-then-has_no_immediates
+returns-then-has_no_immediates c k =
+    let r = c.args.reader.now in
+    let is = c.has_no_immediates.ensures.plain c.if-has_no_immediates.true in
+    let op = c.plain_vector in
+    as_read (EncodesAllowed r.features k) (OperatorFault r.features k) (at_position r c.args.start) r r r (Ok (operator.Simd op.result))
+    (visited_without_immediates {V = Reader} (λ before op answer after. answer ≡ op) (OperatorFault r.features k) k (Some 0xfd) c.args.code c.args.start r r r (operator.Simd op.result) is c.requires
+    (operator.Simd op.result, refl, op.ensures.0, op.ensures.1, refl))
+
+pub returns : goal.returns
+returns c k =
+    let r = c.args.reader.now in
+    as_read (EncodesAllowed r.features k) (OperatorFault r.features k) (at_position r c.args.start) c.simd_of.new.reader _ c.simd_of.new.v c.simd_of.result (c.simd_of.ensures k)
