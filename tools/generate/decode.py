@@ -758,13 +758,17 @@ def codes_file(ops):
     return "\n".join([*uses, "", text.rstrip(), ""])
 
 
-def last_is(part, given, code="c.args.code"):
-    """That the code is the last one, where it is none of the others of a part's arms."""
-    codes = f"{part_lemma(part)}_codes {code} {f'(align_at {part.place} {code}) ' if part.has_align else ''}{given}"
-    return [
-        f"    let h = {codes} in",
-        f"    let same : {part.ops[-1].hex()} ≡ {code} = first_of (omega (arith, h), grind (arith, h)) in",
+def last_arm_file(part, function, parameters, given, answer):
+    """The proof of the last arm of a match on a part's codes: the code is the last one, where it is none of the others."""
+    align = f"(align_at {part.place} c.args.code) " if part.has_align else ""
+    body = [
+        "pub returns-in_default : goal.returns-in_default",
+        f"returns-in_default {parameters} =",
+        f"    let h = {part_lemma(part)}_codes c.args.code {align}{given} in",
+        f"    let same : {part.ops[-1].hex()} ≡ c.args.code = first_of (omega (arith, h), grind (arith, h)) in",
+        f"    {answer}",
     ]
+    return proof_file(part, function, body)
 
 
 def last_visit_file(part):
@@ -772,30 +776,20 @@ def last_visit_file(part):
     last = part.ops[-1]
     visit = f"c.{last.visit}"
     row = f"({made(last, operands(part, 'c.args.it'))}, refl, refl, refl, {visit}.ensures)"
-    body = [
-        "pub returns-in_default : goal.returns-in_default",
-        "returns-in_default g c =",
-        *last_is(part, "c.requires.kinds" if part.bound else "c.requires"),
-        f"    subst (λ k. VisitsRow g.V.Visitor.visits {part.place} k ({part.term('c.args.it', 'k', 'kind')}) c.args.v.now {visit}.result {visit}.new.self) same {row}",
-    ]
-    return proof_file(part, f"{part.group.module}_operators.visit_{part.title}", body)
+    relation = f"VisitsRow g.V.Visitor.visits {part.place} k ({part.term('c.args.it', 'k', 'kind')}) c.args.v.now {visit}.result {visit}.new.self"
+    given = "c.requires.kinds" if part.bound else "c.requires"
+    return last_arm_file(part, f"{part.group.module}_operators.visit_{part.title}", "g c", given, f"subst (λ k. {relation}) same {row}")
 
 
 def last_alignment_file(part):
     """The proof that the alignment of the last arm is that of the last operator."""
-    body = [
-        "pub returns-in_default : goal.returns-in_default",
-        "returns-in_default c =",
-        *last_is(part, "c.requires"),
-        f"    subst (λ k. {part.ops[-1].immediates[0].split()[2]} ≡ align_at {part.place} k) same refl",
-    ]
-    return proof_file(part, f"{part.group.module}_operators.align_of_{part.title}", body)
+    relation = f"{part.ops[-1].immediates[0].split()[2]} ≡ align_at {part.place} k"
+    return last_arm_file(part, f"{part.group.module}_operators.align_of_{part.title}", "c", "c.requires", f"subst (λ k. {relation}) same refl")
 
 
 def last_plain_file(part):
     """The proof that the operator of the last arm has the subopcode."""
-    body = ["pub returns-in_default : goal.returns-in_default", "returns-in_default c =", *last_is(part, "c.requires.plain"), "    (same, refl)"]
-    return proof_file(part, f"plain_vectors.plain_{part.group.module}", body)
+    return last_arm_file(part, f"plain_vectors.plain_{part.group.module}", "c", "c.requires.plain", "(same, refl)")
 
 
 def last_numeric_file(last):
@@ -886,7 +880,7 @@ def simd_file(ops, group):
     plain = "without_immediates-requires-clause-kinds"
     told = "c.has_no_immediates.ensures.told"
     if those:
-        # the last arm is that of all codes which are left
+        # the last arm is that of all codes which are left; its part has more operators than one, so that it has a proof here
         goal = body[-3].split()[1]
         left = f"others c.args.code (omega (arith, c.requires.half)) (sym {told} ∙ c.if-has_no_immediates.false)"
         body[-2] = f"{goal} g c = let h = {left} in {lemmas[-1]} c.args.code (grind (arith, h)) (grind (arith, h))"
