@@ -61,6 +61,8 @@ OWN = (
 )
 # A visitor gets the same through a reference, in a box, and through a reference to the box.
 OTHERS = "others same same same"
+# So does it by the call of the half of a vector operator's subopcode, made by itself in these four ways.
+HALF = "; half same same same same"
 
 
 class Task:
@@ -104,18 +106,26 @@ def plain_answer(task, otherwise):
     return otherwise
 
 
+def half(task):
+    """What is printed of the call of the half, where a subopcode stands behind the byte fd in a frame."""
+    number = (task.operator + task.behind)[1:6]
+    size = next((at + 1 for at, byte in enumerate(number) if byte < 0x80), None)
+    has_subopcode = size is not None and (size < 5 or number[4] < 0x10)
+    return HALF if task.operator[:1] == b"\xfd" and task.frame != "None" and has_subopcode else ""
+
+
 def wanted(task, kinds):
     """The line that the program prints of a task; `kinds` has the immediates of each operator."""
     if task.is_refused:
         answer = f"{task.answer}; at {task.start}"
         plain = plain_answer(task, answer)
-        return f"{answer}; factory the same; visit {answer}; {OTHERS}; plain {plain}; again the same; cut"
+        return f"{answer}; factory the same; visit {answer}; {OTHERS}{half(task)}; plain {plain}; again the same; cut"
     name = task.answer.split()[0]
     call = "by " + ("Table" if name == "BrTable" else "Own" if name in OWN else "Any")
     offsets = "".join(f" {offset}" for offset in cuts(task, kinds[name]))
     at = task.start + len(task.operator)
     plain = plain_answer(task, call)
-    return f"{task.answer}; at {at}; factory the same; visit {call}; {OTHERS}; plain {plain}; cut{offsets}"
+    return f"{task.answer}; at {at}; factory the same; visit {call}; {OTHERS}{half(task)}; plain {plain}; cut{offsets}"
 
 
 def samples():

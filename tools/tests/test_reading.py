@@ -99,12 +99,20 @@ class Wanted(unittest.TestCase):
 
     def test_plain_visitor(self):
         line = self.line("fd0e", "I8x16Swizzle", before="00")
-        self.assertIn("; visit by Any; others same same same; plain E14 at 1: unexpected SIMD opcode: 0xfd; at 1; cut 1 2", line)
+        self.assertIn("; visit by Any; others same same same; half same same same same; plain E14 at 1: unexpected SIMD opcode: 0xfd; at 1; cut 1 2", line)
         line = self.line("fd0e", "E8 at 0: no", frame="None")
         refused = "E8 at 0: no; at 0"
         others = "others same same same"
         wanted = f"{refused}; factory the same; visit {refused}; {others}; plain {refused}; again the same; cut"
         self.assertEqual(line, wanted)
+
+    def test_half_behind_a_subopcode_alone(self):
+        for operator, frame, wanted in [
+            ("fd0e", "Block", True), ("fd8002", "Block", True), ("fdffffffff0f", "Block", True),
+            ("fdffffffff1f", "Block", False), ("fd808080808000", "Block", False), ("fd80", "Block", False),
+            ("fd", "Block", False), ("fd0e", "None", False), ("fc0e", "Block", False),
+        ]:
+            self.assertEqual(reading.half(reading.Task(operator, "", frame=frame)) != "", wanted, operator)
 
     def test_asked(self):
         task = reading.Task("0701", "Catch tag_index=1", frame="LegacyTry", before="000640", behind="0b0b")

@@ -1,5 +1,6 @@
 //! One operator by each of the calls, written into one line.
 
+use crate::half;
 use crate::runs::{
     Told, is_refused_again, run_both, run_boxed, run_factory, run_lent, run_plain, run_read,
     run_simd, write_answer, write_refusal,
@@ -82,6 +83,9 @@ pub fn write_each(alloc: Global, texts: &mut Texts, task: Task, bytes: &[u8]) ->
     compare_visit(texts, told, end)?;
     texts.line.push_str("; others")?;
     compare_ways(alloc, texts, task, bytes, told)?;
+    if task.frame.is_some() {
+        compare_halves(texts, task, bytes, told)?;
+    }
     texts.line.push_str("; plain ")?;
     let told = run_plain(alloc, &mut texts.teller, task, bytes);
     compare_visit(texts, told, end)?;
@@ -162,6 +166,45 @@ fn compare_ways(
     let told = run_both(alloc, boxed, task, bytes);
     let is_same = is_same_visit(direct, told) && boxed.text == *other;
     write_way(line, is_same, told.1, &mut boxed.text)
+}
+
+/// Of a vector operator, whether the call of its half visits the same by itself: of the visitor,
+/// through a reference, in a box, and through a reference to the box. Of another nothing is written.
+fn compare_halves(texts: &mut Texts, task: Task, bytes: &[u8], direct: (Told, usize)) -> Written {
+    let Texts {
+        line,
+        other,
+        teller,
+        boxed,
+        ..
+    } = texts;
+    let told = half::run_own(teller, task, bytes);
+    if told.is_none() {
+        return Ok(());
+    }
+    line.push_str("; half")?;
+    write_half(line, direct, told, other, &mut teller.text)?;
+    let told = half::run_lent(teller, task, bytes);
+    write_half(line, direct, told, other, &mut teller.text)?;
+    let told = half::run_boxed(boxed, task, bytes);
+    write_half(line, direct, told, other, &mut boxed.text)?;
+    let told = half::run_both(boxed, task, bytes);
+    write_half(line, direct, told, other, &mut boxed.text)
+}
+
+/// Whether a visit by the call of a half, if it was made, is the direct one, whose text is `other`.
+fn write_half(
+    line: &mut String,
+    direct: (Told, usize),
+    told: Option<(Told, usize)>,
+    other: &String,
+    text: &mut String,
+) -> Written {
+    let Some(told) = told else {
+        return Ok(());
+    };
+    let is_same = is_same_visit(direct, told) && *text == *other;
+    write_way(line, is_same, told.1, text)
 }
 
 /// Whether two visits answer the same, and leave the reader at the same place.

@@ -3,6 +3,7 @@
 #![tactic(auto)]
 
 mod each;
+mod half;
 mod own;
 mod runs;
 mod task;

@@ -11,7 +11,7 @@ use wasm_decode::{read_operator, visit_operator, visit_operator_simd};
 use wasm_tests_texts::{Written, write_operator};
 
 /// A reader that stands at the operator of a task, or at the end of data that are too short.
-fn reader_at<'a>(task: Task, bytes: &'a [u8]) -> BinaryReader<'a> {
+pub fn reader_at<'a>(task: Task, bytes: &'a [u8]) -> BinaryReader<'a> {
     let mut reader = BinaryReader::new_features(bytes, 0, task.features);
     let _ = reader.read_bytes(task.before);
     reader
