@@ -1,5 +1,5 @@
 //! What bytes that may be an expression begin with.
-ghost use Rattle.std.specs.Prelude.{◌≡◌, ◌≢◌, length, IfOk, IfErr, IfSome};
+ghost use Rattle.std.specs.Prelude.{◌≡◌, ◌≢◌, length, IfOk, IfErr, IfSome, IfNone};
 ghost use Rattle.wasm_operators.specs.Expression.{Placed, EncodesExpression, IsLongestBeginning};
 ghost use Rattle.wasm_operators.specs.Flat.{IsFlatBeginning};
 ghost use Rattle.uses_steps.specs.Input.{input};
@@ -117,12 +117,14 @@ pub fn expression_size(alloc: Global, features: WasmFeatures, bytes: &[u8]) -> R
     }
 }
 
-/// The refusal of the bytes, found by two readings: one message at one offset, memory aside.
+/// The refusal of the bytes, found by two readings: one message at one offset, memory aside. Where
+/// one is not refused they are an expression.
 ///
 /// The law `one_answer` says so of the clauses `beginning` of both.
 pub fn refused_twice(alloc: Global, features: WasmFeatures, bytes: &[u8]) -> Option<(Error, Error)>
-    ensures { IfSome result (λ both. both.0.message ≢ Message.OutOfMemory → both.1.message ≢ Message.OutOfMemory
+    ensures again { IfSome result (λ both. both.0.message ≢ Message.OutOfMemory → both.1.message ≢ Message.OutOfMemory
         → (both.0.message ≡ both.1.message) × (both.0.offset ≡ both.1.offset)) }
+    ensures whole { IfNone result ((placed : Placed) × EncodesExpression (input features bytes.now) placed) }
 {
     reading_laws::one_answer();
     let mut found = Vec::new(alloc);

@@ -1,5 +1,5 @@
 //! Where operators and refusals stand in the bytes.
-ghost use Rattle.std.specs.Prelude.{◌≡◌, ◌+◌, ◌<◌, ◌≤◌, ℕ, List, length, Some, IfOk, IfSome, IfNone};
+ghost use Rattle.std.specs.Prelude.{◌≡◌, ◌+◌, ◌<◌, ◌≤◌, ℕ, List, length, Some, None, IfOk, IfSome, IfNone};
 ghost use Rattle.wasm_operators.specs.below.bytes.error.Error.{Error};
 ghost use Rattle.wasm_operators.specs.below.Source.{rest, offset_of};
 ghost use Rattle.wasm_operators.specs.Expression.{Placed, LaidOut, EndsAt, EncodesExpression, IsBeginningOf};
@@ -48,6 +48,7 @@ pub fn refusal_distance(operators: &mut OperatorsReader<'_>) -> Option<u64>
     ensures ahead { IfSome result (λ distance. distance ≤ length (rest operators.new.reader)) }
     ensures refused { IfSome result (λ distance. (e : Error) × IsRefusal (Some e) operators.old operators.new
         × (e.offset ≡ offset_of operators.new.reader + distance)) }
+    ensures read { IfNone result (IsRefusal None operators.old operators.new) }
 {
     position_laws::refusals_ahead();
     let Some(error) = next_refusal(operators) else {

@@ -1,5 +1,6 @@
 //! One operator after another.
-ghost use Rattle.std.specs.Prelude.{◌≡◌, ◌≢◌, ◌↔◌, ◌<◌, ℕ, List, [], ◌∷◌, ◌++◌, length, IsTrue, IfOk, IfErr, IfSome};
+ghost use Rattle.std.specs.Prelude.{◌≡◌, ◌≢◌, ◌↔◌, ◌<◌, ℕ, List, [], ◌∷◌, ◌++◌, length, Ok, Option, IsTrue, IfOk, IfErr, IfSome, IfNone};
+ghost use Rattle.wasm_operators.specs.below.bytes.error.Error.{Error};
 ghost use Rattle.wasm_operators.specs.below.Source.{rest, BeginsWith};
 ghost use Rattle.wasm_operators.specs.instr.declared.operator.Operator.{Operator};
 ghost use Rattle.wasm_operators.specs.instr.Encoding.{EncodesOperator};
@@ -8,6 +9,7 @@ ghost use Rattle.wasm_operators.specs.opcodes.OperatorFaults.{LacksFeature};
 ghost use Rattle.wasm_operators.specs.opcodes.Refused.{LeadsList};
 ghost use Rattle.wasm_operators.specs.Expression.{EncodesExpression};
 ghost use Rattle.wasm_operators.specs.readers.Guarded.{BeginsGuarded};
+ghost use Rattle.wasm_operators.specs.readers.Next.{ReadsNext};
 ghost use Rattle.wasm_operators.specs.Reading.{StandAlike};
 ghost use Rattle.uses_steps.specs.Complaints.{IsRefusal, IsComplaint};
 ghost use Rattle.uses_steps.specs.Input.{input};
@@ -70,8 +72,10 @@ pub fn why_refused(operators: &mut OperatorsReader<'_>) -> Option<Complaint>
 ///
 /// The law `not_taken` says that the call which can't happen does not, and `refused_again` the rest.
 pub fn asked_twice(operators: &mut OperatorsReader<'_>) -> Option<(Error, Error)>
-    ensures { IfSome result (λ both. both.1.message ≢ Message.OutOfMemory
+    ensures again { IfSome result (λ both. both.1.message ≢ Message.OutOfMemory
         → (both.0.message ≡ both.1.message) × (both.0.offset ≡ both.1.offset)) }
+    ensures read { IfNone result ((first : Option Error) × IsRefusal first operators.old operators.new
+        × IfSome first (λ e. e.message ≡ Message.OutOfMemory)) }
 {
     reading_laws::refused_again();
     reading_laws::not_taken();
@@ -96,6 +100,7 @@ pub fn read_in_step<'a>(
     second: &mut OperatorsReader<'a>,
 ) -> Result<(Operator<'a>, Operator<'a>)>
     requires { StandAlike first.old second.old }
+    ensures read { IfOk result (λ both. ReadsNext (Ok both.0) first.old first.new) }
     ensures same { IfOk result (λ both. both.0 ≡ both.1) }
     ensures alike { IfOk result (λ both. StandAlike first.new second.new) }
 {

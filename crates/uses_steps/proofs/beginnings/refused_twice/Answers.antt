@@ -6,8 +6,20 @@ use Rattle.wasm_operators.specs.Reading.{Anywhere}
 use Rattle.uses_steps.proofs.Begun.{begins_alike}
 use Rattle.uses_steps.proofs.beginnings.refused_twice.Goals as goal
 
-pub returns : goal.returns
-returns c = λ one two.
+pub returns-in-Ok-clause-whole : goal.returns-in-Ok-clause-whole
+returns-in-Ok-clause-whole c =
+    let along = (c.in-Ok.ensures.rest [] c.new-reader.ensures.stood).tree in
+    let encodes = rw (c.new-reader.ensures.reader ∙ c.new_features.ensures) at along.2.encodes in
+    (along.0, encodes)
+
+pub returns-in-Ok-read_all-clause-whole : goal.returns-in-Ok-read_all-clause-whole
+returns-in-Ok-read_all-clause-whole c =
+    let along = (c.in-Ok-read_all.ensures.rest [] c.new-other.ensures.stood).tree in
+    let encodes = rw (c.new-other.ensures.reader ∙ c.new_features-2.ensures) at along.2.encodes in
+    (along.0, encodes)
+
+pub returns-clause-again : goal.returns-clause-again
+returns-clause-again c = λ one two.
     let first = (c.in-Err.ensures.rest [] c.new-reader.ensures.stood).beginning in
     let second = (c.in-Err-read_all.ensures.rest [] c.new-other.ensures.stood).beginning in
     let reader = (c.new-other.ensures.reader ∙ c.new_features-2.ensures) ∙ sym (c.new-reader.ensures.reader ∙ c.new_features.ensures) in

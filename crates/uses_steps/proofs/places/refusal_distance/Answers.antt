@@ -9,4 +9,5 @@ returns c =
     record {
       ahead = omega (arith, ahead.0, ahead.1, c.offset.ensures, c.original_position.ensures, length-drop s.reader.position s.reader.buffer);
       refused = (c.in-Some.error, c.in-Some.ensures, omega (arith, ahead.0, c.offset.ensures, c.original_position.ensures));
+      read = tt;
     }
