@@ -20,10 +20,9 @@ COMMON = (
 )
 # Those that each have a call of their own besides, since the call of their part would stand inline once a run.
 ALONE = (0x00, 0x01, 0x0B, 0x0C, 0x0D, 0x0F, 0x10, 0x1A, 0x1B)
-# Those from here on, locals, loads and constants, are asked for first, since they are the most.
-FIRST_HIGH = 0x20
-# The call that decodes the common ones below.
-LOW = "control_or_parametric"
+# The call that decodes them, and the one that decodes the others.
+COMMON_CALL = "common_one_byte"
+OTHERS_CALL = "other_one_byte"
 # The call of a group that decodes all of it, where that of the group's name has the common ones alone.
 ALL = {"one_byte": "any_one_byte"}
 
@@ -302,28 +301,41 @@ def apart(name):
 
 
 def group_call(ops, group, those):
-    """The calls that decode an operator of a group. Of one byte there are two, for visits that are short where they stand and for any."""
+    """The calls that decode an operator of a group. Of one byte there are three: for each operator, of which the common ones stand where the call does; for the common ones; and for any."""
     if group.module not in ALL:
         return whole_group(ops, group, those, group.module)
-    given = "(v, alloc, reader, start, frame, code)"
-    common = [
+    whole = [
         *group_head(group, those, group.module, "inline(always)", "pub ", " Common ones inline, the others out of line."),
-        "    match code {",
-        *group_arms(those, lambda code: code in COMMON and code >= FIRST_HIGH),
-        f"        _ => {LOW}{given},",
-        "    }",
-        "}",
-        "",
-        *group_head(group, those, LOW, "inline(always)", "", " The common ones of them inline, the others out of line."),
-        "    match code {",
-        *group_arms(those, lambda code: code in COMMON and code < FIRST_HIGH),
-        *[f"        {part.code()} => {part.function}(v, reader, start)," for part in alone(ops, group)],
-        f"        _ => others{given},",
+        f"    match {COMMON_CALL}(v, reader, start, code) {{",
+        "        Some(answer) => answer,",
+        f"        None => {OTHERS_CALL}(v, alloc, reader, start, frame, code),",
         "    }",
         "}",
         "",
     ]
-    return [*common, *whole_group(ops, group, those, ALL[group.module])]
+    return [*whole, *common_call(ops, group, those), *whole_group(ops, group, those, ALL[group.module])]
+
+
+def common_call(ops, group, those):
+    """The call that decodes the common operators of a group, and answers `None` of the others."""
+    answers = [arm.partition(" => ") for arm in group_arms(those, lambda code: code in COMMON)]
+    answers += [(f"        {part.code()}", "", f"{part.function}(v, reader, start),") for part in alone(ops, group)]
+    return [
+        f"/// Reads what stands behind the opcode of a common one of {group.short}, and visits the operator. `None` of another opcode, and nothing changes.",
+        "#[inline(always)]",
+        f"pub fn {COMMON_CALL}<V: {group.trait}>(v: &mut V, reader: &mut BinaryReader<'_>, start: usize, code: u8) -> Option<Result<V::Output>>",
+        f"    requires {{ StandsBehind start {those[0].place} code reader.old }}",
+        f"    ensures common {{ IfSome result (λ answer. {decodes().replace('result', 'answer')}) }}",
+        "    ensures reader { IfNone result (reader.new ≡ reader.old) }",
+        "    ensures visitor { IfNone result (v.new ≡ v.old) }",
+        "{",
+        "    match code {",
+        *[f"{pattern} => Some({call[:-1]})," for pattern, _, call in answers],
+        "        _ => None,",
+        "    }",
+        "}",
+        "",
+    ]
 
 
 def group_head(group, those, name, inline, visibility, more=""):
@@ -462,6 +474,7 @@ def group_decode(ops, group):
     body = [*group_call(ops, group, those), *body]
     text = "\n".join(body)
     prelude = ["◌≡◌"] + [it for it in ("◌≤◌", "◌<◌") if it.strip("◌") in text] + ["[]", "◌∷◌", "Some", "None"]
+    prelude += [it for it in ("IfSome", "IfNone") if f"{it} " in text]
     entries = ["entry_at"] + (["align_at"] if "align_at" in text else [])
     words = imported(text, ROW_WORDS + KIND_WORDS)
     words = [it for it in words if f"{it} " in text]
@@ -479,7 +492,7 @@ def group_decode(ops, group):
         *(["ghost use Rattle.wasm_decode_groups.specs.OneByte.{IsOneByteCode};"] if is_own else []),
         "",
         *(["use crate::guarded::{%s};" % ", ".join(sorted(set(APART.values())))] if is_own else []),
-        *(["use crate::out_of_line::others;"] if is_own else []),
+        *([f"use crate::out_of_line::{OTHERS_CALL};"] if is_own else []),
         *(["use crate::plain_vectors::has_no_immediates;"] if "has_no_immediates(" in text else []),
         *(["use std::alloc::Global;"] if is_own else []),
         f"use wasm_below::{{{', '.join(below)}}};",
@@ -848,10 +861,10 @@ def proof_head(group, name, words, lemmas):
     ]
 
 
-def common_file(ops, group, name, takes):
-    """The proofs of a call that has some of the common operators: each arm has its kinds."""
-    body, lemmas = kinds_proofs(parts(ops, group), lambda code: code in COMMON and takes(code))
-    return "\n".join([*proof_head(group, name, "arith", lemmas), *body])
+def common_file(ops, group):
+    """The proofs of the call that has the common operators: each arm has its kinds."""
+    body, lemmas = kinds_proofs(parts(ops, group), lambda code: code in COMMON)
+    return "\n".join([*proof_head(group, COMMON_CALL, "arith", lemmas), *body])
 
 
 def group_file(ops, group):
@@ -916,10 +929,9 @@ def decode_files(ops):
         at = f"crates/wasm_decode_groups/proofs/{group.module}_operators"
         out[f"{at}/{ALL.get(group.module, group.module)}/Answers.antt"] = group_file(ops, group)
         if group.module in ALL:
-            out[f"{at}/{group.module}/Answers.antt"] = common_file(ops, group, group.module, lambda code: code >= FIRST_HIGH)
+            out[f"{at}/{COMMON_CALL}/Answers.antt"] = common_file(ops, group)
             for part in alone(ops, group):
                 out[f"{at}/{part.function}/Answers.antt"] = answer_file(part)
-            out[f"{at}/{LOW}/Answers.antt"] = common_file(ops, group, LOW, lambda code: code < FIRST_HIGH)
         for part in parts(ops, group):
             out[f"{at}/{part.function}/Answers.antt"] = answer_file(part)
             if not part.is_one:

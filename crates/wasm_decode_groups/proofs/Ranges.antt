@@ -1,5 +1,5 @@
 -- Where in a list of entries some stand.
-use Rattle.std.proofs.Common.{◌≡◌, ℕ, zero, suc, ◌+◌, ◌<◌, ◌≤◌, Bool, true, false, cond, List, [], ◌∷◌, ◌⊎◌, inl, inr, get_or, leb, refl, sym, subst, ap, ◌∙◌, arith}
+use Rattle.std.proofs.Common.{◌≡◌, ℕ, zero, suc, ◌+◌, ◌<◌, ◌≤◌, Bool, true, false, cond, List, [], ◌∷◌, ◌⊎◌, inl, inr, get_or, leb, refl, subst, ap, arith}
 use Rattle.std.proofs.lemmas.Bool.{leb-true, cases_lt}
 use Rattle.wasm_decode_opcodes.specs.Entry.{Entry, unknown, prefixes, free, guarded}
 

@@ -1,5 +1,5 @@
 //! Decoding of the operators of one byte. Written by tools/lists.py from tools/operators.tsv.
-ghost use Rattle.std.specs.Prelude.{◌≡◌, ◌≤◌, ◌<◌, [], ◌∷◌, Some, None};
+ghost use Rattle.std.specs.Prelude.{◌≡◌, ◌≤◌, ◌<◌, [], ◌∷◌, Some, None, IfSome, IfNone};
 ghost use Rattle.wasm_visit_groups.specs.grammar.declared.frame_kind.FrameKind.{FrameKind};
 ghost use Rattle.wasm_visit_groups.specs.instr.Immediate.{unsigned_32, signed_32, memory_argument, memory_index, block_type, is_unsigned_32, is_memory_index, is_block_type, is_memory_argument};
 ghost use Rattle.wasm_decode_opcodes.specs.Decoding.{DecodesAt, StandsBehind, VisitsRow};
@@ -11,7 +11,7 @@ use crate::guarded::{
     else_in_if, legacy_catch, legacy_catch_all, legacy_delegate, legacy_try, resume, resume_throw,
     resume_throw_ref, try_table, typed_select,
 };
-use crate::out_of_line::others;
+use crate::out_of_line::other_one_byte;
 use std::alloc::Global;
 use wasm_decode_opcodes::{immediates, unknown_opcode};
 use wasm_visit_groups::VisitOneByte;
@@ -33,41 +33,42 @@ pub fn one_byte<V: VisitOneByte>(
     requires apart { IsOneByteCode code }
     ensures { DecodesAt V.visits frame start result reader.old reader.new v.old v.new }
 {
-    match code {
-        0x20..=0x26 => unsigned(v, reader, start, code),
-        0x28..=0x3e => memory(v, reader, start, code),
-        0x41 => i32_const(v, reader, start),
-        0x42 => i64_const(v, reader, start),
-        _ => control_or_parametric(v, alloc, reader, start, frame, code),
+    match common_one_byte(v, reader, start, code) {
+        Some(answer) => answer,
+        None => other_one_byte(v, alloc, reader, start, frame, code),
     }
 }
 
-/// Reads what stands behind the opcode of one of the operators of one byte, and visits the operator. The common ones of them inline, the others out of line.
+/// Reads what stands behind the opcode of a common one of the operators of one byte, and visits the operator. `None` of another opcode, and nothing changes.
 #[inline(always)]
-fn control_or_parametric<V: VisitOneByte>(
+pub fn common_one_byte<V: VisitOneByte>(
     v: &mut V,
-    alloc: Global,
     reader: &mut BinaryReader<'_>,
     start: usize,
-    frame: FrameKind,
     code: u8,
-) -> Result<V::Output>
-    requires behind { StandsBehind start None code reader.old }
-    requires apart { IsOneByteCode code }
-    ensures { DecodesAt V.visits frame start result reader.old reader.new v.old v.new }
+) -> Option<Result<V::Output>>
+    requires { StandsBehind start None code reader.old }
+    ensures common { IfSome result
+        (λ answer. (frame : FrameKind) → DecodesAt V.visits frame start answer reader.old reader.new v.old v.new) }
+    ensures reader { IfNone result (reader.new ≡ reader.old) }
+    ensures visitor { IfNone result (v.new ≡ v.old) }
 {
     match code {
-        0x02..=0x04 => block_type(v, reader, start, code),
-        0x00 => unreachable_alone(v, reader, start),
-        0x01 => nop_alone(v, reader, start),
-        0x0b => end_alone(v, reader, start),
-        0x0c => br_alone(v, reader, start),
-        0x0d => br_if_alone(v, reader, start),
-        0x0f => return_alone(v, reader, start),
-        0x10 => call_alone(v, reader, start),
-        0x1a => drop_alone(v, reader, start),
-        0x1b => select_alone(v, reader, start),
-        _ => others(v, alloc, reader, start, frame, code),
+        0x02..=0x04 => Some(block_type(v, reader, start, code)),
+        0x20..=0x26 => Some(unsigned(v, reader, start, code)),
+        0x28..=0x3e => Some(memory(v, reader, start, code)),
+        0x41 => Some(i32_const(v, reader, start)),
+        0x42 => Some(i64_const(v, reader, start)),
+        0x00 => Some(unreachable_alone(v, reader, start)),
+        0x01 => Some(nop_alone(v, reader, start)),
+        0x0b => Some(end_alone(v, reader, start)),
+        0x0c => Some(br_alone(v, reader, start)),
+        0x0d => Some(br_if_alone(v, reader, start)),
+        0x0f => Some(return_alone(v, reader, start)),
+        0x10 => Some(call_alone(v, reader, start)),
+        0x1a => Some(drop_alone(v, reader, start)),
+        0x1b => Some(select_alone(v, reader, start)),
+        _ => None,
     }
 }
 

@@ -14,7 +14,7 @@ use wasm_visit_groups::grammar::FrameKind;
 
 /// Reads what stands behind the opcode of one of the operators of one byte, and visits the operator.
 #[inline(always)]
-pub fn others<V: VisitOneByte>(
+pub fn other_one_byte<V: VisitOneByte>(
     v: &mut V,
     alloc: Global,
     reader: &mut BinaryReader<'_>,

@@ -1,13 +1,16 @@
 -- What is decoded through a reference to a visitor, or through a box, is decoded by the visitor.
-use Rattle.std.proofs.Common.{◌≡◌, ℕ, List, Result, Ok, Err, refl, ap, sym, subst, ◌∙◌, Global, MutBor}
+use Rattle.std.proofs.Common.{◌≡◌, ℕ, List, Option, Some, None, IfSome, Result, Ok, Err, refl, ap, sym, subst, ◌∙◌, Global, MutBor}
 use Rattle.std.specs.Prelude.{Box, box_value}
 use Rattle.std.specs.Box.{with_value}
 use borrow.Rule.Reborrow.{re_v}
 use Rattle.wasm_decode_groups.specs.below.bytes.error.Error.{Error}
 use Rattle.wasm_decode_groups.specs.below.bytes.message.Message.{Message}
-use Rattle.wasm_decode_groups.specs.below.Source.{Reader}
+use Rattle.wasm_decode_groups.specs.below.Source.{Reader, at_position}
+use Rattle.wasm_decode_groups.specs.grammar.declared.frame_kind.FrameKind.{FrameKind}
 use Rattle.wasm_decode_groups.specs.instr.declared.operator.Operator.{Operator}
-use Rattle.wasm_decode_groups.specs.opcodes.Decoding.{Decodes}
+use Rattle.wasm_decode_groups.specs.opcodes.Allowed.{EncodesAllowed}
+use Rattle.wasm_decode_groups.specs.opcodes.Decoding.{Decodes, DecodesAt}
+use Rattle.wasm_decode_groups.specs.opcodes.OperatorFaults.{OperatorFault}
 
 pub through_reference : {V A : Type 0} (visits : V → Operator → A → V → Type 0) (E : List ℕ → Operator → Type 0) (F : Message → Reader → ℕ → Type 0)
     (result : Result A Error) (old new : Reader) (s : MutBor V) (w : V) → Decodes visits E F result old new s.now w →
@@ -28,3 +31,13 @@ pub through_holder : {V A W : Type 0} (held : W → MutBor V) (visits : V → Op
     Decodes visits E F result old new (held s).now x
 through_holder held visits E F (Ok a) old new s t x left (text, op, enc, taken, (named, vis)) = (text, op, enc, taken, subst (λ z. visits (held s).now op a z) (sym (left named)) vis)
 through_holder held visits E F (Err e) old new s t x left (same, h) = (left (sym (ap (λ z. (held z).ghost_name) same)) ∙ ap (λ z. (held z).now) same, h)
+
+-- The same of a call that decodes some opcodes, and answers nothing of the others.
+pub common_through_holder : {V A W : Type 0} (held : W → MutBor V) (visits : V → Operator → A → V → Type 0) (start : ℕ) (result : Option (Result A Error))
+    (old new : Reader) (s t : W) (x : V) → ((held s).ghost_name ≡ (held t).ghost_name → x ≡ (held t).now) →
+    IfSome result (λ answer. (frame : FrameKind) →
+    DecodesAt (λ s op a t. ((held s).ghost_name ≡ (held t).ghost_name) × visits (held s).now op a (held t).now) frame start answer old new s t) →
+    IfSome result (λ answer. (frame : FrameKind) → DecodesAt visits frame start answer old new (held s).now x)
+common_through_holder held visits start (Some answer) old new s t x left h =
+    λ frame. through_holder held visits (EncodesAllowed old.features frame) (OperatorFault old.features frame) answer (at_position old start) new s t x left (h frame)
+common_through_holder held visits start None old new s t x left h = tt

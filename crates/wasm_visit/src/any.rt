@@ -1,4 +1,13 @@
 //! A visitor whose operators all go to `visit_any`.
+ghost use Rattle.std.specs.Prelude.{◌≡◌, None, IfSome, IfNone};
+ghost use Rattle.wasm_decode_groups.specs.grammar.declared.frame_kind.FrameKind.{FrameKind};
+ghost use Rattle.wasm_decode_groups.specs.opcodes.Decoding.{StandsBehind, DecodesAt};
+ghost use Rattle.wasm_decode_groups.specs.OneByte.{IsOneByteCode};
+
+use std::alloc::Global;
+use wasm_decode_groups as decode;
+use wasm_decode_groups::below::{BinaryReader, Result};
+use wasm_decode_groups::grammar::FrameKind;
 use wasm_decode_groups::groups::{
     VisitAtomic, VisitGc, VisitMisc, VisitOneByte, VisitSimdHigh, VisitSimdLow, Visitor,
 };
@@ -33,3 +42,61 @@ impl<V: Visitor> VisitAtomic for ByAny<V> {}
 impl<V: Visitor> VisitSimdLow for ByAny<V> {}
 
 impl<V: Visitor> VisitSimdHigh for ByAny<V> {}
+
+/// Reads what stands behind the opcode of one of the operators of one byte, and visits the operator
+/// by `visit_any`.
+#[inline(always)]
+pub fn one_byte<V: Visitor>(
+    v: &mut V,
+    alloc: Global,
+    reader: &mut BinaryReader<'_>,
+    start: usize,
+    frame: FrameKind,
+    code: u8,
+) -> Result<V::Output>
+    requires behind { StandsBehind start None code reader.old }
+    requires apart { IsOneByteCode code }
+    ensures { DecodesAt V.visits frame start result reader.old reader.new v.old v.new }
+{
+    match common_one_byte(v, reader, start, code) {
+        Some(answer) => answer,
+        None => other_one_byte(v, alloc, reader, start, frame, code),
+    }
+}
+
+/// The common ones of them, inline. `None` of another opcode, and nothing changes.
+///
+/// What holds the visitor is made here, and once more where a call out of line is lent it: one for both
+/// would stand in memory wherever `one_byte` does.
+#[inline(always)]
+fn common_one_byte<V: Visitor>(
+    v: &mut V,
+    reader: &mut BinaryReader<'_>,
+    start: usize,
+    code: u8,
+) -> Option<Result<V::Output>>
+    requires { StandsBehind start None code reader.old }
+    ensures common { IfSome result
+        (λ answer. (frame : FrameKind) → DecodesAt V.visits frame start answer reader.old reader.new v.old v.new) }
+    ensures reader { IfNone result (reader.new ≡ reader.old) }
+    ensures visitor { IfNone result (v.new ≡ v.old) }
+{
+    decode::common_one_byte(&mut ByAny { visitor: v }, reader, start, code)
+}
+
+/// The others, out of line.
+#[inline(always)]
+fn other_one_byte<V: Visitor>(
+    v: &mut V,
+    alloc: Global,
+    reader: &mut BinaryReader<'_>,
+    start: usize,
+    frame: FrameKind,
+    code: u8,
+) -> Result<V::Output>
+    requires behind { StandsBehind start None code reader.old }
+    requires apart { IsOneByteCode code }
+    ensures { DecodesAt V.visits frame start result reader.old reader.new v.old v.new }
+{
+    decode::other_one_byte(&mut ByAny { visitor: v }, alloc, reader, start, frame, code)
+}

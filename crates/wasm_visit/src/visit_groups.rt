@@ -6,7 +6,7 @@ ghost use Rattle.wasm_decode_groups.specs.opcodes.Decoding.{StandsBehind, Visits
 ghost use Rattle.wasm_decode_groups.specs.OneByte.{IsOneByteCode};
 ghost use Rattle.wasm_decode_groups.specs.groups.Groups.{IsOneByte};
 
-use crate::any::ByAny;
+use crate::any::{self, ByAny};
 use crate::dispatch;
 use std::alloc::Global;
 use wasm_decode_groups as decode;
@@ -92,14 +92,7 @@ pub trait VisitGroups: Visitor {
         requires apart { IsOneByteCode code }
         ensures { DecodesAt Self.visits frame start result reader.old reader.new self.old self.new }
     {
-        decode::one_byte(
-            &mut ByAny { visitor: self },
-            alloc,
-            reader,
-            start,
-            frame,
-            code,
-        )
+        any::one_byte(self, alloc, reader, start, frame, code)
     }
 
     /// The same of an opcode below 20, where control and parametric instructions stand. No other does
@@ -124,14 +117,7 @@ pub trait VisitGroups: Visitor {
         requires low { code < 0x20 }
         ensures { DecodesAt Self.visits frame start result reader.old reader.new self.old self.new }
     {
-        decode::one_byte(
-            &mut ByAny { visitor: self },
-            alloc,
-            reader,
-            start,
-            frame,
-            code,
-        )
+        any::one_byte(self, alloc, reader, start, frame, code)
     }
 
     /// Visits the numeric operator of this opcode.

@@ -1,4 +1,4 @@
-use Rattle.std.proofs.Common.{[], ◌∷◌, refl, arith}
+use Rattle.std.proofs.Common.{[], refl, arith}
 use Rattle.wasm_visit_groups.specs.instr.declared.operator.Operator.TheVariants as operator
 use Rattle.wasm_decode_opcodes.specs.declared.guard.Guard.TheVariants as guard
 use Rattle.wasm_decode_opcodes.specs.OperatorFaults.{OperatorFault}

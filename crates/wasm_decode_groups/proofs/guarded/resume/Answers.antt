@@ -3,7 +3,7 @@ use Rattle.wasm_visit_groups.specs.instr.declared.operator.Operator.TheVariants 
 use Rattle.wasm_visit_groups.specs.instr.Immediate.{unsigned_32, resume_clauses, is_unsigned_32, is_resume_clauses}
 use Rattle.wasm_decode_opcodes.specs.OperatorFaults.{OperatorFault}
 use Rattle.wasm_decode_opcodes.proofs.MemoryLemmas.{owns_resume, needs_list, refuses_list}
-use Rattle.wasm_decode_opcodes.proofs.OperatorLemmas.{visited_free, within_behind}
+use Rattle.wasm_decode_opcodes.proofs.OperatorLemmas.{visited_free}
 use Rattle.wasm_decode_groups.proofs.guarded.resume.Goals as goal
 
 pub returns-in-Ok : goal.returns-in-Ok
