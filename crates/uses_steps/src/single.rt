@@ -1,5 +1,5 @@
 //! One operator after another.
-ghost use Rattle.std.specs.Prelude.{◌≡◌, ◌≢◌, ◌↔◌, ◌<◌, ℕ, List, [], ◌∷◌, ◌++◌, length, Ok, Option, IsTrue, IfOk, IfErr, IfSome, IfNone};
+ghost use Rattle.std.specs.Prelude.{◌≡◌, ◌≢◌, ◌↔◌, ◌<◌, ◌⊎◌, ℕ, List, [], ◌∷◌, ◌++◌, length, Ok, Option, IsTrue, IfOk, IfErr, IfSome, IfNone};
 ghost use Rattle.wasm_operators.specs.below.bytes.error.Error.{Error};
 ghost use Rattle.wasm_operators.specs.below.Source.{rest, BeginsWith};
 ghost use Rattle.wasm_operators.specs.instr.declared.operator.Operator.{Operator};
@@ -48,6 +48,8 @@ pub fn why_refused(operators: &mut OperatorsReader<'_>) -> Option<Complaint>
     ensures why { IfSome result (λ why. IsComplaint operators.old why) }
     ensures feature { (g : Guard) → BeginsGuarded g operators.old.reader → LacksFeature operators.old.reader.features g
         → IfSome result (λ why. why ≡ Complaint.Feature) }
+    ensures none { IfNone result ((operators.old.frames ≡ []) ⊎ ((refusal : Option Error)
+        × IsRefusal refusal operators.old operators.new × IfSome refusal (λ e. e.message ≡ Message.OutOfMemory))) }
 {
     let Some(frame) = operators.current_frame() else {
         return None;

@@ -1,19 +1,29 @@
 //! Going past operators.
-ghost use Rattle.std.specs.Prelude.{◌-◌};
+ghost use Rattle.std.specs.Prelude.{◌≡◌, ◌-◌, ◌<◌, length, IfOk, IfErr};
+ghost use Rattle.wasm_operators.specs.opcodes.Allowed.{EncodesAllowed};
+ghost use Rattle.wasm_operators.specs.opcodes.OperatorFaults.{OperatorFault};
+ghost use Rattle.wasm_operators.specs.Expression.{Placed};
 ghost use Rattle.wasm_operators.specs.Headline.{IsWithinDepth};
-ghost use Rattle.wasm_operators.specs.Reading.{GrowsLittle};
+ghost use Rattle.wasm_operators.specs.readers.Next.{NextMayAllocate};
+ghost use Rattle.wasm_operators.specs.Reading.{GrowsLittle, TakesOperators, StopsRead};
 
 use wasm_operators::{OperatorsReader, Result, run_laws};
 
-/// Goes past this many operators, or up to a refusal. Few frames are opened, and their memory grows
-/// little.
+/// Goes past this many operators, or up to a refusal, which is that of what stands there. Few frames
+/// are opened, and their memory grows little.
 ///
-/// The law `one_depth` bounds the frames behind one read, and `memory_adds_up` adds what is said of
-/// memory.
+/// The law `single_reads` says that reads one after another take a list, `one_depth` bounds the
+/// frames behind one read, and `memory_adds_up` adds what is said of memory.
 pub fn skip_operators(operators: &mut OperatorsReader<'_>, count: u32) -> Result<()>
+    ensures skipped { IfOk result (λ done. (placed : Placed) × (length placed ≡ count)
+        × TakesOperators operators.old operators.new placed) }
+    ensures refused { IfErr result (λ e. (placed : Placed) × (length placed < count)
+        × TakesOperators operators.old operators.new placed
+        × StopsRead EncodesAllowed OperatorFault (NextMayAllocate EncodesAllowed) e operators.new) }
     ensures depth { IsWithinDepth operators.old operators.new }
     ensures memory { GrowsLittle (operators.new.reader.position - operators.old.reader.position) operators.old operators.new }
 {
+    run_laws::single_reads();
     run_laws::one_depth();
     run_laws::memory_adds_up();
     for operator in 0..count {

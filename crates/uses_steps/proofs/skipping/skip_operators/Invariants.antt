@@ -1,6 +1,6 @@
 use Rattle.uses_steps.proofs.Skipped.{HasSkipped}
 use Rattle.uses_steps.proofs.skipping.skip_operators.Given as goal
 
--- few frames were opened, and their memory grew little
+-- so many operators were taken, few frames were opened, and their memory grew little
 abbrev pub invariant-loop-operator : goal.invariant-loop-operator
-invariant-loop-operator l = HasSkipped l.fn.operators l.operators
+invariant-loop-operator l = HasSkipped l.operator l.fn.operators l.operators
