@@ -2,6 +2,7 @@ pub mod Begun
 pub mod Codes
 pub mod Counted
 pub mod Declared
+pub mod Ended
 pub mod Items
 pub mod Left
 pub mod Ranges

@@ -1,5 +1,5 @@
 //! What bytes that may be an expression begin with.
-ghost use Rattle.std.specs.Prelude.{◌≡◌, ◌≢◌, length, IfOk, IfErr, IfSome, IfNone};
+ghost use Rattle.std.specs.Prelude.{◌≡◌, ◌≢◌, ℕ, length, IfOk, IfErr, IfSome, IfNone};
 ghost use Rattle.wasm_operators.specs.Expression.{Placed, EncodesExpression, IsLongestBeginning};
 ghost use Rattle.wasm_operators.specs.Flat.{IsFlatBeginning};
 ghost use Rattle.uses_steps.specs.Input.{input};
@@ -8,7 +8,7 @@ ghost use Rattle.uses_steps.specs.Begun.{IsWanted, BeginsExpression};
 use std::alloc::Global;
 use wasm_operators::{
     BinaryReader, Error, Message, Operator, OperatorsReader, Result, WasmFeatures, decoding_laws,
-    expression_laws, reading_laws,
+    expression_laws, grammar_laws, reading_laws,
 };
 
 /// What an expression that arrives in pieces still wants.
@@ -96,15 +96,22 @@ pub fn beginning_len(alloc: Global, features: WasmFeatures, bytes: &[u8]) -> Res
     }
 }
 
-/// How many bytes at the start of these are an expression, whatever follows them; `None` where it is
-/// not known that some are.
+/// How many bytes at the start of these are an expression, whatever follows them; `None` where none
+/// are.
 ///
-/// The law `run_messages` says that `OperatorsRemaining` is answered where no frame is open: what was
-/// read is an expression then.
+/// The law `run_messages` says that `OperatorsRemaining` is answered exactly where no frame is open:
+/// what was read is an expression then. Else a frame is open behind the longest beginning, of which an
+/// expression at the start of the bytes would be a part, by `one_layout`; and the frames of that would
+/// be closed, by `rules_accept_walks`, so that nothing followed it.
 pub fn expression_size(alloc: Global, features: WasmFeatures, bytes: &[u8]) -> Result<Option<usize>>
-    ensures { IfOk result (λ size. IfSome size (λ n. BeginsExpression (input features bytes.now) n)) }
+    ensures some { IfOk result (λ size. IfSome size (λ n. BeginsExpression (input features bytes.now) n)) }
+    ensures none { IfOk result (λ size. IfNone size ((n : ℕ) → BeginsExpression (input features bytes.now) n → ⊥)) }
 {
     decoding_laws::run_messages();
+    expression_laws::layouts(features);
+    expression_laws::one_layout(features);
+    grammar_laws::path_is_run::<Operator<'_>>();
+    grammar_laws::rules_accept_walks::<Operator<'_>>();
     let mut found = Vec::new(alloc);
     let mut reader = OperatorsReader::new(alloc, BinaryReader::new_features(bytes, 0, features));
     match reader.read_all(&mut found) {

@@ -158,14 +158,11 @@ fn compare_ways(
         ..
     } = texts;
     let told = run_lent(alloc, teller, task, bytes);
-    let is_same = is_same_visit(direct, told) && teller.text == *other;
-    write_way(line, is_same, told.1, &mut teller.text)?;
+    write_way(line, direct, told, other, &mut teller.text)?;
     let told = run_boxed(alloc, boxed, task, bytes);
-    let is_same = is_same_visit(direct, told) && boxed.text == *other;
-    write_way(line, is_same, told.1, &mut boxed.text)?;
+    write_way(line, direct, told, other, &mut boxed.text)?;
     let told = run_both(alloc, boxed, task, bytes);
-    let is_same = is_same_visit(direct, told) && boxed.text == *other;
-    write_way(line, is_same, told.1, &mut boxed.text)
+    write_way(line, direct, told, other, &mut boxed.text)
 }
 
 /// Of a vector operator, whether the call of its half visits the same by itself: of the visitor,
@@ -192,21 +189,6 @@ fn compare_halves(texts: &mut Texts, task: Task, bytes: &[u8], direct: (Told, us
     write_half(line, direct, told, other, &mut boxed.text)
 }
 
-/// Whether a visit by the call of a half, if it was made, is the direct one, whose text is `other`.
-fn write_half(
-    line: &mut String,
-    direct: (Told, usize),
-    told: Option<(Told, usize)>,
-    other: &String,
-    text: &mut String,
-) -> Written {
-    let Some(told) = told else {
-        return Ok(());
-    };
-    let is_same = is_same_visit(direct, told) && *text == *other;
-    write_way(line, is_same, told.1, text)
-}
-
 /// Whether two visits answer the same, and leave the reader at the same place.
 fn is_same_visit(a: (Told, usize), b: (Told, usize)) -> bool {
     let is_same = match (a.0, b.0) {
@@ -217,15 +199,37 @@ fn is_same_visit(a: (Told, usize), b: (Told, usize)) -> bool {
     is_same && a.1 == b.1
 }
 
-/// That a visit is the same, or what it visited and where it left the reader; the text is cleared.
-fn write_way(line: &mut String, is_same: bool, position: usize, text: &mut String) -> Written {
-    if is_same {
+/// That a visit is the direct one, whose text is `other`, or what it visited and where it left the
+/// reader. Its text is cleared.
+fn write_way(
+    line: &mut String,
+    direct: (Told, usize),
+    told: (Told, usize),
+    other: &String,
+    text: &mut String,
+) -> Written {
+    if is_same_visit(direct, told) && *text == *other {
         line.push_str(" same")?;
     } else {
+        let position = told.1;
         write!(line, " ({text} at {position})")?;
     }
     text.clear();
     Ok(())
+}
+
+/// The same of a visit by the call of a half, if it was made.
+fn write_half(
+    line: &mut String,
+    direct: (Told, usize),
+    told: Option<(Told, usize)>,
+    other: &String,
+    text: &mut String,
+) -> Written {
+    let Some(told) = told else {
+        return Ok(());
+    };
+    write_way(line, direct, told, other, text)
 }
 
 /// The offset at which cut data are found to end; more where anything else comes of them.
