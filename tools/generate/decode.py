@@ -20,8 +20,6 @@ COMMON = (
 )
 # Those that each have a call of their own besides, since the call of their part would stand inline once a run.
 ALONE = (0x00, 0x01, 0x0B, 0x0C, 0x0D, 0x0F, 0x10, 0x1A, 0x1B)
-# Those from here on, locals, loads and constants, are asked for first, since they are the most.
-FIRST_HIGH = 0x20
 # The call that decodes them, and the one that decodes the others.
 COMMON_CALL = "common_one_byte"
 OTHERS_CALL = "other_one_byte"
@@ -320,9 +318,8 @@ def group_call(ops, group, those):
 
 def common_call(ops, group, those):
     """The call that decodes the common operators of a group, and answers `None` of the others."""
-    high = some_arms(group_arms(those, lambda code: code in COMMON and code >= FIRST_HIGH))
-    low = some_arms(group_arms(those, lambda code: code in COMMON and code < FIRST_HIGH))
-    low += [f"        {part.code()} => Some({part.function}(v, reader, start))," for part in alone(ops, group)]
+    answers = [arm.partition(" => ") for arm in group_arms(those, lambda code: code in COMMON)]
+    answers += [(f"        {part.code()}", "", f"{part.function}(v, reader, start),") for part in alone(ops, group)]
     return [
         f"/// Reads what stands behind the opcode of a common one of {group.short}, and visits the operator. `None` of another opcode, and nothing changes.",
         "#[inline(always)]",
@@ -333,20 +330,12 @@ def common_call(ops, group, those):
         "    ensures visitor { IfNone result (v.new ≡ v.old) }",
         "{",
         "    match code {",
-        *high,
-        "        _ => match code {",
-        *[f"    {arm}" for arm in low],
-        "            _ => None,",
-        "        },",
+        *[f"{pattern} => Some({call[:-1]})," for pattern, _, call in answers],
+        "        _ => None,",
         "    }",
         "}",
         "",
     ]
-
-
-def some_arms(arms):
-    """Arms that answer `Some` of what these answer."""
-    return [f"{pattern} => Some({call[:-1]})," for pattern, _, call in (arm.partition(" => ") for arm in arms)]
 
 
 def group_head(group, those, name, inline, visibility, more=""):

@@ -54,23 +54,21 @@ pub fn common_one_byte<V: VisitOneByte>(
     ensures visitor { IfNone result (v.new ≡ v.old) }
 {
     match code {
+        0x02..=0x04 => Some(block_type(v, reader, start, code)),
         0x20..=0x26 => Some(unsigned(v, reader, start, code)),
         0x28..=0x3e => Some(memory(v, reader, start, code)),
         0x41 => Some(i32_const(v, reader, start)),
         0x42 => Some(i64_const(v, reader, start)),
-        _ => match code {
-            0x02..=0x04 => Some(block_type(v, reader, start, code)),
-            0x00 => Some(unreachable_alone(v, reader, start)),
-            0x01 => Some(nop_alone(v, reader, start)),
-            0x0b => Some(end_alone(v, reader, start)),
-            0x0c => Some(br_alone(v, reader, start)),
-            0x0d => Some(br_if_alone(v, reader, start)),
-            0x0f => Some(return_alone(v, reader, start)),
-            0x10 => Some(call_alone(v, reader, start)),
-            0x1a => Some(drop_alone(v, reader, start)),
-            0x1b => Some(select_alone(v, reader, start)),
-            _ => None,
-        },
+        0x00 => Some(unreachable_alone(v, reader, start)),
+        0x01 => Some(nop_alone(v, reader, start)),
+        0x0b => Some(end_alone(v, reader, start)),
+        0x0c => Some(br_alone(v, reader, start)),
+        0x0d => Some(br_if_alone(v, reader, start)),
+        0x0f => Some(return_alone(v, reader, start)),
+        0x10 => Some(call_alone(v, reader, start)),
+        0x1a => Some(drop_alone(v, reader, start)),
+        0x1b => Some(select_alone(v, reader, start)),
+        _ => None,
     }
 }
 
