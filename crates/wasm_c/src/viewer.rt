@@ -1,5 +1,6 @@
 //! The visitor that makes the plain data of an operator, and tells what it does to the frames.
 ghost use Rattle.std.specs.Prelude.{◌≡◌};
+ghost use Rattle.wasm_operators.specs.grammar.declared.frame_kind.FrameKind.{FrameKind};
 ghost use Rattle.wasm_operators.specs.instr.Roles.{role_of};
 ghost use Rattle.wasm_view.specs.View.{view_of};
 ghost use Rattle.wasm_c.specs.Frames.{change_of};
@@ -22,8 +23,11 @@ pub struct Viewer {
 }
 
 impl Viewer {
-    /// Before the first operator.
-    pub fn new() -> Viewer {
+    /// Before the first operator, in the frame of an expression.
+    pub fn new() -> Viewer
+        ensures frame { result.frame ≡ FrameKind.Block }
+        ensures offset { result.offset ≡ 0 }
+    {
         Viewer {
             frame: FrameKind::Block,
             offset: 0,
