@@ -107,7 +107,7 @@ def plain_answer(task, otherwise):
 
 
 def half(task):
-    """What is printed of the call of the half, where a subopcode stands behind the byte fd in a frame."""
+    """What is printed of the call of the half, where a subopcode stands behind the byte 0xfd in a frame."""
     number = (task.operator + task.behind)[1:6]
     size = next((at + 1 for at, byte in enumerate(number) if byte < 0x80), None)
     has_subopcode = size is not None and (size < 5 or number[4] < 0x10)

@@ -399,7 +399,7 @@ def plain_operators(part):
     low = part.group.module == "simd_low"
     return [
         "",
-        f"/// The vector operator without immediates of this subopcode {'below 80' if low else 'from 80 on'}.",
+        f"/// The vector operator without immediates of this subopcode {'below 0x80' if low else 'from 0x80 on'}.",
         "#[inline(always)]",
         f"pub fn plain_{part.group.module}(code: u32) -> SimdOperator",
         "    requires plain { entry_at (Some 0xfd) code ≡ free [] }",
@@ -429,7 +429,7 @@ def plain_vectors(ops):
             "",
             "use wasm_visit_groups::instr::SimdOperator;",
             "",
-            "/// Of each subopcode behind the byte fd, whether it is that of an operator without immediates.",
+            "/// Of each subopcode behind the byte 0xfd, whether it is that of an operator without immediates.",
             f"static PLAIN: [bool; {count}] = [{table}];",
             "",
             "/// What a table of them says of a subopcode.",
@@ -445,7 +445,7 @@ def plain_vectors(ops):
             "    plain[place]",
             "}",
             "",
-            "/// Whether an operator without immediates has this subopcode behind the byte fd.",
+            "/// Whether an operator without immediates has this subopcode behind the byte 0xfd.",
             "#[inline(always)]",
             "pub fn has_no_immediates(code: u32) -> bool",
             "    ensures told { result ≡ is_plain (entry_at (Some 0xfd) code) }",
@@ -704,7 +704,7 @@ def kinds_lemma(part):
 
 
 def simd_lemmas(ops):
-    """Where the entries of the vector operators with immediates stand, and that each code below 80 is an operator's."""
+    """Where the entries of the vector operators with immediates stand, and that each code below 0x80 is an operator's."""
     those = [part for group in GROUPS if group.enum == "Simd" for part in parts(ops, group)]
     others = ranges([op.code for part in those if not is_plain(part) for op in part.ops])
     each = "tt"

@@ -65,7 +65,7 @@ def entry_lists(ops):
     body = ["-- Behind an opcode."]
     body += entries("opcode_entries", [op for op in ops if not op.prefix], [int(it, 16) for it in PREFIXES])
     for prefix, name in names().items():
-        body.append(f"-- Behind the byte {prefix} and a subopcode.")
+        body.append(f"-- Behind the byte 0x{prefix} and a subopcode.")
         body += entries(name, [op for op in ops if op.prefix == prefix])
     body += [
         "-- The entries behind a prefix byte.",

@@ -1,4 +1,4 @@
-"""The visits of a visitor that has its own for each operator behind fc, for the program that compares visitors."""
+"""The visits of a visitor that has its own for each operator behind 0xfc, for the program that compares visitors."""
 
 from source import inner, rust_binding
 from table import HEAD

@@ -88,7 +88,7 @@ def row_faults(op):
     if op.proposal not in PROPOSALS:
         out.append(f"the proposal {op.proposal!r} is not known")
     if (op.prefix == "fd") != (op.proposal in VECTOR_PROPOSALS):
-        out.append("the vector operators are those behind fd, and those of simd and relaxed_simd")
+        out.append("the vector operators are those behind 0xfd, and those of simd and relaxed_simd")
     if not op.prefix and (op.code > 0xFF or f"{op.code:02x}" in PREFIXES):
         out.append(f"{op.code:02x} is a prefix byte, or more than a byte")
     if op.code > LARGEST_SUBOPCODE:

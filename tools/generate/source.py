@@ -224,7 +224,7 @@ def column(enum, ops, name, doc, ty, value):
         none = outside(enum, part, number == 0, number == len(parts) - 1)
         out += [
             "",
-            f"/// The same, for subopcodes from {part[0].code:02x} to {part[-1].code:02x}.",
+            f"/// The same, for subopcodes from 0x{part[0].code:02x} to 0x{part[-1].code:02x}.",
             f"fn {place}_{name}(&self) -> Option<{ty}>",
             f"ensures {{ MatchOption result {none} (λ x. x{now} ≡ {word} self.now) }}",
             "{",

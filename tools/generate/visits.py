@@ -33,12 +33,12 @@ class Group:
 
 GROUPS = [
     Group("one_byte", "VisitOneByte", "Own", "the operators of one byte", "the operators of one byte that are not numeric, but for the branch table", "Instructions."),
-    Group("numeric", "VisitNumeric", "Numeric", "the numeric operators", "the numeric operators of one byte, 45 to c4", "Numeric Instructions."),
-    Group("gc", "VisitGc", "Gc", "the operators behind fb", "the operators behind the byte fb", "Aggregate Instructions."),
-    Group("misc", "VisitMisc", "Misc", "the operators behind fc", "the operators behind the byte fc", "Numeric, Memory and Table Instructions."),
-    Group("atomic", "VisitAtomic", "Atomic", "the operators behind fe", "the operators behind the byte fe", "Proposal threads."),
-    Group("simd_low", "VisitSimdLow", "Simd", "the vector operators below 80", "the vector operators of a subopcode below 80", "Vector Instructions."),
-    Group("simd_high", "VisitSimdHigh", "Simd", "the vector operators from 80 on", "the vector operators of a subopcode from 80 on", "Vector Instructions."),
+    Group("numeric", "VisitNumeric", "Numeric", "the numeric operators", "the numeric operators of one byte, 0x45 to 0xc4", "Numeric Instructions."),
+    Group("gc", "VisitGc", "Gc", "the operators behind 0xfb", "the operators behind the byte 0xfb", "Aggregate Instructions."),
+    Group("misc", "VisitMisc", "Misc", "the operators behind 0xfc", "the operators behind the byte 0xfc", "Numeric, Memory and Table Instructions."),
+    Group("atomic", "VisitAtomic", "Atomic", "the operators behind 0xfe", "the operators behind the byte 0xfe", "Proposal threads."),
+    Group("simd_low", "VisitSimdLow", "Simd", "the vector operators below 0x80", "the vector operators of a subopcode below 0x80", "Vector Instructions."),
+    Group("simd_high", "VisitSimdHigh", "Simd", "the vector operators from 0x80 on", "the vector operators of a subopcode from 0x80 on", "Vector Instructions."),
 ]
 # The operators whose visits stand in groups of `VisitGroups`, and in those of `VisitSimdOperator`.
 FIXED = [group for group in GROUPS if group.enum != "Simd"]

@@ -11,7 +11,7 @@ import forwarding
 TRAIT = """\
 /// Visitors.
 pub trait VisitGroups: Visitor {
-    /// Visits an operator behind the byte fc.
+    /// Visits an operator behind the byte 0xfc.
     ///
     /// A visitor with visits in `VisitMisc` says `dispatch::misc(self, op)` here.
     fn dispatch_misc(&mut self, op: MiscOperator) -> Self::Output

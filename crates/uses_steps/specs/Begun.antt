@@ -6,7 +6,7 @@ use Rattle.wasm_operators.specs.Headline.{IsCut, IsCompletedByEnds}
 use Rattle.uses_steps.specs.declared.beginnings.Wanted.{Wanted}
 use Rattle.uses_steps.specs.declared.beginnings.Wanted.TheVariants as wanted
 
--- What is said to be wanted behind the bytes: they are an expression; some bytes 0b make them one; or, of those of which it is never wanted, no bytes do.
+-- What is said to be wanted behind the bytes: they are an expression; some bytes 0x0b make them one; or, of those of which it is never wanted, no bytes do.
 abbrev pub IsWanted : Source → Wanted → Type 0
 IsWanted s wanted.Nothing = (placed : Placed) × EncodesExpression s placed
 IsWanted s wanted.Ends = (n : ℕ) × IsCompletedByEnds [] s n

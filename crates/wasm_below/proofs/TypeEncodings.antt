@@ -104,7 +104,7 @@ no_exact text after more n p over t2 more2 (heap.Exact i) (behind, prefix, q, wi
     cc (e, ap (λ z. z ++ more2) prefix))).1 in
     omega (arith, within)
 
--- behind the byte 98
+-- behind the byte 0x62
 pub exact_behind : (tail : List ℕ) (h : HeapType) → EncodesExact (98 ∷ tail) h → (n : ℕ) × EncodesUnsigned 32 tail n
 exact_behind tail (heap.Abstract shared t) p = absurd p
 exact_behind tail (heap.Concrete i) p = absurd p
@@ -197,7 +197,7 @@ value_is_ref b l tail (value.Ref r) p = (r, refl, p)
 pub value_ref : (b : ℕ) → LeadsRefType b → (tail : List ℕ) (v : ValType) → EncodesValType (b ∷ tail) v → (r : Reference) × EncodesRefType (b ∷ tail) r
 value_ref b l tail v p = (let s = value_is_ref b l tail v p in (s.0, s.2))
 
--- what is wrong behind the byte 99 or 100 is wrong with the reference type
+-- what is wrong behind the byte 0x63 or 0x64 is wrong with the reference type
 pub long_fault : (result : Result Reference Error) (n : Bool) (r : Reader) → BeginsWith (ref_byte n) (rest r) →
     IfErr result (λ e. HeapTypeFault e.message (behind_byte r) e.offset) → IfErr result (λ e. RefTypeFault e.message r e.offset)
 long_fault (Ok x) n r prefix h = tt

@@ -18,7 +18,7 @@ end_short name e r h = subst (λ m. ShortFault name m r e.offset) (sym h.0) (h.1
 pub end_byte : (name : TypeName) (e : Error) (r : Reader) → IsEndHere e r → ByteFault name e.message r e.offset
 end_byte name e r h = subst (λ m. ByteFault name m r e.offset) (sym h.0) (h.1 ∙ h.2, none_here r h.2)
 
--- a byte that begins no short form, and one behind the byte 65 that ends none
+-- a byte that begins no short form, and one behind the byte 0x65 that ends none
 pub other_byte : (b : ℕ) (bytes after : List ℕ) → bytes ≡ b ∷ after → b ≢ 0x65 → IsCutShort bytes → ⊥
 other_byte b bytes after e x (inl f) = cc (e, f)
 other_byte b bytes after e x (inr f) = x (let g : b ≡ 0x65 = cc (e, f) in g)
@@ -27,7 +27,7 @@ pub two_bytes : (b c : ℕ) (bytes after : List ℕ) → bytes ≡ b ∷ c ∷ a
 two_bytes b c bytes after e (inl f) = cc (e, f)
 two_bytes b c bytes after e (inr f) = cc (e, f)
 
--- the data ends behind the byte 65
+-- the data ends behind the byte 0x65
 pub end_shared : (name : TypeName) (e : Error) (old mid : Reader) → Takes old mid (0x65 ∷ []) → IsEndHere e mid → ShortFault name e.message old e.offset
 end_shared name e old mid t h =
     let ends : end_of mid ≡ end_of old = ap end_of t.moved in

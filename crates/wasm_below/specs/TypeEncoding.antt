@@ -1,5 +1,5 @@
 -- Types as bytes.
--- WebAssembly Core Specification 3.0, Binary Format, Types: Heap Types, Reference Types, Value Types. Of proposals beyond it are the bytes 62 (exact), 65 (shared), 68 (cont) and 75 (nocont). Bytes in comments are hexadecimal.
+-- WebAssembly Core Specification 3.0, Binary Format, Types: Heap Types, Reference Types, Value Types. Of proposals beyond it are the bytes 0x62 (exact), 0x65 (shared), 0x68 (cont) and 0x75 (nocont).
 use Rattle.std.specs.Prelude.{◌≡◌, ◌≢◌, ℕ, ◌+◌, ◌≤◌, ◌⊎◌, Bool, true, false, List, [], ◌∷◌, pos}
 use Rattle.wasm_below_bytes.specs.declared.message.Message.{Message}
 use Rattle.wasm_below_bytes.specs.declared.message.Message.TheVariants as message
@@ -33,7 +33,7 @@ heap_type_byte ty.Array = 0x6a
 heap_type_byte ty.Exn = 0x69
 heap_type_byte ty.Cont = 0x68
 
--- A short form: the byte of an abstract heap type; where it is shared, behind the byte 65.
+-- A short form: the byte of an abstract heap type; where it is shared, behind the byte 0x65.
 --   absheaptype ::= 0x69 ⇒ exn | 0x6A ⇒ array | 0x6B ⇒ struct | 0x6C ⇒ i31 | 0x6D ⇒ eq | 0x6E ⇒ any | 0x6F ⇒ extern
 --                 | 0x70 ⇒ func | 0x71 ⇒ none | 0x72 ⇒ noextern | 0x73 ⇒ nofunc | 0x74 ⇒ noexn
 abbrev pub EncodesShort : List ℕ → HeapType → Type 0
@@ -46,7 +46,7 @@ abbrev pub EncodesConcrete : List ℕ → HeapType → Type 0
 EncodesConcrete text (heap.Concrete index) = EncodesSigned 33 text (pos index) × (index ≤ max_type_index)
 EncodesConcrete text _ = ⊥
 
--- The byte 62 and an index of a type.
+-- The byte 0x62 and an index of a type.
 abbrev pub EncodesExact : List ℕ → HeapType → Type 0
 EncodesExact text (heap.Exact index) = (behind : List ℕ) × (text ≡ 0x62 ∷ behind) × EncodesUnsigned 32 behind index × (index ≤ max_type_index)
 EncodesExact text _ = ⊥
@@ -58,7 +58,7 @@ EncodesHeapType text (heap.Abstract shared ty) = EncodesShort text (heap.Abstrac
 EncodesHeapType text (heap.Concrete index) = EncodesConcrete text (heap.Concrete index)
 EncodesHeapType text (heap.Exact index) = EncodesExact text (heap.Exact index)
 
--- The byte before a heap type: 63 where null is in the type, else 64.
+-- The byte before a heap type: 0x63 where null is in the type, else 0x64.
 abbrev pub ref_byte : Bool → ℕ
 ref_byte true = 0x63
 ref_byte false = 0x64
@@ -104,11 +104,11 @@ LeadsShort byte = (0x65 ≤ byte) × (byte ≤ 0x75) × (byte ≢ 0x66) × (byte
 abbrev pub LeadsRefType : ℕ → Type 0
 LeadsRefType byte = (0x63 ≤ byte) × (byte ≤ 0x75) × (byte ≢ 0x66) × (byte ≢ 0x67)
 
--- Short forms whose bytes are missing: nothing, and the byte 65 alone.
+-- Short forms whose bytes are missing: nothing, and the byte 0x65 alone.
 abbrev pub IsCutShort : List ℕ → Type 0
 IsCutShort bytes = (bytes ≡ []) ⊎ (bytes ≡ 0x65 ∷ [])
 
--- Which refusal a short form has: the data ends where it begins or behind the byte 65, or no type of this name stands there.
+-- Which refusal a short form has: the data ends where it begins or behind the byte 0x65, or no type of this name stands there.
 abbrev pub ShortFault : TypeName → Message → Reader → ℕ → Type 0
 ShortFault name message.EndOfData r offset = (offset ≡ end_of r) × IsCutShort (rest r)
 ShortFault name (message.InvalidType what) r offset = (what ≡ name) × (offset ≡ offset_of r) × (¬ IsCutShort (rest r))
@@ -124,7 +124,7 @@ ByteFault name _ r offset = ⊥
 abbrev pub NoIndex : Reader → Message → Reader → ℕ → Type 0
 NoIndex begin m r offset = (m ≡ message.InvalidType type_name.HeapType) × (offset ≡ offset_of begin)
 
--- Which refusal an index behind the byte 62 has, and one by itself: that of its number, or the number is no index.
+-- Which refusal an index behind the byte 0x62 has, and one by itself: that of its number, or the number is no index.
 abbrev pub ExactFault : Message → Reader → ℕ → Type 0
 ExactFault m r offset = ThenFault (EncodesUnsigned 32) U32Fault (λ n. NoIndex r) m (behind_byte r) offset
 
@@ -135,11 +135,11 @@ ConcreteFault m r offset = ThenFault (EncodesSigned 33) S33Fault (λ n. NoIndex 
 abbrev pub LedBy : (ℕ → Type 0) → List ℕ → Type 0
 LedBy Leads bytes = (byte : ℕ) × Leads byte × BeginsWith byte bytes
 
--- Which refusal a heap type has: behind the byte 62 that of an index, where a short form begins that of one, else that of an index by itself.
+-- Which refusal a heap type has: behind the byte 0x62 that of an index, where a short form begins that of one, else that of an index by itself.
 abbrev pub HeapTypeFault : Message → Reader → ℕ → Type 0
 HeapTypeFault m r offset = (BeginsWith 0x62 (rest r) × ExactFault m r offset) ⊎ ((LedBy LeadsShort (rest r) × ShortFault type_name.HeapType m r offset) ⊎ ((¬ BeginsWith 0x62 (rest r)) × (¬ LedBy LeadsShort (rest r)) × ConcreteFault m r offset))
 
--- Which refusal a reference type has: behind the byte 63 or 64 that of a heap type, else one of its own.
+-- Which refusal a reference type has: behind the byte 0x63 or 0x64 that of a heap type, else one of its own.
 abbrev pub RefTypeFault : Message → Reader → ℕ → Type 0
 RefTypeFault m r offset = ((nullable : Bool) × BeginsWith (ref_byte nullable) (rest r) × HeapTypeFault m (behind_byte r) offset) ⊎ (((nullable : Bool) → BeginsWith (ref_byte nullable) (rest r) → ⊥) × ShortFault type_name.ReferenceType m r offset)
 

@@ -108,7 +108,7 @@ impl VisitGroups for CountSome {
     }
 
     #[inline(always)]
-    fn decode_below_20(
+    fn decode_below_0x20(
         &mut self,
         alloc: Global,
         reader: &mut BinaryReader<'_>,

@@ -182,7 +182,7 @@ pub prefix_vector : (op : Operator) → prefix_of op ≡ Some 0xfd → IsVector 
 prefix_vector (operator.Simd op) e = tt
 prefix_vector op e = absurd (omega (arith, ap number_in e))
 
--- an operator without the prefix byte fd in front is no vector operator
+-- an operator without the prefix byte 0xfd in front is no vector operator
 scalar_behind : (f : WasmFeatures) (op : Operator) (code : ℕ) (text after left : List ℕ) → code ≢ 0xfd → EncodesOperator f op text → code ∷ after ≡ text ++ left → ¬ IsVector op
 scalar_behind f op code text after left other s eq h = go (prefix_of op) refl s.code
   where
@@ -209,7 +209,7 @@ refused_scalar f k e old h =
           );
     }
 
--- what is decoded behind another opcode than fd, is by a scalar visitor too
+-- what is decoded behind another opcode than 0xfd, is by a scalar visitor too
 pub to_scalar : {V A : Type 0} (visits : V → Operator → A → V → Type 0) (k : FrameKind) (start code : ℕ) (mid new : Reader) (v w : V) (result : Result A Error) → code ≢ 0xfd →
     StandsBehind start None code mid → Decodes visits (EncodesAllowed mid.features k) (OperatorFault mid.features k) result (at_position mid start) new v w →
     Decodes visits (EncodesScalar mid.features k) (ScalarOperatorFault mid.features k) result (at_position mid start) new v w
@@ -237,7 +237,7 @@ refuses_end_scalar k e old new r end =
     empty : (more : List ℕ) → [] ≡ 0xfd ∷ more → ⊥
     empty more q = cc q
 
--- the byte fd, whatever stands behind it
+-- the byte 0xfd, whatever stands behind it
 pub refuses_vector : (k : FrameKind) (start : ℕ) (e : Error) (mid new : Reader) → entry_at None 0xfd ≡ prefixes → StandsBehind start None 0xfd mid → new ≡ at_position mid start →
     e.message ≡ message.UnexpectedSimd → e.offset ≡ mid.start + start →
     RefusesOperator (EncodesScalar mid.features k) (ScalarOperatorFault mid.features k) e (at_position mid start) new
@@ -290,7 +290,7 @@ abbrev is_prefixes : Entry → Bool
 is_prefixes prefixes = true
 is_prefixes _ = false
 
--- the prefix bytes are fb to fe
+-- the prefix bytes are 0xfb to 0xfe
 pub prefix_bytes : (code : ℕ) → entry_at None code ≡ prefixes → InRanges code ((0xfb, 0xfe) ∷ [])
 prefix_bytes code e = codes_in is_prefixes ((0xfb, 0xfe) ∷ []) opcode_entries code refl refl (ap is_prefixes e)
 

@@ -66,7 +66,7 @@ pub fn group_behind<V: VisitGroups>(
     }
 }
 
-/// An operator behind the byte fb.
+/// An operator behind the byte 0xfb.
 #[inline(always)]
 fn gc_behind<V: VisitGroups>(
     v: &mut V,
@@ -86,7 +86,7 @@ fn gc_behind<V: VisitGroups>(
     }
 }
 
-/// The subopcode behind the byte fb, and the operator's visit; else the refusal in the place for it.
+/// The subopcode behind the byte 0xfb, and the operator's visit; else the refusal in the place for it.
 #[inline(never)]
 fn gc_out_of_line<V: VisitGroups>(
     v: &mut V,
@@ -125,7 +125,7 @@ fn gc_of<V: VisitGroups>(
     }
 }
 
-/// An operator behind the byte fc.
+/// An operator behind the byte 0xfc.
 #[inline(always)]
 fn misc_behind<V: VisitGroups>(
     v: &mut V,
@@ -145,7 +145,7 @@ fn misc_behind<V: VisitGroups>(
     }
 }
 
-/// The subopcode behind the byte fc, and the operator's visit; else the refusal in the place for it.
+/// The subopcode behind the byte 0xfc, and the operator's visit; else the refusal in the place for it.
 #[inline(never)]
 fn misc_out_of_line<V: VisitGroups>(
     v: &mut V,
@@ -184,7 +184,7 @@ fn misc_of<V: VisitGroups>(
     }
 }
 
-/// An operator behind the byte fe.
+/// An operator behind the byte 0xfe.
 #[inline(always)]
 fn atomic_behind<V: VisitGroups>(
     v: &mut V,
@@ -204,7 +204,7 @@ fn atomic_behind<V: VisitGroups>(
     }
 }
 
-/// The subopcode behind the byte fe, and the operator's visit; else the refusal in the place for it.
+/// The subopcode behind the byte 0xfe, and the operator's visit; else the refusal in the place for it.
 #[inline(never)]
 fn atomic_out_of_line<V: VisitGroups>(
     v: &mut V,
@@ -243,7 +243,7 @@ fn atomic_of<V: VisitGroups>(
     }
 }
 
-/// A vector operator, behind the byte fd.
+/// A vector operator, behind the byte 0xfd.
 #[inline(always)]
 pub fn simd_behind<V: VisitSimdOperator>(
     v: &mut V,

@@ -14,7 +14,7 @@ mod visit;
 pub use read::{read_behind, read_operator};
 pub use refusals::no_frame;
 pub use visit::{
-    visit_behind, visit_behind_simd, visit_below_20, visit_operator, visit_operator_simd,
+    visit_behind, visit_behind_simd, visit_below_0x20, visit_operator, visit_operator_simd,
 };
 pub use wasm_visit::{below, grammar, imm, instr};
 

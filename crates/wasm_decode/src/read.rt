@@ -69,7 +69,7 @@ fn read_table<'a>(reader: &mut BinaryReader<'a>, start: usize) -> Result<Operato
     }
 }
 
-/// A vector operator, behind the byte fd.
+/// A vector operator, behind the byte 0xfd.
 #[inline(always)]
 fn read_simd(reader: &mut BinaryReader<'_>, start: usize) -> Result<Operator<'static>>
     requires { StandsBehind start None 0xfd reader.old }

@@ -18,7 +18,7 @@ pub fn no_frame(reader: &BinaryReader<'_>) -> Error
     Error::new(Message::OperatorsRemaining, reader.original_position())
 }
 
-/// The byte fd, at which a scalar visitor is refused, whatever stands behind it.
+/// The byte 0xfd, at which a scalar visitor is refused, whatever stands behind it.
 #[inline(always)]
 pub fn unexpected_simd(reader: &mut BinaryReader<'_>, start: usize) -> Error
     requires { StandsBehind start None 0xfd reader.old }

@@ -69,7 +69,7 @@ where
 /// Visits the operator at the start of the rest, which is no vector operator, where `frame` is the
 /// innermost frame.
 ///
-/// `UnexpectedSimd` at the byte fd, whatever stands behind it; else as `visit_operator_simd`.
+/// `UnexpectedSimd` at the byte 0xfd, whatever stands behind it; else as `visit_operator_simd`.
 #[inline(always)]
 pub fn visit_operator<'a, V: VisitOperator<'a>>(
     v: &mut V,
@@ -92,7 +92,7 @@ pub fn visit_operator<'a, V: VisitOperator<'a>>(
 /// Visits the operator of this opcode, which was read at the position `start` and is no vector
 /// operator's.
 ///
-/// `UnexpectedSimd` at `start` where the opcode is fd; else as `visit_behind_simd`.
+/// `UnexpectedSimd` at `start` where the opcode is 0xfd; else as `visit_behind_simd`.
 #[inline(always)]
 pub fn visit_behind<'a, V: VisitOperator<'a>>(
     v: &mut V,
@@ -112,12 +112,12 @@ pub fn visit_behind<'a, V: VisitOperator<'a>>(
     }
 }
 
-/// Visits the operator of this opcode below 20, which was read at the position `start`: of one of the
+/// Visits the operator of this opcode below 0x20, which was read at the position `start`: of one of the
 /// control and parametric instructions.
 ///
 /// Refusals are those of `visit_behind_simd`.
 #[inline(always)]
-pub fn visit_below_20<'a, V: VisitOperator<'a>>(
+pub fn visit_below_0x20<'a, V: VisitOperator<'a>>(
     v: &mut V,
     alloc: Global,
     reader: &mut BinaryReader<'a>,
@@ -132,7 +132,7 @@ pub fn visit_below_20<'a, V: VisitOperator<'a>>(
 {
     match code {
         0x0e => table_behind(v, reader, start),
-        _ => v.decode_below_20(alloc, reader, start, frame, code),
+        _ => v.decode_below_0x20(alloc, reader, start, frame, code),
     }
 }
 

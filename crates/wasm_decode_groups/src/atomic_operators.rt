@@ -1,4 +1,4 @@
-//! Decoding of the operators behind fe. Written by tools/lists.py from tools/operators.tsv.
+//! Decoding of the operators behind 0xfe. Written by tools/lists.py from tools/operators.tsv.
 ghost use Rattle.std.specs.Prelude.{◌≡◌, ◌<◌, [], ◌∷◌, Some, None};
 ghost use Rattle.wasm_visit_groups.specs.grammar.declared.frame_kind.FrameKind.{FrameKind};
 ghost use Rattle.wasm_visit_groups.specs.instr.Immediate.{unsigned_32, memory_argument, order, is_unsigned_32, is_order, is_memory_argument};
@@ -11,7 +11,7 @@ use wasm_visit_groups::VisitAtomic;
 use wasm_visit_groups::below::{BinaryReader, Result};
 use wasm_visit_groups::imm::{MemArg, MemArgKind, Ordering};
 
-/// Reads what stands behind the subopcode of one of the operators behind fe, and visits the operator.
+/// Reads what stands behind the subopcode of one of the operators behind 0xfe, and visits the operator.
 #[inline(always)]
 pub fn atomic<V: VisitAtomic>(
     v: &mut V,

@@ -1,4 +1,4 @@
-//! Decoding of the operators behind fb. Written by tools/lists.py from tools/operators.tsv.
+//! Decoding of the operators behind 0xfb. Written by tools/lists.py from tools/operators.tsv.
 ghost use Rattle.std.specs.Prelude.{◌≡◌, ◌<◌, [], ◌∷◌, Some, None};
 ghost use Rattle.wasm_visit_groups.specs.grammar.declared.frame_kind.FrameKind.{FrameKind};
 ghost use Rattle.wasm_visit_groups.specs.instr.Immediate.{unsigned_32, heap_type, cast, is_unsigned_32, is_heap_type, is_cast};
@@ -11,7 +11,7 @@ use wasm_visit_groups::VisitGc;
 use wasm_visit_groups::below::{BinaryReader, HeapType, Result};
 use wasm_visit_groups::imm::Cast;
 
-/// Reads what stands behind the subopcode of one of the operators behind fb, and visits the operator.
+/// Reads what stands behind the subopcode of one of the operators behind 0xfb, and visits the operator.
 #[inline(always)]
 pub fn gc<V: VisitGc>(
     v: &mut V,

@@ -1,4 +1,4 @@
-//! Decoding of the operators behind fc. Written by tools/lists.py from tools/operators.tsv.
+//! Decoding of the operators behind 0xfc. Written by tools/lists.py from tools/operators.tsv.
 ghost use Rattle.std.specs.Prelude.{◌≡◌, ◌<◌, [], ◌∷◌, Some, None};
 ghost use Rattle.wasm_visit_groups.specs.grammar.declared.frame_kind.FrameKind.{FrameKind};
 ghost use Rattle.wasm_visit_groups.specs.instr.Immediate.{unsigned_32, is_unsigned_32};
@@ -10,7 +10,7 @@ use wasm_decode_opcodes::{immediates, unknown_subopcode};
 use wasm_visit_groups::VisitMisc;
 use wasm_visit_groups::below::{BinaryReader, Result};
 
-/// Reads what stands behind the subopcode of one of the operators behind fc, and visits the operator.
+/// Reads what stands behind the subopcode of one of the operators behind 0xfc, and visits the operator.
 #[inline(always)]
 pub fn misc<V: VisitMisc>(
     v: &mut V,

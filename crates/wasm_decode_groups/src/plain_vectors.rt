@@ -6,7 +6,7 @@ ghost use Rattle.wasm_decode_groups.specs.Plain.{IsPlainVector, is_plain};
 
 use wasm_visit_groups::instr::SimdOperator;
 
-/// Of each subopcode behind the byte fd, whether it is that of an operator without immediates.
+/// Of each subopcode behind the byte 0xfd, whether it is that of an operator without immediates.
 static PLAIN: [bool; 276] = [
     false, false, false, false, false, false, false, false, false, false, false, false, false,
     false, true, true, true, true, true, true, true, false, false, false, false, false, false,
@@ -42,7 +42,7 @@ fn plain_in(plain: &[bool; 276], code: u32) -> bool
     plain[place]
 }
 
-/// Whether an operator without immediates has this subopcode behind the byte fd.
+/// Whether an operator without immediates has this subopcode behind the byte 0xfd.
 #[inline(always)]
 pub fn has_no_immediates(code: u32) -> bool
     ensures told { result ≡ is_plain (entry_at (Some 0xfd) code) }
@@ -51,7 +51,7 @@ pub fn has_no_immediates(code: u32) -> bool
     plain_in(&PLAIN, code)
 }
 
-/// The vector operator without immediates of this subopcode below 80.
+/// The vector operator without immediates of this subopcode below 0x80.
 #[inline(always)]
 pub fn plain_simd_low(code: u32) -> SimdOperator
     requires plain { entry_at (Some 0xfd) code ≡ free [] }
@@ -152,7 +152,7 @@ pub fn plain_simd_low(code: u32) -> SimdOperator
     }
 }
 
-/// The vector operator without immediates of this subopcode from 80 on.
+/// The vector operator without immediates of this subopcode from 0x80 on.
 #[inline(always)]
 pub fn plain_simd_high(code: u32) -> SimdOperator
     requires plain { entry_at (Some 0xfd) code ≡ free [] }

@@ -1,4 +1,4 @@
-//! Decoding of the vector operators from 80 on. Written by tools/lists.py from tools/operators.tsv.
+//! Decoding of the vector operators from 0x80 on. Written by tools/lists.py from tools/operators.tsv.
 ghost use Rattle.std.specs.Prelude.{◌≡◌, ◌≤◌, ◌<◌, [], ◌∷◌, Some, None};
 ghost use Rattle.wasm_visit_groups.specs.grammar.declared.frame_kind.FrameKind.{FrameKind};
 ghost use Rattle.wasm_visit_groups.specs.instr.Immediate.{vector};
@@ -11,7 +11,7 @@ use wasm_decode_opcodes::{immediates, unknown_subopcode};
 use wasm_visit_groups::VisitSimdHigh;
 use wasm_visit_groups::below::{BinaryReader, Result};
 
-/// Reads what stands behind the subopcode of one of the vector operators from 80 on, and visits the operator.
+/// Reads what stands behind the subopcode of one of the vector operators from 0x80 on, and visits the operator.
 #[inline(always)]
 pub fn simd_high<V: VisitSimdHigh>(
     v: &mut V,

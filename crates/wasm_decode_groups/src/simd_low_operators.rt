@@ -1,4 +1,4 @@
-//! Decoding of the vector operators below 80. Written by tools/lists.py from tools/operators.tsv.
+//! Decoding of the vector operators below 0x80. Written by tools/lists.py from tools/operators.tsv.
 ghost use Rattle.std.specs.Prelude.{◌≡◌, ◌<◌, [], ◌∷◌, Some, None};
 ghost use Rattle.wasm_visit_groups.specs.grammar.declared.frame_kind.FrameKind.{FrameKind};
 ghost use Rattle.wasm_visit_groups.specs.instr.Immediate.{vector, one_lane, memory_argument, is_one_lane, is_memory_argument};
@@ -12,7 +12,7 @@ use wasm_visit_groups::VisitSimdLow;
 use wasm_visit_groups::below::{BinaryReader, Result};
 use wasm_visit_groups::imm::{MemArg, MemArgKind, V128};
 
-/// Reads what stands behind the subopcode of one of the vector operators below 80, and visits the operator.
+/// Reads what stands behind the subopcode of one of the vector operators below 0x80, and visits the operator.
 #[inline(always)]
 pub fn simd_low<V: VisitSimdLow>(
     v: &mut V,

@@ -267,7 +267,7 @@ opcode_entries =
     prefixes ∷
     []
 
--- Behind the byte fb and a subopcode.
+-- Behind the byte 0xfb and a subopcode.
 abbrev pub gc_entries : List Entry
 gc_entries =
     (free (is_unsigned_32 ∷ [])) ∷
@@ -311,7 +311,7 @@ gc_entries =
     (free (is_cast ∷ [])) ∷
     []
 
--- Behind the byte fc and a subopcode.
+-- Behind the byte 0xfc and a subopcode.
 abbrev pub misc_entries : List Entry
 misc_entries =
     (free []) ∷
@@ -339,7 +339,7 @@ misc_entries =
     (free []) ∷
     []
 
--- Behind the byte fd and a subopcode.
+-- Behind the byte 0xfd and a subopcode.
 abbrev pub simd_entries : List Entry
 simd_entries =
     (free (is_memory_argument kind.Plain 4 ∷ [])) ∷
@@ -620,7 +620,7 @@ simd_entries =
     (free []) ∷
     []
 
--- Behind the byte fe and a subopcode.
+-- Behind the byte 0xfe and a subopcode.
 abbrev pub atomic_entries : List Entry
 atomic_entries =
     (free (is_memory_argument kind.Plain 2 ∷ [])) ∷

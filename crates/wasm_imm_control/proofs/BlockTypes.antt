@@ -44,7 +44,7 @@ value_block b low high tail block.Empty p = let e : b ≡ 64 = cc p in absurd (o
 value_block b low high tail (block.Value v) p = (v, p)
 value_block b low high tail (block.FuncType i) p = absurd (index_leads 33 b tail i p (omega arith) (omega arith))
 
--- where neither a value type nor the byte 40 stands
+-- where neither a value type nor the byte 0x40 stands
 pub function_block : (b : ℕ) → ((64 ≤ b) × (b ≤ 127) → ⊥) → (tail : List ℕ) (t : BlockType) → EncodesBlockType (b ∷ tail) t → EncodesFunctionType (b ∷ tail) t
 function_block b far tail block.Empty p = let e : b ≡ 64 = cc p in absurd (far (omega arith, omega arith))
 function_block b far tail (block.Value v) p = let w = value_within b tail v p in absurd (far (omega (arith, w.0), w.1))

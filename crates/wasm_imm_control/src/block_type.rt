@@ -21,7 +21,7 @@ pub enum BlockType {
 impl BlockType {
     /// A block type. Control Instructions.
     ///
-    /// Where a byte from 41 to 7f leads, refused as `ValType::read`. Else as `read_var_s33`, or by
+    /// Where a byte from 0x41 to 0x7f leads, refused as `ValType::read`. Else as `read_var_s33`, or by
     /// `InvalidFunctionType` behind a negative number.
     #[inline(always)]
     pub fn read(reader: &mut BinaryReader<'_>) -> Result<BlockType>

@@ -129,7 +129,7 @@ arity_of_switch m i = option_and_then (λ a. option_map (λ b. (a.0, b.0)) (arit
 abbrev pub arity_of_struct : Answers → ℕ → Arity
 arity_of_struct m i = option_map (λ n. (n, 1)) (m.struct_type_fields i)
 
--- The operators behind the byte fb.
+-- The operators behind the byte 0xfb.
 abbrev pub gc_arity_of : Answers → GcOperator → Arity
 gc_arity_of m (gc.StructNew i) = arity_of_struct m i
 gc_arity_of m (gc.StructNewDesc i) = option_and_then (taking_more 1) (arity_of_struct m i)

@@ -82,7 +82,7 @@ numeric_pair numeric.I64Extend16S = (1, 1)
 numeric_pair numeric.I64Extend32S = (1, 1)
 numeric_pair _ = (2, 1)
 
--- Of the operators behind the byte fb; none where it depends on the module.
+-- Of the operators behind the byte 0xfb; none where it depends on the module.
 abbrev pub gc_pair : GcOperator → Option (ℕ × ℕ)
 gc_pair (gc.StructNewDefault _) = Some (0, 1)
 gc_pair (gc.StructSet _ _) = Some (2, 0)
@@ -108,7 +108,7 @@ gc_pair (gc.BrOnCastDescEq _ _ _) = None
 gc_pair (gc.BrOnCastDescEqFail _ _ _) = None
 gc_pair _ = Some (1, 1)
 
--- Of the operators behind the byte fc.
+-- Of the operators behind the byte 0xfc.
 abbrev pub misc_pair : MiscOperator → ℕ × ℕ
 misc_pair (misc.MemoryInit _ _) = (3, 0)
 misc_pair (misc.MemoryCopy _ _) = (3, 0)
@@ -127,7 +127,7 @@ misc_pair misc.I64MulWideS = (2, 2)
 misc_pair misc.I64MulWideU = (2, 2)
 misc_pair _ = (1, 1)
 
--- Of the operators behind the byte fd.
+-- Of the operators behind the byte 0xfd.
 abbrev pub simd_pair : SimdOperator → ℕ × ℕ
 simd_pair (simd.V128Load memarg) = (reaching memarg 1, 1)
 simd_pair (simd.V128Load8x8S memarg) = (reaching memarg 1, 1)
@@ -241,7 +241,7 @@ simd_pair simd.I64x2RelaxedLaneselect = (3, 1)
 simd_pair simd.I32x4RelaxedDotI8x16I7x16AddS = (3, 1)
 simd_pair _ = (2, 1)
 
--- Of the operators behind the byte fe.
+-- Of the operators behind the byte 0xfe.
 abbrev pub atomic_pair : AtomicOperator → ℕ × ℕ
 atomic_pair (atomic.MemoryAtomicWait32 memarg) = (3, 1)
 atomic_pair (atomic.MemoryAtomicWait64 memarg) = (3, 1)

@@ -422,7 +422,7 @@ fn struct_arity<M: ModuleArity>(context: &M, index: u32) -> Option<(u32, u32)>
     }
 }
 
-/// Of an operator behind the byte fb.
+/// Of an operator behind the byte 0xfb.
 fn gc_arity<M: ModuleArity>(context: &M, op: &GcOperator) -> Option<(u32, u32)>
     ensures { result ≡ gc_arity_of (M.answers context.now) op.now }
 {

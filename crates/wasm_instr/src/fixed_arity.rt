@@ -79,7 +79,7 @@ pub fn numeric_fixed_arity(op: &NumericOperator) -> (u32, u32)
     }
 }
 
-/// What one of the operators behind the byte fb takes and leaves, where that is fixed.
+/// What one of the operators behind the byte 0xfb takes and leaves, where that is fixed.
 pub fn gc_fixed_arity(op: &GcOperator) -> Option<(u32, u32)>
     ensures { result ≡ gc_pair op.now }
 {
@@ -110,7 +110,7 @@ pub fn gc_fixed_arity(op: &GcOperator) -> Option<(u32, u32)>
     }
 }
 
-/// What one of the operators behind the byte fc takes and leaves.
+/// What one of the operators behind the byte 0xfc takes and leaves.
 pub fn misc_fixed_arity(op: &MiscOperator) -> (u32, u32)
     ensures { result ≡ misc_pair op.now }
 {
@@ -131,7 +131,7 @@ pub fn misc_fixed_arity(op: &MiscOperator) -> (u32, u32)
     }
 }
 
-/// What one of the operators behind the byte fd takes and leaves.
+/// What one of the operators behind the byte 0xfd takes and leaves.
 pub fn simd_fixed_arity(op: &SimdOperator) -> (u32, u32)
     ensures { result ≡ simd_pair op.now }
 {
@@ -250,7 +250,7 @@ pub fn simd_fixed_arity(op: &SimdOperator) -> (u32, u32)
     }
 }
 
-/// What one of the operators behind the byte fe takes and leaves.
+/// What one of the operators behind the byte 0xfe takes and leaves.
 pub fn atomic_fixed_arity(op: &AtomicOperator) -> (u32, u32)
     ensures { result ≡ atomic_pair op.now }
 {

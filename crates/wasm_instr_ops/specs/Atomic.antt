@@ -1,5 +1,5 @@
 -- Written by tools/lists.py from tools/operators.tsv.
--- The rows of the operators behind the byte fe, by columns.
+-- The rows of the operators behind the byte 0xfe, by columns.
 -- WebAssembly Core Specification 3.0, Binary Format, proposals threads, shared-everything threads and acquire-release atomics.
 use Rattle.std.specs.Prelude.{ℕ, List, [], ◌∷◌, codes}
 use Rattle.wasm_imm.specs.declared.memory_argument.MemArgKind.TheVariants as kind

@@ -1,5 +1,5 @@
 -- Written by tools/lists.py from tools/operators.tsv.
--- The rows of the operators behind the byte fb, by columns.
+-- The rows of the operators behind the byte 0xfb, by columns.
 -- WebAssembly Core Specification 3.0, Binary Format, Aggregate Instructions; proposal custom descriptors.
 use Rattle.std.specs.Prelude.{ℕ, List, [], ◌∷◌, codes}
 use Rattle.wasm_instr_ops.specs.declared.gc.GcOperator.{GcOperator}

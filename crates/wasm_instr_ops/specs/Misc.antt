@@ -1,5 +1,5 @@
 -- Written by tools/lists.py from tools/operators.tsv.
--- The rows of the operators behind the byte fc, by columns.
+-- The rows of the operators behind the byte 0xfc, by columns.
 -- WebAssembly Core Specification 3.0, Binary Format, Numeric, Memory and Table Instructions; proposals memory control and wide arithmetic.
 use Rattle.std.specs.Prelude.{ℕ, List, [], ◌∷◌, codes}
 use Rattle.wasm_instr_ops.specs.declared.misc.MiscOperator.{MiscOperator}

@@ -1,11 +1,11 @@
-//! The operators behind the byte fe. Written by tools/lists.py from tools/operators.tsv.
+//! The operators behind the byte 0xfe. Written by tools/lists.py from tools/operators.tsv.
 ghost use Rattle.std.specs.Prelude.{◌≡◌};
 ghost use Rattle.wasm_instr_ops.specs.Atomic.{atomic_proposal, atomic_name, atomic_subopcode};
 
 use crate::OperatorInfo;
 use wasm_imm::{MemArg, Ordering};
 
-/// The operators behind the byte fe. Proposals threads, shared-everything threads and
+/// The operators behind the byte 0xfe. Proposals threads, shared-everything threads and
 /// acquire-release atomics.
 #[derive(Clone, Copy, Debug, PartialEq, Eq)]
 pub enum AtomicOperator {

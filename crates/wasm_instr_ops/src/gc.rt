@@ -1,11 +1,11 @@
-//! The operators behind the byte fb. Written by tools/lists.py from tools/operators.tsv.
+//! The operators behind the byte 0xfb. Written by tools/lists.py from tools/operators.tsv.
 ghost use Rattle.std.specs.Prelude.{◌≡◌};
 ghost use Rattle.wasm_instr_ops.specs.Gc.{gc_proposal, gc_name, gc_subopcode};
 
 use crate::OperatorInfo;
 use wasm_imm::below::{HeapType, RefType};
 
-/// The operators behind the byte fb: structures, arrays and casts. Aggregate Instructions, and the
+/// The operators behind the byte 0xfb: structures, arrays and casts. Aggregate Instructions, and the
 /// proposal custom descriptors.
 #[derive(Clone, Copy, Debug, PartialEq, Eq)]
 pub enum GcOperator {

@@ -1,4 +1,4 @@
-//! The operators of WebAssembly behind the bytes fb, fc and fe, and the numeric ones of one byte,
+//! The operators of WebAssembly behind the bytes 0xfb, 0xfc and 0xfe, and the numeric ones of one byte,
 //! each with its row in the one table of all operators. The rows stand in `specs/`, by columns.
 #![tactic(auto)]
 

@@ -1,10 +1,10 @@
-//! The operators behind the byte fc. Written by tools/lists.py from tools/operators.tsv.
+//! The operators behind the byte 0xfc. Written by tools/lists.py from tools/operators.tsv.
 ghost use Rattle.std.specs.Prelude.{◌≡◌};
 ghost use Rattle.wasm_instr_ops.specs.Misc.{misc_proposal, misc_name, misc_subopcode};
 
 use crate::OperatorInfo;
 
-/// The operators behind the byte fc: saturating truncations, bulk memory and tables, and wide
+/// The operators behind the byte 0xfc: saturating truncations, bulk memory and tables, and wide
 /// arithmetic. Numeric, Memory and Table Instructions, and the proposals memory control and wide
 /// arithmetic.
 #[derive(Clone, Copy, Debug, PartialEq, Eq)]

@@ -5,7 +5,7 @@ ghost use Rattle.wasm_instr_ops.specs.Numeric.{numeric_proposal, numeric_name, n
 use crate::OperatorInfo;
 use std::fmt::{self, Debug, Formatter};
 
-/// The numeric operators of one byte, 45 to c4, which have no immediates. Numeric Instructions.
+/// The numeric operators of one byte, 0x45 to 0xc4, which have no immediates. Numeric Instructions.
 #[derive(Clone, Copy, PartialEq, Eq)]
 pub enum NumericOperator {
     I32Eqz = 0x45,

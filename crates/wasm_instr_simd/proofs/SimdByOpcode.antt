@@ -1,5 +1,5 @@
 -- Written by tools/lists.py from tools/operators.tsv.
--- Of the operators behind the byte fd: each is that of its subopcode and its immediates, and its subopcode gives the kinds of these.
+-- Of the operators behind the byte 0xfd: each is that of its subopcode and its immediates, and its subopcode gives the kinds of these.
 use Rattle.std.proofs.Common.{◌≡◌, ℕ, List, [], ◌∷◌, map, get_or, refl}
 use Rattle.wasm_instr_simd.specs.declared.simd.SimdOperator.{SimdOperator}
 use Rattle.wasm_instr_simd.specs.declared.simd.SimdOperator.TheVariants as simd

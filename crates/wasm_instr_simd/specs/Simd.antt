@@ -1,5 +1,5 @@
 -- Written by tools/lists.py from tools/operators.tsv.
--- The rows of the operators behind the byte fd, by columns.
+-- The rows of the operators behind the byte 0xfd, by columns.
 -- WebAssembly Core Specification 3.0, Binary Format, Vector Instructions.
 use Rattle.std.specs.Prelude.{ℕ, List, [], ◌∷◌, codes}
 use Rattle.wasm_instr_ops.specs.imm.declared.memory_argument.MemArgKind.TheVariants as kind

@@ -1,4 +1,4 @@
-//! The vector operators of WebAssembly, behind the byte fd, each with its row. The rows stand in
+//! The vector operators of WebAssembly, behind the byte 0xfd, each with its row. The rows stand in
 //! `specs/`, by columns.
 #![tactic(auto)]
 

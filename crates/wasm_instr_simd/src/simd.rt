@@ -1,4 +1,4 @@
-//! The operators behind the byte fd. Written by tools/lists.py from tools/operators.tsv.
+//! The operators behind the byte 0xfd. Written by tools/lists.py from tools/operators.tsv.
 ghost use Rattle.std.specs.Prelude.{◌≡◌, ◌⊎◌, ◌<◌, ◌≤◌, MatchOption};
 ghost use Rattle.wasm_instr_simd.specs.Simd.{simd_proposal, simd_name, simd_subopcode};
 
@@ -6,7 +6,7 @@ use std::fmt::{self, Debug, Formatter};
 use wasm_instr_ops::OperatorInfo;
 use wasm_instr_ops::imm::{MemArg, V128};
 
-/// The operators behind the byte fd. Vector Instructions, relaxed ones too.
+/// The operators behind the byte 0xfd. Vector Instructions, relaxed ones too.
 #[derive(Clone, Copy, PartialEq, Eq)]
 pub enum SimdOperator {
     V128Load { memarg: MemArg },
@@ -331,7 +331,7 @@ impl SimdOperator {
         unreachable!()
     }
 
-    /// The same, for subopcodes from 00 to 3f.
+    /// The same, for subopcodes from 0x00 to 0x3f.
     fn first_name(&self) -> Option<&'static str>
         ensures { MatchOption result (0x40 ≤ simd_subopcode self.now) (λ x. x.now ≡ simd_name self.now) }
     {
@@ -404,7 +404,7 @@ impl SimdOperator {
         }
     }
 
-    /// The same, for subopcodes from 40 to 7f.
+    /// The same, for subopcodes from 0x40 to 0x7f.
     fn second_name(&self) -> Option<&'static str>
         ensures { MatchOption result ((simd_subopcode self.now < 0x40) ⊎ (0x80 ≤ simd_subopcode self.now))
             (λ x. x.now ≡ simd_name self.now) }
@@ -478,7 +478,7 @@ impl SimdOperator {
         }
     }
 
-    /// The same, for subopcodes from 80 to cc.
+    /// The same, for subopcodes from 0x80 to 0xcc.
     fn third_name(&self) -> Option<&'static str>
         ensures { MatchOption result ((simd_subopcode self.now < 0x80) ⊎ (0xcd ≤ simd_subopcode self.now))
             (λ x. x.now ≡ simd_name self.now) }
@@ -552,7 +552,7 @@ impl SimdOperator {
         }
     }
 
-    /// The same, for subopcodes from cd to 113.
+    /// The same, for subopcodes from 0xcd to 0x113.
     fn fourth_name(&self) -> Option<&'static str>
         ensures { MatchOption result (simd_subopcode self.now < 0xcd) (λ x. x.now ≡ simd_name self.now) }
     {
@@ -644,7 +644,7 @@ impl SimdOperator {
         unreachable!()
     }
 
-    /// The same, for subopcodes from 00 to 3f.
+    /// The same, for subopcodes from 0x00 to 0x3f.
     fn first_code(&self) -> Option<u32>
         ensures { MatchOption result (0x40 ≤ simd_subopcode self.now) (λ x. x ≡ simd_subopcode self.now) }
     {
@@ -717,7 +717,7 @@ impl SimdOperator {
         }
     }
 
-    /// The same, for subopcodes from 40 to 7f.
+    /// The same, for subopcodes from 0x40 to 0x7f.
     fn second_code(&self) -> Option<u32>
         ensures { MatchOption result ((simd_subopcode self.now < 0x40) ⊎ (0x80 ≤ simd_subopcode self.now))
             (λ x. x ≡ simd_subopcode self.now) }
@@ -791,7 +791,7 @@ impl SimdOperator {
         }
     }
 
-    /// The same, for subopcodes from 80 to cc.
+    /// The same, for subopcodes from 0x80 to 0xcc.
     fn third_code(&self) -> Option<u32>
         ensures { MatchOption result ((simd_subopcode self.now < 0x80) ⊎ (0xcd ≤ simd_subopcode self.now))
             (λ x. x ≡ simd_subopcode self.now) }
@@ -865,7 +865,7 @@ impl SimdOperator {
         }
     }
 
-    /// The same, for subopcodes from cd to 113.
+    /// The same, for subopcodes from 0xcd to 0x113.
     fn fourth_code(&self) -> Option<u32>
         ensures { MatchOption result (simd_subopcode self.now < 0xcd) (λ x. x ≡ simd_subopcode self.now) }
     {

@@ -1,5 +1,5 @@
 -- The lines of a function: its header, the indices of its locals, and its operators. The form is that of `wasm-objdump -d` of wabt.
--- WebAssembly Core Specification 3.0: Binary Format, Instructions, Control Instructions. Proposal legacy exception handling: the opcodes 06, 07, 18, 19.
+-- WebAssembly Core Specification 3.0: Binary Format, Instructions, Control Instructions. Proposal legacy exception handling: the opcodes 0x06, 0x07, 0x18, 0x19.
 use Rattle.std.specs.Prelude.{◌==◌, ◌||◌, ℕ, ◌+◌, ◌-◌, Bool, List, [], ◌∷◌, ◌++◌, take, drop, slice_index, codes, decimal, if◌then◌else◌}
 use Rattle.wasm_lines.specs.Rows.{offset_text, line_of}
 

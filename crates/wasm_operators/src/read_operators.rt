@@ -61,7 +61,7 @@ pub trait ReadVisits<'a, V: VisitOperator<'a> + FrameStack>: ReadOperators<'a> {
     /// visitor's innermost frame allows it. Binary Format, Instructions.
     ///
     /// `OperatorsRemaining` at the position where the visitor has no open frame. `UnexpectedSimd` at
-    /// the byte fd, whatever stands behind it; else as `docs/REFUSALS.md` says of operators.
+    /// the byte 0xfd, whatever stands behind it; else as `docs/REFUSALS.md` says of operators.
     /// `OutOfMemory` where the operator begins, and only of one that owns a list. Reader and visitor
     /// are unchanged then.
     fn visit_operator(&mut self, alloc: Global, v: &mut V) -> Result<V::Output>

@@ -149,7 +149,7 @@ run_cut Sort Kept Encodes Fault Allocates keeps e before old new placed h r stop
       | inr le ↦ absurd (shorter le)
     ]
 
--- One byte 0b behind the other.
+-- One byte 0x0b behind the other.
 ends_placed : ℕ → ℕ → Placed
 ends_placed offset zero = []
 ends_placed offset (suc n) = (operator.End, offset) ∷ ends_placed (offset + 1) n
@@ -171,7 +171,7 @@ unfolding ends_placed
 ends_operators offset zero = refl
 ends_operators offset (suc n) = ap (λ (ops : List Operator). operator.End ∷ ops) (ends_operators (offset + 1) n)
 
--- Where all data is taken, as many bytes 0b as frames are open make it the rest of an expression.
+-- Where all data is taken, as many bytes 0x0b as frames are open make it the rest of an expression.
 pub run_completed : (before : List Operator) (old new : State) (placed : Placed) → StoodBefore before old → TakesOperators old new placed → rest new.reader ≡ [] →
     IsCompletedByEnds before (source_of old.reader) (length new.frames)
 run_completed before old new placed h r all =
@@ -292,7 +292,7 @@ tells_left Encodes Fault Allocates reading e s (inr (some, inr (inl there))) = (
 )
 tells_left Encodes Fault Allocates reading e s (inr (some, inr (inr memory))) = (λ is. absurd (cc (is, memory.0)), λ h. absurd (some h.0))
 
--- Where frames are left at the end of the data, as many bytes 0b complete it.
+-- Where frames are left at the end of the data, as many bytes 0x0b complete it.
 pub run_left : (Encodes : Taking) (Fault : Refusing) (Allocates : Allocating) → IsReading Fault → (e : Error) (before : List Operator) (old new : State)
     (placed : Placed) → StoodBefore before old → TakesOperators old new placed → StopsRun Encodes Fault Allocates e new → e.message ≡ message.FramesRemain →
     IsCompletedByEnds before (source_of old.reader) (length new.frames)

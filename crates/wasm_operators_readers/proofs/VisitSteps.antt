@@ -1,4 +1,4 @@
--- A visit behind its opcode: below 20 the stack makes its step, from 20 on nothing is left to do to the frames.
+-- A visit behind its opcode: below 0x20 the stack makes its step, from 0x20 on nothing is left to do to the frames.
 use Rattle.std.proofs.Common.{◌≡◌, ℕ, ◌+◌, ◌≤◌, List, Some, Result, Ok, Err, sym, subst, ap, ◌∙◌, arith}
 use Rattle.std.specs.Prelude.{IsSome}
 use Rattle.wasm_decode.specs.below.bytes.error.Error.{Error}
@@ -49,7 +49,7 @@ module _ {V A : Type 0} (visits : V → Operator → A → V → Type 0) (Encode
   refused_behind old mid new kind code start e v w b (same, refused) frames room =
       let stops = begun_stopped Encodes Fault old mid new kind code start (step_at code) e b refused frames room in (stops.0, same, stops.1)
 
-  -- The opcode is 20 or more: whatever came of it, the frames stayed.
+  -- The opcode is 0x20 or more: whatever came of it, the frames stayed.
   pub visited_from_20 : IsSound Encodes → TakesAllowed Encodes → (old mid new : State) (kind : FrameKind) (code start : ℕ) (result : Result A Error) (v w : V) →
       0x20 ≤ code → BeginsOperator old mid kind start code (step_at code) → Behind mid new kind start result v w → new.frames ≡ mid.frames → new.room ≡ mid.room →
       VisitsOperator visits Encodes Fault (NextMayAllocate Encodes) result old new v w

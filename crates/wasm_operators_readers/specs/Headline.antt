@@ -86,11 +86,11 @@ CutFault message.FramesRemain left = left ≡ []
 CutFault message.EndOfData left = left ≡ [] → ⊥
 CutFault _ left = ⊥
 
--- As many bytes 0b behind them make them the rest of an expression.
+-- As many bytes 0x0b behind them make them the rest of an expression.
 abbrev pub IsCompletedByEnds : List Operator → Source → ℕ → Type 0
 IsCompletedByEnds before s n = (whole : Placed) × EncodesRest before (with_behind s (replicate n 0x0b)) whole
 
--- A frame is open at the end of the data only where as many bytes 0b as frames are open make it the rest of an expression.
+-- A frame is open at the end of the data only where as many bytes 0x0b as frames are open make it the rest of an expression.
 abbrev pub IsCompletedIfCut : {X : Type 0} → List Operator → Result X Error → State → State → Type 0
 IsCompletedIfCut before result old new =
     IfErr result (λ e. e.message ≡ message.FramesRemain → IsCompletedByEnds before (source_of old.reader) (length new.frames))
@@ -107,7 +107,7 @@ pub record ReadsRest {X : Type 0} (Happened Kept : OfPlaced) (Encodes : Taking) 
   pub beginning : IfErr result (λ e. SomeCame Happened (ReadsBeginning Kept Encodes Fault Allocates before e old new))
   -- Data that more bytes would make such an expression is refused by its end alone.
   pub cut : IsCut Kept before (source_of old.reader) → IfErr result (λ e. CutFault e.message (rest new.reader))
-  -- Where all of it was taken and frames are open, as many bytes 0b complete it.
+  -- Where all of it was taken and frames are open, as many bytes 0x0b complete it.
   pub completed : IsCompletedIfCut before result old new
   -- Where the longest beginning is not kept, its first vector operator is what is refused.
   pub vector : (longest : Placed) → IsLongestBehind before (source_of old.reader) longest → (Kept longest → ⊥) →

@@ -13,7 +13,7 @@ pub fn steps_are_roles<T>()
         frames_after frames role ≡ frames_after frames (role_of_step (step_of role)) }
 {}
 
-/// Operators that begin with a byte from 20 on do nothing to the frames.
+/// Operators that begin with a byte from 0x20 on do nothing to the frames.
 pub fn high_bytes_stay()
     ensures { (byte : ℕ) → 0x20 ≤ byte → step_at byte ≡ FrameStep.Stays }
 {}

@@ -18,7 +18,7 @@ use crate::step::leaves_frames;
 use std::alloc::Global;
 use wasm_decode::below::{BinaryReader, Error, Message, Result};
 use wasm_decode::visitors::{HoldTable, VisitOperator, VisitSimdOperator};
-use wasm_decode::{visit_behind, visit_behind_simd, visit_below_20};
+use wasm_decode::{visit_behind, visit_behind_simd, visit_below_0x20};
 
 /// Visits the next operator, a vector operator too.
 #[inline(always)]
@@ -38,7 +38,7 @@ where
             if leaves_frames(at.code) {
                 return visit_behind_simd(v, alloc, reader, at.start, at.frame, at.code);
             }
-            match visit_below_20(v, alloc, reader, at.start, at.frame, at.code) {
+            match visit_below_0x20(v, alloc, reader, at.start, at.frame, at.code) {
                 Ok(answer) => {
                     advance(control, at.code);
                     Ok(answer)
@@ -66,7 +66,7 @@ pub fn visit_next<'a, V: VisitOperator<'a>>(
             if leaves_frames(at.code) {
                 return visit_behind(v, alloc, reader, at.start, at.frame, at.code);
             }
-            match visit_below_20(v, alloc, reader, at.start, at.frame, at.code) {
+            match visit_below_0x20(v, alloc, reader, at.start, at.frame, at.code) {
                 Ok(answer) => {
                     advance(control, at.code);
                     Ok(answer)

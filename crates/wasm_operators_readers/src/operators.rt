@@ -167,7 +167,7 @@ impl<'a> OperatorsReader<'a> {
 
     /// Visits the next operator, which is no vector operator.
     ///
-    /// `UnexpectedSimd` at the position where the byte fd stands; else as `visit_operator_simd`.
+    /// `UnexpectedSimd` at the position where the byte 0xfd stands; else as `visit_operator_simd`.
     #[inline(always)]
     pub fn visit_operator<V: VisitOperator<'a>>(&mut self, v: &mut V) -> Result<V::Output>
         ensures { VisitsNextScalar V.visits result self.old self.new v.old v.new }

@@ -75,7 +75,7 @@ impl FrameStep {
 }
 
 /// Whether the opcode stands behind all those whose operators do anything to the frames: these are
-/// below 20.
+/// below 0x20.
 #[inline(always)]
 pub fn leaves_frames(opcode: u8) -> bool
     ensures { IsTrue result ↔ (0x20 ≤ opcode) }

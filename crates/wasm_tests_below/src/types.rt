@@ -2,7 +2,7 @@
 use crate::numbers::{Tally, slow_signed, slow_unsigned};
 use wasm_imm::below::{AbstractHeapType, BinaryReader, HeapType, RefType, ValType};
 
-/// The abstract heap types, from the byte 68 on.
+/// The abstract heap types, from the byte 0x68 on.
 const ABSTRACT: [AbstractHeapType; 14] = [
     AbstractHeapType::Cont,
     AbstractHeapType::Exn,

@@ -9,7 +9,7 @@ use crate::teller::Teller;
 use wasm_decode::below::{BinaryReader, Result};
 use wasm_decode::visitors::{VisitSimdOperator, Visitor};
 
-/// What a visitor's call of its half answers, and the position of the reader, where the byte fd and a
+/// What a visitor's call of its half answers, and the position of the reader, where the byte 0xfd and a
 /// subopcode stand.
 fn run_half<V: VisitSimdOperator>(
     v: &mut V,
@@ -27,7 +27,7 @@ fn run_half<V: VisitSimdOperator>(
     Some((answer, reader.current_position()))
 }
 
-/// The subopcode behind the byte fd, where both stand.
+/// The subopcode behind the byte 0xfd, where both stand.
 fn read_vector_subopcode(reader: &mut BinaryReader<'_>, start: usize) -> Option<u32>
     requires { start ≡ reader.old.position }
     ensures { IfSome result (λ code. StandsBehind start (Some 0xfd) code reader.new) }

@@ -77,7 +77,7 @@ impl VisitGroups for Teller {
         decode::one_byte(self, alloc, reader, start, frame, code)
     }
 
-    fn decode_below_20(
+    fn decode_below_0x20(
         &mut self,
         alloc: Global,
         reader: &mut BinaryReader<'_>,

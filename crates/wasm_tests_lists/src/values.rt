@@ -151,7 +151,7 @@ pub fn numeric() -> [NumericOperator; 128] {
     ]
 }
 
-/// The operators behind the byte fb.
+/// The operators behind the byte 0xfb.
 pub fn gc() -> [GcOperator; 34] {
     [
         GcOperator::StructNew {
@@ -255,7 +255,7 @@ pub fn gc() -> [GcOperator; 34] {
     ]
 }
 
-/// The operators behind the byte fc.
+/// The operators behind the byte 0xfc.
 pub fn misc() -> [MiscOperator; 23] {
     [
         MiscOperator::I32TruncSatF32S,
@@ -296,7 +296,7 @@ pub fn misc() -> [MiscOperator; 23] {
     ]
 }
 
-/// The operators behind the byte fd.
+/// The operators behind the byte 0xfd.
 pub fn simd() -> [SimdOperator; 255] {
     [
         SimdOperator::V128Load { memarg: MEMARG },
@@ -581,7 +581,7 @@ pub fn simd() -> [SimdOperator; 255] {
     ]
 }
 
-/// The operators behind the byte fe.
+/// The operators behind the byte 0xfe.
 pub fn atomic() -> [AtomicOperator; 104] {
     [
         AtomicOperator::MemoryAtomicNotify { memarg: MEMARG },

@@ -98,7 +98,7 @@ impl<'a> VisitOperator<'a> for LargePrints {
 
 impl VisitSimdOperator for LargePrints {}
 
-/// The same, with a visit of its own for each operator behind fc, which are counted too.
+/// The same, with a visit of its own for each operator behind 0xfc, which are counted too.
 #[derive(Clone, Copy, Debug, PartialEq, Eq)]
 pub struct OwnPrints {
     pub prints: Prints,

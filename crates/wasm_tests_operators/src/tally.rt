@@ -10,10 +10,10 @@ use wasm_operators::{
 /// Twice `data.drop`, then `drop` and `end`.
 static DATA_DROPS: [u8; 8] = [0xfc, 0x09, 0x07, 0xfc, 0x09, 0x07, 0x1a, 0x0b];
 
-/// Twice `nop`, then `drop` and `end`: opcodes below 20 alone.
+/// Twice `nop`, then `drop` and `end`: opcodes below 0x20 alone.
 static NOPS: [u8; 4] = [0x01, 0x01, 0x1a, 0x0b];
 
-/// `i32.const 5`, `local.get 3`, `drop` and `end`: one opcode from 20 on has a visit of its own.
+/// `i32.const 5`, `local.get 3`, `drop` and `end`: one opcode from 0x20 on has a visit of its own.
 static CONSTANT: [u8; 6] = [0x41, 0x05, 0x20, 0x03, 0x1a, 0x0b];
 
 /// Counts visits, those of `Nop`, `LocalGet` and `DataDrop` by visits of its own.
@@ -70,7 +70,7 @@ impl VisitGroups for Tally {
         decode::one_byte(self, alloc, reader, start, frame, code)
     }
 
-    fn decode_below_20(
+    fn decode_below_0x20(
         &mut self,
         alloc: Global,
         reader: &mut BinaryReader<'_>,

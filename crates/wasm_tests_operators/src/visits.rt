@@ -44,7 +44,7 @@ pub fn visit_large<'a>(operators: &mut OperatorsReader<'a>, list: Listed<'_, 'a>
     end(told, list, large.prints, answer)
 }
 
-/// The visits of a visitor that has its own for each operator behind fc: so many of them run.
+/// The visits of a visitor that has its own for each operator behind 0xfc: so many of them run.
 pub fn visit_own<'a>(operators: &mut OperatorsReader<'a>, list: Listed<'_, 'a>) -> Told {
     let mut own = OwnPrints {
         prints: Prints::new(),

@@ -52,7 +52,7 @@ immediates_text is = flat_map immediate_text is
 abbrev pub indirect_text : ℕ → ℕ → List ℕ
 indirect_text ty table = number_text table ++ (codes " (type " ++ (decimal ty ++ codes ")"))
 
--- The operands of operators behind the byte fb: those that test or cast to one type have it as a reference type.
+-- The operands of operators behind the byte 0xfb: those that test or cast to one type have it as a reference type.
 abbrev pub gc_operands : GcOperator → List ℕ
 gc_operands (gc.RefTestNonNull hty) = reference_text false hty
 gc_operands (gc.RefTestNullable hty) = reference_text true hty

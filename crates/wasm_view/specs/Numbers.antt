@@ -46,7 +46,7 @@ abbrev pub value_index : ValType → ℕ
 value_index (value.Ref r) = heap_index r.heap_type
 value_index _ = 0
 
--- A block type: the byte 40 for none, a value type, or 0 at the index of a function type.
+-- A block type: the byte 0x40 for none, a value type, or 0 at the index of a function type.
 abbrev pub block_kind : BlockType → ℕ
 block_kind block.Empty = 0x40
 block_kind (block.Value ty) = value_kind ty

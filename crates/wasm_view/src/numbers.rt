@@ -94,7 +94,7 @@ pub fn value_index(ty: &ValType) -> u32
     }
 }
 
-/// The kind of a block type: the byte 40 for none, that of a value type, or 0 at the index of a function
+/// The kind of a block type: the byte 0x40 for none, that of a value type, or 0 at the index of a function
 /// type.
 pub fn block_kind(ty: &BlockType) -> u32
     ensures { result ≡ block_kind ty.now }

@@ -241,7 +241,7 @@ fn numeric_opcode(op: NumericOperator) -> u32
     }
 }
 
-/// The number of one of the operators behind the byte fb.
+/// The number of one of the operators behind the byte 0xfb.
 fn gc_subopcode(op: GcOperator) -> u32
     ensures { result ≡ opcode_number (Some 0xfb) (gc_subopcode op) }
 {
@@ -287,7 +287,7 @@ fn gc_subopcode(op: GcOperator) -> u32
     }
 }
 
-/// The number of one of the operators behind the byte fc.
+/// The number of one of the operators behind the byte 0xfc.
 fn misc_subopcode(op: MiscOperator) -> u32
     ensures { result ≡ opcode_number (Some 0xfc) (misc_subopcode op) }
 {
@@ -318,7 +318,7 @@ fn misc_subopcode(op: MiscOperator) -> u32
     }
 }
 
-/// The number of one of the operators behind the byte fd.
+/// The number of one of the operators behind the byte 0xfd.
 fn simd_subopcode(op: SimdOperator) -> u32
     ensures { result ≡ opcode_number (Some 0xfd) (simd_subopcode op) }
 {
@@ -582,7 +582,7 @@ fn simd_subopcode(op: SimdOperator) -> u32
     }
 }
 
-/// The number of one of the operators behind the byte fe.
+/// The number of one of the operators behind the byte 0xfe.
 fn atomic_subopcode(op: AtomicOperator) -> u32
     ensures { result ≡ opcode_number (Some 0xfe) (atomic_subopcode op) }
 {

@@ -126,7 +126,7 @@ pub fn own(offset: u64, opcode: u32, op: &Operator<'_>) -> WasmOperator
     }
 }
 
-/// The fields of one of the operators behind the byte fb.
+/// The fields of one of the operators behind the byte 0xfb.
 fn gc(offset: u64, opcode: u32, op: GcOperator) -> WasmOperator
     ensures { result ≡ view offset opcode (gc_immediates op) }
 {
@@ -240,7 +240,7 @@ fn gc(offset: u64, opcode: u32, op: GcOperator) -> WasmOperator
     }
 }
 
-/// The fields of one of the operators behind the byte fc.
+/// The fields of one of the operators behind the byte 0xfc.
 fn misc(offset: u64, opcode: u32, op: MiscOperator) -> WasmOperator
     ensures { result ≡ view offset opcode (misc_immediates op) }
 {
@@ -283,7 +283,7 @@ fn misc(offset: u64, opcode: u32, op: MiscOperator) -> WasmOperator
     }
 }
 
-/// The fields of one of the operators behind the byte fd.
+/// The fields of one of the operators behind the byte 0xfd.
 fn simd(offset: u64, opcode: u32, op: SimdOperator) -> WasmOperator
     ensures { result ≡ view offset opcode (simd_immediates op) }
 {
@@ -549,7 +549,7 @@ fn simd(offset: u64, opcode: u32, op: SimdOperator) -> WasmOperator
     }
 }
 
-/// The fields of one of the operators behind the byte fe.
+/// The fields of one of the operators behind the byte 0xfe.
 fn atomic(offset: u64, opcode: u32, op: AtomicOperator) -> WasmOperator
     ensures { result ≡ view offset opcode (atomic_immediates op) }
 {

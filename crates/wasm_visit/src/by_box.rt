@@ -43,7 +43,7 @@ impl<V: VisitGroups> VisitGroups for Box<V> {
     }
 
     #[inline(always)]
-    fn decode_below_20(
+    fn decode_below_0x20(
         &mut self,
         alloc: Global,
         reader: &mut BinaryReader<'_>,
@@ -51,7 +51,7 @@ impl<V: VisitGroups> VisitGroups for Box<V> {
         frame: FrameKind,
         code: u8,
     ) -> Result<Self::Output> {
-        (**self).decode_below_20(alloc, reader, start, frame, code)
+        (**self).decode_below_0x20(alloc, reader, start, frame, code)
     }
 
     #[inline(always)]

@@ -20,7 +20,7 @@ use wasm_visit_factory::Factory;
 /// it has in the group are not made. A visitor of all operators is bound by
 /// `VisitOperator<'a> + VisitSimdOperator`.
 pub trait VisitSimdOperator: Visitor {
-    /// Visits a vector operator of a subopcode below 80. So one without immediates is visited from its
+    /// Visits a vector operator of a subopcode below 0x80. So one without immediates is visited from its
     /// bytes too.
     ///
     /// A visitor with visits in `VisitSimdLow` says `dispatch::simd_low(self, op)` here.
@@ -31,7 +31,7 @@ pub trait VisitSimdOperator: Visitor {
         self.visit_any(Operator::Simd(op))
     }
 
-    /// Visits a vector operator of a subopcode from 80 on. So one without immediates is visited from its
+    /// Visits a vector operator of a subopcode from 0x80 on. So one without immediates is visited from its
     /// bytes too.
     ///
     /// A visitor with visits in `VisitSimdHigh` says `dispatch::simd_high(self, op)` here.
@@ -42,7 +42,7 @@ pub trait VisitSimdOperator: Visitor {
         self.visit_any(Operator::Simd(op))
     }
 
-    /// Reads what stands behind a subopcode, and visits the vector operator of this subopcode below 80. `start` is the
+    /// Reads what stands behind a subopcode, and visits the vector operator of this subopcode below 0x80. `start` is the
     /// position of the prefix byte, to which a refused reader goes back.
     ///
     /// A visitor with visits in `VisitSimdLow` says `decode::simd_low(self, reader, start, code)` here.
@@ -66,7 +66,7 @@ pub trait VisitSimdOperator: Visitor {
         decode::simd_low(&mut ByAny { visitor: self }, reader, start, code)
     }
 
-    /// Reads what stands behind a subopcode, and visits the vector operator of this subopcode from 80 on. `start` is the
+    /// Reads what stands behind a subopcode, and visits the vector operator of this subopcode from 0x80 on. `start` is the
     /// position of the prefix byte, to which a refused reader goes back.
     ///
     /// A visitor with visits in `VisitSimdHigh` says `decode::simd_high(self, reader, start, code)` here.

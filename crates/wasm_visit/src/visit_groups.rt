@@ -44,7 +44,7 @@ pub trait VisitGroups: Visitor {
         self.visit_any(Operator::Numeric(op))
     }
 
-    /// Visits an operator behind the byte fb.
+    /// Visits an operator behind the byte 0xfb.
     ///
     /// A visitor with visits in `VisitGc` says `dispatch::gc(self, op)` here.
     fn dispatch_gc(&mut self, op: GcOperator) -> Self::Output
@@ -53,7 +53,7 @@ pub trait VisitGroups: Visitor {
         self.visit_any(Operator::Gc(op))
     }
 
-    /// Visits an operator behind the byte fc.
+    /// Visits an operator behind the byte 0xfc.
     ///
     /// A visitor with visits in `VisitMisc` says `dispatch::misc(self, op)` here.
     fn dispatch_misc(&mut self, op: MiscOperator) -> Self::Output
@@ -62,7 +62,7 @@ pub trait VisitGroups: Visitor {
         self.visit_any(Operator::Misc(op))
     }
 
-    /// Visits an operator behind the byte fe.
+    /// Visits an operator behind the byte 0xfe.
     ///
     /// A visitor with visits in `VisitAtomic` says `dispatch::atomic(self, op)` here.
     fn dispatch_atomic(&mut self, op: AtomicOperator) -> Self::Output
@@ -95,14 +95,14 @@ pub trait VisitGroups: Visitor {
         any::one_byte(self, alloc, reader, start, frame, code)
     }
 
-    /// The same of an opcode below 20, where control and parametric instructions stand. No other does
+    /// The same of an opcode below 0x20, where control and parametric instructions stand. No other does
     /// anything to the frames: so a reader that keeps frames calls this for them, and
-    /// `decode_one_byte` for opcodes from 20 on.
+    /// `decode_one_byte` for opcodes from 0x20 on.
     ///
     /// A visitor with visits in `VisitOneByte` says
     /// `decode::one_byte(self, alloc, reader, start, frame, code)` here too.
     #[inline(always)]
-    fn decode_below_20(
+    fn decode_below_0x20(
         &mut self,
         alloc: Global,
         reader: &mut BinaryReader<'_>,
@@ -132,7 +132,7 @@ pub trait VisitGroups: Visitor {
         self.visit_any(Factory.decode_numeric(code))
     }
 
-    /// Reads what stands behind a subopcode, and visits the operator of this subopcode behind the byte fb. `start` is the
+    /// Reads what stands behind a subopcode, and visits the operator of this subopcode behind the byte 0xfb. `start` is the
     /// position of the prefix byte, to which a refused reader goes back.
     ///
     /// A visitor with visits in `VisitGc` says `decode::gc(self, reader, start, code)` here.
@@ -152,7 +152,7 @@ pub trait VisitGroups: Visitor {
         decode::gc(&mut ByAny { visitor: self }, reader, start, code)
     }
 
-    /// Reads what stands behind a subopcode, and visits the operator of this subopcode behind the byte fc. `start` is the
+    /// Reads what stands behind a subopcode, and visits the operator of this subopcode behind the byte 0xfc. `start` is the
     /// position of the prefix byte, to which a refused reader goes back.
     ///
     /// A visitor with visits in `VisitMisc` says `decode::misc(self, reader, start, code)` here.
@@ -172,7 +172,7 @@ pub trait VisitGroups: Visitor {
         decode::misc(&mut ByAny { visitor: self }, reader, start, code)
     }
 
-    /// Reads what stands behind a subopcode, and visits the operator of this subopcode behind the byte fe. `start` is the
+    /// Reads what stands behind a subopcode, and visits the operator of this subopcode behind the byte 0xfe. `start` is the
     /// position of the prefix byte, to which a refused reader goes back.
     ///
     /// A visitor with visits in `VisitAtomic` says `decode::atomic(self, reader, start, code)` here.

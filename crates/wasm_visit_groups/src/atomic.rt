@@ -1,4 +1,4 @@
-//! Visits of the operators behind fe. Written by tools/lists.py from tools/operators.tsv.
+//! Visits of the operators behind 0xfe. Written by tools/lists.py from tools/operators.tsv.
 ghost use Rattle.wasm_instr.specs.declared.operator.Operator.{Operator};
 ghost use Rattle.wasm_instr.specs.ops.atomic.AtomicOperator.{AtomicOperator};
 
@@ -6,7 +6,7 @@ use crate::visitor::Visitor;
 use wasm_instr::imm::{MemArg, Ordering};
 use wasm_instr::{AtomicOperator, Operator};
 
-/// Visits of the operators behind the byte fe. Proposal threads.
+/// Visits of the operators behind the byte 0xfe. Proposal threads.
 ///
 /// Each hands its operator to `visit_any` unless a visitor has its own. They are called only where
 /// the visitor's `VisitGroups` names them, by the line `dispatch::atomic(self, op)`.

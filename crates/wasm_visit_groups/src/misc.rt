@@ -1,11 +1,11 @@
-//! Visits of the operators behind fc. Written by tools/lists.py from tools/operators.tsv.
+//! Visits of the operators behind 0xfc. Written by tools/lists.py from tools/operators.tsv.
 ghost use Rattle.wasm_instr.specs.declared.operator.Operator.{Operator};
 ghost use Rattle.wasm_instr.specs.ops.misc.MiscOperator.{MiscOperator};
 
 use crate::visitor::Visitor;
 use wasm_instr::{MiscOperator, Operator};
 
-/// Visits of the operators behind the byte fc. Numeric, Memory and Table Instructions.
+/// Visits of the operators behind the byte 0xfc. Numeric, Memory and Table Instructions.
 ///
 /// Each hands its operator to `visit_any` unless a visitor has its own. They are called only where
 /// the visitor's `VisitGroups` names them, by the line `dispatch::misc(self, op)`.

@@ -5,7 +5,7 @@ ghost use Rattle.wasm_instr.specs.ops.numeric.NumericOperator.{NumericOperator};
 use crate::visitor::Visitor;
 use wasm_instr::{NumericOperator, Operator};
 
-/// Visits of the numeric operators of one byte, 45 to c4. Numeric Instructions.
+/// Visits of the numeric operators of one byte, 0x45 to 0xc4. Numeric Instructions.
 ///
 /// Each hands its operator to `visit_any` unless a visitor has its own. They are called only where
 /// the visitor's `VisitGroups` names them, by the line `dispatch::numeric(self, op)`.

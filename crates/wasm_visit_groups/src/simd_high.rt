@@ -1,11 +1,11 @@
-//! Visits of the vector operators from 80 on. Written by tools/lists.py from tools/operators.tsv.
+//! Visits of the vector operators from 0x80 on. Written by tools/lists.py from tools/operators.tsv.
 ghost use Rattle.wasm_instr.specs.declared.operator.Operator.{Operator};
 ghost use Rattle.wasm_instr.specs.simd.simd.SimdOperator.{SimdOperator};
 
 use crate::visitor::Visitor;
 use wasm_instr::{Operator, SimdOperator};
 
-/// Visits of the vector operators of a subopcode from 80 on. Vector Instructions.
+/// Visits of the vector operators of a subopcode from 0x80 on. Vector Instructions.
 ///
 /// Each hands its operator to `visit_any` unless a visitor has its own. They are called only where
 /// the visitor's `VisitSimdOperator` names them, by the line `dispatch::simd_high(self, op)`.

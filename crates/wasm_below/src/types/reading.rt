@@ -48,7 +48,7 @@ impl AbstractHeapType {
 impl HeapType {
     /// A heap type. Types, Heap Types.
     ///
-    /// `InvalidType` of `heap type` where it begins: a byte behind 65 that is no abstract heap
+    /// `InvalidType` of `heap type` where it begins: a byte behind 0x65 that is no abstract heap
     /// type, a negative index, or one above 1048575.
     #[inline(never)]
     pub fn read(reader: &mut BinaryReader<'_>) -> Result<HeapType>
@@ -103,7 +103,7 @@ impl HeapType {
         Ok(HeapType::Concrete(index as u32))
     }
 
-    /// An index of a type behind the byte 62.
+    /// An index of a type behind the byte 0x62.
     fn read_exact(reader: &mut BinaryReader<'_>) -> Result<HeapType>
         requires { BeginsWith 0x62 (rest reader.old) }
         ensures reads { Reads EncodesExact result reader.old reader.new }
@@ -130,7 +130,7 @@ impl RefType {
     /// A reference type. Types, Reference Types.
     ///
     /// `InvalidType` of `reference type` where it begins: no reference type begins with this byte,
-    /// or a byte behind 65 is no abstract heap type. Else as its heap type.
+    /// or a byte behind 0x65 is no abstract heap type. Else as its heap type.
     #[inline(never)]
     pub fn read(reader: &mut BinaryReader<'_>) -> Result<RefType>
         ensures reads { Reads EncodesRefType result reader.old reader.new }
@@ -155,7 +155,7 @@ impl RefType {
         Ok(RefType::of(true, heap_type))
     }
 
-    /// A heap type behind the byte 63 or 64.
+    /// A heap type behind the byte 0x63 or 0x64.
     fn read_long(reader: &mut BinaryReader<'_>, nullable: bool) -> Result<RefType>
         requires { BeginsWith (ref_byte nullable) (rest reader.old) }
         ensures reads { Reads EncodesLongRef result reader.old reader.new }

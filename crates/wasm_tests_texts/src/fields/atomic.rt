@@ -1,9 +1,9 @@
-//! The fields of the operators behind the byte fe, printed. Written by tools/lists.py from tools/operators.tsv.
+//! The fields of the operators behind the byte 0xfe, printed. Written by tools/lists.py from tools/operators.tsv.
 use crate::fields::shapes;
 use crate::values::{self, Written};
 use wasm_instr::AtomicOperator;
 
-/// Prints the fields of the operators behind the byte fe, none where an operator has none.
+/// Prints the fields of the operators behind the byte 0xfe, none where an operator has none.
 pub fn atomic(out: &mut String, op: &AtomicOperator) -> Written {
     match op {
         AtomicOperator::MemoryAtomicNotify { memarg }

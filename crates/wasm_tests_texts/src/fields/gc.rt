@@ -1,9 +1,9 @@
-//! The fields of the operators behind the byte fb, printed. Written by tools/lists.py from tools/operators.tsv.
+//! The fields of the operators behind the byte 0xfb, printed. Written by tools/lists.py from tools/operators.tsv.
 use crate::fields::shapes;
 use crate::values::{self, Written};
 use wasm_instr::GcOperator;
 
-/// Prints the fields of the operators behind the byte fb, none where an operator has none.
+/// Prints the fields of the operators behind the byte 0xfb, none where an operator has none.
 pub fn gc(out: &mut String, op: &GcOperator) -> Written {
     match op {
         GcOperator::StructNew { struct_type_index }

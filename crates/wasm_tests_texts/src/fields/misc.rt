@@ -1,9 +1,9 @@
-//! The fields of the operators behind the byte fc, printed. Written by tools/lists.py from tools/operators.tsv.
+//! The fields of the operators behind the byte 0xfc, printed. Written by tools/lists.py from tools/operators.tsv.
 use crate::fields::shapes;
 use crate::values::{self, Written};
 use wasm_instr::MiscOperator;
 
-/// Prints the fields of the operators behind the byte fc, none where an operator has none.
+/// Prints the fields of the operators behind the byte 0xfc, none where an operator has none.
 pub fn misc(out: &mut String, op: &MiscOperator) -> Written {
     match op {
         MiscOperator::MemoryInit { data_index, mem } => shapes::write_data_index_and_mem(

@@ -258,7 +258,7 @@ pub fn numeric<V: VisitNumeric>(v: &mut V, op: NumericOperator) -> V::Output
     }
 }
 
-/// Visits one of the operators behind fb. It takes no memory.
+/// Visits one of the operators behind 0xfb. It takes no memory.
 pub fn gc<V: VisitGc>(v: &mut V, op: GcOperator) -> V::Output
     ensures { V.visits v.old (Operator.Gc op) result v.new }
 {
@@ -358,7 +358,7 @@ pub fn gc<V: VisitGc>(v: &mut V, op: GcOperator) -> V::Output
     }
 }
 
-/// Visits one of the operators behind fc. It takes no memory.
+/// Visits one of the operators behind 0xfc. It takes no memory.
 pub fn misc<V: VisitMisc>(v: &mut V, op: MiscOperator) -> V::Output
     ensures { V.visits v.old (Operator.Misc op) result v.new }
 {
@@ -392,7 +392,7 @@ pub fn misc<V: VisitMisc>(v: &mut V, op: MiscOperator) -> V::Output
     }
 }
 
-/// Visits one of the operators behind fe. It takes no memory.
+/// Visits one of the operators behind 0xfe. It takes no memory.
 pub fn atomic<V: VisitAtomic>(v: &mut V, op: AtomicOperator) -> V::Output
     ensures { V.visits v.old (Operator.Atomic op) result v.new }
 {

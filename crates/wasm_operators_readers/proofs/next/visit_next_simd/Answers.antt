@@ -11,29 +11,29 @@ advance-requires-clause-allowed g c =
     let at = c.in-Ok.at in
     let old = state_of c.args.reader.now c.args.control.now in
     let mid = state_of c.begin.new.reader c.begin.new.control in
-    let new = state_of c.visit_below_20.new.reader c.begin.new.control in
-    step_allowed_behind g.V.Visitor.visits EncodesAllowed OperatorFault sound (λ f kind text op h. h.1) old mid new at.frame at.code at.start c.in-Ok-visit_below_20.answer c.args.v.now
-    c.visit_below_20.new.v c.in-Ok.ensures.begun c.in-Ok-visit_below_20.ensures.allowed
+    let new = state_of c.visit_below_0x20.new.reader c.begin.new.control in
+    step_allowed_behind g.V.Visitor.visits EncodesAllowed OperatorFault sound (λ f kind text op h. h.1) old mid new at.frame at.code at.start c.in-Ok-visit_below_0x20.answer c.args.v.now
+    c.visit_below_0x20.new.v c.in-Ok.ensures.begun c.in-Ok-visit_below_0x20.ensures.allowed
 
-pub returns-in-Ok-visit_below_20 : goal.returns-in-Ok-visit_below_20
-returns-in-Ok-visit_below_20 g c =
+pub returns-in-Ok-visit_below_0x20 : goal.returns-in-Ok-visit_below_0x20
+returns-in-Ok-visit_below_0x20 g c =
     let at = c.in-Ok.at in
     let old = state_of c.args.reader.now c.args.control.now in
     let mid = state_of c.begin.new.reader c.begin.new.control in
-    let new = state_of c.visit_below_20.new.reader c.advance.new.control in
+    let new = state_of c.visit_below_0x20.new.reader c.advance.new.control in
     let step = c.advance.ensures in
-    visited_with_step g.V.Visitor.visits EncodesAllowed OperatorFault sound old mid new at.frame at.code at.start c.in-Ok-visit_below_20.answer c.args.v.now
-    c.visit_below_20.new.v c.in-Ok.ensures.begun c.in-Ok-visit_below_20.ensures.allowed step.frames step.opened step.other step.memory
+    visited_with_step g.V.Visitor.visits EncodesAllowed OperatorFault sound old mid new at.frame at.code at.start c.in-Ok-visit_below_0x20.answer c.args.v.now
+    c.visit_below_0x20.new.v c.in-Ok.ensures.begun c.in-Ok-visit_below_0x20.ensures.allowed step.frames step.opened step.other step.memory
 
-pub returns-in-Err-visit_below_20 : goal.returns-in-Err-visit_below_20
-returns-in-Err-visit_below_20 g c =
+pub returns-in-Err-visit_below_0x20 : goal.returns-in-Err-visit_below_0x20
+returns-in-Err-visit_below_0x20 g c =
     let at = c.in-Ok.at in
     let old = state_of c.args.reader.now c.args.control.now in
     let mid = state_of c.begin.new.reader c.begin.new.control in
-    let new = state_of c.visit_below_20.new.reader c.begin.new.control in
-    let e = c.in-Err-visit_below_20.e in
-    refused_behind g.V.Visitor.visits EncodesAllowed OperatorFault old mid new at.frame at.code at.start e c.args.v.now c.visit_below_20.new.v
-    c.in-Ok.ensures.begun c.in-Err-visit_below_20.ensures.allowed refl refl
+    let new = state_of c.visit_below_0x20.new.reader c.begin.new.control in
+    let e = c.in-Err-visit_below_0x20.e in
+    refused_behind g.V.Visitor.visits EncodesAllowed OperatorFault old mid new at.frame at.code at.start e c.args.v.now c.visit_below_0x20.new.v
+    c.in-Ok.ensures.begun c.in-Err-visit_below_0x20.ensures.allowed refl refl
 
 pub returns-then-leaves_frames : goal.returns-then-leaves_frames
 returns-then-leaves_frames g c =
