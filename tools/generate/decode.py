@@ -268,6 +268,18 @@ def function(part):
     return [doc, "#[inline(always)]", *out, "}", ""]
 
 
+def exponent(op):
+    """The exponent of the alignment of an operator with a memory argument."""
+    return op.immediates[0].split()[2]
+
+
+def by_alignment(part):
+    """A part's operators, the last of them one with another alignment than the first and the last code have, where there is one. Of a match in which the arm of all other codes answers as the codes at an end do, the compiler keeps a jump for these, which the first of them takes: `i32.load`."""
+    ends = {exponent(part.ops[0]), exponent(part.ops[-1])}
+    last = next((op for op in reversed(part.ops) if exponent(op) not in ends), part.ops[-1])
+    return [*[op for op in part.ops if op is not last], last]
+
+
 def alignment(part):
     """The exponents of the alignments of a part's operators, by their codes."""
     return [
@@ -278,7 +290,7 @@ def alignment(part):
         f"    ensures {{ result ≡ align_at {part.place} code }}",
         "{",
         "    match code {",
-        *closed([(op.hex(), op.immediates[0].split()[2]) for op in part.ops]),
+        *closed([(op.hex(), exponent(op)) for op in by_alignment(part)]),
         "    }",
         "}",
         "",
@@ -771,14 +783,14 @@ def codes_file(ops):
     return "\n".join([*uses, "", text.rstrip(), ""])
 
 
-def last_arm_file(part, function, parameters, given, answer):
-    """The proof of the last arm of a match on a part's codes: the code is the last one, where it is none of the others."""
+def last_arm_file(part, function, parameters, given, answer, last=None):
+    """The proof of the last arm of a match on a part's codes: the code is that of the last operator, or of the one that is given, where it is none of the others."""
     align = f"(align_at {part.place} c.args.code) " if part.has_align else ""
     body = [
         "pub returns-in_default : goal.returns-in_default",
         f"returns-in_default {parameters} =",
         f"    let h = {part_lemma(part)}_codes c.args.code {align}{given} in",
-        f"    let same : {part.ops[-1].hex()} ≡ c.args.code = first_of (omega (arith, h), grind (arith, h)) in",
+        f"    let same : {(last or part.ops[-1]).hex()} ≡ c.args.code = first_of (omega (arith, h), grind (arith, h)) in",
         f"    {answer}",
     ]
     return proof_file(part, function, body)
@@ -795,9 +807,10 @@ def last_visit_file(part):
 
 
 def last_alignment_file(part):
-    """The proof that the alignment of the last arm is that of the last operator."""
-    relation = f"{part.ops[-1].immediates[0].split()[2]} ≡ align_at {part.place} k"
-    return last_arm_file(part, f"{part.group.module}_operators.align_of_{part.title}", "c", "c.requires", f"subst (λ k. {relation}) same refl")
+    """The proof that the alignment of the last arm is that of its operator."""
+    last = by_alignment(part)[-1]
+    relation = f"{exponent(last)} ≡ align_at {part.place} k"
+    return last_arm_file(part, f"{part.group.module}_operators.align_of_{part.title}", "c", "c.requires", f"subst (λ k. {relation}) same refl", last)
 
 
 def last_plain_file(part):

@@ -136,8 +136,8 @@ fn align_of_memory_op(code: u32) -> u8
         0x19 => 0,
         0x1a => 1,
         0x1b => 0,
-        0x1c => 1,
-        _ => 2,
+        0x1d => 2,
+        _ => 1,
     }
 }
 
@@ -239,8 +239,8 @@ fn align_of_memory_rmw(code: u32) -> u8
         0x4a => 0,
         0x4b => 1,
         0x4c => 0,
-        0x4d => 1,
-        _ => 2,
+        0x4e => 2,
+        _ => 1,
     }
 }
 

@@ -307,8 +307,8 @@ fn align_of_memory(code: u8) -> u8
         0x3a => 0,
         0x3b => 1,
         0x3c => 0,
-        0x3d => 1,
-        _ => 2,
+        0x3e => 2,
+        _ => 1,
     }
 }
 

@@ -7,5 +7,5 @@ use Rattle.wasm_decode_groups.proofs.atomic_operators.align_of_memory_op.Goals a
 pub returns-in_default : goal.returns-in_default
 returns-in_default c =
     let h = atomic_memory_op_codes c.args.code (align_at (Some 0xfe) c.args.code) c.requires in
-    let same : 0x1d ≡ c.args.code = first_of (omega (arith, h), grind (arith, h)) in
-    subst (λ k. 2 ≡ align_at (Some 0xfe) k) same refl
+    let same : 0x1c ≡ c.args.code = first_of (omega (arith, h), grind (arith, h)) in
+    subst (λ k. 1 ≡ align_at (Some 0xfe) k) same refl

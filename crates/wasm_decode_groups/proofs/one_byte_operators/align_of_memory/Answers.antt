@@ -7,5 +7,5 @@ use Rattle.wasm_decode_groups.proofs.one_byte_operators.align_of_memory.Goals as
 pub returns-in_default : goal.returns-in_default
 returns-in_default c =
     let h = one_byte_memory_codes c.args.code (align_at None c.args.code) c.requires in
-    let same : 0x3e ≡ c.args.code = first_of (omega (arith, h), grind (arith, h)) in
-    subst (λ k. 2 ≡ align_at None k) same refl
+    let same : 0x3d ≡ c.args.code = first_of (omega (arith, h), grind (arith, h)) in
+    subst (λ k. 1 ≡ align_at None k) same refl

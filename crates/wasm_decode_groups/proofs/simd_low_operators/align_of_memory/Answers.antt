@@ -7,5 +7,5 @@ use Rattle.wasm_decode_groups.proofs.simd_low_operators.align_of_memory.Goals as
 pub returns-in_default : goal.returns-in_default
 returns-in_default c =
     let h = simd_low_memory_codes c.args.code (align_at (Some 0xfd) c.args.code) c.requires in
-    let same : 0x5d ≡ c.args.code = first_of (omega (arith, h), grind (arith, h)) in
-    subst (λ k. 3 ≡ align_at (Some 0xfd) k) same refl
+    let same : 0x5c ≡ c.args.code = first_of (omega (arith, h), grind (arith, h)) in
+    subst (λ k. 2 ≡ align_at (Some 0xfd) k) same refl
