@@ -241,7 +241,7 @@ def function(part):
     params = "" if part.is_one else f", code: {part.code_type}"
     form = part.form
     out = [
-        f"{'pub ' if is_plain(part) else ''}fn {part.function}<V: {part.group.trait}>(v: &mut V, reader: &mut BinaryReader<'_>, start: usize{params}) -> Result<V::Output>",
+        f"{'pub ' if is_without_immediates(part) else ''}fn {part.function}<V: {part.group.trait}>(v: &mut V, reader: &mut BinaryReader<'_>, start: usize{params}) -> Result<V::Output>",
         f"    requires behind {{ StandsBehind start {part.place} {code} reader.old }}",
     ]
     if not part.is_one:
@@ -380,7 +380,7 @@ def group_arms(those, takes):
     return out
 
 
-def is_plain(part):
+def is_without_immediates(part):
     """Whether it is the part of a group of vector operators that have no immediates: they are told by a table."""
     return part.group.enum == "Simd" and part.form is None
 
@@ -393,8 +393,8 @@ def whole_group(ops, group, those, name):
     unknown = "unknown_opcode(reader, start, code)" if is_own else f"unknown_subopcode(reader, start, 0x{those[0].prefix}, code)"
     last = f"Err({unknown})"
     if group.enum == "Simd":
-        plain, those = [it for it in those if is_plain(it)], [it for it in those if not is_plain(it)]
-        out += ["    if has_no_immediates(code) {", f"        return {plain[0].function}(v, reader, start, code);", "    }"]
+        alone, those = [it for it in those if is_without_immediates(it)], [it for it in those if not is_without_immediates(it)]
+        out += ["    if has_no_immediates(code) {", f"        return {alone[0].function}(v, reader, start, code);", "    }"]
         if not those:
             return [*out, f"    Err({unknown})", "}", ""]
         *others, last = group_arms(those, lambda code: True)
@@ -406,17 +406,17 @@ def whole_group(ops, group, those, name):
     return [*out, f"        _ => {last},", "    }", "}", ""]
 
 
-def plain_operators(part):
+def operators_without_immediates(part):
     """The call that makes a vector operator of a group that has no immediates."""
     low = part.group.module == "simd_low"
     return [
         "",
         f"/// The vector operator without immediates of this subopcode {'below 0x80' if low else 'from 0x80 on'}.",
         "#[inline(always)]",
-        f"pub fn plain_{part.group.module}(code: u32) -> SimdOperator",
-        "    requires plain { entry_at (Some 0xfd) code ≡ free [] }",
+        f"pub fn {part.group.module}_without_immediates(code: u32) -> SimdOperator",
+        "    requires without { entry_at (Some 0xfd) code ≡ free [] }",
         f"    requires half {{ {'code < 0x80' if low else '0x80 ≤ code'} }}",
-        "    ensures { IsPlainVector code result }",
+        "    ensures { IsVectorWithoutImmediates code result }",
         "{",
         "    match code {",
         *closed([(op.hex(), f"SimdOperator::{op.name}") for op in part.ops]),
@@ -425,47 +425,47 @@ def plain_operators(part):
     ]
 
 
-def plain_vectors(ops):
+def vectors_without_immediates(ops):
     """The file that tells which vector operators have no immediates."""
-    those = [part for group in GROUPS for part in parts(ops, group) if is_plain(part)]
-    plain = {op.code for part in those for op in part.ops}
+    those = [part for group in GROUPS for part in parts(ops, group) if is_without_immediates(part)]
+    alone = {op.code for part in those for op in part.ops}
     count = max(op.code for op in ops if op.prefix == "fd") + 1
-    table = ", ".join("true" if code in plain else "false" for code in range(count))
+    table = ", ".join("true" if code in alone else "false" for code in range(count))
     return "\n".join(
         [
             f"//! Which vector operators have no immediates, and these by their subopcodes. {HEAD}",
             "ghost use Rattle.std.specs.Prelude.{◌≡◌, ◌<◌, ◌≤◌, [], true, Some, map};",
             "ghost use Rattle.wasm_decode_opcodes.specs.Entries.{entry_at, simd_entries};",
             "ghost use Rattle.wasm_decode_opcodes.specs.Entry.{free};",
-            "ghost use Rattle.wasm_decode_groups.specs.Plain.{IsPlainVector, is_plain};",
+            "ghost use Rattle.wasm_decode_groups.specs.WithoutImmediates.{IsVectorWithoutImmediates, is_without_immediates};",
             "",
             "use wasm_visit_groups::instr::SimdOperator;",
             "",
             "/// Of each subopcode behind the byte 0xfd, whether it is that of an operator without immediates.",
-            f"static PLAIN: [bool; {count}] = [{table}];",
+            f"static WITHOUT_IMMEDIATES: [bool; {count}] = [{table}];",
             "",
             "/// What a table of them says of a subopcode.",
             "#[inline(always)]",
-            f"fn plain_in(plain: &[bool; {count}], code: u32) -> bool",
-            "    requires { plain.now ≡ map is_plain simd_entries }",
-            "    ensures { result ≡ is_plain (entry_at (Some 0xfd) code) }",
+            f"fn is_marked(marks: &[bool; {count}], code: u32) -> bool",
+            "    requires { marks.now ≡ map is_without_immediates simd_entries }",
+            "    ensures { result ≡ is_without_immediates (entry_at (Some 0xfd) code) }",
             "{",
             "    let place = code as usize;",
-            "    if place >= plain.len() {",
+            "    if place >= marks.len() {",
             "        return false;",
             "    }",
-            "    plain[place]",
+            "    marks[place]",
             "}",
             "",
             "/// Whether an operator without immediates has this subopcode behind the byte 0xfd.",
             "#[inline(always)]",
             "pub fn has_no_immediates(code: u32) -> bool",
-            "    ensures told { result ≡ is_plain (entry_at (Some 0xfd) code) }",
-            "    ensures plain { result ≡ true → entry_at (Some 0xfd) code ≡ free [] }",
+            "    ensures exact { result ≡ is_without_immediates (entry_at (Some 0xfd) code) }",
+            "    ensures without { result ≡ true → entry_at (Some 0xfd) code ≡ free [] }",
             "{",
-            "    plain_in(&PLAIN, code)",
+            "    is_marked(&WITHOUT_IMMEDIATES, code)",
             "}",
-            *[line for part in those for line in plain_operators(part)],
+            *[line for part in those for line in operators_without_immediates(part)],
             "",
         ]
     )
@@ -505,7 +505,7 @@ def group_decode(ops, group):
         "",
         *(["use crate::guarded::{%s};" % ", ".join(sorted(set(APART.values())))] if is_own else []),
         *([f"use crate::out_of_line::{OTHERS_CALL};"] if is_own else []),
-        *(["use crate::plain_vectors::has_no_immediates;"] if "has_no_immediates(" in text else []),
+        *(["use crate::vectors_without_immediates::has_no_immediates;"] if "has_no_immediates(" in text else []),
         *(["use std::alloc::Global;"] if is_own else []),
         f"use wasm_below::{{{', '.join(below)}}};",
         *(["use wasm_grammar::FrameKind;"] if is_own else []),
@@ -695,7 +695,7 @@ def kinds_lemma(part):
         f"{name}_codes code {'align ' if part.has_align else ''}e = {every}",
         "",
     ]
-    if is_plain(part):
+    if is_without_immediates(part):
         return out
     out += [
         f"abbrev {name}_at : ℕ → Type 0",
@@ -718,7 +718,7 @@ def kinds_lemma(part):
 def simd_lemmas(ops):
     """Where the entries of the vector operators with immediates stand, and that each code below 0x80 is an operator's."""
     those = [part for group in GROUPS if group.enum == "Simd" for part in parts(ops, group)]
-    others = ranges([op.code for part in those if not is_plain(part) for op in part.ops])
+    others = ranges([op.code for part in those if not is_without_immediates(part) for op in part.ops])
     each = "tt"
     for _ in range(0x80):
         each = f"(refl, {each})"
@@ -813,9 +813,9 @@ def last_alignment_file(part):
     return last_arm_file(part, f"{part.group.module}_operators.align_of_{part.title}", "c", "c.requires", f"subst (λ k. {relation}) same refl", last)
 
 
-def last_plain_file(part):
+def last_without_immediates_file(part):
     """The proof that the operator of the last arm has the subopcode."""
-    return last_arm_file(part, f"plain_vectors.plain_{part.group.module}", "c", "c.requires.plain", "(same, refl)")
+    return last_arm_file(part, f"vectors_without_immediates.{part.group.module}_without_immediates", "c", "c.requires.without", "(same, refl)")
 
 
 def last_numeric_file(last):
@@ -901,16 +901,16 @@ def group_file(ops, group):
 
 def simd_file(ops, group):
     """The same of vector operators: those without immediates are told by a table, and the others by their codes."""
-    those = [it for it in parts(ops, group) if not is_plain(it)]
+    those = [it for it in parts(ops, group) if not is_without_immediates(it)]
     body, lemmas = kinds_proofs(those, lambda code: True)
-    plain = "without_immediates-requires-clause-kinds"
-    told = "c.has_no_immediates.ensures.told"
+    kinds = "without_immediates-requires-clause-kinds"
+    told = "c.has_no_immediates.ensures.exact"
     if those:
         # the last arm is that of all codes which are left; its part has more operators than one, so that it has a proof here
         goal = body[-3].split()[1]
         left = f"others c.args.code (omega (arith, c.requires.half)) (sym {told} ∙ c.if-has_no_immediates.false)"
         body[-2] = f"{goal} g c = let h = {left} in {lemmas[-1]} c.args.code (grind (arith, h)) (grind (arith, h))"
-    body += [f"pub {plain} : goal.{plain}", f"{plain} g c = c.has_no_immediates.ensures.plain c.if-has_no_immediates.true", ""]
+    body += [f"pub {kinds} : goal.{kinds}", f"{kinds} g c = c.has_no_immediates.ensures.without c.if-has_no_immediates.true", ""]
     if not those:
         goal = "unknown_subopcode-requires-clause-unknown"
         body += [f"pub {goal} : goal.{goal}", f"{goal} g c = no_operator c.args.code c.requires.half (sym {told} ∙ c.if-has_no_immediates.false)", ""]
@@ -920,7 +920,7 @@ def simd_file(ops, group):
             f"-- {HEAD}",
             f"use Rattle.std.proofs.Common.{{{'arith' if those else 'refl'}, sym, ◌∙◌}}",
             *([f"use Rattle.wasm_decode_groups.proofs.Codes.{{{', '.join(lemmas)}}}"] if lemmas else []),
-            f"use Rattle.wasm_decode_groups.proofs.PlainVectors.{{{'others' if those else 'no_operator'}}}",
+            f"use Rattle.wasm_decode_groups.proofs.WithoutImmediates.{{{'others' if those else 'no_operator'}}}",
             f"use Rattle.wasm_decode_groups.proofs.{group.module}_operators.{group.module}.Goals as goal",
             "",
             *body,
@@ -951,8 +951,8 @@ def decode_files(ops):
                 out[f"{at}/visit_{part.title}/Answers.antt"] = last_visit_file(part)
             if part.has_align:
                 out[f"{at}/align_of_{part.title}/Answers.antt"] = last_alignment_file(part)
-            if is_plain(part):
-                out[f"crates/wasm_decode_groups/proofs/plain_vectors/plain_{group.module}/Answers.antt"] = last_plain_file(part)
-    out["crates/wasm_decode_groups/src/plain_vectors.rt"] = plain_vectors(ops)
+            if is_without_immediates(part):
+                out[f"crates/wasm_decode_groups/proofs/vectors_without_immediates/{group.module}_without_immediates/Answers.antt"] = last_without_immediates_file(part)
+    out["crates/wasm_decode_groups/src/vectors_without_immediates.rt"] = vectors_without_immediates(ops)
     out["crates/wasm_decode_groups/proofs/Codes.antt"] = codes_file(ops)
     return out

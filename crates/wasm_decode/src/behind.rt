@@ -9,7 +9,7 @@ ghost use Rattle.wasm_visit.specs.grammar.declared.frame_kind.FrameKind.{FrameKi
 ghost use Rattle.wasm_visit.specs.opcodes.Decoding.{StandsBehind, DecodesAt, RefusesAt, VisitsRow};
 ghost use Rattle.wasm_visit.specs.opcodes.Entries.{entry_at};
 ghost use Rattle.wasm_visit.specs.opcodes.Entry.{free, prefixes};
-ghost use Rattle.wasm_visit.specs.decode.Plain.{IsPlainVector};
+ghost use Rattle.wasm_visit.specs.decode.WithoutImmediates.{IsVectorWithoutImmediates};
 
 use std::alloc::Global;
 use wasm_visit::below::{BinaryReader, Error, Message, Result};
@@ -271,7 +271,7 @@ pub fn simd_of<V: VisitSimdOperator>(
     ensures { (frame : FrameKind) → DecodesAt V.visits frame start result reader.old reader.new v.old v.new }
 {
     if decode::has_no_immediates(code) {
-        return Ok(visit_plain(v, code));
+        return Ok(visit_without_immediates(v, code));
     }
     let mut lent = reader.clone();
     let mut refusal = place();
@@ -285,25 +285,25 @@ pub fn simd_of<V: VisitSimdOperator>(
 
 /// The vector operator without immediates of a subopcode.
 #[inline(always)]
-pub fn plain_vector(code: u32) -> SimdOperator
+pub fn vector_without_immediates(code: u32) -> SimdOperator
     requires { entry_at (Some 0xfd) code ≡ free [] }
-    ensures { IsPlainVector code result }
+    ensures { IsVectorWithoutImmediates code result }
 {
     match code {
-        0x00..=0x7f => decode::plain_simd_low(code),
-        _ => decode::plain_simd_high(code),
+        0x00..=0x7f => decode::simd_low_without_immediates(code),
+        _ => decode::simd_high_without_immediates(code),
     }
 }
 
 /// Visits the vector operator without immediates of a subopcode, from the operator.
 #[inline(always)]
-fn visit_plain<V: VisitSimdOperator>(v: &mut V, code: u32) -> V::Output
+fn visit_without_immediates<V: VisitSimdOperator>(v: &mut V, code: u32) -> V::Output
     requires { entry_at (Some 0xfd) code ≡ free [] }
     ensures { VisitsRow V.visits (Some 0xfd) code [] v.old result v.new }
 {
     match code {
-        0x00..=0x7f => v.dispatch_simd_low(decode::plain_simd_low(code)),
-        _ => v.dispatch_simd_high(decode::plain_simd_high(code)),
+        0x00..=0x7f => v.dispatch_simd_low(decode::simd_low_without_immediates(code)),
+        _ => v.dispatch_simd_high(decode::simd_high_without_immediates(code)),
     }
 }
 

@@ -4,7 +4,7 @@ ghost use Rattle.wasm_decode.specs.Reading.{DecodesOperatorIn, DecodesOperatorAt
 ghost use Rattle.wasm_visit.specs.grammar.declared.frame_kind.FrameKind.{FrameKind};
 ghost use Rattle.wasm_visit.specs.opcodes.Decoding.{StandsBehind};
 
-use crate::behind::{group_behind, plain_vector, simd_of, subopcode};
+use crate::behind::{group_behind, simd_of, subopcode, vector_without_immediates};
 use crate::refusals::no_frame;
 use std::alloc::Global;
 use wasm_visit::below::{BinaryReader, Result};
@@ -89,7 +89,7 @@ fn read_simd_of(reader: &mut BinaryReader<'_>, start: usize, code: u32) -> Resul
     ensures { (frame : FrameKind) → DecodesOperatorAt frame start result reader.old reader.new }
 {
     if decode::has_no_immediates(code) {
-        return Ok(Operator::Simd(plain_vector(code)));
+        return Ok(Operator::Simd(vector_without_immediates(code)));
     }
     simd_of(&mut Factory, reader, start, code)
 }

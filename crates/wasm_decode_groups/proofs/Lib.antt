@@ -1,5 +1,5 @@
 pub mod Codes
-pub mod PlainVectors
+pub mod WithoutImmediates
 pub mod Ranges
 pub use Rattle.wasm_visit_groups.proofs.of_below as of_below
 pub use Rattle.wasm_visit_groups.proofs.of_imm as of_imm

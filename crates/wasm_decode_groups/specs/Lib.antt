@@ -1,5 +1,5 @@
 pub mod OneByte
-pub mod Plain
+pub mod WithoutImmediates
 pub use Rattle.wasm_visit_groups.specs.below as below
 pub use Rattle.wasm_visit_groups.specs.imm as imm
 pub use Rattle.wasm_visit_groups.specs.grammar as grammar

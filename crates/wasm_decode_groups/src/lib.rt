@@ -9,9 +9,9 @@ mod misc_operators;
 mod numeric_operators;
 mod one_byte_operators;
 mod out_of_line;
-mod plain_vectors;
 mod simd_high_operators;
 mod simd_low_operators;
+mod vectors_without_immediates;
 
 pub use atomic_operators::atomic;
 pub use gc_operators::gc;
@@ -19,9 +19,11 @@ pub use misc_operators::misc;
 pub use numeric_operators::numeric;
 pub use one_byte_operators::{common_one_byte, one_byte};
 pub use out_of_line::other_one_byte;
-pub use plain_vectors::{has_no_immediates, plain_simd_high, plain_simd_low};
 pub use simd_high_operators::simd_high;
 pub use simd_low_operators::simd_low;
+pub use vectors_without_immediates::{
+    has_no_immediates, simd_high_without_immediates, simd_low_without_immediates,
+};
 pub use wasm_visit_groups::{below, grammar, imm, instr};
 
 /// The visits of operators, in groups.

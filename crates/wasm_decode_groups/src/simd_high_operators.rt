@@ -6,7 +6,7 @@ ghost use Rattle.wasm_decode_opcodes.specs.Decoding.{DecodesAt, StandsBehind, Vi
 ghost use Rattle.wasm_decode_opcodes.specs.Entries.{entry_at};
 ghost use Rattle.wasm_decode_opcodes.specs.Entry.{free};
 
-use crate::plain_vectors::has_no_immediates;
+use crate::vectors_without_immediates::has_no_immediates;
 use wasm_decode_opcodes::{immediates, unknown_subopcode};
 use wasm_visit_groups::VisitSimdHigh;
 use wasm_visit_groups::below::{BinaryReader, Result};

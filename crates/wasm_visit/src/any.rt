@@ -9,7 +9,7 @@ use wasm_decode_groups as decode;
 use wasm_decode_groups::below::{BinaryReader, Result};
 use wasm_decode_groups::grammar::FrameKind;
 use wasm_decode_groups::groups::{
-    VisitAtomic, VisitGc, VisitMisc, VisitOneByte, VisitSimdHigh, VisitSimdLow, Visitor,
+    VisitAtomic, VisitGc, VisitMisc, VisitOneByte, VisitSimdLow, Visitor,
 };
 use wasm_decode_groups::instr::Operator;
 
@@ -40,8 +40,6 @@ impl<V: Visitor> VisitMisc for ByAny<V> {}
 impl<V: Visitor> VisitAtomic for ByAny<V> {}
 
 impl<V: Visitor> VisitSimdLow for ByAny<V> {}
-
-impl<V: Visitor> VisitSimdHigh for ByAny<V> {}
 
 /// Reads what stands behind the opcode of one of the operators of one byte, and visits the operator
 /// by `visit_any`.

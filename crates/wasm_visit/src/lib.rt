@@ -31,8 +31,8 @@ pub use wasm_decode_groups::{below, grammar, imm, instr, opcodes};
 /// The decoding of each group, for a visitor with visits of its own.
 pub mod decode {
     pub use wasm_decode_groups::{
-        atomic, gc, has_no_immediates, misc, numeric, one_byte, plain_simd_high, plain_simd_low,
-        simd_high, simd_low,
+        atomic, gc, has_no_immediates, misc, numeric, one_byte, simd_high,
+        simd_high_without_immediates, simd_low, simd_low_without_immediates,
     };
 }
 

@@ -20,8 +20,8 @@ use wasm_visit_factory::Factory;
 /// it has in the group are not made. A visitor of all operators is bound by
 /// `VisitOperator<'a> + VisitSimdOperator`.
 pub trait VisitSimdOperator: Visitor {
-    /// Visits a vector operator of a subopcode below 0x80. So one without immediates is visited from its
-    /// bytes too.
+    /// Visits a vector operator of a subopcode below 0x80. A decoder hands one without immediates to this
+    /// call as well.
     ///
     /// A visitor with visits in `VisitSimdLow` says `dispatch::simd_low(self, op)` here.
     fn dispatch_simd_low(&mut self, op: SimdOperator) -> Self::Output
@@ -31,8 +31,8 @@ pub trait VisitSimdOperator: Visitor {
         self.visit_any(Operator::Simd(op))
     }
 
-    /// Visits a vector operator of a subopcode from 0x80 on. So one without immediates is visited from its
-    /// bytes too.
+    /// Visits a vector operator of a subopcode from 0x80 on. A decoder hands one without immediates to this
+    /// call as well.
     ///
     /// A visitor with visits in `VisitSimdHigh` says `dispatch::simd_high(self, op)` here.
     fn dispatch_simd_high(&mut self, op: SimdOperator) -> Self::Output
@@ -42,8 +42,8 @@ pub trait VisitSimdOperator: Visitor {
         self.visit_any(Operator::Simd(op))
     }
 
-    /// Reads what stands behind a subopcode, and visits the vector operator of this subopcode below 0x80. `start` is the
-    /// position of the prefix byte, to which a refused reader goes back.
+    /// Reads what stands behind a subopcode, and visits the vector operator of this subopcode
+    /// below 0x80. `start` is the position of the prefix byte, to which a refused reader goes back.
     ///
     /// A visitor with visits in `VisitSimdLow` says `decode::simd_low(self, reader, start, code)` here.
     #[inline(always)]
@@ -61,13 +61,13 @@ pub trait VisitSimdOperator: Visitor {
             → DecodesAt Self.visits frame start result reader.old reader.new self.old self.new }
     {
         if decode::has_no_immediates(code) {
-            return Ok(self.visit_any(Operator::Simd(decode::plain_simd_low(code))));
+            return Ok(self.visit_any(Operator::Simd(decode::simd_low_without_immediates(code))));
         }
         decode::simd_low(&mut ByAny { visitor: self }, reader, start, code)
     }
 
-    /// Reads what stands behind a subopcode, and visits the vector operator of this subopcode from 0x80 on. `start` is the
-    /// position of the prefix byte, to which a refused reader goes back.
+    /// Reads what stands behind a subopcode, and visits the vector operator of this subopcode
+    /// from 0x80 on. `start` is the position of the prefix byte, to which a refused reader goes back.
     ///
     /// A visitor with visits in `VisitSimdHigh` says `decode::simd_high(self, reader, start, code)` here.
     #[inline(always)]

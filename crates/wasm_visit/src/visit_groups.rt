@@ -132,8 +132,8 @@ pub trait VisitGroups: Visitor {
         self.visit_any(Factory.decode_numeric(code))
     }
 
-    /// Reads what stands behind a subopcode, and visits the operator of this subopcode behind the byte 0xfb. `start` is the
-    /// position of the prefix byte, to which a refused reader goes back.
+    /// Reads what stands behind a subopcode, and visits the operator of this subopcode behind the
+    /// byte 0xfb. `start` is the position of the prefix byte, to which a refused reader goes back.
     ///
     /// A visitor with visits in `VisitGc` says `decode::gc(self, reader, start, code)` here.
     #[inline(always)]
@@ -152,8 +152,8 @@ pub trait VisitGroups: Visitor {
         decode::gc(&mut ByAny { visitor: self }, reader, start, code)
     }
 
-    /// Reads what stands behind a subopcode, and visits the operator of this subopcode behind the byte 0xfc. `start` is the
-    /// position of the prefix byte, to which a refused reader goes back.
+    /// Reads what stands behind a subopcode, and visits the operator of this subopcode behind the
+    /// byte 0xfc. `start` is the position of the prefix byte, to which a refused reader goes back.
     ///
     /// A visitor with visits in `VisitMisc` says `decode::misc(self, reader, start, code)` here.
     #[inline(always)]
@@ -172,8 +172,8 @@ pub trait VisitGroups: Visitor {
         decode::misc(&mut ByAny { visitor: self }, reader, start, code)
     }
 
-    /// Reads what stands behind a subopcode, and visits the operator of this subopcode behind the byte 0xfe. `start` is the
-    /// position of the prefix byte, to which a refused reader goes back.
+    /// Reads what stands behind a subopcode, and visits the operator of this subopcode behind the
+    /// byte 0xfe. `start` is the position of the prefix byte, to which a refused reader goes back.
     ///
     /// A visitor with visits in `VisitAtomic` says `decode::atomic(self, reader, start, code)` here.
     #[inline(always)]

@@ -7,14 +7,14 @@ use Rattle.wasm_decode_groups.proofs.of_opcodes.OperatorLemmas.{visited_without_
 use Rattle.wasm_visit.proofs.Passing.{through_holder}
 use Rattle.wasm_visit.proofs.vectors.VisitSimdOperator.decode_simd_low.Goals as goal
 
-pub plain_simd_low-requires-clause-plain : goal.plain_simd_low-requires-clause-plain
-plain_simd_low-requires-clause-plain g c = c.has_no_immediates.ensures.plain c.if-has_no_immediates.true
+pub simd_low_without_immediates-requires-clause-without : goal.simd_low_without_immediates-requires-clause-without
+simd_low_without_immediates-requires-clause-without g c = c.has_no_immediates.ensures.without c.if-has_no_immediates.true
 
 pub returns-then-has_no_immediates : goal.returns-then-has_no_immediates
 returns-then-has_no_immediates g c k =
     let r = c.args.reader.now in
-    let is = c.has_no_immediates.ensures.plain c.if-has_no_immediates.true in
-    let op = c.plain_simd_low in
+    let is = c.has_no_immediates.ensures.without c.if-has_no_immediates.true in
+    let op = c.simd_low_without_immediates in
     visited_without_immediates g.Self.Visitor.visits (OperatorFault r.features k) k (Some 0xfd) c.args.code c.args.start r c.args.self.now c.visit_any.new.self c.visit_any.result is c.requires.behind
     (operator.Simd op.result, refl, op.ensures.0, op.ensures.1, c.visit_any.ensures)
 

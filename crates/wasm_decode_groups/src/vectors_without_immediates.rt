@@ -2,12 +2,12 @@
 ghost use Rattle.std.specs.Prelude.{◌≡◌, ◌<◌, ◌≤◌, [], true, Some, map};
 ghost use Rattle.wasm_decode_opcodes.specs.Entries.{entry_at, simd_entries};
 ghost use Rattle.wasm_decode_opcodes.specs.Entry.{free};
-ghost use Rattle.wasm_decode_groups.specs.Plain.{IsPlainVector, is_plain};
+ghost use Rattle.wasm_decode_groups.specs.WithoutImmediates.{IsVectorWithoutImmediates, is_without_immediates};
 
 use wasm_visit_groups::instr::SimdOperator;
 
 /// Of each subopcode behind the byte 0xfd, whether it is that of an operator without immediates.
-static PLAIN: [bool; 276] = [
+static WITHOUT_IMMEDIATES: [bool; 276] = [
     false, false, false, false, false, false, false, false, false, false, false, false, false,
     false, true, true, true, true, true, true, true, false, false, false, false, false, false,
     false, false, false, false, false, false, false, false, true, true, true, true, true, true,
@@ -31,32 +31,32 @@ static PLAIN: [bool; 276] = [
 
 /// What a table of them says of a subopcode.
 #[inline(always)]
-fn plain_in(plain: &[bool; 276], code: u32) -> bool
-    requires { plain.now ≡ map is_plain simd_entries }
-    ensures { result ≡ is_plain (entry_at (Some 0xfd) code) }
+fn is_marked(marks: &[bool; 276], code: u32) -> bool
+    requires { marks.now ≡ map is_without_immediates simd_entries }
+    ensures { result ≡ is_without_immediates (entry_at (Some 0xfd) code) }
 {
     let place = code as usize;
-    if place >= plain.len() {
+    if place >= marks.len() {
         return false;
     }
-    plain[place]
+    marks[place]
 }
 
 /// Whether an operator without immediates has this subopcode behind the byte 0xfd.
 #[inline(always)]
 pub fn has_no_immediates(code: u32) -> bool
-    ensures told { result ≡ is_plain (entry_at (Some 0xfd) code) }
-    ensures plain { result ≡ true → entry_at (Some 0xfd) code ≡ free [] }
+    ensures exact { result ≡ is_without_immediates (entry_at (Some 0xfd) code) }
+    ensures without { result ≡ true → entry_at (Some 0xfd) code ≡ free [] }
 {
-    plain_in(&PLAIN, code)
+    is_marked(&WITHOUT_IMMEDIATES, code)
 }
 
 /// The vector operator without immediates of this subopcode below 0x80.
 #[inline(always)]
-pub fn plain_simd_low(code: u32) -> SimdOperator
-    requires plain { entry_at (Some 0xfd) code ≡ free [] }
+pub fn simd_low_without_immediates(code: u32) -> SimdOperator
+    requires without { entry_at (Some 0xfd) code ≡ free [] }
     requires half { code < 0x80 }
-    ensures { IsPlainVector code result }
+    ensures { IsVectorWithoutImmediates code result }
 {
     match code {
         0x0e => SimdOperator::I8x16Swizzle,
@@ -154,10 +154,10 @@ pub fn plain_simd_low(code: u32) -> SimdOperator
 
 /// The vector operator without immediates of this subopcode from 0x80 on.
 #[inline(always)]
-pub fn plain_simd_high(code: u32) -> SimdOperator
-    requires plain { entry_at (Some 0xfd) code ≡ free [] }
+pub fn simd_high_without_immediates(code: u32) -> SimdOperator
+    requires without { entry_at (Some 0xfd) code ≡ free [] }
     requires half { 0x80 ≤ code }
-    ensures { IsPlainVector code result }
+    ensures { IsVectorWithoutImmediates code result }
 {
     match code {
         0x80 => SimdOperator::I16x8Abs,
