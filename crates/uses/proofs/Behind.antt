@@ -4,7 +4,7 @@ use Rattle.wasm_operators.specs.below.Source.{Reader, rest, offset_of, source_of
 use Rattle.wasm_operators.specs.Expression.{Placed, operators, LaidOut, AreWalk, EncodesRest, EncodesExpression}
 use Rattle.wasm_operators.specs.Reading.{State}
 use Rattle.wasm_operators.specs.Headline.{StoodBefore}
-use Rattle.uses.specs.Again.{StandsBehind}
+use Rattle.uses.specs.Again.{HasFound}
 use Rattle.uses.proofs.Parts.{IsJoined, operators_join}
 
 -- What is laid out from a reader on that took a text of another is laid out behind that text.
@@ -25,7 +25,7 @@ takes_both r old new a b first second =
     }
 
 -- Before the first call.
-pub stands_first : (r : Reader) (now : State) → now.reader ≡ r → StoodBefore [] now → StandsBehind r now []
+pub stands_first : (r : Reader) (now : State) → now.reader ≡ r → StoodBefore [] now → HasFound r now []
 stands_first r now same stood =
     let place : r.position ≡ r.position + 0 = omega arith in
     record {
@@ -36,9 +36,9 @@ stands_first r now same stood =
     }
 
 -- A call more that was refused.
-pub stands_on : (r : Reader) (old new : State) (found placed : Placed) (text : List ℕ) → IsJoined r.features → StandsBehind r old found →
+pub stands_on : (r : Reader) (old new : State) (found placed : Placed) (text : List ℕ) → IsJoined r.features → HasFound r old found →
     Takes old.reader new.reader text → LaidOut old.reader.features (offset_of old.reader) placed text →
-    StoodBefore (operators found ++ operators placed) new → StandsBehind r new (found ++ placed)
+    StoodBefore (operators found ++ operators placed) new → HasFound r new (found ++ placed)
 stands_on r old new found placed text joined h takes laid stood = record {
   text = h.text ++ text;
   takes = takes_both r old.reader new.reader h.text text h.takes takes;
@@ -47,7 +47,7 @@ stands_on r old new found placed text joined h takes laid stood = record {
 }
 
 -- A call more that read to the end.
-pub whole_behind : (r : Reader) (old : State) (found placed : Placed) → IsJoined r.features → StandsBehind r old found →
+pub whole_behind : (r : Reader) (old : State) (found placed : Placed) → IsJoined r.features → HasFound r old found →
     EncodesRest (operators found) (source_of old.reader) placed → EncodesExpression (source_of r) (found ++ placed)
 whole_behind r old found placed joined h (laid, walk) =
     let all = joined (offset_of r) found placed h.text (rest old.reader) h.laid (laid_behind r old.reader h.text placed (rest old.reader) h.takes laid) in (

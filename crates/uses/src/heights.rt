@@ -36,7 +36,7 @@ pub struct Heights<'m> {
 }
 
 /// Whether what stands behind the operator is not reached.
-fn goes_away(op: &Operator<'_>) -> bool {
+fn is_stack_polymorphic(op: &Operator<'_>) -> bool {
     matches!(
         op,
         Operator::Unreachable
@@ -136,7 +136,7 @@ impl<'m> Heights<'m> {
                 ..frame
             });
         }
-        if goes_away(op) {
+        if is_stack_polymorphic(op) {
             self.close();
             self.height = frame.base;
             self.open(Frame {

@@ -28,7 +28,7 @@ pub use iterating::iterated;
 pub use numbers::{
     peek_block_type, peek_f64, peek_index, peek_memory_argument, read_limits, value_size,
 };
-pub use operators::{copy_plain, opcode};
+pub use operators::{copy_without_list, opcode};
 pub use places::{bytes_before_refusal, range_of, read_ranged, refusal_distance};
 pub use rest::read_rest;
 pub use sections::read_indices;

@@ -18,7 +18,7 @@ pub fn opcode(op: &Operator<'_>) -> (Option<u8>, u32)
 }
 
 /// A copy of an operator that holds no list: it takes no memory, and always succeeds.
-pub fn copy_plain<'a>(alloc: Global, op: &Operator<'a>) -> Operator<'a>
+pub fn copy_without_list<'a>(alloc: Global, op: &Operator<'a>) -> Operator<'a>
     requires { ¬ HoldsList op.now }
     ensures { result ≡ op.now }
 {

@@ -76,7 +76,7 @@ pub fn why_refused(operators: &mut OperatorsReader<'_>) -> Option<Complaint>
 pub fn asked_twice(operators: &mut OperatorsReader<'_>) -> Option<(Error, Error)>
     ensures again { IfSome result (λ both. both.1.message ≢ Message.OutOfMemory
         → (both.0.message ≡ both.1.message) × (both.0.offset ≡ both.1.offset)) }
-    ensures read { IfNone result ((first : Option Error) × IsRefusal first operators.old operators.new
+    ensures read_or_memory { IfNone result ((first : Option Error) × IsRefusal first operators.old operators.new
         × IfSome first (λ e. e.message ≡ Message.OutOfMemory)) }
 {
     reading_laws::refused_again();
