@@ -7,3 +7,4 @@ pub mod Unique
 pub mod Next
 pub mod Laws
 pub mod OfSection
+pub mod Refused

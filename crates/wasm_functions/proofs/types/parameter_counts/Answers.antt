@@ -1,14 +1,16 @@
-use Rattle.std.proofs.Common.{◌+◌, ◌<◌, ℕ, List, [], ◌∷◌, ◌++◌, length, map, subst, ap, ◌∙◌, arith}
+use Rattle.std.proofs.Common.{◌+◌, ◌<◌, ℕ, List, [], ◌∷◌, ◌++◌, length, map, subst, ap, ◌∙◌, inl, inr, arith}
 use Rattle.std.proofs.lemmas.List.Elements.{All-push}
 use Rattle.wasm_module.specs.below.Number.{EncodesUnsigned}
 use Rattle.wasm_module.specs.below.Source.{Reader}
 use Rattle.wasm_module.specs.Types.{EncodesSubType}
 use Rattle.wasm_functions.specs.Items.{ItemsStand}
 use Rattle.wasm_functions.specs.Parameters.{parameter_count, AreKnownTypes}
+use Rattle.wasm_functions.specs.Refusals.{CountFault}
 use Rattle.wasm_functions.proofs.Grouped.{group_more, group_stands, group_announced, parameters_more}
 use Rattle.wasm_functions.proofs.Listed.{one_longer}
 use Rattle.wasm_functions.proofs.Named.{not_both}
 use Rattle.wasm_functions.proofs.Next.{all_at, next_group, one_announced, none_announced}
+use Rattle.wasm_functions.proofs.Refused.{of_refusal, announced_refused, types_to}
 use Rattle.wasm_functions.proofs.types.parameter_counts.Goals as goal
 
 pub loop-group-preserved : goal.loop-group-preserved
@@ -49,3 +51,28 @@ returns-in-Err-read_group-clause-refused c counts (groups, types, known, is) =
     let same = one_announced c.types.ensures.group c.types.ensures.one (length g) read c.loop-group.reader stand.0 c.read_group_len.new.reader stand.1 announced in
     let stands = subst (λ (r : Reader). ItemsStand EncodesSubType r g next) same.1 stand.2 in
     c.in-Err-read_group.ensures.refused g next same.0 stands (all_at AreKnownTypes h.0 g gs groups parts known)
+
+pub returns-in-Err-clause-fault : goal.returns-in-Err-clause-fault
+returns-in-Err-clause-fault c =
+    let read = c.in-Err.ensures in
+    inl (of_refusal (λ f. CountFault f c.args.contents) c.in-Err.e c.from.result c.from.ensures read.reads.1.fault (read.reads.1, read.fault))
+
+pub returns-in-Err-read_group_len-clause-fault : goal.returns-in-Err-read_group_len-clause-fault
+returns-in-Err-read_group_len-clause-fault c =
+    let h = c.loop-group.invariant in
+    let fewer : length h.0 < c.in-Ok.groups = let so = h.2 in let test = c.loop-group-test.true in omega (arith, so, test) in
+    let stand = types_to c.args.contents c.read_var_u32.new.self c.loop-group.reader c.in-Ok.groups h.0 c.in-Ok.ensures.reads h.1 fewer h.3 in
+    let len = c.in-Err-read_group_len.ensures in
+    let refused = announced_refused c.in-Err-read_group_len.e c.from-in-Err-read_group_len.result c.loop-group.reader c.read_group_len.new.reader len.group len.one len.fault
+    c.from-in-Err-read_group_len.ensures in
+    inr (c.loop-group.reader, stand, inl refused)
+
+pub returns-in-Err-read_group-clause-fault : goal.returns-in-Err-read_group-clause-fault
+returns-in-Err-read_group-clause-fault c =
+    let h = c.loop-group.invariant in
+    let fewer : length h.0 < c.in-Ok.groups = let so = h.2 in let test = c.loop-group-test.true in omega (arith, so, test) in
+    let stand = types_to c.args.contents c.read_var_u32.new.self c.loop-group.reader c.in-Ok.groups h.0 c.in-Ok.ensures.reads h.1 fewer h.3 in
+    let len = c.in-Ok-read_group_len.ensures in
+    let read = c.in-Ok-read_group_len.len in
+    let announced = group_announced read c.loop-group.reader c.read_group_len.new.reader len.group len.one in
+    inr (c.loop-group.reader, stand, inr (read, c.read_group_len.new.reader, announced, c.in-Err-read_group.ensures.fault))
