@@ -8,16 +8,16 @@ use Rattle.wasm_module.specs.below.Number.{EncodesUnsigned}
 use Rattle.wasm_module.specs.below.Refusal.{IsReadFault}
 use Rattle.wasm_module.specs.below.Source.{Reader, rest, BeginsWith, Reads}
 use Rattle.wasm_module.specs.Module.{SectionParts}
-use Rattle.wasm_module.specs.Types.{EncodesSubType, EncodesGroup, GroupFault}
+use Rattle.wasm_module.specs.Types.{EncodesSubType, EncodesRecTypeLength, RecTypeLengthFault}
 use Rattle.wasm_module.specs.declared.composite.CompositeType.{CompositeType}
 use Rattle.wasm_functions.specs.Faults.{fault_by, fault_of}
 use Rattle.wasm_functions.specs.Items.{ItemsStand}
-use Rattle.wasm_functions.specs.Parameters.{AreKnownTypes, GroupsStand}
+use Rattle.wasm_functions.specs.Parameters.{AreKnownTypes, RecTypesStand}
 use Rattle.wasm_functions.specs.Refusals.{HasSectionsTo, HasItemsTo, IsAny, HasSubTypesTo, AnnouncedFault, HasTypesTo}
 use Rattle.wasm_functions.specs.Sections.{BeginsModule, SectionsStand}
 use Rattle.wasm_functions.specs.declared.fault.ModuleFault.{ModuleFault}
 use Rattle.wasm_functions.specs.declared.fault.ModuleFault.TheVariants as fault
-use Rattle.wasm_functions.proofs.Grouped.{begins}
+use Rattle.wasm_functions.proofs.RecTypes.{begins}
 
 refused_by : (m : Message) (e : Error) → IsReadFault m → fault_by m e ≡ fault.Refused e
 refused_by message.OutOfMemory e read = absurd read
@@ -48,10 +48,10 @@ pub sub_types_to : (n : ℕ) (r next : Reader) (types : List CompositeType) → 
 sub_types_to n r next types stand fewer known = record { types = types; stand = stand; fewer = fewer; known = known }
 
 -- recursive types stand up to here, and more are announced
-pub types_to : (contents first next : Reader) (n : ℕ) (groups : List (List CompositeType)) → Reads (EncodesUnsigned 32) (Ok n) contents first →
-    GroupsStand first groups next → length groups < n → All AreKnownTypes groups → HasTypesTo contents next
-types_to contents first next n groups count stand fewer known =
-    record { first = first; announced = n; count = count; groups = groups; stand = stand; fewer = fewer; known = known }
+pub types_to : (contents first next : Reader) (n : ℕ) (rec_types : List (List CompositeType)) → Reads (EncodesUnsigned 32) (Ok n) contents first →
+    RecTypesStand first rec_types next → length rec_types < n → All AreKnownTypes rec_types → HasTypesTo contents next
+types_to contents first next n rec_types count stand fewer known =
+    record { first = first; announced = n; count = count; rec_types = rec_types; stand = stand; fewer = fewer; known = known }
 
 -- the beginning of a recursive type is refused only where one stands
 abbrev IsRead : Result ℕ Error → Type 0
@@ -61,19 +61,19 @@ IsRead (Err e) = ⊥
 abbrev same : Result ℕ Error → Result ℕ Error → Type 0
 same a b = a ≡ b
 
-refused_beginning : (e : Error) (r new : Reader) → (BeginsWith 0x4e (rest r) → Reads EncodesGroup (Err e) r new) →
-    ((BeginsWith 0x4e (rest r) → ⊥) → same (Err e) (Ok 1) × (new ≡ r)) → GroupFault e.message r e.offset →
+refused_beginning : (e : Error) (r new : Reader) → (BeginsWith 0x4e (rest r) → Reads EncodesRecTypeLength (Err e) r new) →
+    ((BeginsWith 0x4e (rest r) → ⊥) → same (Err e) (Ok 1) × (new ≡ r)) → RecTypeLengthFault e.message r e.offset →
     BeginsWith 0x4e (rest r) ⊎ (BeginsWith 0x4e (rest r) → ⊥) → AnnouncedFault (fault.Refused e) r
-refused_beginning e r new group one is (inl here) = (here, ((group here).1, is))
-refused_beginning e r new group one is (inr not) = absurd (subst IsRead (sym (one not).0) tt)
+refused_beginning e r new rec_type one is (inl here) = (here, ((rec_type here).1, is))
+refused_beginning e r new rec_type one is (inr not) = absurd (subst IsRead (sym (one not).0) tt)
 
-read_fault_by : (e : Error) (r new : Reader) → (BeginsWith 0x4e (rest r) → Reads EncodesGroup (Err e) r new) →
+read_fault_by : (e : Error) (r new : Reader) → (BeginsWith 0x4e (rest r) → Reads EncodesRecTypeLength (Err e) r new) →
     ((BeginsWith 0x4e (rest r) → ⊥) → same (Err e) (Ok 1) × (new ≡ r)) → BeginsWith 0x4e (rest r) ⊎ (BeginsWith 0x4e (rest r) → ⊥) → IsReadFault e.message
-read_fault_by e r new group one (inl here) = (group here).1.fault
-read_fault_by e r new group one (inr not) = absurd (subst IsRead (sym (one not).0) tt)
+read_fault_by e r new rec_type one (inl here) = (rec_type here).1.fault
+read_fault_by e r new rec_type one (inr not) = absurd (subst IsRead (sym (one not).0) tt)
 
-pub announced_refused : (e : Error) (f : ModuleFault) (r new : Reader) → (BeginsWith 0x4e (rest r) → Reads EncodesGroup (Err e) r new) →
-    ((BeginsWith 0x4e (rest r) → ⊥) → same (Err e) (Ok 1) × (new ≡ r)) → GroupFault e.message r e.offset → f ≡ fault_of e → AnnouncedFault f r
-announced_refused e f r new group one is told =
+pub announced_refused : (e : Error) (f : ModuleFault) (r new : Reader) → (BeginsWith 0x4e (rest r) → Reads EncodesRecTypeLength (Err e) r new) →
+    ((BeginsWith 0x4e (rest r) → ⊥) → same (Err e) (Ok 1) × (new ≡ r)) → RecTypeLengthFault e.message r e.offset → f ≡ fault_of e → AnnouncedFault f r
+announced_refused e f r new rec_type one is told =
     let stands = begins 0x4e (rest r) in
-    of_refusal (λ f. AnnouncedFault f r) e f told (read_fault_by e r new group one stands) (refused_beginning e r new group one is stands)
+    of_refusal (λ f. AnnouncedFault f r) e f told (read_fault_by e r new rec_type one stands) (refused_beginning e r new rec_type one is stands)

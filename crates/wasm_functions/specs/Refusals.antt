@@ -9,14 +9,14 @@ use Rattle.wasm_module.specs.below.Source.{Reader, rest, offset_of, BeginsWith, 
 use Rattle.wasm_module.specs.Exports.{EncodesExport, ExportFault}
 use Rattle.wasm_module.specs.Imports.{ImportParts, EncodesImport, ImportFault}
 use Rattle.wasm_module.specs.Module.{EncodesPreamble, PreambleFault, preamble_kind, SectionParts, EncodesSection, SectionFault}
-use Rattle.wasm_module.specs.Types.{EncodesSubType, SubTypeFault, EncodesGroup, GroupFault}
+use Rattle.wasm_module.specs.Types.{EncodesSubType, SubTypeFault, EncodesRecTypeLength, RecTypeLengthFault}
 use Rattle.wasm_module.specs.declared.composite.CompositeType.{CompositeType}
 use Rattle.wasm_module.specs.declared.composite.CompositeType.TheVariants as composite
 use Rattle.wasm_module.specs.declared.preamble.Preamble.{Preamble}
 use Rattle.wasm_module.specs.declared.preamble.PreambleKind.{PreambleKind}
 use Rattle.wasm_module.specs.declared.preamble.PreambleKind.TheVariants as kind
 use Rattle.wasm_functions.specs.Items.{ItemsStand}
-use Rattle.wasm_functions.specs.Parameters.{AreKnownTypes, Announces, GroupsStand, CountsParameters}
+use Rattle.wasm_functions.specs.Parameters.{AreKnownTypes, Announces, RecTypesStand, CountsParameters}
 use Rattle.wasm_functions.specs.Sections.{BeginsModule, SectionsStand, IsSection}
 use Rattle.wasm_functions.specs.Table.{IsKnownImport, CountsImports, ListsTypes}
 use Rattle.wasm_functions.specs.declared.fault.ModuleFault.{ModuleFault}
@@ -101,31 +101,31 @@ SubTypesFault _ n r = ⊥
 
 -- The number of sub types is refused that a recursive type announces.
 abbrev pub AnnouncedFault : ModuleFault → Reader → Type 0
-AnnouncedFault (fault.Refused e) r = BeginsWith 0x4e (rest r) × IsRefusedAs EncodesGroup GroupFault e r
+AnnouncedFault (fault.Refused e) r = BeginsWith 0x4e (rest r) × IsRefusedAs EncodesRecTypeLength RecTypeLengthFault e r
 AnnouncedFault _ r = ⊥
 
 -- That is refused, or one of them.
-abbrev pub GroupFaultAt : ModuleFault → Reader → Type 0
-GroupFaultAt fault r = AnnouncedFault fault r ⊎ ((n : ℕ) × (first : Reader) × Announces n r first × SubTypesFault fault n first)
+abbrev pub RecTypeFault : ModuleFault → Reader → Type 0
+RecTypeFault fault r = AnnouncedFault fault r ⊎ ((n : ℕ) × (first : Reader) × Announces n r first × SubTypesFault fault n first)
 
 -- The contents of a section announce more recursive types than stand up to the second reader; the types of these are all known.
 pub record HasTypesTo (contents next : Reader) : Type 0 where
   pub first : Reader
   pub announced : ℕ
   pub count : Reads (EncodesUnsigned 32) (Ok announced) contents first
-  pub groups : List (List CompositeType)
-  pub stand : GroupsStand first groups next
-  pub fewer : length groups < announced
-  pub known : All AreKnownTypes groups
+  pub rec_types : List (List CompositeType)
+  pub stand : RecTypesStand first rec_types next
+  pub fewer : length rec_types < announced
+  pub known : All AreKnownTypes rec_types
 
 -- The number of recursive types is refused.
-abbrev pub CountFault : ModuleFault → Reader → Type 0
-CountFault (fault.Refused e) contents = IsRefusedAs (EncodesUnsigned 32) U32Fault e contents
-CountFault _ contents = ⊥
+abbrev pub TypesLengthFault : ModuleFault → Reader → Type 0
+TypesLengthFault (fault.Refused e) contents = IsRefusedAs (EncodesUnsigned 32) U32Fault e contents
+TypesLengthFault _ contents = ⊥
 
 -- Which fault the contents of a section of types have: that number is refused, or behind some recursive types the next.
 abbrev pub TypesFault : ModuleFault → Reader → Type 0
-TypesFault fault contents = CountFault fault contents ⊎ ((next : Reader) × HasTypesTo contents next × GroupFaultAt fault next)
+TypesFault fault contents = TypesLengthFault fault contents ⊎ ((next : Reader) × HasTypesTo contents next × RecTypeFault fault next)
 
 -- The first section with a number is there, and this is so of its contents.
 abbrev pub OfSection : Reader → ℕ → (Reader → Type 0) → Type 0

@@ -17,7 +17,7 @@ use wasm_module::below::WasmFeatures;
 use wasm_module::below::byte_laws::{fixed_numbers, unsigned_numbers};
 use wasm_module::module_laws;
 
-/// What a module tells of its own functions, each at its place behind those that are imported.
+/// What a module tells of its own functions, each by its ordinal behind those that are imported.
 #[derive(Debug, Drop)]
 pub struct Functions<'a> {
     imported: u32,
@@ -80,11 +80,11 @@ impl<'a> Functions<'a> {
         })
     }
 
-    /// The index of the function at this place. It stays at 4294967295.
-    pub fn index(&self, place: u32) -> u32
-        ensures { result ≡ index_of self.now place }
+    /// The index of the function with this ordinal. It stays at 4294967295.
+    pub fn index(&self, ordinal: u32) -> u32
+        ensures { result ≡ index_of self.now ordinal }
     {
-        self.imported.saturating_add(place)
+        self.imported.saturating_add(ordinal)
     }
 
     /// Whether the function with this index is one of the module's own.
@@ -95,20 +95,20 @@ impl<'a> Functions<'a> {
     }
 
     /// How many parameters it has, where its type is known and that of a function; else 0.
-    pub fn parameters(&self, place: u32) -> u32
-        ensures { result ≡ parameters_at self.now place }
+    pub fn parameters(&self, ordinal: u32) -> u32
+        ensures { result ≡ parameters_at self.now ordinal }
     {
-        match self.types.get(place as usize) {
+        match self.types.get(ordinal as usize) {
             Some(ty) => self.parameters.get(*ty as usize).copied().unwrap_or(0),
             None => 0,
         }
     }
 
     /// Its name, which is empty where it has none, or one that is no text.
-    pub fn name(&self, place: u32) -> &'a str
-        ensures { result.now ≡ name_at self.now place }
+    pub fn name(&self, ordinal: u32) -> &'a str
+        ensures { result.now ≡ name_at self.now ordinal }
     {
-        match self.names.get(place as usize) {
+        match self.names.get(ordinal as usize) {
             Some(name) => text_of(name),
             None => "",
         }

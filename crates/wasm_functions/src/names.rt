@@ -27,9 +27,9 @@ fn set_name<'a>(names: &mut Vec<&'a [u8]>, imported: u32, index: u32, name: &'a 
     if index < imported {
         return;
     }
-    let place = (index - imported) as usize;
-    if place < names.len() {
-        names[place] = name;
+    let ordinal = (index - imported) as usize;
+    if ordinal < names.len() {
+        names[ordinal] = name;
     }
 }
 

@@ -13,7 +13,7 @@ use crate::fault::ModuleFault;
 use std::alloc::Global;
 use wasm_module::below::BinaryReader;
 use wasm_module::below::byte_laws::unsigned_numbers;
-use wasm_module::{CompositeType, module_laws, read_group_len};
+use wasm_module::{CompositeType, module_laws, read_rec_type_len};
 
 /// How many parameters a type has, none where it is no function's.
 fn parameter_count(ty: CompositeType) -> u32
@@ -28,7 +28,7 @@ fn parameter_count(ty: CompositeType) -> u32
 /// How many parameters each of this many types has.
 ///
 /// `TypeKind` at a type of none of the three sorts; else refused as one.
-fn read_group(
+fn read_rec_type(
     reader: &mut BinaryReader<'_>,
     len: u32,
     counts: &mut Vec<u32>,
@@ -69,16 +69,16 @@ pub fn parameter_counts(alloc: Global, contents: BinaryReader<'_>) -> Result<Vec
     module_laws::types();
     let mut reader = contents;
     let mut counts = Vec::new(alloc);
-    let groups = match reader.read_var_u32() {
-        Ok(groups) => groups,
+    let rec_types = match reader.read_var_u32() {
+        Ok(rec_types) => rec_types,
         Err(e) => return Err(ModuleFault::from(e)),
     };
-    for _group in 0..groups {
-        let len = match read_group_len(&mut reader) {
+    for _rec_type in 0..rec_types {
+        let len = match read_rec_type_len(&mut reader) {
             Ok(len) => len,
             Err(e) => return Err(ModuleFault::from(e)),
         };
-        match read_group(&mut reader, len, &mut counts) {
+        match read_rec_type(&mut reader, len, &mut counts) {
             Ok(()) => {}
             Err(fault) => return Err(fault),
         }

@@ -5,12 +5,12 @@ use Rattle.wasm_module.specs.Types.{EncodesSubType}
 use Rattle.wasm_module.specs.declared.composite.CompositeType.{CompositeType}
 use Rattle.wasm_functions.specs.Parameters.{parameter_count, IsKnownType}
 use Rattle.wasm_functions.specs.Refusals.{SubTypesFault}
-use Rattle.wasm_functions.proofs.Grouped.{count_more}
+use Rattle.wasm_functions.proofs.RecTypes.{count_more}
 use Rattle.wasm_functions.proofs.Listed.{item_more, one_longer}
 use Rattle.wasm_functions.proofs.Named.{one_value, not_both}
 use Rattle.wasm_functions.proofs.Next.{all_at, more_items}
 use Rattle.wasm_functions.proofs.Refused.{of_refusal, sub_types_to}
-use Rattle.wasm_functions.proofs.types.read_group.Goals as goal
+use Rattle.wasm_functions.proofs.types.read_rec_type.Goals as goal
 
 pub loop-ty-preserved : goal.loop-ty-preserved
 loop-ty-preserved c =
