@@ -1,9 +1,11 @@
 pub mod Standing
 pub mod Listed
 pub mod Texts
-pub mod Grouped
+pub mod RecTypes
 pub mod Named
 pub mod Unique
 pub mod Next
 pub mod Laws
 pub mod OfSection
+pub mod Refused
+pub mod OneFault

@@ -6,10 +6,10 @@ use Rattle.wasm_module.specs.below.bytes.error.Error.{Error}
 use Rattle.wasm_module.specs.below.Number.{EncodesUnsigned}
 use Rattle.wasm_module.specs.below.Sequence.{PrefixCode}
 use Rattle.wasm_module.specs.below.Source.{Reader, rest, at_position, BeginsWith, IsRefusal, Reads}
-use Rattle.wasm_module.specs.Types.{EncodesSubType, EncodesGroup}
+use Rattle.wasm_module.specs.Types.{EncodesSubType, EncodesRecTypeLength}
 use Rattle.wasm_module.specs.declared.composite.CompositeType.{CompositeType}
 use Rattle.wasm_functions.specs.Items.{ItemsStand, IsList}
-use Rattle.wasm_functions.specs.Parameters.{Announces, GroupStands, GroupsStand, AreTypes}
+use Rattle.wasm_functions.specs.Parameters.{Announces, RecTypeStands, RecTypesStand, AreTypes}
 use Rattle.wasm_functions.proofs.Named.{not_both}
 
 pub all_at : {X : Type 0} (P : X → Type 0) (xs : List X) (y : X) (zs ys : List X) → ys ≡ xs ++ y ∷ zs → All P ys → P y
@@ -75,35 +75,35 @@ read (Err e) = ⊥
 abbrev same : Result ℕ Error → Result ℕ Error → Type 0
 same a b = a ≡ b
 
-pub none_announced : (n : ℕ) (e : Error) (r new first : Reader) → (BeginsWith 0x4e (rest r) → Reads EncodesGroup (Err e) r new) →
+pub none_announced : (n : ℕ) (e : Error) (r new first : Reader) → (BeginsWith 0x4e (rest r) → Reads EncodesRecTypeLength (Err e) r new) →
     ((BeginsWith 0x4e (rest r) → ⊥) → same (Err e) (Ok 1) × (new ≡ r)) → Announces n r first → ⊥
-none_announced n e r new first group one (inl is) = not_both EncodesGroup e r first n (group is.0).1 is.1
-none_announced n e r new first group one (inr not) = subst read (sym (one not.0).0) tt
+none_announced n e r new first rec_type one (inl is) = not_both EncodesRecTypeLength e r first n (rec_type is.0).1 is.1
+none_announced n e r new first rec_type one (inr not) = subst read (sym (one not.0).0) tt
 
-module _ (group : PrefixCode EncodesGroup) (sub : PrefixCode EncodesSubType) where
+module _ (rec_type : PrefixCode EncodesRecTypeLength) (sub : PrefixCode EncodesSubType) where
   pub one_announced : (n m : ℕ) (r a b : Reader) → Announces n r a → Announces m r b → (n ≡ m) × (a ≡ b)
-  one_announced n m r a b (inl p) (inl q) = one_read EncodesGroup group r a b n m p.1 q.1
+  one_announced n m r a b (inl p) (inl q) = one_read EncodesRecTypeLength rec_type r a b n m p.1 q.1
   one_announced n m r a b (inl p) (inr q) = absurd (q.0 p.0)
   one_announced n m r a b (inr p) (inl q) = absurd (p.0 q.0)
   one_announced n m r a b (inr p) (inr q) = (p.1 ∙ sym q.1, p.2 ∙ sym q.2)
 
-  one_group : (r mid end : Reader) (g h : List CompositeType) → GroupStands r g mid → GroupStands r h end → (g ≡ h) × (mid ≡ end)
-  one_group r mid end g h (first, announces, stand) (first', announces', stand') =
+  one_rec_type : (r mid end : Reader) (g h : List CompositeType) → RecTypeStands r g mid → RecTypeStands r h end → (g ≡ h) × (mid ≡ end)
+  one_rec_type r mid end g h (first, announces, stand) (first', announces', stand') =
       let same = one_announced (length g) (length h) r first first' announces announces' in
       same_items EncodesSubType sub first g h mid end stand (subst (λ z. ItemsStand EncodesSubType z h end) (sym same.1) stand') same.0
 
-  more_groups : (r : Reader) (gs hs : List (List CompositeType)) (mid end : Reader) → GroupsStand r gs mid → GroupsStand r hs end → length gs < length hs →
-      (h : List CompositeType) × (others : List (List CompositeType)) × (next : Reader) × (hs ≡ gs ++ h ∷ others) × GroupStands mid h next
-  more_groups r gs [] mid end a b l = absurd (omega (arith, l))
-  more_groups r [] (h ∷ hs) mid end a (next, stands, others) l = (h, hs, next, refl, subst (λ z. GroupStands z h next) (sym a) stands)
-  more_groups r (g ∷ gs) (h ∷ hs) mid end (n, stands, others) (n', stands', others') l =
-      let first = one_group r n n' g h stands stands' in
-      let (i, is, next, parts, stand) = more_groups n gs hs mid end others (subst (λ r. GroupsStand r hs end) (sym first.1) others') (omega (arith, l)) in
+  more_rec_types : (r : Reader) (gs hs : List (List CompositeType)) (mid end : Reader) → RecTypesStand r gs mid → RecTypesStand r hs end → length gs < length hs →
+      (h : List CompositeType) × (others : List (List CompositeType)) × (next : Reader) × (hs ≡ gs ++ h ∷ others) × RecTypeStands mid h next
+  more_rec_types r gs [] mid end a b l = absurd (omega (arith, l))
+  more_rec_types r [] (h ∷ hs) mid end a (next, stands, others) l = (h, hs, next, refl, subst (λ z. RecTypeStands z h next) (sym a) stands)
+  more_rec_types r (g ∷ gs) (h ∷ hs) mid end (n, stands, others) (n', stands', others') l =
+      let first = one_rec_type r n n' g h stands stands' in
+      let (i, is, next, parts, stand) = more_rec_types n gs hs mid end others (subst (λ r. RecTypesStand r hs end) (sym first.1) others') (omega (arith, l)) in
       (i, is, next, ap (λ v. h ∷ v) parts ∙ ap (λ v. v ∷ (gs ++ i ∷ is)) (sym first.0), stand)
 
-  pub next_group : PrefixCode (EncodesUnsigned 32) → (contents first mid : Reader) (n : ℕ) (gs hs : List (List CompositeType)) →
-      Reads (EncodesUnsigned 32) (Ok n) contents first → GroupsStand first gs mid → length gs < n → AreTypes contents hs →
-      (h : List CompositeType) × (others : List (List CompositeType)) × (next : Reader) × (hs ≡ gs ++ h ∷ others) × GroupStands mid h next
-  next_group numbers contents first mid n gs hs counted stand fewer types =
+  pub next_rec_type : PrefixCode (EncodesUnsigned 32) → (contents first mid : Reader) (n : ℕ) (gs hs : List (List CompositeType)) →
+      Reads (EncodesUnsigned 32) (Ok n) contents first → RecTypesStand first gs mid → length gs < n → AreTypes contents hs →
+      (h : List CompositeType) × (others : List (List CompositeType)) × (next : Reader) × (hs ≡ gs ++ h ∷ others) × RecTypeStands mid h next
+  next_rec_type numbers contents first mid n gs hs counted stand fewer types =
       let same = one_read (EncodesUnsigned 32) numbers contents first types.first n (length hs) counted types.count in
-      more_groups first gs hs mid types.end stand (subst (λ z. GroupsStand z hs types.end) (sym same.1) types.stand) (subst (λ k. length gs < k) same.0 fewer)
+      more_rec_types first gs hs mid types.end stand (subst (λ z. RecTypesStand z hs types.end) (sym same.1) types.stand) (subst (λ k. length gs < k) same.0 fewer)

@@ -1,5 +1,5 @@
 -- What is refused of the one section with a number.
-use Rattle.std.proofs.Common.{ℕ, Option, Some, Result, subst}
+use Rattle.std.proofs.Common.{ℕ, Option, Some, Result, subst, inr}
 use Rattle.std.specs.Int.{w32}
 use Rattle.std.specs.Prelude.{IfErr}
 use Rattle.std.proofs.lemmas.Result.{IfErr-weaker}
@@ -7,6 +7,7 @@ use Rattle.wasm_module.specs.below.Number.{EncodesUnsigned, EncodesFixed}
 use Rattle.wasm_module.specs.below.Sequence.{PrefixCode}
 use Rattle.wasm_module.specs.below.Source.{Reader}
 use Rattle.wasm_functions.specs.declared.fault.ModuleFault.{ModuleFault}
+use Rattle.wasm_functions.specs.Refusals.{SectionFaultAt}
 use Rattle.wasm_functions.specs.Sections.{IsSection}
 use Rattle.wasm_functions.proofs.Unique.{one_found}
 
@@ -26,3 +27,9 @@ module _ (numbers : PrefixCode (EncodesUnsigned 32)) (fixed : PrefixCode (Encode
       IfErr-weaker r (λ fault. (y : Y) → (z : Z) → P (Some contents) y z → ⊥)
       (λ fault. (section : Option Reader) → (y : Y) → (z : Z) → IsSection whole id section → P section y z → ⊥)
       (λ fault f section y z there is. f y z (subst (λ s. P s y z) (one_found numbers fixed whole id section (Some contents) there here) is)) refused
+
+-- what is refused of the contents is so of the section
+pub fault_at : {X : Type 0} (Fault : ModuleFault → Reader → Type 0) (whole : Reader) (id : ℕ) (contents : Reader) (r : Result X ModuleFault) →
+    IsSection whole id (Some contents) → IfErr r (λ fault. Fault fault contents) → IfErr r (λ fault. SectionFaultAt fault whole id Fault)
+fault_at Fault whole id contents r here refused =
+    IfErr-weaker r (λ fault. Fault fault contents) (λ fault. SectionFaultAt fault whole id Fault) (λ fault is. inr (contents, here, is)) refused

@@ -50,7 +50,7 @@ module _ (numbers : PrefixCode (EncodesUnsigned 32)) where
         start ∙ sym start',
       )
 
-  one_step : (r mid next : Reader) (s t : SectionParts) → Reads (EncodesSection r.features) (Ok s) r mid → Reads (EncodesSection r.features) (Ok t) r next →
+  pub one_step : (r mid next : Reader) (s t : SectionParts) → Reads (EncodesSection r.features) (Ok s) r mid → Reads (EncodesSection r.features) (Ok t) r next →
       (mid ≡ next) × (s.id ≡ t.id) × (s.contents.buffer ≡ t.contents.buffer) × (s.contents.features ≡ t.contents.features) ×
       (s.contents.position ≡ t.contents.position)
   one_step r mid next s t (a, is, takes) (b, is', takes') =
@@ -104,7 +104,7 @@ abbrev kind_by : ℕ → ℕ → PreambleKind
 kind_by magic version = preamble_kind (record { magic = magic; version = version })
 
 module _ (fixed : PrefixCode (EncodesFixed w32)) where
-  one_preamble : (a b x y : List ℕ) (p q : Preamble) → EncodesPreamble a p → EncodesPreamble b q → a ++ x ≡ b ++ y →
+  pub one_preamble : (a b x y : List ℕ) (p q : Preamble) → EncodesPreamble a p → EncodesPreamble b q → a ++ x ≡ b ++ y →
       (a ≡ b) × (preamble_kind p ≡ preamble_kind q)
   one_preamble a b x y p q (m, v, parts, magic, version) (m', v', parts', magic', version') e =
       let whole = sym (append_assoc m v x) ∙ ap (λ z. z ++ x) (sym parts) ∙ e ∙ ap (λ z. z ++ y) parts' ∙ append_assoc m' v' y in

@@ -1,6 +1,8 @@
+pub mod Faults
 pub mod Sections
 pub mod Items
 pub mod Parameters
 pub mod Names
 pub mod Table
+pub mod Refusals
 pub use Rattle.wasm_module.specs as of_module

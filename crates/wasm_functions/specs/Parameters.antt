@@ -4,7 +4,7 @@ use Rattle.std.specs.Prelude.{◌≡◌, ◌⊎◌, ℕ, List, [], ◌∷◌, le
 use Rattle.std.specs.List.{All, flat_map}
 use Rattle.wasm_module.specs.below.Number.{EncodesUnsigned}
 use Rattle.wasm_module.specs.below.Source.{Reader, rest, BeginsWith, Reads}
-use Rattle.wasm_module.specs.Types.{EncodesSubType, EncodesGroup}
+use Rattle.wasm_module.specs.Types.{EncodesSubType, EncodesRecTypeLength}
 use Rattle.wasm_module.specs.declared.composite.CompositeType.{CompositeType}
 use Rattle.wasm_module.specs.declared.composite.CompositeType.TheVariants as composite
 use Rattle.wasm_functions.specs.Items.{ItemsStand}
@@ -24,23 +24,23 @@ AreKnownTypes types = All IsKnownType types
 
 -- So many sub types are announced: as the beginning of a list says, or one where no such beginning stands there.
 abbrev pub Announces : ℕ → Reader → Reader → Type 0
-Announces n r first = (BeginsWith 0x4e (rest r) × Reads EncodesGroup (Ok n) r first) ⊎ ((¬ BeginsWith 0x4e (rest r)) × (n ≡ 1) × (first ≡ r))
+Announces n r first = (BeginsWith 0x4e (rest r) × Reads EncodesRecTypeLength (Ok n) r first) ⊎ ((¬ BeginsWith 0x4e (rest r)) × (n ≡ 1) × (first ≡ r))
 
 -- A recursive type: these sub types, as many as it announces.
-abbrev pub GroupStands : Reader → List CompositeType → Reader → Type 0
-GroupStands r types end = (first : Reader) × Announces (length types) r first × ItemsStand EncodesSubType first types end
+abbrev pub RecTypeStands : Reader → List CompositeType → Reader → Type 0
+RecTypeStands r types end = (first : Reader) × Announces (length types) r first × ItemsStand EncodesSubType first types end
 
 -- These recursive types stand one behind the other, from the first reader to the second.
-abbrev pub GroupsStand : Reader → List (List CompositeType) → Reader → Type 0
-GroupsStand r [] end = end ≡ r
-GroupsStand r (g ∷ gs) end = (mid : Reader) × GroupStands r g mid × GroupsStand mid gs end
+abbrev pub RecTypesStand : Reader → List (List CompositeType) → Reader → Type 0
+RecTypesStand r [] end = end ≡ r
+RecTypesStand r (g ∷ gs) end = (mid : Reader) × RecTypeStands r g mid × RecTypesStand mid gs end
 
 -- The contents of a section begin with these recursive types: how many they are, and each.
-pub record AreTypes (contents : Reader) (groups : List (List CompositeType)) : Type 0 where
+pub record AreTypes (contents : Reader) (rec_types : List (List CompositeType)) : Type 0 where
   pub first : Reader
-  pub count : Reads (EncodesUnsigned 32) (Ok (length groups)) contents first
+  pub count : Reads (EncodesUnsigned 32) (Ok (length rec_types)) contents first
   pub end : Reader
-  pub stand : GroupsStand first groups end
+  pub stand : RecTypesStand first rec_types end
 
 -- How many parameters each type of these has.
 abbrev pub parameters_in : List (List CompositeType) → List ℕ
@@ -49,4 +49,4 @@ parameters_in = flat_map (λ types. map parameter_count types)
 -- These are the numbers of parameters, where the section of types is this.
 abbrev pub CountsParameters : Option Reader → List ℕ → Type 0
 CountsParameters None counts = counts ≡ []
-CountsParameters (Some contents) counts = (groups : List (List CompositeType)) × AreTypes contents groups × All AreKnownTypes groups × (counts ≡ parameters_in groups)
+CountsParameters (Some contents) counts = (rec_types : List (List CompositeType)) × AreTypes contents rec_types × All AreKnownTypes rec_types × (counts ≡ parameters_in rec_types)

@@ -60,9 +60,9 @@ pub record IsTableOf (whole : Reader) (t : Table) : Type 0 where
   pub parameters : CountsParameters signatures t.parameters
   pub names : NamesFunctions whole t.imported (length t.types) t.names
 
--- The index of the own function at a place: those that are imported come first.
+-- The index of the own function with an ordinal: those that are imported come first.
 abbrev pub index_of : Table → ℕ → ℕ
-index_of t place = min (t.imported + place) (2 ^ 32 - 1)
+index_of t ordinal = min (t.imported + ordinal) (2 ^ 32 - 1)
 
 -- The function with this index is one of the module's own.
 abbrev pub IsOwn : Table → ℕ → Type 0
@@ -73,17 +73,17 @@ abbrev pub parameters_of_type : List ℕ → Option ℕ → ℕ
 parameters_of_type parameters None = 0
 parameters_of_type parameters (Some ty) = slice_index_or parameters ty 0
 
--- How many parameters the own function at a place has: those of its type.
+-- How many parameters the own function with an ordinal has: those of its type.
 abbrev pub parameters_at : Table → ℕ → ℕ
-parameters_at t place = parameters_of_type t.parameters (slice_get t.types place)
+parameters_at t ordinal = parameters_of_type t.parameters (slice_get t.types ordinal)
 
 -- A name as text: it is empty where its bytes are no UTF-8.
 abbrev pub text_of_name : List ℕ → List ℕ
 text_of_name name = if is_utf8 name then name else []
 
--- The name of the own function at a place, which is empty where it has none.
+-- The name of the own function with an ordinal, which is empty where it has none.
 abbrev pub name_at : Table → ℕ → List ℕ
-name_at t place = text_of_name (slice_index_or t.names place [])
+name_at t ordinal = text_of_name (slice_index_or t.names ordinal [])
 
 -- The name of a module as text, which is empty where it has none.
 abbrev pub NamesModule : Reader → List ℕ → Type 0

@@ -1,6 +1,7 @@
 //! Why the functions of a module are not known.
+ghost use Rattle.std.specs.Prelude.{◌≡◌};
+ghost use Rattle.wasm_functions.specs.Faults.{fault_of};
 
-use std::alloc::{AllocError, AllocFailed};
 use std::fmt;
 use wasm_module::PreambleKind;
 use wasm_module::below::{Error, Message};
@@ -21,23 +22,14 @@ pub enum ModuleFault {
 }
 
 impl From<Error> for ModuleFault {
+    ghost from_gives = { λ error fault. fault ≡ fault_of error };
+
+    /// `Memory` where memory was refused; else the refusal.
     fn from(error: Error) -> ModuleFault {
         match error.message() {
             Message::OutOfMemory => ModuleFault::Memory,
             _ => ModuleFault::Refused(error),
         }
-    }
-}
-
-impl From<AllocError> for ModuleFault {
-    fn from(_error: AllocError) -> ModuleFault {
-        ModuleFault::Memory
-    }
-}
-
-impl<T: Drop> From<AllocFailed<T>> for ModuleFault {
-    fn from(_failed: AllocFailed<T>) -> ModuleFault {
-        ModuleFault::Memory
     }
 }
 

@@ -4,6 +4,7 @@ ghost use Rattle.wasm_module.specs.below.Source.{Reader, reader_of};
 ghost use Rattle.wasm_functions.specs.Items.{IsList};
 ghost use Rattle.wasm_functions.specs.Names.{bytes_of, NamesExported, NamesGiven, HasNames};
 ghost use Rattle.wasm_functions.specs.Parameters.{CountsParameters};
+ghost use Rattle.wasm_functions.specs.Refusals.{SectionsFault, SectionFaultAt, TypesFault, ImportsFault, FunctionsFault, ExportsFault, NamesFault};
 ghost use Rattle.wasm_functions.specs.Sections.{IsSection};
 ghost use Rattle.wasm_functions.specs.Table.{CountsImports, ListsTypes, NamesFunctions};
 
@@ -16,16 +17,21 @@ use std::alloc::Global;
 use wasm_module::below::WasmFeatures;
 use wasm_module::below::byte_laws::{fixed_numbers, unsigned_numbers};
 
-/// The numbers of the sections.
+/// The number of the section of types.
 const TYPES: u8 = 1;
 
+/// The number of the section of imports.
 const IMPORTS: u8 = 2;
 
+/// The number of the section of functions.
 const FUNCTIONS: u8 = 3;
 
+/// The number of the section of exports.
 const EXPORTS: u8 = 7;
 
 /// How many parameters each type has.
+///
+/// Refused as `find_section`; else as `parameter_counts` of the section.
 pub fn find_parameters(
     alloc: Global,
     features: WasmFeatures,
@@ -35,6 +41,7 @@ pub fn find_parameters(
         × CountsParameters section counts.items) }
     ensures refused { IfErr result (λ fault. (section : Option Reader) → (counts : List ℕ) → IsSection (reader_of features 0 bytes.now) 1 section
         → CountsParameters section counts → fault ≡ ModuleFault.Memory) }
+    ensures fault { IfErr result (λ fault. SectionFaultAt fault (reader_of features 0 bytes.now) 1 TypesFault) }
 {
     unsigned_numbers();
     fixed_numbers();
@@ -46,11 +53,14 @@ pub fn find_parameters(
 }
 
 /// How many functions are imported.
+///
+/// Refused as `find_section`; else as `imported_functions` of the section.
 pub fn find_imported(features: WasmFeatures, bytes: &[u8]) -> Result<u32, ModuleFault>
     ensures ok { IfOk result (λ n. (section : Option Reader) × IsSection (reader_of features 0 bytes.now) 2 section
         × CountsImports section n) }
     ensures refused { IfErr result (λ fault. (section : Option Reader) → (n : ℕ) → IsSection (reader_of features 0 bytes.now) 2 section
         → CountsImports section n → ⊥) }
+    ensures fault { IfErr result (λ fault. SectionFaultAt fault (reader_of features 0 bytes.now) 2 ImportsFault) }
 {
     unsigned_numbers();
     fixed_numbers();
@@ -62,6 +72,8 @@ pub fn find_imported(features: WasmFeatures, bytes: &[u8]) -> Result<u32, Module
 }
 
 /// The types of the functions.
+///
+/// Refused as `find_section`; else as `function_types` of the section.
 pub fn find_types(
     alloc: Global,
     features: WasmFeatures,
@@ -71,6 +83,7 @@ pub fn find_types(
         × ListsTypes section types.items) }
     ensures refused { IfErr result (λ fault. (section : Option Reader) → (types : List ℕ) → IsSection (reader_of features 0 bytes.now) 3 section
         → ListsTypes section types → fault ≡ ModuleFault.Memory) }
+    ensures fault { IfErr result (λ fault. SectionFaultAt fault (reader_of features 0 bytes.now) 3 FunctionsFault) }
 {
     unsigned_numbers();
     fixed_numbers();
@@ -82,6 +95,8 @@ pub fn find_types(
 }
 
 /// A name for each function, which has no byte.
+///
+/// `Memory` alone is answered.
 fn no_names<'a>(alloc: Global, count: usize) -> Result<Vec<&'a [u8]>, ModuleFault>
     ensures ok { IfOk result (λ names. bytes_of names.items ≡ replicate count []) }
     ensures memory { IfErr result (λ fault. fault ≡ ModuleFault.Memory) }
@@ -96,6 +111,8 @@ fn no_names<'a>(alloc: Global, count: usize) -> Result<Vec<&'a [u8]>, ModuleFaul
 }
 
 /// Names the functions that are exported.
+///
+/// Refused as `find_section`; else as `name_exports` of the section.
 fn set_exports<'a>(
     features: WasmFeatures,
     bytes: &'a [u8],
@@ -106,6 +123,7 @@ fn set_exports<'a>(
         × NamesExported imported section (bytes_of names.old.items) (bytes_of names.new.items)) }
     ensures refused { IfErr result (λ fault. (section : Option Reader) → (before after : List (List ℕ)) → IsSection (reader_of features 0 bytes.now) 7 section
         → NamesExported imported section before after → ⊥) }
+    ensures fault { IfErr result (λ fault. SectionFaultAt fault (reader_of features 0 bytes.now) 7 ExportsFault) }
 {
     unsigned_numbers();
     fixed_numbers();
@@ -117,6 +135,8 @@ fn set_exports<'a>(
 }
 
 /// Names the functions that the last section of names names.
+///
+/// Refused as `find_names`.
 fn set_names<'a>(
     features: WasmFeatures,
     bytes: &'a [u8],
@@ -126,6 +146,7 @@ fn set_names<'a>(
     ensures ok { IfOk result (λ done. (section : Option Reader) × HasNames (reader_of features 0 bytes.now) section
         × NamesGiven imported section (bytes_of names.old.items) (bytes_of names.new.items)) }
     ensures refused { IfErr result (λ fault. (section : Option Reader) → HasNames (reader_of features 0 bytes.now) section → ⊥) }
+    ensures fault { IfErr result (λ fault. SectionsFault fault (reader_of features 0 bytes.now)) }
 {
     match find_names(features, bytes) {
         Ok(Some(contents)) => {
@@ -138,6 +159,8 @@ fn set_names<'a>(
 }
 
 /// The names of so many own functions: those of exports, and in their place those of the section of names.
+///
+/// `Memory` where memory was refused; else refused as the section of exports is found or read.
 pub fn find_function_names<'a>(
     alloc: Global,
     features: WasmFeatures,
@@ -148,6 +171,7 @@ pub fn find_function_names<'a>(
     ensures ok { IfOk result (λ names. NamesFunctions (reader_of features 0 bytes.now) imported count (bytes_of names.items)) }
     ensures refused { IfErr result (λ fault. (names : List (List ℕ)) → NamesFunctions (reader_of features 0 bytes.now) imported count names
         → fault ≡ ModuleFault.Memory) }
+    ensures fault { IfErr result (λ fault. NamesFault fault (reader_of features 0 bytes.now)) }
 {
     let mut names = match no_names(alloc, count) {
         Ok(names) => names,

@@ -1,7 +1,8 @@
 //! The functions of a module.
-ghost use Rattle.std.specs.Prelude.{◌≡◌, ◌↔◌, List, IsTrue, IfOk, IfErr};
+ghost use Rattle.std.specs.Prelude.{◌≡◌, ◌↔◌, [], List, IsTrue, IfOk, IfErr};
 ghost use Rattle.wasm_module.specs.below.Source.{reader_of};
 ghost use Rattle.wasm_module.specs.Module.{SectionParts};
+ghost use Rattle.wasm_functions.specs.Refusals.{TableFault};
 ghost use Rattle.wasm_functions.specs.Sections.{IsModule};
 ghost use Rattle.wasm_functions.specs.Table.{Table, IsTableOf, IsOwn, index_of, parameters_at, text_of_name, name_at, NamesModule};
 
@@ -16,7 +17,7 @@ use wasm_module::below::WasmFeatures;
 use wasm_module::below::byte_laws::{fixed_numbers, unsigned_numbers};
 use wasm_module::module_laws;
 
-/// What a module tells of its own functions, each at its place behind those that are imported.
+/// What a module tells of its own functions, each by its ordinal behind those that are imported.
 #[derive(Debug, Drop)]
 pub struct Functions<'a> {
     imported: u32,
@@ -37,6 +38,11 @@ impl<'a> Model for Functions<'a> {
 impl<'a> Functions<'a> {
     /// What the sections of a module tell. Of two names that a function has, that of the custom
     /// section is kept; of two exports, the last. A custom section that is refused names no more.
+    ///
+    /// `NotModule` where the bytes begin as no module does. `Refused` where the preamble is, or behind some
+    /// sections the next one. Else the fault of the first that is refused of four sections: that of types
+    /// (`TypeKind`, `Refused`), of imports (`ImportKind`, `Refused`), of functions and of exports (`Refused`).
+    /// `Memory` where memory was refused.
     pub fn new(
         alloc: Global,
         features: WasmFeatures,
@@ -45,6 +51,7 @@ impl<'a> Functions<'a> {
         ensures ok { IfOk result (λ f. IsTableOf (reader_of features 0 bytes.now) f) }
         ensures refused { IfErr result (λ fault. (t : Table) → IsTableOf (reader_of features 0 bytes.now) t
             → fault ≡ ModuleFault.Memory) }
+        ensures fault { IfErr result (λ fault. TableFault fault (reader_of features 0 bytes.now)) }
     {
         unsigned_numbers();
         fixed_numbers();
@@ -73,11 +80,11 @@ impl<'a> Functions<'a> {
         })
     }
 
-    /// The index of the function at this place.
-    pub fn index(&self, place: u32) -> u32
-        ensures { result ≡ index_of self.now place }
+    /// The index of the function with this ordinal. It stays at 4294967295.
+    pub fn index(&self, ordinal: u32) -> u32
+        ensures { result ≡ index_of self.now ordinal }
     {
-        self.imported.saturating_add(place)
+        self.imported.saturating_add(ordinal)
     }
 
     /// Whether the function with this index is one of the module's own.
@@ -87,21 +94,21 @@ impl<'a> Functions<'a> {
         index >= self.imported && ((index - self.imported) as usize) < self.types.len()
     }
 
-    /// How many parameters it has, where its type is known and that of a function.
-    pub fn parameters(&self, place: u32) -> u32
-        ensures { result ≡ parameters_at self.now place }
+    /// How many parameters it has, where its type is known and that of a function; else 0.
+    pub fn parameters(&self, ordinal: u32) -> u32
+        ensures { result ≡ parameters_at self.now ordinal }
     {
-        match self.types.get(place as usize) {
+        match self.types.get(ordinal as usize) {
             Some(ty) => self.parameters.get(*ty as usize).copied().unwrap_or(0),
             None => 0,
         }
     }
 
     /// Its name, which is empty where it has none, or one that is no text.
-    pub fn name(&self, place: u32) -> &'a str
-        ensures { result.now ≡ name_at self.now place }
+    pub fn name(&self, ordinal: u32) -> &'a str
+        ensures { result.now ≡ name_at self.now ordinal }
     {
-        match self.names.get(place as usize) {
+        match self.names.get(ordinal as usize) {
             Some(name) => text_of(name),
             None => "",
         }
@@ -119,10 +126,13 @@ fn text_of<'a>(name: &'a [u8]) -> &'a str
     }
 }
 
-/// The name of a module, which is empty where it has none, or one that is no text.
+/// The name of a module, which is empty where it has none, or one that is no text; and where the bytes
+/// are no module.
 pub fn module_name<'a>(features: WasmFeatures, bytes: &'a [u8]) -> &'a str
-    ensures { (sections : List SectionParts) → IsModule (reader_of features 0 bytes.now) sections
+    ensures names { (sections : List SectionParts) → IsModule (reader_of features 0 bytes.now) sections
         → NamesModule (reader_of features 0 bytes.now) result.now }
+    ensures none { ((sections : List SectionParts) → IsModule (reader_of features 0 bytes.now) sections → ⊥)
+        → result.now ≡ [] }
 {
     match find_names(features, bytes) {
         Ok(Some(contents)) => text_of(name_of_module(contents)),

@@ -1,11 +1,15 @@
 //! How many functions are imported.
 ghost use Rattle.std.specs.Prelude.{ℕ, Some, IfOk, IfErr};
+ghost use Rattle.wasm_functions.specs.Refusals.{ImportsFault};
 ghost use Rattle.wasm_functions.specs.Table.{CountsImports};
 
 use crate::fault::ModuleFault;
 use wasm_module::below::BinaryReader;
 use wasm_module::below::byte_laws::unsigned_numbers;
 use wasm_module::{Import, module_laws};
+
+/// The byte of the last kind, that of tags.
+const TAG: u8 = 4;
 
 /// How many of the imports of a section are functions.
 ///
@@ -14,6 +18,7 @@ use wasm_module::{Import, module_laws};
 pub fn imported_functions(contents: BinaryReader<'_>) -> Result<u32, ModuleFault>
     ensures ok { IfOk result (λ n. CountsImports (Some contents.entry) n) }
     ensures refused { IfErr result (λ fault. (n : ℕ) → CountsImports (Some contents.entry) n → ⊥) }
+    ensures fault { IfErr result (λ fault. ImportsFault fault contents.entry) }
 {
     unsigned_numbers();
     module_laws::imports();
@@ -29,7 +34,7 @@ pub fn imported_functions(contents: BinaryReader<'_>) -> Result<u32, ModuleFault
             Ok(import) => import.kind(),
             Err(e) => return Err(ModuleFault::from(e)),
         };
-        if kind > 4 {
+        if kind > TAG {
             return Err(ModuleFault::ImportKind(kind, offset));
         }
         functions += u32::from(kind == 0);

@@ -4,6 +4,7 @@ ghost use Rattle.wasm_module.specs.Exports.{ExportParts, EncodesExport};
 ghost use Rattle.wasm_module.specs.Names.{NameParts, EncodesNameAssociation};
 ghost use Rattle.wasm_functions.specs.Items.{IsList};
 ghost use Rattle.wasm_functions.specs.Names.{bytes_of, with_name, with_exports, with_names, ReadsItems, GivesNames, GivesModule};
+ghost use Rattle.wasm_functions.specs.Refusals.{ExportsFault};
 
 use crate::fault::ModuleFault;
 use wasm_module::below::BinaryReader;
@@ -26,9 +27,9 @@ fn set_name<'a>(names: &mut Vec<&'a [u8]>, imported: u32, index: u32, name: &'a 
     if index < imported {
         return;
     }
-    let place = (index - imported) as usize;
-    if place < names.len() {
-        names[place] = name;
+    let ordinal = (index - imported) as usize;
+    if ordinal < names.len() {
+        names[ordinal] = name;
     }
 }
 
@@ -42,6 +43,8 @@ fn set_exported<'a>(names: &mut Vec<&'a [u8]>, imported: u32, export: &Export<'a
 }
 
 /// Names the functions that a section of exports exports. Of two names the last one is kept.
+///
+/// Refused as the number of the exports, or as an export.
 pub fn name_exports<'a>(
     contents: BinaryReader<'a>,
     imported: u32,
@@ -50,6 +53,7 @@ pub fn name_exports<'a>(
     ensures ok { IfOk result (λ done. (exports : List ExportParts) × IsList EncodesExport contents.entry exports
         × (bytes_of names.new.items ≡ with_exports imported (bytes_of names.old.items) exports)) }
     ensures refused { IfErr result (λ fault. (exports : List ExportParts) → IsList EncodesExport contents.entry exports → ⊥) }
+    ensures fault { IfErr result (λ fault. ExportsFault fault contents.entry) }
 {
     unsigned_numbers();
     module_laws::exports();

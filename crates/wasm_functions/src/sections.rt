@@ -3,6 +3,7 @@ ghost use Rattle.std.specs.Prelude.{◌≡◌, ◌++◌, ◌∷◌, [], List, If
 ghost use Rattle.wasm_module.specs.below.Source.{Reader, reader_of};
 ghost use Rattle.wasm_module.specs.Module.{SectionParts};
 ghost use Rattle.wasm_functions.specs.Names.{IsNames, LastNames, HasNames};
+ghost use Rattle.wasm_functions.specs.Refusals.{SectionsFault};
 ghost use Rattle.wasm_functions.specs.Sections.{BeginsModule, IsModule, IsSection, or_first};
 
 use crate::fault::ModuleFault;
@@ -12,9 +13,12 @@ use wasm_module::module_laws::names;
 use wasm_module::{CustomSection, PreambleKind, Section, read_preamble, read_section};
 
 /// A reader of a module's sections, behind its preamble.
+///
+/// `NotModule` where the preamble is that of something else; refused where the data ends within it.
 fn open_module<'a>(features: WasmFeatures, bytes: &'a [u8]) -> Result<BinaryReader<'a>, ModuleFault>
     ensures ok { IfOk result (λ behind. BeginsModule (reader_of features 0 bytes.now) behind) }
     ensures refused { IfErr result (λ fault. (behind : Reader) → BeginsModule (reader_of features 0 bytes.now) behind → ⊥) }
+    ensures fault { IfErr result (λ fault. SectionsFault fault (reader_of features 0 bytes.now)) }
 {
     fixed_numbers();
     let mut reader = BinaryReader::new_features(bytes, 0, features);
@@ -51,7 +55,8 @@ fn or_first<'a>(
 /// The contents of a module's first section with this number, where there is one. It goes past all
 /// sections by their sizes.
 ///
-/// `NotModule` where the bytes begin as no module does; else refused as the preamble or a section.
+/// `NotModule` where the bytes begin as no module does; else refused as the preamble, or behind sections that
+/// stand as the next one.
 pub fn find_section<'a>(
     features: WasmFeatures,
     bytes: &'a [u8],
@@ -59,6 +64,7 @@ pub fn find_section<'a>(
 ) -> Result<Option<BinaryReader<'a>>, ModuleFault>
     ensures ok { IfOk result (λ found. IsSection (reader_of features 0 bytes.now) id found) }
     ensures refused { IfErr result (λ fault. (sections : List SectionParts) → IsModule (reader_of features 0 bytes.now) sections → ⊥) }
+    ensures fault { IfErr result (λ fault. SectionsFault fault (reader_of features 0 bytes.now)) }
 {
     unsigned_numbers();
     fixed_numbers();
@@ -116,6 +122,7 @@ pub fn find_names<'a>(
 ) -> Result<Option<BinaryReader<'a>>, ModuleFault>
     ensures ok { IfOk result (λ found. HasNames (reader_of features 0 bytes.now) found) }
     ensures refused { IfErr result (λ fault. (sections : List SectionParts) → IsModule (reader_of features 0 bytes.now) sections → ⊥) }
+    ensures fault { IfErr result (λ fault. SectionsFault fault (reader_of features 0 bytes.now)) }
 {
     unsigned_numbers();
     fixed_numbers();

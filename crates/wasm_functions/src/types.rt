@@ -7,12 +7,13 @@ ghost use Rattle.wasm_module.specs.Types.{EncodesSubType};
 ghost use Rattle.wasm_module.specs.declared.composite.CompositeType.{CompositeType};
 ghost use Rattle.wasm_functions.specs.Items.{IsList, ItemsStand};
 ghost use Rattle.wasm_functions.specs.Parameters.{parameter_count, IsKnownType, CountsParameters};
+ghost use Rattle.wasm_functions.specs.Refusals.{SubTypesFault, TypesFault, FunctionsFault};
 
 use crate::fault::ModuleFault;
 use std::alloc::Global;
 use wasm_module::below::BinaryReader;
 use wasm_module::below::byte_laws::unsigned_numbers;
-use wasm_module::{CompositeType, module_laws, read_group_len};
+use wasm_module::{CompositeType, module_laws, read_rec_type_len};
 
 /// How many parameters a type has, none where it is no function's.
 fn parameter_count(ty: CompositeType) -> u32
@@ -25,7 +26,9 @@ fn parameter_count(ty: CompositeType) -> u32
 }
 
 /// How many parameters each of this many types has.
-fn read_group(
+///
+/// `TypeKind` at a type of none of the three sorts; else refused as one.
+fn read_rec_type(
     reader: &mut BinaryReader<'_>,
     len: u32,
     counts: &mut Vec<u32>,
@@ -34,6 +37,7 @@ fn read_group(
         × All IsKnownType types × (counts.new.items ≡ counts.old.items ++ map parameter_count types)) }
     ensures refused { IfErr result (λ fault. (types : List CompositeType) → (end : Reader) → length types ≡ len
         → ItemsStand EncodesSubType reader.old types end → All IsKnownType types → fault ≡ ModuleFault.Memory) }
+    ensures fault { IfErr result (λ fault. SubTypesFault fault len reader.old) }
 {
     module_laws::types();
     for _ty in 0..len {
@@ -54,25 +58,27 @@ fn read_group(
 
 /// How many parameters each type of a section has, none of one that is no function's.
 ///
-/// `TypeKind` at a type of none of the three sorts; else refused as the number of the types, or as one.
+/// `TypeKind` at a type of none of the three sorts; else refused as the number of the recursive types, as
+/// that of the types of one, or as one of these. `Memory` where memory was refused.
 pub fn parameter_counts(alloc: Global, contents: BinaryReader<'_>) -> Result<Vec<u32>, ModuleFault>
     ensures ok { IfOk result (λ counts. CountsParameters (Some contents.entry) counts.items) }
     ensures refused { IfErr result (λ fault. (counts : List ℕ) → CountsParameters (Some contents.entry) counts → fault ≡ ModuleFault.Memory) }
+    ensures fault { IfErr result (λ fault. TypesFault fault contents.entry) }
 {
     unsigned_numbers();
     module_laws::types();
     let mut reader = contents;
     let mut counts = Vec::new(alloc);
-    let groups = match reader.read_var_u32() {
-        Ok(groups) => groups,
+    let rec_types = match reader.read_var_u32() {
+        Ok(rec_types) => rec_types,
         Err(e) => return Err(ModuleFault::from(e)),
     };
-    for _group in 0..groups {
-        let len = match read_group_len(&mut reader) {
+    for _rec_type in 0..rec_types {
+        let len = match read_rec_type_len(&mut reader) {
             Ok(len) => len,
             Err(e) => return Err(ModuleFault::from(e)),
         };
-        match read_group(&mut reader, len, &mut counts) {
+        match read_rec_type(&mut reader, len, &mut counts) {
             Ok(()) => {}
             Err(fault) => return Err(fault),
         }
@@ -81,9 +87,12 @@ pub fn parameter_counts(alloc: Global, contents: BinaryReader<'_>) -> Result<Vec
 }
 
 /// The types of the functions of a section: an index for each.
+///
+/// Refused as the number of the functions, or as an index. `Memory` where memory was refused.
 pub fn function_types(alloc: Global, contents: BinaryReader<'_>) -> Result<Vec<u32>, ModuleFault>
     ensures ok { IfOk result (λ types. IsList (EncodesUnsigned 32) contents.entry types.items) }
     ensures refused { IfErr result (λ fault. (types : List ℕ) → IsList (EncodesUnsigned 32) contents.entry types → fault ≡ ModuleFault.Memory) }
+    ensures fault { IfErr result (λ fault. FunctionsFault fault contents.entry) }
 {
     unsigned_numbers();
     let mut reader = contents;

@@ -6,7 +6,7 @@ use Rattle.wasm_below.specs.Number.{EncodesUnsigned}
 use Rattle.wasm_below.specs.Sequence.{PrefixCode}
 use Rattle.wasm_below.specs.Source.{Reader, rest, BeginsWith, IsByte, EndFault, U32Fault, Reads}
 use Rattle.wasm_below.specs.TypeEncoding.{EncodesValType, ValTypeFault}
-use Rattle.wasm_module.specs.Types.{EncodesValueTypes, ValueTypesFault, EncodesSignature, SignatureFault, IsField, FieldFault, EncodesFields, FieldsFault, EncodesBehind, BehindFault, EncodesComposite, CompositeFault, NamesSupertypes, EncodesIndices, IndicesFault, EncodesBelow, BelowFault, EncodesSubBehind, SubBehindFault, EncodesSubType, SubTypeFault, EncodesGroup, GroupFault}
+use Rattle.wasm_module.specs.Types.{EncodesValueTypes, ValueTypesFault, EncodesSignature, SignatureFault, IsField, FieldFault, EncodesFields, FieldsFault, EncodesBehind, BehindFault, EncodesComposite, CompositeFault, NamesSupertypes, EncodesIndices, IndicesFault, EncodesWithSupertypes, WithSupertypesFault, EncodesSubBehind, SubBehindFault, EncodesSubType, SubTypeFault, EncodesRecTypeLength, RecTypeLengthFault}
 use Rattle.wasm_module.specs.declared.composite.CompositeType.{CompositeType}
 use Rattle.wasm_module.specs.declared.composite.CompositeType.TheVariants as composite
 use Rattle.wasm_module.proofs.Fields.{field_code, field_determines}
@@ -55,14 +55,14 @@ module _ (byte : ℕ) where
   pub array_refused : byte ≡ 0x5e → (e : Error) (old new : Reader) → Reads IsField (Err e) old new → Reads (EncodesBehind byte) (Err e) old new
   array_refused is = refused_as IsField (EncodesBehind byte) (as_array is)
 
-  as_below : NamesSupertypes byte → (text : List ℕ) (ty : CompositeType) → EncodesSubBehind byte text ty → (same : CompositeType) × EncodesBelow text same
-  as_below named text ty (inl p) = (ty, p.1)
-  as_below named text ty (inr p) = absurd (p.0 named)
+  as_with_supertypes : NamesSupertypes byte → (text : List ℕ) (ty : CompositeType) → EncodesSubBehind byte text ty → (same : CompositeType) × EncodesWithSupertypes text same
+  as_with_supertypes named text ty (inl p) = (ty, p.1)
+  as_with_supertypes named text ty (inr p) = absurd (p.0 named)
 
-  pub below_reads : NamesSupertypes byte → (result : Result CompositeType Error) (old new : Reader) → Reads EncodesBelow result old new →
+  pub with_supertypes_reads : NamesSupertypes byte → (result : Result CompositeType Error) (old new : Reader) → Reads EncodesWithSupertypes result old new →
       Reads (EncodesSubBehind byte) result old new
-  below_reads named (Ok ty) old new (a, p, t) = (a, inl (named, p), t)
-  below_reads named (Err e) old new h = refused_as EncodesBelow (EncodesSubBehind byte) (as_below named) e old new h
+  with_supertypes_reads named (Ok ty) old new (a, p, t) = (a, inl (named, p), t)
+  with_supertypes_reads named (Err e) old new h = refused_as EncodesWithSupertypes (EncodesSubBehind byte) (as_with_supertypes named) e old new h
 
 pub names_supertypes : (byte : ℕ) → 0x4f ≤ byte → byte < 0x51 → NamesSupertypes byte
 names_supertypes byte low high = named_at (byte - 0x4f) (omega (arith, low)) (omega (arith, low, high))
@@ -74,19 +74,19 @@ names_supertypes byte low high = named_at (byte - 0x4f) (omega (arith, low)) (om
 
 -- ---- the byte of a list of types
 
-pub group_byte : (old new : Reader) (byte : ℕ) → BeginsWith 0x4e (rest old) → Reads IsByte (Ok byte) old new → byte ≡ 0x4e
-group_byte old new byte (more, starts) (a, p, t) = let is = p.0 in let parts = t.parts in cc (is, parts, starts)
+pub rec_type_byte : (old new : Reader) (byte : ℕ) → BeginsWith 0x4e (rest old) → Reads IsByte (Ok byte) old new → byte ≡ 0x4e
+rec_type_byte old new byte (more, starts) (a, p, t) = let is = p.0 in let parts = t.parts in cc (is, parts, starts)
 
-pub group_there : (old new : Reader) (e : Error) → BeginsWith 0x4e (rest old) → Reads IsByte (Err e) old new → ⊥
-group_there old new e (more, starts) (same, h) = refused_now IsByte e old h (0x4e ∷ []) more 0x4e (refl, omega arith) starts
+pub rec_type_there : (old new : Reader) (e : Error) → BeginsWith 0x4e (rest old) → Reads IsByte (Err e) old new → ⊥
+rec_type_there old new e (more, starts) (same, h) = refused_now IsByte e old h (0x4e ∷ []) more 0x4e (refl, omega arith) starts
 
-pub group_read : (byte : ℕ) → byte ≡ 0x4e → (old new : Reader) (n : ℕ) → Reads (EncodesUnsigned 32) (Ok n) old new →
+pub rec_type_read : (byte : ℕ) → byte ≡ 0x4e → (old new : Reader) (n : ℕ) → Reads (EncodesUnsigned 32) (Ok n) old new →
     Reads (λ text m. (byte ≡ 0x4e) × EncodesUnsigned 32 text m) (Ok n) old new
-group_read byte is old new n (a, p, t) = (a, (is, p), t)
+rec_type_read byte is old new n (a, p, t) = (a, (is, p), t)
 
-pub group_refused : (byte : ℕ) (e : Error) (old new : Reader) → Reads (EncodesUnsigned 32) (Err e) old new →
+pub rec_type_refused : (byte : ℕ) (e : Error) (old new : Reader) → Reads (EncodesUnsigned 32) (Err e) old new →
     Reads (λ text m. (byte ≡ 0x4e) × EncodesUnsigned 32 text m) (Err e) old new
-group_refused byte = refused_as (EncodesUnsigned 32) (λ text m. (byte ≡ 0x4e) × EncodesUnsigned 32 text m) (λ text m b. (m, b.1))
+rec_type_refused byte = refused_as (EncodesUnsigned 32) (λ text m. (byte ≡ 0x4e) × EncodesUnsigned 32 text m) (λ text m b. (m, b.1))
 
 -- ---- prefix codes
 
@@ -94,14 +94,14 @@ module _ (numbers : PrefixCode (EncodesUnsigned 32)) where
   pub indices_code : PrefixCode EncodesIndices
   indices_code = length_code (EncodesUnsigned 32) U32Fault numbers numbers
 
-  group_behind : (byte : ℕ) → PrefixCode (λ text n. (byte ≡ 0x4e) × EncodesUnsigned 32 text n)
-  group_behind byte a b x y m n p q e = numbers a b x y m n p.1 q.1 e
+  rec_type_behind : (byte : ℕ) → PrefixCode (λ text n. (byte ≡ 0x4e) × EncodesUnsigned 32 text n)
+  rec_type_behind byte a b x y m n p q e = numbers a b x y m n p.1 q.1 e
 
-  pub group_code : PrefixCode EncodesGroup
-  group_code = then_code IsByte (λ byte text n. (byte ≡ 0x4e) × EncodesUnsigned 32 text n) byte_prefix_code group_behind
+  pub rec_type_code : PrefixCode EncodesRecTypeLength
+  rec_type_code = then_code IsByte (λ byte text n. (byte ≡ 0x4e) × EncodesUnsigned 32 text n) byte_prefix_code rec_type_behind
 
-  pub group_determines : DeterminesRefusal U32Fault → DeterminesRefusal GroupFault
-  group_determines small m k r a b p q =
+  pub rec_type_determines : DeterminesRefusal U32Fault → DeterminesRefusal RecTypeLengthFault
+  rec_type_determines small m k r a b p q =
       then_determines IsByte EndFault (λ byte. U32Fault) byte_prefix_code end_determines (λ byte. small) m k r a b (inr p) (inr q)
 
   module _ (values : PrefixCode EncodesValType) where
@@ -136,11 +136,11 @@ module _ (numbers : PrefixCode (EncodesUnsigned 32)) where
     composite_code : PrefixCode EncodesComposite
     composite_code = then_code IsByte EncodesBehind byte_prefix_code behind_code
 
-    below_code : PrefixCode EncodesBelow
-    below_code = then_code EncodesIndices (λ supertypes. EncodesComposite) indices_code (λ supertypes. composite_code)
+    with_supertypes_code : PrefixCode EncodesWithSupertypes
+    with_supertypes_code = then_code EncodesIndices (λ supertypes. EncodesComposite) indices_code (λ supertypes. composite_code)
 
     sub_behind_code : (byte : ℕ) → PrefixCode (EncodesSubBehind byte)
-    sub_behind_code byte a b x y m n (inl p) (inl q) e = below_code a b x y m n p.1 q.1 e
+    sub_behind_code byte a b x y m n (inl p) (inl q) e = with_supertypes_code a b x y m n p.1 q.1 e
     sub_behind_code byte a b x y m n (inl p) (inr q) e = absurd (q.0 p.0)
     sub_behind_code byte a b x y m n (inr p) (inl q) e = absurd (p.0 q.0)
     sub_behind_code byte a b x y m n (inr p) (inr q) e = behind_code byte a b x y m n p.1 q.1 e
@@ -176,13 +176,13 @@ module _ (numbers : PrefixCode (EncodesUnsigned 32)) where
       composite_determines : DeterminesRefusal CompositeFault
       composite_determines = then_determines IsByte EndFault BehindFault byte_prefix_code end_determines behind_determines
 
-      below_determines : DeterminesRefusal BelowFault
-      below_determines =
+      with_supertypes_determines : DeterminesRefusal WithSupertypesFault
+      with_supertypes_determines =
           then_determines EncodesIndices IndicesFault (λ supertypes. CompositeFault) indices_code
           (length_determines (EncodesUnsigned 32) U32Fault numbers numbers small small) (λ supertypes. composite_determines)
 
       sub_behind_determines : (byte : ℕ) → DeterminesRefusal (SubBehindFault byte)
-      sub_behind_determines byte m k r a b (inl p) (inl q) = below_determines m k r a b p.1 q.1
+      sub_behind_determines byte m k r a b (inl p) (inl q) = with_supertypes_determines m k r a b p.1 q.1
       sub_behind_determines byte m k r a b (inl p) (inr q) = absurd (q.0 p.0)
       sub_behind_determines byte m k r a b (inr p) (inl q) = absurd (p.0 q.0)
       sub_behind_determines byte m k r a b (inr p) (inr q) = behind_determines byte m k r a b p.1 q.1

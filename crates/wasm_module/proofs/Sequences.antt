@@ -4,7 +4,7 @@ use Rattle.wasm_below.specs.bytes.error.Error.{Error}
 use Rattle.wasm_below.specs.Sequence.{Then, PrefixCode}
 use Rattle.wasm_below.specs.Source.{Reader, rest, end_of, at_position, IsRefusal, Reads}
 use Rattle.wasm_module.specs.Both.{Both}
-use Rattle.wasm_module.specs.Imports.{SomeOf, IsEntity, EncodesEntity}
+use Rattle.wasm_module.specs.Imports.{SomeOf, IsExternTypeBehind, EncodesExternTypeBehind}
 use Rattle.wasm_module.proofs.Parts.{takes_both, back}
 
 -- an encoding that is a prefix of what stands there
@@ -120,8 +120,8 @@ module _ {X : Type 0} (P : List ℕ → X → Type 0) where
   pub some_code : PrefixCode P → PrefixCode (SomeOf P)
   some_code code a b x y m n p q e = ((code a b x y p.0 q.0 p.1 q.1 e).0, refl)
 
-pub entity_read : (byte : ℕ) (old new : Reader) → Reads (IsEntity byte) (Ok tt) old new → Reads (EncodesEntity byte) (Ok byte) old new
-entity_read byte old new (a, p, t) = (a, (refl, p), t)
+pub extern_type_behind_read : (byte : ℕ) (old new : Reader) → Reads (IsExternTypeBehind byte) (Ok tt) old new → Reads (EncodesExternTypeBehind byte) (Ok byte) old new
+extern_type_behind_read byte old new (a, p, t) = (a, (refl, p), t)
 
-pub entity_refused : (byte : ℕ) (e : Error) (old new : Reader) → Reads (IsEntity byte) (Err e) old new → Reads (EncodesEntity byte) (Err e) old new
-entity_refused byte = refused_as (IsEntity byte) (EncodesEntity byte) (λ text z b. (tt, b.1))
+pub extern_type_behind_refused : (byte : ℕ) (e : Error) (old new : Reader) → Reads (IsExternTypeBehind byte) (Err e) old new → Reads (EncodesExternTypeBehind byte) (Err e) old new
+extern_type_behind_refused byte = refused_as (IsExternTypeBehind byte) (EncodesExternTypeBehind byte) (λ text z b. (tt, b.1))

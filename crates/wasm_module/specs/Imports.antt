@@ -73,31 +73,31 @@ TagFault = ThenFault IsByte EndFault (λ attribute. U32Fault)
 
 -- What stands behind the byte of a kind: nothing where the standard has no such kind.
 --   externtype ::= 0x00 x:typeidx | 0x01 tt:tabletype | 0x02 mt:memtype | 0x03 gt:globaltype | 0x04 jt:tagtype
-abbrev pub IsEntity : ℕ → Skipped
-IsEntity zero = SomeOf (EncodesUnsigned 32)
-IsEntity (suc zero) = IsTable
-IsEntity (suc (suc zero)) = IsLimits
-IsEntity (suc (suc (suc zero))) = IsGlobal
-IsEntity (suc (suc (suc (suc zero)))) = IsTag
-IsEntity _ = IsNothing
+abbrev pub IsExternTypeBehind : ℕ → Skipped
+IsExternTypeBehind zero = SomeOf (EncodesUnsigned 32)
+IsExternTypeBehind (suc zero) = IsTable
+IsExternTypeBehind (suc (suc zero)) = IsLimits
+IsExternTypeBehind (suc (suc (suc zero))) = IsGlobal
+IsExternTypeBehind (suc (suc (suc (suc zero)))) = IsTag
+IsExternTypeBehind _ = IsNothing
 
-abbrev pub EntityFault : ℕ → SkipFault
-EntityFault zero = U32Fault
-EntityFault (suc zero) = TableFault
-EntityFault (suc (suc zero)) = LimitsFault
-EntityFault (suc (suc (suc zero))) = GlobalFault
-EntityFault (suc (suc (suc (suc zero)))) = TagFault
-EntityFault _ = λ m r offset. ⊥
+abbrev pub ExternTypeBehindFault : ℕ → SkipFault
+ExternTypeBehindFault zero = U32Fault
+ExternTypeBehindFault (suc zero) = TableFault
+ExternTypeBehindFault (suc (suc zero)) = LimitsFault
+ExternTypeBehindFault (suc (suc (suc zero))) = GlobalFault
+ExternTypeBehindFault (suc (suc (suc (suc zero)))) = TagFault
+ExternTypeBehindFault _ = λ m r offset. ⊥
 
 -- The byte of a kind, and what stands behind it. The byte is kept.
-abbrev pub EncodesEntity : ℕ → List ℕ → ℕ → Type 0
-EncodesEntity byte text kind = (kind ≡ byte) × IsEntity byte text tt
+abbrev pub EncodesExternTypeBehind : ℕ → List ℕ → ℕ → Type 0
+EncodesExternTypeBehind byte text kind = (kind ≡ byte) × IsExternTypeBehind byte text tt
 
-abbrev pub EncodesKind : List ℕ → ℕ → Type 0
-EncodesKind = Then IsByte EncodesEntity
+abbrev pub EncodesExternType : List ℕ → ℕ → Type 0
+EncodesExternType = Then IsByte EncodesExternTypeBehind
 
-abbrev pub KindFault : SkipFault
-KindFault = ThenFault IsByte EndFault EntityFault
+abbrev pub ExternTypeFault : SkipFault
+ExternTypeFault = ThenFault IsByte EndFault ExternTypeBehindFault
 
 -- An import: the names of its module and of itself, and the byte of its kind.
 pub record ImportParts : Type 0 where
@@ -107,10 +107,10 @@ pub record ImportParts : Type 0 where
 
 -- A kind behind a name.
 abbrev pub EncodesNamed : List ℕ → List ℕ × ℕ → Type 0
-EncodesNamed = Both EncodesName EncodesKind
+EncodesNamed = Both EncodesName EncodesExternType
 
 abbrev pub NamedFault : SkipFault
-NamedFault = ThenFault EncodesName NameFault (λ name. KindFault)
+NamedFault = ThenFault EncodesName NameFault (λ name. ExternTypeFault)
 
 -- The same behind another name, that of the module.
 --   import ::= nm1:name nm2:name xt:externtype

@@ -104,19 +104,19 @@ EncodesIndices = EncodesLength (EncodesUnsigned 32)
 abbrev pub IndicesFault : SkipFault
 IndicesFault = LengthFault (EncodesUnsigned 32) U32Fault
 
-abbrev pub EncodesBelow : List ℕ → CompositeType → Type 0
-EncodesBelow = Then EncodesIndices (λ supertypes. EncodesComposite)
+abbrev pub EncodesWithSupertypes : List ℕ → CompositeType → Type 0
+EncodesWithSupertypes = Then EncodesIndices (λ supertypes. EncodesComposite)
 
-abbrev pub BelowFault : SkipFault
-BelowFault = ThenFault EncodesIndices IndicesFault (λ supertypes. CompositeFault)
+abbrev pub WithSupertypesFault : SkipFault
+WithSupertypesFault = ThenFault EncodesIndices IndicesFault (λ supertypes. CompositeFault)
 
 -- What stands behind the first byte of a sub type.
 --   subtype ::= 0x4F x*:list(typeidx) ct:comptype | 0x50 x*:list(typeidx) ct:comptype | ct:comptype
 abbrev pub EncodesSubBehind : ℕ → List ℕ → CompositeType → Type 0
-EncodesSubBehind byte text ty = (NamesSupertypes byte × EncodesBelow text ty) ⊎ ((¬ NamesSupertypes byte) × EncodesBehind byte text ty)
+EncodesSubBehind byte text ty = (NamesSupertypes byte × EncodesWithSupertypes text ty) ⊎ ((¬ NamesSupertypes byte) × EncodesBehind byte text ty)
 
 abbrev pub SubBehindFault : ℕ → SkipFault
-SubBehindFault byte m r offset = (NamesSupertypes byte × BelowFault m r offset) ⊎ ((¬ NamesSupertypes byte) × BehindFault byte m r offset)
+SubBehindFault byte m r offset = (NamesSupertypes byte × WithSupertypesFault m r offset) ⊎ ((¬ NamesSupertypes byte) × BehindFault byte m r offset)
 
 -- A sub type, of which the composite type is kept.
 abbrev pub EncodesSubType : List ℕ → CompositeType → Type 0
@@ -128,9 +128,9 @@ SubTypeFault = ThenFault IsByte EndFault SubBehindFault
 
 -- The beginning of a recursive type that is written as a list: its byte, and how many sub types follow.
 --   rectype ::= 0x4E st*:list(subtype) | st:subtype
-abbrev pub EncodesGroup : List ℕ → ℕ → Type 0
-EncodesGroup = Then IsByte (λ byte text n. (byte ≡ 0x4e) × EncodesUnsigned 32 text n)
+abbrev pub EncodesRecTypeLength : List ℕ → ℕ → Type 0
+EncodesRecTypeLength = Then IsByte (λ byte text n. (byte ≡ 0x4e) × EncodesUnsigned 32 text n)
 
 -- Which refusal it has: that of the number behind the byte.
-abbrev pub GroupFault : SkipFault
-GroupFault = FaultBehind IsByte (λ byte. U32Fault)
+abbrev pub RecTypeLengthFault : SkipFault
+RecTypeLengthFault = FaultBehind IsByte (λ byte. U32Fault)

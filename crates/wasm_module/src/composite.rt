@@ -4,7 +4,7 @@ ghost use Rattle.wasm_below.specs.Fault.{ManyFault};
 ghost use Rattle.wasm_below.specs.Number.{EncodesUnsigned};
 ghost use Rattle.wasm_below.specs.Source.{Reads, BeginsWith, U32Fault, rest};
 ghost use Rattle.wasm_below.specs.TypeEncoding.{EncodesValType, ValTypeFault};
-ghost use Rattle.wasm_module.specs.Types.{IsMany, EncodesValueTypes, ValueTypesFault, EncodesSignature, SignatureFault, EncodesBehind, BehindFault, EncodesComposite, CompositeFault, EncodesIndices, IndicesFault, EncodesBelow, BelowFault, EncodesSubBehind, SubBehindFault, EncodesSubType, SubTypeFault, EncodesGroup, GroupFault};
+ghost use Rattle.wasm_module.specs.Types.{IsMany, EncodesValueTypes, ValueTypesFault, EncodesSignature, SignatureFault, EncodesBehind, BehindFault, EncodesComposite, CompositeFault, EncodesIndices, IndicesFault, EncodesWithSupertypes, WithSupertypesFault, EncodesSubBehind, SubBehindFault, EncodesSubType, SubTypeFault, EncodesRecTypeLength, RecTypeLengthFault};
 
 use crate::field::{count_fields, skip_field};
 use crate::module_laws::types;
@@ -29,7 +29,7 @@ const FINAL: u8 = 0x4f;
 const OPEN: u8 = 0x50;
 
 /// The first byte of a recursive type that is a list.
-const GROUP: u8 = 0x4e;
+const REC_TYPE: u8 = 0x4e;
 
 /// This many value types.
 fn skip_value_types(reader: &mut BinaryReader<'_>, count: u32) -> Result<()>
@@ -198,9 +198,9 @@ fn read_composite(reader: &mut BinaryReader<'_>) -> Result<CompositeType>
 }
 
 /// The indices of supertypes, and the composite type behind them.
-fn read_below(reader: &mut BinaryReader<'_>) -> Result<CompositeType>
-    ensures reads { Reads EncodesBelow result reader.old reader.new }
-    ensures fault { IfErr result (λ e. BelowFault e.message reader.old e.offset) }
+fn read_with_supertypes(reader: &mut BinaryReader<'_>) -> Result<CompositeType>
+    ensures reads { Reads EncodesWithSupertypes result reader.old reader.new }
+    ensures fault { IfErr result (λ e. WithSupertypesFault e.message reader.old e.offset) }
 {
     unsigned_numbers();
     let start = reader.current_position();
@@ -223,7 +223,7 @@ fn read_sub_behind(reader: &mut BinaryReader<'_>, kind: u8) -> Result<CompositeT
     ensures fault { IfErr result (λ e. SubBehindFault kind e.message reader.old e.offset) }
 {
     match kind {
-        FINAL | OPEN => read_below(reader),
+        FINAL | OPEN => read_with_supertypes(reader),
         _ => read_behind(reader, kind),
     }
 }
@@ -253,10 +253,10 @@ impl CompositeType {
 }
 
 /// Whether a recursive type stands next that is a list.
-fn is_group_next(reader: &BinaryReader<'_>) -> bool
-    ensures { IsTrue result ↔ BeginsWith GROUP (rest reader.now) }
+fn is_rec_type_list_next(reader: &BinaryReader<'_>) -> bool
+    ensures { IsTrue result ↔ BeginsWith REC_TYPE (rest reader.now) }
 {
-    matches!(reader.remaining_buffer(), [GROUP, ..])
+    matches!(reader.remaining_buffer(), [REC_TYPE, ..])
 }
 
 /// How many sub types the recursive type has that begins here: where it is a list, its first byte and
@@ -264,14 +264,14 @@ fn is_group_next(reader: &BinaryReader<'_>) -> bool
 /// Types.
 ///
 /// Refused as `read_var_u32` behind the byte.
-pub fn read_group_len(reader: &mut BinaryReader<'_>) -> Result<u32>
-    ensures group { BeginsWith GROUP (rest reader.old)
-        → Reads EncodesGroup result reader.old reader.new }
-    ensures one { ¬ BeginsWith GROUP (rest reader.old)
+pub fn read_rec_type_len(reader: &mut BinaryReader<'_>) -> Result<u32>
+    ensures rec_type { BeginsWith REC_TYPE (rest reader.old)
+        → Reads EncodesRecTypeLength result reader.old reader.new }
+    ensures one { ¬ BeginsWith REC_TYPE (rest reader.old)
         → (result ≡ Ok 1) × (reader.new ≡ reader.old) }
-    ensures fault { IfErr result (λ e. GroupFault e.message reader.old e.offset) }
+    ensures fault { IfErr result (λ e. RecTypeLengthFault e.message reader.old e.offset) }
 {
-    if !is_group_next(reader) {
+    if !is_rec_type_list_next(reader) {
         return Ok(1);
     }
     let start = reader.current_position();
@@ -302,10 +302,12 @@ impl<'a> FromReader<'a> for CompositeType {
         CompositeType::read(reader)
     }
 
+    /// No encoding is a proper prefix of another.
     fn is_prefix_code() {
         types();
     }
 
+    /// What the fault says determines the refusal.
     fn determines_refusal() {
         types();
     }

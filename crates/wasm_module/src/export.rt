@@ -115,12 +115,14 @@ impl<'a> FromReader<'a> for Export<'a> {
         Export::read(reader)
     }
 
+    /// No encoding is a proper prefix of another.
     fn is_prefix_code()
         ensures { (features : WasmFeatures) → PrefixCode EncodesExport }
     {
         exports();
     }
 
+    /// What the fault says determines the refusal.
     fn determines_refusal()
         ensures { DeterminesRefusal ExportFault }
     {

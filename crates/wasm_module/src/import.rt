@@ -5,7 +5,7 @@ ghost use Rattle.wasm_below.specs.Fault.{HasFault, DeterminesRefusal};
 ghost use Rattle.wasm_below.specs.FromReader.{ReadsValue};
 ghost use Rattle.wasm_below.specs.Sequence.{PrefixCode};
 ghost use Rattle.wasm_below.specs.Source.{Reads};
-ghost use Rattle.wasm_module.specs.Imports.{IsEntity, EntityFault, EncodesKind, KindFault, EncodesNamed, NamedFault, EncodesImport, ImportFault};
+ghost use Rattle.wasm_module.specs.Imports.{IsExternTypeBehind, ExternTypeBehindFault, EncodesExternType, ExternTypeFault, EncodesNamed, NamedFault, EncodesImport, ImportFault};
 
 use crate::module_laws::imports;
 use crate::name::Name;
@@ -16,9 +16,9 @@ use wasm_below::byte_laws::unsigned_numbers;
 use wasm_below::{BinaryReader, FromReader, MemoryUse, Never, Result, UsesMemory};
 
 /// What stands behind the byte of a kind.
-fn skip_entity(reader: &mut BinaryReader<'_>, kind: u8) -> Result<()>
-    ensures reads { Reads (IsEntity kind) result reader.old reader.new }
-    ensures fault { IfErr result (λ e. EntityFault kind e.message reader.old e.offset) }
+fn skip_extern_type_behind(reader: &mut BinaryReader<'_>, kind: u8) -> Result<()>
+    ensures reads { Reads (IsExternTypeBehind kind) result reader.old reader.new }
+    ensures fault { IfErr result (λ e. ExternTypeBehindFault kind e.message reader.old e.offset) }
 {
     match kind {
         0 => match reader.read_var_u32() {
@@ -34,16 +34,16 @@ fn skip_entity(reader: &mut BinaryReader<'_>, kind: u8) -> Result<()>
 }
 
 /// The byte of a kind, and what stands behind it.
-fn read_kind(reader: &mut BinaryReader<'_>) -> Result<u8>
-    ensures reads { Reads EncodesKind result reader.old reader.new }
-    ensures fault { IfErr result (λ e. KindFault e.message reader.old e.offset) }
+fn read_extern_type(reader: &mut BinaryReader<'_>) -> Result<u8>
+    ensures reads { Reads EncodesExternType result reader.old reader.new }
+    ensures fault { IfErr result (λ e. ExternTypeFault e.message reader.old e.offset) }
 {
     let start = reader.current_position();
     let kind = match reader.read_u8() {
         Ok(kind) => kind,
         Err(e) => return Err(e),
     };
-    match skip_entity(reader, kind) {
+    match skip_extern_type_behind(reader, kind) {
         Ok(()) => Ok(kind),
         Err(e) => {
             reader.rewind(start);
@@ -63,7 +63,7 @@ fn read_named<'a>(reader: &mut BinaryReader<'a>) -> Result<(Name<'a>, u8)>
         Ok(name) => name,
         Err(e) => return Err(e),
     };
-    match read_kind(reader) {
+    match read_extern_type(reader) {
         Ok(kind) => Ok((name, kind)),
         Err(e) => {
             reader.rewind(start);
@@ -159,12 +159,14 @@ impl<'a> FromReader<'a> for Import<'a> {
         Import::read(reader)
     }
 
+    /// No encoding is a proper prefix of another.
     fn is_prefix_code()
         ensures { (features : WasmFeatures) → PrefixCode EncodesImport }
     {
         imports();
     }
 
+    /// What the fault says determines the refusal.
     fn determines_refusal()
         ensures { DeterminesRefusal ImportFault }
     {

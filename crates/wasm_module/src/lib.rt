@@ -14,7 +14,7 @@ mod preamble;
 mod section;
 mod skip;
 
-pub use composite::{CompositeType, read_group_len};
+pub use composite::{CompositeType, read_rec_type_len};
 pub use custom::CustomSection;
 pub use export::Export;
 pub use import::Import;

@@ -8,7 +8,7 @@ ghost use Rattle.wasm_module.specs.Exports.{EncodesExport, ExportFault};
 ghost use Rattle.wasm_module.specs.Imports.{EncodesImport, ImportFault};
 ghost use Rattle.wasm_module.specs.Module.{PreambleFault, SectionFault};
 ghost use Rattle.wasm_module.specs.Names.{EncodesName, NameFault, EncodesNameAssociation, NameAssociationFault};
-ghost use Rattle.wasm_module.specs.Types.{EncodesSubType, SubTypeFault, EncodesGroup, GroupFault};
+ghost use Rattle.wasm_module.specs.Types.{EncodesSubType, SubTypeFault, EncodesRecTypeLength, RecTypeLengthFault};
 
 use wasm_below::byte_laws::{fixed_numbers, number_refusals, part_refusals, unsigned_numbers};
 use wasm_below::type_laws::{reference_types, type_refusals, value_types};
@@ -58,8 +58,8 @@ pub fn imports()
 pub fn types()
     ensures one { PrefixCode EncodesSubType }
     ensures refusal { DeterminesRefusal SubTypeFault }
-    ensures group { PrefixCode EncodesGroup }
-    ensures group_refusal { DeterminesRefusal GroupFault }
+    ensures rec_type { PrefixCode EncodesRecTypeLength }
+    ensures rec_type_refusal { DeterminesRefusal RecTypeLengthFault }
 {
     unsigned_numbers();
     value_types();

@@ -133,12 +133,14 @@ impl<'a> FromReader<'a> for NameAssociation<'a> {
         NameAssociation::read(reader)
     }
 
+    /// No encoding is a proper prefix of another.
     fn is_prefix_code()
         ensures { (features : WasmFeatures) → PrefixCode EncodesNameAssociation }
     {
         names();
     }
 
+    /// What the fault says determines the refusal.
     fn determines_refusal()
         ensures { DeterminesRefusal NameAssociationFault }
     {

@@ -14,8 +14,8 @@
 //!
 //! What is wanted is what that text and wabt's wasm-objdump (`-h`, `-x`) say of it, and for offsets inside of a section the bytes.
 use crate::{
-    CompositeType, CustomSection, Export, Import, NameAssociation, read_group_len, read_preamble,
-    read_section,
+    CompositeType, CustomSection, Export, Import, NameAssociation, read_preamble,
+    read_rec_type_len, read_section,
 };
 use std::test::Fail;
 use wasm_below::BinaryReader;
@@ -89,7 +89,7 @@ fn types_of_other_sorts(rt: HostRuntime) {
         0x00,
     ];
     let mut reader = BinaryReader::new(&bytes, 0);
-    assert_eq!(rt; read_group_len(&mut reader), Ok(1));
+    assert_eq!(rt; read_rec_type_len(&mut reader), Ok(1));
     let function = CompositeType::Function {
         parameters: 2,
         results: 1,
@@ -100,7 +100,7 @@ fn types_of_other_sorts(rt: HostRuntime) {
         Ok(CompositeType::Struct { fields: 2 })
     );
     assert_eq!(rt; CompositeType::read(&mut reader), Ok(CompositeType::Array));
-    assert_eq!(rt; read_group_len(&mut reader), Ok(2));
+    assert_eq!(rt; read_rec_type_len(&mut reader), Ok(2));
     assert_eq!(rt;
         CompositeType::read(&mut reader),
         Ok(CompositeType::Struct { fields: 1 })

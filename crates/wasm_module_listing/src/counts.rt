@@ -20,7 +20,9 @@ use wasm_listing::{DumpFault, census};
 /// `wasm_listing`; and whether none of them is refused, whose operators are not counted.
 #[derive(Clone, Copy, Debug, PartialEq, Eq)]
 pub struct ModuleCounts {
+    /// The counts.
     pub counts: [u64; 19],
+    /// Whether no function is refused.
     pub whole: bool,
 }
 

@@ -1,4 +1,14 @@
+use Rattle.std.proofs.Common.{inl, inr}
 use Rattle.wasm_functions.proofs.found.find_function_names.Goals as goal
 
 pub returns-clause-refused : goal.returns-clause-refused
 returns-clause-refused c names is = absurd (c.in-Err-set_names.ensures.refused is.given is.section_of_names)
+
+pub returns-in-Err-clause-fault : goal.returns-in-Err-clause-fault
+returns-in-Err-clause-fault c = inl c.in-Err.ensures.memory
+
+pub returns-in-Err-set_exports-clause-fault : goal.returns-in-Err-set_exports-clause-fault
+returns-in-Err-set_exports-clause-fault c = inr c.in-Err-set_exports.ensures.fault
+
+pub returns-clause-fault : goal.returns-clause-fault
+returns-clause-fault c = inr (inl c.in-Err-set_names.ensures.fault)

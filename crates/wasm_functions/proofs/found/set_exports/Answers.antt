@@ -1,11 +1,12 @@
-use Rattle.std.proofs.Common.{List, ℕ, Some, rules}
+use Rattle.std.proofs.Common.{List, ℕ, Some, inl, rules}
 use Rattle.std.proofs.lemmas.Result.{IfErr-weaker}
 use Rattle.wasm_module.specs.below.Source.{reader_of}
 use Rattle.wasm_module.specs.Exports.{ExportParts, EncodesExport}
 use Rattle.wasm_functions.specs.Items.{IsList}
 use Rattle.wasm_functions.specs.Names.{NamesExported}
+use Rattle.wasm_functions.specs.Refusals.{ExportsFault}
 use Rattle.wasm_functions.specs.Sections.{IsSection}
-use Rattle.wasm_functions.proofs.OfSection.{of_two}
+use Rattle.wasm_functions.proofs.OfSection.{of_two, fault_at}
 use Rattle.wasm_functions.proofs.found.set_exports.Goals as goal
 
 pub returns-in-Ok-Some-clause-refused : goal.returns-in-Ok-Some-clause-refused
@@ -20,3 +21,12 @@ returns-in-Ok-Some-clause-refused c =
 
 pub returns-in-Err-clause-refused : goal.returns-in-Err-clause-refused
 returns-in-Err-clause-refused c section before after (sections, is_module, is) named = c.in-Err.ensures.refused sections is_module
+
+pub returns-in-Ok-Some-clause-fault : goal.returns-in-Ok-Some-clause-fault
+returns-in-Ok-Some-clause-fault c =
+    let whole = reader_of c.args.features 0 c.args.bytes.now in
+    let here : IsSection whole 7 (Some c.in-Ok-Some.contents) = search rules in
+    fault_at ExportsFault whole 7 c.in-Ok-Some.contents c.name_exports.result here c.name_exports.ensures.fault
+
+pub returns-in-Err-clause-fault : goal.returns-in-Err-clause-fault
+returns-in-Err-clause-fault c = inl c.in-Err.ensures.fault

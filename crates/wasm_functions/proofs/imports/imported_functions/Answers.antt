@@ -1,12 +1,14 @@
-use Rattle.std.proofs.Common.{◌≡◌, ◌+◌, ◌≤◌, ◌<◌, [], ◌∷◌, ◌++◌, length, ap, ◌∙◌, rules, cond, arith}
+use Rattle.std.proofs.Common.{◌≡◌, ◌+◌, ◌≤◌, ◌<◌, [], ◌∷◌, ◌++◌, length, sym, ap, ◌∙◌, inl, inr, rules, cond, arith}
 use Rattle.std.specs.Prelude.{◌==◌}
 use Rattle.std.proofs.lemmas.List.Elements.{All-push}
+use Rattle.wasm_functions.specs.Refusals.{ImportsFault}
 use Rattle.wasm_functions.specs.Table.{IsKnownImport}
 use Rattle.wasm_module.specs.below.Number.{EncodesUnsigned}
 use Rattle.wasm_module.specs.Imports.{ImportParts, EncodesImport}
 use Rattle.wasm_functions.proofs.Named.{one_value, not_both}
 use Rattle.wasm_functions.proofs.Next.{all_at, next_item, none_refused}
 use Rattle.wasm_functions.proofs.Listed.{item_more, one_longer, functions_more}
+use Rattle.wasm_functions.proofs.Refused.{of_refusal, items_to}
 use Rattle.wasm_functions.proofs.imports.imported_functions.Goals as goal
 
 pub loop-import-preserved : goal.loop-import-preserved
@@ -38,8 +40,8 @@ returns-in-Err-read-clause-refused c n (imports, list, known, is) =
     none_refused EncodesImport c.imports.ensures.one (c.unsigned_numbers.ensures 32) c.args.contents c.read_var_u32.new.self c.loop-import.reader
     c.in-Ok.count h.0 imports c.in-Err-read.e c.in-Ok.ensures.reads h.1 fewer c.in-Err-read.ensures.reads.1 list
 
-pub returns-then-kind-gt4-clause-refused : goal.returns-then-kind-gt4-clause-refused
-returns-then-kind-gt4-clause-refused c n (imports, list, known, is) =
+pub returns-then-kind-gt-TAG-clause-refused : goal.returns-then-kind-gt-TAG-clause-refused
+returns-then-kind-gt-TAG-clause-refused c n (imports, list, known, is) =
     let h = c.loop-import.invariant in
     let fewer : length h.0 < c.in-Ok.count = let so = h.2 in let test = c.loop-import-test.true in omega (arith, so, test) in
     let import = c.in-Ok-read.import in
@@ -49,5 +51,36 @@ returns-then-kind-gt4-clause-refused c n (imports, list, known, is) =
     let few : y.kind < 5 = all_at IsKnownImport h.0 y ys imports parts known in
     let kinds : import.kind ≡ y.kind = ap (λ (i : ImportParts). i.kind) same in
     let is_kind = c.kind-kind.ensures in
-    let more = c.if-kind-gt4.true in
+    let more = c.if-kind-gt-TAG.true in
     omega (arith, few, kinds, is_kind, more)
+
+pub returns-in-Err-clause-fault : goal.returns-in-Err-clause-fault
+returns-in-Err-clause-fault c =
+    let read = c.in-Err.ensures in
+    of_refusal (λ f. ImportsFault f c.args.contents) c.in-Err.e c.from.result c.from.ensures read.reads.1.fault (inl (read.reads.1, read.fault))
+
+pub returns-in-Err-read-clause-fault : goal.returns-in-Err-read-clause-fault
+returns-in-Err-read-clause-fault c =
+    let h = c.loop-import.invariant in
+    let fewer : length h.0 < c.in-Ok.count = let so = h.2 in let test = c.loop-import-test.true in omega (arith, so, test) in
+    let stand = items_to EncodesImport IsKnownImport c.args.contents c.read_var_u32.new.self c.loop-import.reader c.in-Ok.count h.0 c.in-Ok.ensures.reads h.1
+    fewer h.3 in
+    let read = c.in-Err-read.ensures in
+    of_refusal (λ f. ImportsFault f c.args.contents) c.in-Err-read.e c.from-in-Err-read.result c.from-in-Err-read.ensures read.reads.1.fault
+    (inr (c.loop-import.reader, stand, (read.reads.1, read.fault)))
+
+pub returns-then-kind-gt-TAG-clause-fault : goal.returns-then-kind-gt-TAG-clause-fault
+returns-then-kind-gt-TAG-clause-fault c =
+    let h = c.loop-import.invariant in
+    let fewer : length h.0 < c.in-Ok.count = let so = h.2 in let test = c.loop-import-test.true in omega (arith, so, test) in
+    let stand = items_to EncodesImport IsKnownImport c.args.contents c.read_var_u32.new.self c.loop-import.reader c.in-Ok.count h.0 c.in-Ok.ensures.reads h.1
+    fewer h.3 in (
+      c.loop-import.reader,
+      stand,
+      c.original_position-offset.ensures,
+      c.in-Ok-read.import,
+      c.read.new.reader,
+      c.in-Ok-read.ensures.reads,
+      sym c.kind-kind.ensures,
+      c.if-kind-gt-TAG.true,
+    )

@@ -1,10 +1,12 @@
-use Rattle.std.proofs.Common.{◌+◌, ◌<◌, [], ◌∷◌, ◌++◌, length, sym, ap, ◌∙◌, arith}
+use Rattle.std.proofs.Common.{◌+◌, ◌<◌, [], ◌∷◌, ◌++◌, length, sym, ap, ◌∙◌, inl, inr, arith}
 use Rattle.wasm_module.specs.below.Number.{EncodesUnsigned}
 use Rattle.wasm_module.specs.Exports.{EncodesExport}
 use Rattle.wasm_functions.specs.Names.{bytes_of, with_exports}
+use Rattle.wasm_functions.specs.Refusals.{ExportsFault, IsAny}
 use Rattle.wasm_functions.proofs.Listed.{item_more, one_longer}
 use Rattle.wasm_functions.proofs.Named.{exports_more, not_both}
 use Rattle.wasm_functions.proofs.Next.{none_refused}
+use Rattle.wasm_functions.proofs.Refused.{of_refusal, any_items, items_to}
 use Rattle.wasm_functions.proofs.names.name_exports.Goals as goal
 
 pub loop-export-preserved : goal.loop-export-preserved
@@ -28,3 +30,18 @@ returns-in-Err-read-clause-refused c exports list =
     let fewer : length h.0 < c.in-Ok.count = let so = h.2 in let test = c.loop-export-test.true in omega (arith, so, test) in
     none_refused EncodesExport c.exports.ensures.one (c.unsigned_numbers.ensures 32) c.args.contents c.read_var_u32.new.self c.loop-export.reader
     c.in-Ok.count h.0 exports c.in-Err-read.e c.in-Ok.ensures.reads h.1 fewer c.in-Err-read.ensures.reads.1 list
+
+pub returns-in-Err-clause-fault : goal.returns-in-Err-clause-fault
+returns-in-Err-clause-fault c =
+    let read = c.in-Err.ensures in
+    of_refusal (λ f. ExportsFault f c.args.contents) c.in-Err.e c.from.result c.from.ensures read.reads.1.fault (inl (read.reads.1, read.fault))
+
+pub returns-in-Err-read-clause-fault : goal.returns-in-Err-read-clause-fault
+returns-in-Err-read-clause-fault c =
+    let h = c.loop-export.invariant in
+    let fewer : length h.0 < c.in-Ok.count = let so = h.2 in let test = c.loop-export-test.true in omega (arith, so, test) in
+    let stand = items_to EncodesExport IsAny c.args.contents c.read_var_u32.new.self c.loop-export.reader c.in-Ok.count h.0 c.in-Ok.ensures.reads h.1 fewer
+    (any_items h.0) in
+    let read = c.in-Err-read.ensures in
+    of_refusal (λ f. ExportsFault f c.args.contents) c.in-Err-read.e c.from-in-Err-read.result c.from-in-Err-read.ensures read.reads.1.fault
+    (inr (c.loop-export.reader, stand, (read.reads.1, read.fault)))

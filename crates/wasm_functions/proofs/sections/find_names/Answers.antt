@@ -1,5 +1,6 @@
-use Rattle.std.proofs.Common.{◌≡◌, ◌∷◌, ◌++◌, [], rules}
+use Rattle.std.proofs.Common.{◌≡◌, ◌∷◌, ◌++◌, [], inr, rules}
 use Rattle.wasm_module.specs.below.Source.{rest, reader_of}
+use Rattle.wasm_functions.proofs.Refused.{sections_to}
 use Rattle.wasm_functions.proofs.Standing.{one_more}
 use Rattle.wasm_functions.proofs.Unique.{no_module}
 use Rattle.wasm_functions.proofs.sections.find_names.Goals as goal
@@ -22,3 +23,12 @@ returns-in-Err-read_section-clause-refused c sections is =
     let e = c.in-Err-read_section.e in
     no_module (c.unsigned_numbers.ensures 32) c.fixed_numbers.ensures.four (reader_of c.args.features 0 c.args.bytes.now) c.in-Ok.reader c.customs.reader
     h.0 e c.in-Ok.ensures.ok h.1 more c.in-Err-read_section.ensures.reads.1 sections is
+
+pub returns-in-Err-read_section-clause-fault : goal.returns-in-Err-read_section-clause-fault
+returns-in-Err-read_section-clause-fault c =
+    let h = c.customs.invariant in
+    let more : rest c.customs.reader ≡ [] → ⊥ = search rules in
+    let read = c.in-Err-read_section.ensures in
+    let whole = reader_of c.args.features 0 c.args.bytes.now in
+    let stand = sections_to whole c.in-Ok.reader c.customs.reader h.0 c.in-Ok.ensures.ok h.1 more in
+    inr (c.customs.reader, stand, (read.reads.1, read.fault))

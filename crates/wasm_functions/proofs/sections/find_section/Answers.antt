@@ -1,6 +1,7 @@
-use Rattle.std.proofs.Common.{◌≡◌, ◌∷◌, ◌++◌, [], sym, ap, ◌∙◌, rules}
+use Rattle.std.proofs.Common.{◌≡◌, ◌∷◌, ◌++◌, [], sym, ap, ◌∙◌, inr, rules}
 use Rattle.wasm_module.specs.below.Source.{rest, reader_of}
 use Rattle.wasm_functions.specs.Sections.{or_first}
+use Rattle.wasm_functions.proofs.Refused.{sections_to}
 use Rattle.wasm_functions.proofs.Standing.{one_more, first_more}
 use Rattle.wasm_functions.proofs.Unique.{no_module}
 use Rattle.wasm_functions.proofs.sections.find_section.Goals as goal
@@ -23,3 +24,12 @@ returns-in-Err-read_section-clause-refused c sections is =
     let e = c.in-Err-read_section.e in
     no_module (c.unsigned_numbers.ensures 32) c.fixed_numbers.ensures.four (reader_of c.args.features 0 c.args.bytes.now) c.in-Ok.reader c.sections.reader
     h.0 e c.in-Ok.ensures.ok h.1 more c.in-Err-read_section.ensures.reads.1 sections is
+
+pub returns-in-Err-read_section-clause-fault : goal.returns-in-Err-read_section-clause-fault
+returns-in-Err-read_section-clause-fault c =
+    let h = c.sections.invariant in
+    let more : rest c.sections.reader ≡ [] → ⊥ = search rules in
+    let read = c.in-Err-read_section.ensures in
+    let whole = reader_of c.args.features 0 c.args.bytes.now in
+    let stand = sections_to whole c.in-Ok.reader c.sections.reader h.0 c.in-Ok.ensures.ok h.1 more in
+    inr (c.sections.reader, stand, (read.reads.1, read.fault))

@@ -1,9 +1,11 @@
-use Rattle.std.proofs.Common.{◌≡◌, ◌+◌, ◌<◌, [], ◌∷◌, ◌++◌, length, sym, subst, ap, ◌∙◌, rules, arith}
+use Rattle.std.proofs.Common.{◌≡◌, ◌+◌, ◌<◌, [], ◌∷◌, ◌++◌, length, sym, subst, ap, ◌∙◌, inl, inr, rules, arith}
 use Rattle.wasm_module.specs.below.Number.{EncodesUnsigned}
 use Rattle.wasm_functions.specs.Items.{ItemsStand}
+use Rattle.wasm_functions.specs.Refusals.{FunctionsFault, IsAny}
 use Rattle.wasm_functions.proofs.Named.{not_both}
 use Rattle.wasm_functions.proofs.Next.{none_refused}
 use Rattle.wasm_functions.proofs.Listed.{item_more, one_longer}
+use Rattle.wasm_functions.proofs.Refused.{of_refusal, any_items, items_to}
 use Rattle.wasm_functions.proofs.types.function_types.Goals as goal
 
 pub loop-function-preserved : goal.loop-function-preserved
@@ -30,3 +32,18 @@ returns-in-Err-read_var_u32-clause-refused c types list =
     let numbers = c.unsigned_numbers.ensures 32 in
     absurd (none_refused (EncodesUnsigned 32) numbers numbers c.args.contents c.read_var_u32.new.self c.loop-function.reader c.in-Ok.count
     c.loop-function.types.items types c.in-Err-read_var_u32.e c.in-Ok.ensures.reads h.0 fewer c.in-Err-read_var_u32.ensures.reads.1 list)
+
+pub returns-in-Err-clause-fault : goal.returns-in-Err-clause-fault
+returns-in-Err-clause-fault c =
+    let read = c.in-Err.ensures in
+    of_refusal (λ f. FunctionsFault f c.args.contents) c.in-Err.e c.from.result c.from.ensures read.reads.1.fault (inl (read.reads.1, read.fault))
+
+pub returns-in-Err-read_var_u32-clause-fault : goal.returns-in-Err-read_var_u32-clause-fault
+returns-in-Err-read_var_u32-clause-fault c =
+    let h = c.loop-function.invariant in
+    let fewer : length c.loop-function.types.items < c.in-Ok.count = let so = h.1 in let test = c.loop-function-test.true in omega (arith, so, test) in
+    let stand = items_to (EncodesUnsigned 32) IsAny c.args.contents c.read_var_u32.new.self c.loop-function.reader c.in-Ok.count c.loop-function.types.items
+    c.in-Ok.ensures.reads h.0 fewer (any_items c.loop-function.types.items) in
+    let read = c.in-Err-read_var_u32.ensures in
+    of_refusal (λ f. FunctionsFault f c.args.contents) c.in-Err-read_var_u32.e c.from-in-Err-read_var_u32.result c.from-in-Err-read_var_u32.ensures read.reads.1.fault
+    (inr (c.loop-function.reader, stand, (read.reads.1, read.fault)))

@@ -1,10 +1,10 @@
 use Rattle.std.proofs.Common.{◌≡◌, List, length}
 use Rattle.std.specs.List.{All}
 use Rattle.wasm_module.specs.declared.composite.CompositeType.{CompositeType}
-use Rattle.wasm_functions.specs.Parameters.{GroupsStand, AreKnownTypes, parameters_in}
+use Rattle.wasm_functions.specs.Parameters.{RecTypesStand, AreKnownTypes, parameters_in}
 use Rattle.wasm_functions.proofs.types.parameter_counts.Given as goal
 
 -- so many recursive types were read
-abbrev pub invariant-loop-group : goal.invariant-loop-group
-invariant-loop-group l = (groups : List (List CompositeType)) × GroupsStand l.initial.reader groups l.reader × (length groups ≡ l._group) × All AreKnownTypes groups ×
-    (l.counts.items ≡ parameters_in groups)
+abbrev pub invariant-loop-rec_type : goal.invariant-loop-rec_type
+invariant-loop-rec_type l = (rec_types : List (List CompositeType)) × RecTypesStand l.initial.reader rec_types l.reader × (length rec_types ≡ l._rec_type) × All AreKnownTypes rec_types ×
+    (l.counts.items ≡ parameters_in rec_types)

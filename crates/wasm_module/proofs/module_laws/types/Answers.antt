@@ -1,5 +1,5 @@
 use Rattle.wasm_below.specs.bytes.message.NumberName.TheVariants as number_name
-use Rattle.wasm_module.proofs.Composites.{sub_type_code, sub_type_determines, group_code, group_determines}
+use Rattle.wasm_module.proofs.Composites.{sub_type_code, sub_type_determines, rec_type_code, rec_type_determines}
 use Rattle.wasm_module.proofs.module_laws.types.Goals as goal
 
 pub returns-clause-one : goal.returns-clause-one
@@ -9,8 +9,8 @@ pub returns-clause-refusal : goal.returns-clause-refusal
 returns-clause-refusal c =
     sub_type_determines (c.unsigned_numbers.ensures 32) c.value_types.ensures (c.number_refusals.ensures.any 32 number_name.VarU32) c.type_refusals.ensures.value
 
-pub returns-clause-group : goal.returns-clause-group
-returns-clause-group c = group_code (c.unsigned_numbers.ensures 32)
+pub returns-clause-rec_type : goal.returns-clause-rec_type
+returns-clause-rec_type c = rec_type_code (c.unsigned_numbers.ensures 32)
 
-pub returns-clause-group_refusal : goal.returns-clause-group_refusal
-returns-clause-group_refusal c = group_determines (c.unsigned_numbers.ensures 32) (c.number_refusals.ensures.any 32 number_name.VarU32)
+pub returns-clause-rec_type_refusal : goal.returns-clause-rec_type_refusal
+returns-clause-rec_type_refusal c = rec_type_determines (c.unsigned_numbers.ensures 32) (c.number_refusals.ensures.any 32 number_name.VarU32)

@@ -15,7 +15,7 @@ returns-in-Some-clause-lists g c =
     let opens = subst (λ (code : Option Reader). OpensModule c.args.features c.args.only c.args.bytes.now c.in-Ok.opened.0 code) c.in-Some.is c.in-Ok.ensures.opens in
     lists_module g.C.Complaints.tells c.args.features c.args.only c.args.file.now c.args.bytes.now c.module_name.result.now c.in-Ok.opened.0 c.in-Some.code
     c.list_code.result c.args.complaints.now c.list_code.new.complaints (g.W.Write.contents c.args.writer.now) (g.W.Write.contents c.write_title.new.writer)
-    (g.W.Write.contents c.list_code.new.writer) opens (c.module_name.ensures sections is_module) c.in-Ok-write_title.ensures.ok c.list_code.ensures.lists
+    (g.W.Write.contents c.list_code.new.writer) opens (c.module_name.ensures.names sections is_module) c.in-Ok-write_title.ensures.ok c.list_code.ensures.lists
     c.list_code.ensures.later
 
 pub returns-in-Some-clause-whole : goal.returns-in-Some-clause-whole
@@ -31,5 +31,5 @@ returns-clause-lists g c =
     let (sections, is_module, found) = c.in-Ok.ensures.opens.is_code in
     let opens = subst (λ (code : Option Reader). OpensModule c.args.features c.args.only c.args.bytes.now c.in-Ok.opened.0 code) c.in-None.is c.in-Ok.ensures.opens in
     lists_none g.C.Complaints.tells c.args.features c.args.only c.args.file.now c.args.bytes.now c.module_name.result.now c.in-Ok.opened.0 c.args.complaints.now
-    (g.W.Write.contents c.args.writer.now) (g.W.Write.contents c.write_title.new.writer) opens (c.module_name.ensures sections is_module)
+    (g.W.Write.contents c.args.writer.now) (g.W.Write.contents c.write_title.new.writer) opens (c.module_name.ensures.names sections is_module)
     c.in-Ok-write_title.ensures.ok

@@ -6,15 +6,15 @@ use Rattle.std.proofs.lemmas.List.{map-append, flat_map_more}
 use Rattle.wasm_module.specs.below.Number.{EncodesUnsigned}
 use Rattle.wasm_module.specs.below.bytes.error.Error.{Error}
 use Rattle.wasm_module.specs.below.Source.{Reader, rest, BeginsWith, Reads}
-use Rattle.wasm_module.specs.Types.{EncodesSubType, EncodesGroup}
+use Rattle.wasm_module.specs.Types.{EncodesSubType, EncodesRecTypeLength}
 use Rattle.wasm_module.specs.declared.composite.CompositeType.{CompositeType}
 use Rattle.wasm_functions.specs.Items.{ItemsStand}
-use Rattle.wasm_functions.specs.Parameters.{parameter_count, parameters_in, Announces, GroupStands, GroupsStand, AreTypes}
+use Rattle.wasm_functions.specs.Parameters.{parameter_count, parameters_in, Announces, RecTypeStands, RecTypesStand, AreTypes}
 
-pub group_more : (r : Reader) (gs : List (List CompositeType)) (mid new : Reader) (g : List CompositeType) → GroupsStand r gs mid → GroupStands mid g new →
-    GroupsStand r (gs ++ g ∷ []) new
-group_more r [] mid new g same stands = (new, subst (λ z. GroupStands z g new) same stands, refl)
-group_more r (h ∷ hs) mid new g (next, first, others) stands = (next, first, group_more next hs mid new g others stands)
+pub rec_type_more : (r : Reader) (gs : List (List CompositeType)) (mid new : Reader) (g : List CompositeType) → RecTypesStand r gs mid → RecTypeStands mid g new →
+    RecTypesStand r (gs ++ g ∷ []) new
+rec_type_more r [] mid new g same stands = (new, subst (λ z. RecTypeStands z g new) same stands, refl)
+rec_type_more r (h ∷ hs) mid new g (next, first, others) stands = (next, first, rec_type_more next hs mid new g others stands)
 
 -- the number of parameters of one type more, behind those before
 pub count_more : (before : List ℕ) (types : List CompositeType) (ty : CompositeType) →
@@ -23,13 +23,13 @@ count_more before types ty =
     append_assoc before (map parameter_count types) (parameter_count ty ∷ []) ∙ ap (λ z. before ++ z) (sym (map-append parameter_count types (ty ∷ [])))
 
 -- those of one recursive type more
-pub parameters_more : (groups : List (List CompositeType)) (types : List CompositeType) →
-    parameters_in groups ++ map parameter_count types ≡ parameters_in (groups ++ types ∷ [])
-parameters_more groups types = flat_map_more (λ (g : List CompositeType). map parameter_count g) [] groups types
+pub parameters_more : (rec_types : List (List CompositeType)) (types : List CompositeType) →
+    parameters_in rec_types ++ map parameter_count types ≡ parameters_in (rec_types ++ types ∷ [])
+parameters_more rec_types types = flat_map_more (λ (g : List CompositeType). map parameter_count g) [] rec_types types
 
 -- all types stand there
 pub all_types : (contents first end : Reader) (gs : List (List CompositeType)) (n : ℕ) → Reads (EncodesUnsigned 32) (Ok n) contents first →
-    GroupsStand first gs end → length gs ≡ n → AreTypes contents gs
+    RecTypesStand first gs end → length gs ≡ n → AreTypes contents gs
 all_types contents first end gs n counted stand all =
     record { first = first; count = subst (λ k. Reads (EncodesUnsigned 32) (Ok k) contents first) (sym all) counted; end = end; stand = stand }
 
@@ -53,19 +53,19 @@ value_or (Err e) = 0
 abbrev read : ℕ → Result ℕ Error
 read n = Ok n
 
-announced_by : (n : ℕ) (r first : Reader) → (BeginsWith 0x4e (rest r) → Reads EncodesGroup (Ok n) r first) →
+announced_by : (n : ℕ) (r first : Reader) → (BeginsWith 0x4e (rest r) → Reads EncodesRecTypeLength (Ok n) r first) →
     ((BeginsWith 0x4e (rest r) → ⊥) → (read n ≡ read 1) × (first ≡ r)) → BeginsWith 0x4e (rest r) ⊎ (BeginsWith 0x4e (rest r) → ⊥) → Announces n r first
-announced_by n r first group one (inl is) = inl (is, group is)
-announced_by n r first group one (inr not) = let o = one not in inr (not, ap value_or o.0, o.1)
+announced_by n r first rec_type one (inl is) = inl (is, rec_type is)
+announced_by n r first rec_type one (inr not) = let o = one not in inr (not, ap value_or o.0, o.1)
 
 -- what a call read of the beginning of a recursive type
-pub group_announced : (n : ℕ) (r first : Reader) → (BeginsWith 0x4e (rest r) → Reads EncodesGroup (Ok n) r first) →
+pub rec_type_announced : (n : ℕ) (r first : Reader) → (BeginsWith 0x4e (rest r) → Reads EncodesRecTypeLength (Ok n) r first) →
     ((BeginsWith 0x4e (rest r) → ⊥) → (read n ≡ read 1) × (first ≡ r)) → Announces n r first
-group_announced n r first group one = announced_by n r first group one (begins 0x4e (rest r))
+rec_type_announced n r first rec_type one = announced_by n r first rec_type one (begins 0x4e (rest r))
 
 -- a recursive type of so many sub types as it announces
-pub group_stands : (n : ℕ) (r first end : Reader) (types : List CompositeType) → (BeginsWith 0x4e (rest r) → Reads EncodesGroup (Ok n) r first) →
+pub rec_type_stands : (n : ℕ) (r first end : Reader) (types : List CompositeType) → (BeginsWith 0x4e (rest r) → Reads EncodesRecTypeLength (Ok n) r first) →
     ((BeginsWith 0x4e (rest r) → ⊥) → (read n ≡ read 1) × (first ≡ r)) → length types ≡ n → ItemsStand EncodesSubType first types end →
-    GroupStands r types end
-group_stands n r first end types group one all stand =
-    (first, subst (λ k. Announces k r first) (sym all) (group_announced n r first group one), stand)
+    RecTypeStands r types end
+rec_type_stands n r first end types rec_type one all stand =
+    (first, subst (λ k. Announces k r first) (sym all) (rec_type_announced n r first rec_type one), stand)

@@ -4,7 +4,7 @@ use Rattle.wasm_module.specs.Types.{EncodesSubType}
 use Rattle.wasm_module.specs.declared.composite.CompositeType.{CompositeType}
 use Rattle.wasm_functions.specs.Items.{ItemsStand}
 use Rattle.wasm_functions.specs.Parameters.{parameter_count, IsKnownType}
-use Rattle.wasm_functions.proofs.types.read_group.Given as goal
+use Rattle.wasm_functions.proofs.types.read_rec_type.Given as goal
 
 -- so many types were read, and their numbers of parameters added
 abbrev pub invariant-loop-ty : goal.invariant-loop-ty

@@ -2,7 +2,7 @@ use Rattle.wasm_module.specs.Types.{EncodesIndices, IndicesFault, EncodesComposi
 use Rattle.wasm_module.proofs.Composites.{indices_code}
 use Rattle.wasm_module.proofs.Parts.{first_fault, second_fault}
 use Rattle.wasm_module.proofs.Sequences.{then_first, then_read, then_second}
-use Rattle.wasm_module.proofs.composite.read_below.Goals as goal
+use Rattle.wasm_module.proofs.composite.read_with_supertypes.Goals as goal
 
 pub returns-in-Err-clause-reads : goal.returns-in-Err-clause-reads
 returns-in-Err-clause-reads c = then_first EncodesIndices (λ supertypes. EncodesComposite) c.in-Err.e c.args.reader.now c.count_indices.new.reader c.in-Err.ensures.reads

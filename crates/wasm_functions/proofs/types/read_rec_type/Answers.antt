@@ -1,12 +1,16 @@
-use Rattle.std.proofs.Common.{◌≡◌, ◌+◌, ◌<◌, [], ◌∷◌, ◌++◌, length, sym, subst, ap, ◌∙◌, rules, arith}
+use Rattle.std.proofs.Common.{◌≡◌, ◌+◌, ◌<◌, [], ◌∷◌, ◌++◌, length, Ok, sym, subst, ap, ◌∙◌, rules, arith}
 use Rattle.std.proofs.lemmas.List.Elements.{All-push}
+use Rattle.wasm_module.specs.below.Source.{Reads}
 use Rattle.wasm_module.specs.Types.{EncodesSubType}
+use Rattle.wasm_module.specs.declared.composite.CompositeType.{CompositeType}
 use Rattle.wasm_functions.specs.Parameters.{parameter_count, IsKnownType}
-use Rattle.wasm_functions.proofs.Grouped.{count_more}
+use Rattle.wasm_functions.specs.Refusals.{SubTypesFault}
+use Rattle.wasm_functions.proofs.RecTypes.{count_more}
 use Rattle.wasm_functions.proofs.Listed.{item_more, one_longer}
 use Rattle.wasm_functions.proofs.Named.{one_value, not_both}
 use Rattle.wasm_functions.proofs.Next.{all_at, more_items}
-use Rattle.wasm_functions.proofs.types.read_group.Goals as goal
+use Rattle.wasm_functions.proofs.Refused.{of_refusal, sub_types_to}
+use Rattle.wasm_functions.proofs.types.read_rec_type.Goals as goal
 
 pub loop-ty-preserved : goal.loop-ty-preserved
 loop-ty-preserved c =
@@ -36,3 +40,20 @@ returns-in-Other-clause-refused c types end all stand known =
     let same = one_value EncodesSubType c.types.ensures.one c.loop-ty.reader c.read.new.reader next c.in-Ok.ty y c.in-Ok.ensures.reads reads in
     let is_known : IsKnownType c.in-Ok.ty = subst IsKnownType (sym same) (all_at IsKnownType h.0 y ys types parts known) in
     absurd (subst IsKnownType c.in-Other.is is_known)
+
+pub returns-in-Err-clause-fault : goal.returns-in-Err-clause-fault
+returns-in-Err-clause-fault c =
+    let h = c.loop-ty.invariant in
+    let fewer : length h.0 < c.args.len = let so = h.2 in let test = c.loop-ty-test.true in omega (arith, so, test) in
+    let stand = sub_types_to c.args.len c.args.reader.now c.loop-ty.reader h.0 h.1 fewer h.3 in
+    let read = c.in-Err.ensures in
+    of_refusal (λ f. SubTypesFault f c.args.len c.args.reader.now) c.in-Err.e c.from.result c.from.ensures read.reads.1.fault
+    (c.loop-ty.reader, stand, (read.reads.1, read.fault))
+
+pub returns-in-Other-clause-fault : goal.returns-in-Other-clause-fault
+returns-in-Other-clause-fault c =
+    let h = c.loop-ty.invariant in
+    let fewer : length h.0 < c.args.len = let so = h.2 in let test = c.loop-ty-test.true in omega (arith, so, test) in
+    let stand = sub_types_to c.args.len c.args.reader.now c.loop-ty.reader h.0 h.1 fewer h.3 in
+    let reads = subst (λ (ty : CompositeType). Reads EncodesSubType (Ok ty) c.loop-ty.reader c.read.new.reader) c.in-Other.is c.in-Ok.ensures.reads in
+    (c.loop-ty.reader, stand, c.original_position-offset.ensures, c.read.new.reader, reads)

@@ -1,0 +1,14 @@
+-- What a refusal of bytes tells of a module.
+use Rattle.wasm_module.specs.below.bytes.error.Error.{Error}
+use Rattle.wasm_module.specs.below.bytes.message.Message.{Message}
+use Rattle.wasm_module.specs.below.bytes.message.Message.TheVariants as message
+use Rattle.wasm_functions.specs.declared.fault.ModuleFault.{ModuleFault}
+use Rattle.wasm_functions.specs.declared.fault.ModuleFault.TheVariants as fault
+
+abbrev pub fault_by : Message → Error → ModuleFault
+fault_by message.OutOfMemory e = fault.Memory
+fault_by _ e = fault.Refused e
+
+-- Memory was refused; or else these bytes are, with this message at this offset.
+abbrev pub fault_of : Error → ModuleFault
+fault_of e = fault_by e.message e

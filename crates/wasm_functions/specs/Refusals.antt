@@ -1,0 +1,159 @@
+-- Why the functions of a module are not known: which fault, with which message and offset.
+-- WebAssembly Core Specification 3.0, Binary Format: Conventions, Lists; Types, Recursive Types; Modules, Sections, Type Section, Import Section, Function Section, Export Section.
+use Rattle.std.specs.Prelude.{◌≡◌, ◌≢◌, ◌⊎◌, ◌<◌, ℕ, List, [], length, Option, Some, Ok}
+use Rattle.std.specs.List.{All}
+use Rattle.wasm_module.specs.below.bytes.error.Error.{Error}
+use Rattle.wasm_module.specs.below.bytes.message.Message.{Message}
+use Rattle.wasm_module.specs.below.Number.{EncodesUnsigned}
+use Rattle.wasm_module.specs.below.Source.{Reader, rest, offset_of, BeginsWith, U32Fault, IsRefusal, Reads}
+use Rattle.wasm_module.specs.Exports.{EncodesExport, ExportFault}
+use Rattle.wasm_module.specs.Imports.{ImportParts, EncodesImport, ImportFault}
+use Rattle.wasm_module.specs.Module.{EncodesPreamble, PreambleFault, preamble_kind, SectionParts, EncodesSection, SectionFault}
+use Rattle.wasm_module.specs.Types.{EncodesSubType, SubTypeFault, EncodesRecTypeLength, RecTypeLengthFault}
+use Rattle.wasm_module.specs.declared.composite.CompositeType.{CompositeType}
+use Rattle.wasm_module.specs.declared.composite.CompositeType.TheVariants as composite
+use Rattle.wasm_module.specs.declared.preamble.Preamble.{Preamble}
+use Rattle.wasm_module.specs.declared.preamble.PreambleKind.{PreambleKind}
+use Rattle.wasm_module.specs.declared.preamble.PreambleKind.TheVariants as kind
+use Rattle.wasm_functions.specs.Items.{ItemsStand}
+use Rattle.wasm_functions.specs.Parameters.{AreKnownTypes, Announces, RecTypesStand, CountsParameters}
+use Rattle.wasm_functions.specs.Sections.{BeginsModule, SectionsStand, IsSection}
+use Rattle.wasm_functions.specs.Table.{IsKnownImport, CountsImports, ListsTypes}
+use Rattle.wasm_functions.specs.declared.fault.ModuleFault.{ModuleFault}
+use Rattle.wasm_functions.specs.declared.fault.ModuleFault.TheVariants as fault
+
+-- What should stand here is refused: no prefix of the rest is one, and message and offset are those of its fault.
+abbrev pub IsRefusedAs : {X : Type 0} → (List ℕ → X → Type 0) → (Message → Reader → ℕ → Type 0) → Error → Reader → Type 0
+IsRefusedAs Encodes Fault e r = IsRefusal Encodes e r × Fault e.message r e.offset
+
+-- The bytes begin with a preamble that says this of the binary.
+abbrev pub BeginsAs : PreambleKind → Reader → Type 0
+BeginsAs said whole = (preamble : Preamble) × (behind : Reader) × Reads EncodesPreamble (Ok preamble) whole behind × (preamble_kind preamble ≡ said)
+
+-- The preamble of a module and sections stand up to the second reader, where the bytes do not end.
+pub record HasSectionsTo (whole next : Reader) : Type 0 where
+  pub behind : Reader
+  pub begins : BeginsModule whole behind
+  pub sections : List SectionParts
+  pub stand : SectionsStand behind sections next
+  pub more : rest next ≢ []
+
+-- Which fault bytes have that are no module: the preamble is that of something else; or it is refused; or behind it and some sections the next section is.
+abbrev pub SectionsFault : ModuleFault → Reader → Type 0
+SectionsFault (fault.NotModule said) whole = BeginsAs said whole × (said ≢ kind.Module)
+SectionsFault (fault.Refused e) whole =
+    IsRefusedAs EncodesPreamble PreambleFault e whole ⊎
+    ((next : Reader) × HasSectionsTo whole next × IsRefusedAs (EncodesSection next.features) SectionFault e next)
+SectionsFault _ whole = ⊥
+
+-- The contents of a section are a list that announces more items than stand up to the second reader; these are all known.
+pub record HasItemsTo {X : Type 0} (Encodes : List ℕ → X → Type 0) (IsKnown : X → Type 0) (contents next : Reader) : Type 0 where
+  pub first : Reader
+  pub announced : ℕ
+  pub count : Reads (EncodesUnsigned 32) (Ok announced) contents first
+  pub items : List X
+  pub stand : ItemsStand Encodes first items next
+  pub fewer : length items < announced
+  pub known : All IsKnown items
+
+-- The number of the items of a list is refused, or behind some of them the next.
+abbrev pub ListFault : {X : Type 0} → (List ℕ → X → Type 0) → (Message → Reader → ℕ → Type 0) → (X → Type 0) → Error → Reader → Type 0
+ListFault Encodes Fault IsKnown e contents =
+    IsRefusedAs (EncodesUnsigned 32) U32Fault e contents ⊎ ((next : Reader) × HasItemsTo Encodes IsKnown contents next × IsRefusedAs Encodes Fault e next)
+
+-- Nothing is asked of an item.
+abbrev pub IsAny : {X : Type 0} → X → Type 0
+IsAny x = Unit {0}
+
+-- Which fault the contents of a section of imports have: that of the list; or an import is of none of the five kinds, which has this byte and this offset.
+abbrev pub ImportsFault : ModuleFault → Reader → Type 0
+ImportsFault (fault.Refused e) contents = ListFault EncodesImport ImportFault IsKnownImport e contents
+ImportsFault (fault.ImportKind byte offset) contents =
+    (next : Reader) × HasItemsTo EncodesImport IsKnownImport contents next × (offset ≡ offset_of next) ×
+    (import : ImportParts) × (behind : Reader) × Reads EncodesImport (Ok import) next behind × (import.kind ≡ byte) × (4 < byte)
+ImportsFault _ contents = ⊥
+
+-- Of functions.
+abbrev pub FunctionsFault : ModuleFault → Reader → Type 0
+FunctionsFault (fault.Refused e) contents = ListFault (EncodesUnsigned 32) U32Fault IsAny e contents
+FunctionsFault fault.Memory contents = Unit {0}
+FunctionsFault _ contents = ⊥
+
+-- Of exports.
+abbrev pub ExportsFault : ModuleFault → Reader → Type 0
+ExportsFault (fault.Refused e) contents = ListFault EncodesExport ExportFault IsAny e contents
+ExportsFault _ contents = ⊥
+
+-- Fewer sub types than this many stand up to the second reader, all of known sorts.
+pub record HasSubTypesTo (n : ℕ) (r next : Reader) : Type 0 where
+  pub types : List CompositeType
+  pub stand : ItemsStand EncodesSubType r types next
+  pub fewer : length types < n
+  pub known : AreKnownTypes types
+
+-- Which fault this many sub types have: behind some the next is refused; or it is of none of the three sorts, which has this byte and this offset.
+abbrev pub SubTypesFault : ModuleFault → ℕ → Reader → Type 0
+SubTypesFault (fault.Refused e) n r = (next : Reader) × HasSubTypesTo n r next × IsRefusedAs EncodesSubType SubTypeFault e next
+SubTypesFault (fault.TypeKind byte offset) n r =
+    (next : Reader) × HasSubTypesTo n r next × (offset ≡ offset_of next) × (behind : Reader) × Reads EncodesSubType (Ok (composite.Other byte)) next behind
+SubTypesFault fault.Memory n r = Unit {0}
+SubTypesFault _ n r = ⊥
+
+-- The number of sub types is refused that a recursive type announces.
+abbrev pub AnnouncedFault : ModuleFault → Reader → Type 0
+AnnouncedFault (fault.Refused e) r = BeginsWith 0x4e (rest r) × IsRefusedAs EncodesRecTypeLength RecTypeLengthFault e r
+AnnouncedFault _ r = ⊥
+
+-- That is refused, or one of them.
+abbrev pub RecTypeFault : ModuleFault → Reader → Type 0
+RecTypeFault fault r = AnnouncedFault fault r ⊎ ((n : ℕ) × (first : Reader) × Announces n r first × SubTypesFault fault n first)
+
+-- The contents of a section announce more recursive types than stand up to the second reader; the types of these are all known.
+pub record HasTypesTo (contents next : Reader) : Type 0 where
+  pub first : Reader
+  pub announced : ℕ
+  pub count : Reads (EncodesUnsigned 32) (Ok announced) contents first
+  pub rec_types : List (List CompositeType)
+  pub stand : RecTypesStand first rec_types next
+  pub fewer : length rec_types < announced
+  pub known : All AreKnownTypes rec_types
+
+-- The number of recursive types is refused.
+abbrev pub TypesLengthFault : ModuleFault → Reader → Type 0
+TypesLengthFault (fault.Refused e) contents = IsRefusedAs (EncodesUnsigned 32) U32Fault e contents
+TypesLengthFault _ contents = ⊥
+
+-- Which fault the contents of a section of types have: that number is refused, or behind some recursive types the next.
+abbrev pub TypesFault : ModuleFault → Reader → Type 0
+TypesFault fault contents = TypesLengthFault fault contents ⊎ ((next : Reader) × HasTypesTo contents next × RecTypeFault fault next)
+
+-- The first section with a number is there, and this is so of its contents.
+abbrev pub OfSection : Reader → ℕ → (Reader → Type 0) → Type 0
+OfSection whole id P = (contents : Reader) × IsSection whole id (Some contents) × P contents
+
+-- The first section of types is read, of imports, of functions.
+abbrev pub HasTypes : Reader → Type 0
+HasTypes whole = (section : Option Reader) × (counts : List ℕ) × IsSection whole 1 section × CountsParameters section counts
+
+abbrev pub HasImports : Reader → Type 0
+HasImports whole = (section : Option Reader) × (n : ℕ) × IsSection whole 2 section × CountsImports section n
+
+abbrev pub HasFunctions : Reader → Type 0
+HasFunctions whole = (section : Option Reader) × (types : List ℕ) × IsSection whole 3 section × ListsTypes section types
+
+-- Which fault comes where a section with a number is asked for: that of bytes that are no module, or that of its contents.
+abbrev pub SectionFaultAt : ModuleFault → Reader → ℕ → (ModuleFault → Reader → Type 0) → Type 0
+SectionFaultAt fault whole id Fault = SectionsFault fault whole ⊎ OfSection whole id (Fault fault)
+
+-- Which fault comes of the names of functions, unless memory is refused.
+abbrev pub NamesFault : ModuleFault → Reader → Type 0
+NamesFault f whole = (f ≡ fault.Memory) ⊎ SectionFaultAt f whole 7 ExportsFault
+
+-- Which fault comes in place of the functions of a module: that of bytes that are no module; or of the first section that is refused, in this order: types,
+-- imports, functions, exports; or memory is refused.
+abbrev pub TableFault : ModuleFault → Reader → Type 0
+TableFault fault whole =
+    SectionFaultAt fault whole 1 TypesFault ⊎
+    ((HasTypes whole × SectionFaultAt fault whole 2 ImportsFault) ⊎
+    ((HasTypes whole × HasImports whole × SectionFaultAt fault whole 3 FunctionsFault) ⊎
+    (HasTypes whole × HasImports whole × HasFunctions whole × NamesFault fault whole)))
