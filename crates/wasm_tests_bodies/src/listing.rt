@@ -4,8 +4,8 @@ use std::io;
 use std::io::{Read, Write};
 use std::process::Abort;
 use std::test::Fail;
-use wasm_listing::operators::{Error, Message, WasmFeatures};
-use wasm_listing::{DumpFault, census, features_of, run};
+use wasm_listing::operators::{Error, Message, OperatorsReaderAllocations, WasmFeatures};
+use wasm_listing::{Census, DumpFault, census, features_of, run};
 
 /// A reader that gives one byte a call, and fails at one call.
 #[derive(Drop)]
@@ -248,6 +248,31 @@ fn faults(rt: HostRuntime) -> Result<(), Fail> {
     for fault in [DumpFault::Reading, DumpFault::Writing, DumpFault::Memory] {
         assert_eq!(&rt; fault.status(), 3);
     }
+    Ok(())
+}
+
+/// The texts of `Debug`, as `derive` writes them.
+#[test]
+fn debug_texts(rt: HostRuntime) -> Result<(), Fail> {
+    let alloc = rt.alloc();
+    let census = format!(in alloc; "{:?}", Census::new())?;
+    assert_eq!(&rt;
+        census.as_str(),
+        "Census { counts: [0, 0, 0, 0, 0, 0, 0, 0, 0, 0, 0, 0, 0, 0, 0, 0, 0, 0, 0] }"
+    );
+    let refused = DumpFault::Refused(Error::new(Message::EndOfData, 7));
+    let refused = format!(in alloc; "{refused:?}")?;
+    assert_eq!(&rt;
+        refused.as_str(),
+        "Refused(Error { message: EndOfData, offset: 7 })"
+    );
+    let reading = format!(in alloc; "{:?}", DumpFault::Reading)?;
+    assert_eq!(&rt; reading.as_str(), "Reading");
+    let allocations = format!(in alloc; "{:?}", OperatorsReaderAllocations::new(alloc))?;
+    assert_eq!(&rt;
+        allocations.as_str(),
+        "OperatorsReaderAllocations { frames: [] }"
+    );
     Ok(())
 }
 
