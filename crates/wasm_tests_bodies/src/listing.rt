@@ -326,21 +326,19 @@ fn memory_of_operators(rt: HostRuntime) -> Result<(), Fail> {
     Ok(())
 }
 
-/// The same of the counts.
+/// The same of the counts; asked for once more, they are there.
 #[test]
 fn memory_of_counts(rt: HostRuntime) -> Result<(), Fail> {
     let body = [0x00, 0x02, 0x40, 0x1c, 0x02, 0x7f, 0x7e, 0x0b, 0x0b];
     let mut expected = [0u64; 19];
     expected[0] = 3;
     expected[6] = 1;
-    match census(rt.alloc(), WasmFeatures::all(), &body) {
-        Ok(counts) => {
-            assert_eq!(&rt; counts, expected);
-        }
-        Err(fault) => {
-            assert!(&rt; matches!(fault, DumpFault::Memory));
-        }
+    let mut counted = census(rt.alloc(), WasmFeatures::all(), &body);
+    if counted.is_err() {
+        assert_eq!(&rt; counted, Err(DumpFault::Memory));
+        counted = census(rt.alloc(), WasmFeatures::all(), &body);
     }
+    assert_eq!(&rt; counted, Ok(expected));
     Ok(())
 }
 
