@@ -84,7 +84,7 @@ fn argument(
 }
 
 #[test]
-fn memory_arguments(rt: HostRuntime) -> std::result::Result<(), Fail> {
+fn memargs(rt: HostRuntime) -> std::result::Result<(), Fail> {
     let (plain, op, rmw) = (MemArgKind::Plain, MemArgKind::Op, MemArgKind::Rmw);
     let none = WasmFeatures::empty();
     let memories = WasmFeatures::MULTI_MEMORY;
@@ -123,7 +123,7 @@ fn memory_arguments(rt: HostRuntime) -> std::result::Result<(), Fail> {
 }
 
 #[test]
-fn more_memory_arguments(rt: HostRuntime) -> std::result::Result<(), Fail> {
+fn more_memargs(rt: HostRuntime) -> std::result::Result<(), Fail> {
     let (plain, op, rmw) = (MemArgKind::Plain, MemArgKind::Op, MemArgKind::Rmw);
     let none = WasmFeatures::empty();
     let arrays = WasmFeatures::MULTIBYTE_ARRAY_ACCESS;
@@ -163,7 +163,7 @@ fn more_memory_arguments(rt: HostRuntime) -> std::result::Result<(), Fail> {
 }
 
 #[test]
-fn plain_memory_arguments(rt: HostRuntime) -> std::result::Result<(), Fail> {
+fn non_atomic_memargs(rt: HostRuntime) -> std::result::Result<(), Fail> {
     let plain = MemArgKind::Plain;
     let none = WasmFeatures::empty();
     let all = WasmFeatures::all();
