@@ -7,7 +7,7 @@ It takes what `rt ci` or `rt test` built, `crates/NAME/out/NAME` and `crates/NAM
 crates named, else of all. Each test and each program is run with its first allocation refused, then
 with its second, and so on until none is. Each run has to end by itself, with no fault:
 
-- a test whose name has the word `memory` passes, whichever allocation was refused;
+- a test whose name has the word `memory` passes, whichever allocation was refused, and takes one at least;
 - another test passes, or ends by an error or an assertion of its own;
 - a program ends with a status of its own. One that has a file `refused` beside its src/ ends
   as that file says, or as it does when no allocation is refused. The file has three lines: the status,
@@ -98,12 +98,20 @@ def tests_of(program):
     return [line[: -len(": test")] for line in listed.splitlines() if line.endswith(": test")]
 
 
+def is_of_memory(test):
+    """Whether a test's name has the word `memory`."""
+    return "memory" in test.split("::")[-1].split("_")
+
+
 def follow_tests(program, library):
     """Each test of a crate through its refusals."""
     for test in tests_of(program):
-        of_memory = "memory" in test.split("::")[-1].split("_")
+        label, of_memory = f"{program.name} {test}", is_of_memory(test)
         allowed = (lambda ran: ran.status == 0) if of_memory else (lambda ran: is_own_end(ran.status))
-        yield test, followed(f"{program.name} {test}", [program, test], b"", library, allowed)
+        count, wrong = followed(label, [program, test], b"", library, allowed)
+        if of_memory and not count:
+            wrong = [*wrong, f"{label}: its name has the word memory, and it takes no allocation"]
+        yield test, (count, wrong)
 
 
 def refused_text(crate):

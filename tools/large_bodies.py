@@ -10,7 +10,8 @@ status, the complaint and the number of lines have to be as they are counted her
 for the whole at most LINEAR times those for the half.
 
 Where crates/wasm_bench/out/libwasm_bench.a is built (`rt lib` there), its visits are run in the same way, by
-large_bodies.c: they take no memory but that of open frames, so their bodies are larger, up to 100 MB.
+large_bodies.c: they take no memory but that of open frames, so their bodies are larger, up to 100 MB. Where it
+is not built, they are left out, and a line says so.
 """
 
 import os
@@ -167,6 +168,16 @@ def built_driver(folder):
     return driver
 
 
+def all_visited():
+    """What is wrong with the visits, and how many bodies were visited."""
+    if not LIBRARY.exists():
+        print(f"visited: none, {LIBRARY} is not built: run rt lib in crates/wasm_bench", flush=True)
+        return [], 0
+    with tempfile.TemporaryDirectory() as folder:
+        driver = built_driver(folder)
+        return [fault for name in VISITS for fault in visited(driver, name)], len(VISITS)
+
+
 def main():
     if sys.argv[2:] or sys.argv[1:2] and sys.argv[1].startswith("-"):
         print(__doc__)
@@ -175,12 +186,8 @@ def main():
     if not program.exists():
         sys.exit(f"{program}: no program is built: run rt run in crates/wasm_dump")
     found = [fault for name in BODIES for fault in listed(program, name)]
-    count = len(BODIES)
-    if LIBRARY.exists():
-        with tempfile.TemporaryDirectory() as folder:
-            driver = built_driver(folder)
-            found += [fault for name in VISITS for fault in visited(driver, name)]
-        count += len(VISITS)
+    faults, visits = all_visited()
+    found, count = found + faults, len(BODIES) + visits
     print("\n".join(found + [f"large bodies: {count}, {len(found)} not as they should be"]))
     sys.exit(bool(found))
 

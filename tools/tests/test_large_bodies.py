@@ -1,5 +1,7 @@
 """The tool that runs the program on large bodies."""
 
+import contextlib
+import io
 import tempfile
 import unittest
 from pathlib import Path
@@ -47,6 +49,16 @@ class LargeBodies(unittest.TestCase):
         self.assertEqual(large_bodies.targets(2)[0].hex(), "000e020000000b")
         self.assertEqual(large_bodies.locals_one_by_one(2)[0].hex(), "02017f017f0b")
         self.assertEqual(large_bodies.too_many_targets(1)[0].hex(), "000eb297d30300")
+
+    def test_no_library(self):
+        kept, said = large_bodies.LIBRARY, io.StringIO()
+        large_bodies.LIBRARY = Path("no") / "libwasm_bench.a"
+        try:
+            with contextlib.redirect_stdout(said):
+                self.assertEqual(large_bodies.all_visited(), ([], 0))
+        finally:
+            large_bodies.LIBRARY = kept
+        self.assertEqual(said.getvalue(), "visited: none, no/libwasm_bench.a is not built: run rt lib in crates/wasm_bench\n")
 
     def test_growth(self):
         class Used:

@@ -237,6 +237,14 @@ class Cases(unittest.TestCase):
                         cases.opened(folder, case)
 
 
+# A program of three tests, of which one takes an allocation and says that it was refused.
+TAKES_ONE = """\
+#!/bin/sh
+[ "$1" != --list ] || exec printf '%s: test\\n' texts::memory_of_one texts::memory_of_none texts::another
+[ "$1 $REFUSED_ALLOCATION" != "texts::memory_of_one 1" ] || printf ! > "/dev/fd/$REFUSAL_TOLD"
+"""
+
+
 class Allocations(unittest.TestCase):
     """How a run may end whose allocation is refused."""
 
@@ -254,6 +262,20 @@ class Allocations(unittest.TestCase):
 
     def test_ends(self):
         self.assertEqual([allocations.is_own_end(it) for it in (0, 1, -6, -11, None)], [True, True, True, False, False])
+
+    def test_of_memory(self):
+        names = ("tests::memory", "tests::memory_of_lists", "memory::lists", "tests::memories")
+        self.assertEqual([allocations.is_of_memory(it) for it in names], [True, True, False, False])
+
+    def test_of_memory_that_takes_none(self):
+        with tempfile.TemporaryDirectory() as folder:
+            program = Path(folder) / "low_tests"
+            program.write_text(TAKES_ONE, encoding="utf-8")
+            program.chmod(0o755)
+            found = dict(allocations.follow_tests(program, ""))
+        text = "low_tests texts::memory_of_none: its name has the word memory, and it takes no allocation"
+        wanted = {"texts::memory_of_one": (1, []), "texts::memory_of_none": (0, [text]), "texts::another": (0, [])}
+        self.assertEqual(found, wanted)
 
 
 SOURCE = """\

@@ -68,6 +68,7 @@ fn views(rt: HostRuntime) -> Result<(), Fail> {
     assert_eq!(rt; reader.remaining_range(), 4294967297..4294967298);
     assert_eq!(rt; reader.remaining_buffer().len(), 1);
     assert!(rt; reader.is_end_then_eof());
+    assert!(rt; !BinaryReader::new(&[0x0b, 0x00], 0).is_end_then_eof());
     assert_eq!(rt; reader.read_u8(), Ok(11));
     assert_eq!(rt;
         reader.read_u8(),

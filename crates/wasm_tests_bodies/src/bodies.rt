@@ -109,6 +109,12 @@ fn operators_of_a_code_section(rt: HostRuntime) -> std::result::Result<(), Fail>
     let mut read = Vec::new(rt.alloc());
     assert_eq!(&rt; refusal(operators.read_all(&mut read)), None);
     assert_eq!(&rt; read.len(), 2);
+    for (place, want) in [(0, ("Nop", 23)), (1, ("End", 24))] {
+        match read.get(place) {
+            Some((operator, offset)) => assert_eq!(&rt; (operator.info().name, *offset), want),
+            None => assert!(&rt; false),
+        }
+    }
     let Ok(operators) = body.get_operators_reader(rt.alloc()) else {
         return Err(Fail::from("the locals are refused"));
     };

@@ -4,8 +4,8 @@ use std::io;
 use std::io::{Read, Write};
 use std::process::Abort;
 use std::test::Fail;
-use wasm_listing::operators::{Error, Message, WasmFeatures};
-use wasm_listing::{DumpFault, census, features_of, run};
+use wasm_listing::operators::{Error, Message, OperatorsReaderAllocations, WasmFeatures};
+use wasm_listing::{Census, DumpFault, census, features_of, run};
 
 /// A reader that gives one byte a call, and fails at one call.
 #[derive(Drop)]
@@ -251,6 +251,31 @@ fn faults(rt: HostRuntime) -> Result<(), Fail> {
     Ok(())
 }
 
+/// The texts of `Debug`, as `derive` writes them.
+#[test]
+fn debug_texts(rt: HostRuntime) -> Result<(), Fail> {
+    let alloc = rt.alloc();
+    let census = format!(in alloc; "{:?}", Census::new())?;
+    assert_eq!(&rt;
+        census.as_str(),
+        "Census { counts: [0, 0, 0, 0, 0, 0, 0, 0, 0, 0, 0, 0, 0, 0, 0, 0, 0, 0, 0] }"
+    );
+    let refused = DumpFault::Refused(Error::new(Message::EndOfData, 7));
+    let refused = format!(in alloc; "{refused:?}")?;
+    assert_eq!(&rt;
+        refused.as_str(),
+        "Refused(Error { message: EndOfData, offset: 7 })"
+    );
+    let reading = format!(in alloc; "{:?}", DumpFault::Reading)?;
+    assert_eq!(&rt; reading.as_str(), "Reading");
+    let allocations = format!(in alloc; "{:?}", OperatorsReaderAllocations::new(alloc))?;
+    assert_eq!(&rt;
+        allocations.as_str(),
+        "OperatorsReaderAllocations { frames: [] }"
+    );
+    Ok(())
+}
+
 #[test]
 fn words(rt: HostRuntime) -> Result<(), Fail> {
     let all = WasmFeatures::all();
@@ -301,21 +326,19 @@ fn memory_of_operators(rt: HostRuntime) -> Result<(), Fail> {
     Ok(())
 }
 
-/// The same of the counts.
+/// The same of the counts; asked for once more, they are there.
 #[test]
 fn memory_of_counts(rt: HostRuntime) -> Result<(), Fail> {
     let body = [0x00, 0x02, 0x40, 0x1c, 0x02, 0x7f, 0x7e, 0x0b, 0x0b];
     let mut expected = [0u64; 19];
     expected[0] = 3;
     expected[6] = 1;
-    match census(rt.alloc(), WasmFeatures::all(), &body) {
-        Ok(counts) => {
-            assert_eq!(&rt; counts, expected);
-        }
-        Err(fault) => {
-            assert!(&rt; matches!(fault, DumpFault::Memory));
-        }
+    let mut counted = census(rt.alloc(), WasmFeatures::all(), &body);
+    if counted.is_err() {
+        assert_eq!(&rt; counted, Err(DumpFault::Memory));
+        counted = census(rt.alloc(), WasmFeatures::all(), &body);
     }
+    assert_eq!(&rt; counted, Ok(expected));
     Ok(())
 }
 

@@ -2,10 +2,11 @@
 ghost use Rattle.std.specs.Prelude.{◌≡◌};
 
 use std::alloc::Global;
+use std::process::Abort;
 use wasm_listing::operators::{
     BinaryReader, BrTable, FrameKind, FrameStack, Operator, ReadOperators, ReadSimdVisits,
     ReadVisits, Result, SelectTypes, SimdOperator, ValType, VisitGroups, VisitOperator,
-    VisitSimdOperator, Visitor,
+    VisitSimdOperator, Visitor, visit_operator_with_simd,
 };
 
 /// What was seen: some operators by name, and a refusal by its number and offset.
@@ -17,6 +18,8 @@ enum Seen {
     Catch(u32),
     Swizzle,
     I32AndI64,
+    /// Catches or clauses: the opcode, and how many there are.
+    Listed(u8, usize),
     Other,
     Refused(u8, u64),
 }
@@ -34,6 +37,10 @@ fn told(op: &Operator<'_>) -> Seen {
         Operator::Catch { tag_index } => Seen::Catch(*tag_index),
         Operator::Simd(SimdOperator::I8x16Swizzle) => Seen::Swizzle,
         Operator::TypedSelectMulti { tys } if is_pair(tys) => Seen::I32AndI64,
+        Operator::TryTable { try_table } => Seen::Listed(0x1f, try_table.catches.len()),
+        Operator::Resume { resume_table, .. } => Seen::Listed(0xe3, resume_table.len()),
+        Operator::ResumeThrow { resume_table, .. } => Seen::Listed(0xe4, resume_table.len()),
+        Operator::ResumeThrowRef { resume_table, .. } => Seen::Listed(0xe5, resume_table.len()),
         _ => Seen::Other,
     }
 }
@@ -146,47 +153,70 @@ fn finishes(rt: HostRuntime) {
     }
 }
 
-/// The types of a select are a list. Where memory is refused, nothing was taken, and the same call
-/// again is not refused.
-#[test]
-fn memory_of_a_list(rt: HostRuntime) {
-    let list: &[u8] = &[0x1c, 0x02, 0x7f, 0x7e];
+/// Each call, of an operator that owns a list. Where memory is refused, nothing was taken, and the
+/// same call again is not refused.
+fn listed<R: AllocGlobal + Abort>(rt: &R, bytes: &[u8], want: Seen) {
     let refused = Seen::Refused(3, 9);
     let block = Some(FrameKind::Block);
-    let reader = BinaryReader::new(list, 9);
+    let reader = BinaryReader::new(bytes, 9);
     let mut peeked = peek(rt.alloc(), &reader, block);
     if peeked == refused {
         peeked = peek(rt.alloc(), &reader, block);
     }
-    assert_eq!(&rt; peeked, Seen::I32AndI64);
-    assert_eq!(&rt; reader.current_position(), 0);
-    let mut reader = BinaryReader::new(list, 9);
+    assert_eq!(rt; peeked, want);
+    assert_eq!(rt; reader.current_position(), 0);
+    let mut reader = BinaryReader::new(bytes, 9);
     let mut visited = answer(reader.visit_operator(rt.alloc(), &mut Under(block)));
     if visited == refused {
-        assert_eq!(&rt; reader.current_position(), 0);
+        assert_eq!(rt; reader.current_position(), 0);
         visited = answer(reader.visit_operator(rt.alloc(), &mut Under(block)));
     }
-    assert_eq!(&rt; visited, Seen::I32AndI64);
-    assert!(&rt; reader.eof());
-    let mut reader = BinaryReader::new(list, 9);
+    assert_eq!(rt; visited, want);
+    assert!(rt; reader.eof());
+    let mut reader = BinaryReader::new(bytes, 9);
     let mut visited = answer(reader.visit_operator_simd(rt.alloc(), &mut Under(block)));
     if visited == refused {
-        assert_eq!(&rt; reader.current_position(), 0);
+        assert_eq!(rt; reader.current_position(), 0);
         visited = answer(reader.visit_operator_simd(rt.alloc(), &mut Under(block)));
     }
-    assert_eq!(&rt; visited, Seen::I32AndI64);
-    assert!(&rt; reader.eof());
+    assert_eq!(rt; visited, want);
+    assert!(rt; reader.eof());
 }
 
-/// Clones of an operator and of its table. Where memory is refused, it is at offset 0, and the same
-/// call again is not refused.
+/// The types of a select are a list.
+#[test]
+fn memory_of_a_list(rt: HostRuntime) {
+    listed(&rt, &[0x1c, 0x02, 0x7f, 0x7e], Seen::I32AndI64);
+}
+
+/// The other operators that own a list.
+#[test]
+fn memory_of_other_lists(rt: HostRuntime) {
+    let try_table: &[u8] = &[0x1f, 0x40, 0x01, 0x00, 0x05, 0x00];
+    let resume: &[u8] = &[0xe3, 0x01, 0x02, 0x01, 0x02, 0x00, 0x03, 0x04];
+    let throw: &[u8] = &[0xe4, 0x01, 0x02, 0x02, 0x01, 0x03, 0x00, 0x04, 0x05];
+    let throw_ref: &[u8] = &[0xe5, 0x01, 0x02, 0x01, 0x02, 0x00, 0x03, 0x04];
+    let rows = [
+        (try_table, Seen::Listed(0x1f, 1)),
+        (resume, Seen::Listed(0xe3, 2)),
+        (throw, Seen::Listed(0xe4, 2)),
+        (throw_ref, Seen::Listed(0xe5, 2)),
+    ];
+    for (bytes, want) in rows {
+        listed(&rt, bytes, want);
+    }
+}
+
+/// Clones of an operator and of its table, and the visit of an operator that is lent. Where memory
+/// is refused, it is at offset 0, and the same call again is not refused.
 #[test]
 fn memory_of_clones(rt: HostRuntime) {
     let bytes: &[u8] = &[0xe3, 0x01, 0x01, 0x00, 0x02, 0x03];
     let reader = BinaryReader::new(bytes, 9);
-    let block = Under(Some(FrameKind::Block));
+    let mut block = Under(Some(FrameKind::Block));
     let mut read = reader.peek_operator(rt.alloc(), &block);
-    if read.is_err() {
+    if let Err(e) = &read {
+        assert_eq!(&rt; (e.message().number(), e.offset()), (3, 9));
         read = reader.peek_operator(rt.alloc(), &block);
     }
     let Ok(op) = read else {
@@ -199,6 +229,11 @@ fn memory_of_clones(rt: HostRuntime) {
         copy = op.clone(rt.alloc());
     }
     assert!(&rt; copy.is_ok_and(|same| same == op));
+    let mut visited = answer(visit_operator_with_simd(rt.alloc(), &mut block, &op));
+    if visited == Seen::Refused(3, 0) {
+        visited = answer(visit_operator_with_simd(rt.alloc(), &mut block, &op));
+    }
+    assert_eq!(&rt; visited, Seen::Listed(0xe3, 1));
     if let Operator::Resume { resume_table, .. } = &op {
         let mut copy = resume_table.clone(rt.alloc());
         if let Err(e) = &copy {

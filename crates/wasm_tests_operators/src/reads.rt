@@ -3,23 +3,34 @@
 use crate::told::{Listed, Told, is_memory};
 use wasm_operators::{FrameStack, Operator, OperatorsReader, Result};
 
-/// What `read_all` adds to the list. Where memory is refused, what was read stays, and a second call
-/// goes on from there.
+/// What `read_all` adds to the list. Once more it adds nothing, and ends in the same way.
 pub fn read_all<'a>(
     operators: &mut OperatorsReader<'a>,
     list: &mut Vec<(Operator<'a>, u64)>,
 ) -> Told {
     let mut told = Told::new();
-    let mut answer = operators.read_all(list);
-    if let Err(e) = answer {
-        told.check(e.offset() == operators.original_position() || !is_memory(e));
-        if is_memory(e) {
-            answer = operators.read_all(list);
-        }
-    }
+    told.refusal = read_to_end(operators, list, &mut told).err();
     told.operators = list.len();
-    told.refusal = answer.err();
+    let position = operators.original_position();
+    let again = read_to_end(operators, list, &mut told).err();
+    told.check(again == told.refusal && list.len() == told.operators);
+    told.check(operators.original_position() == position);
     told
+}
+
+/// `read_all`. Where memory is refused, what was read stays, and a second call goes on from there.
+fn read_to_end<'a>(
+    operators: &mut OperatorsReader<'a>,
+    list: &mut Vec<(Operator<'a>, u64)>,
+    told: &mut Told,
+) -> Result<()> {
+    match operators.read_all(list) {
+        Err(e) if is_memory(e) => {
+            told.check(e.offset() == operators.original_position());
+            operators.read_all(list)
+        }
+        answer => answer,
+    }
 }
 
 /// One read after another, and `finish` at the end of the data.

@@ -5,29 +5,54 @@ use crate::told::{Listed, Told, is_memory, offset_at};
 use std::alloc::Global;
 use wasm_operators::{BinaryReader, Error, Message, Operator, OperatorsReader, Result};
 
-/// The visits of `visit_all_simd`. Where memory was refused, none was made of that operator, and a
-/// second call goes on from there.
+/// The visits of `visit_all_simd`. Once more it makes none, and ends in the same way.
 pub fn visit_all_simd<'a>(operators: &mut OperatorsReader<'a>, list: Listed<'_, 'a>) -> Told {
     let mut prints = Prints::new();
     let mut told = Told::new();
-    let mut answer = operators.visit_all_simd(&mut prints);
-    if let Some(e) = memory_refused(answer) {
-        check_stop(&mut told, operators, list, prints, e);
-        answer = operators.visit_all_simd(&mut prints);
-    }
+    let answer = simd_to_end(operators, list, &mut prints, &mut told);
+    let again = simd_to_end(operators, list, &mut prints, &mut told);
+    told.check(again.err() == answer.err());
     end(told, list, prints, answer)
+}
+
+/// `visit_all_simd`. Where memory was refused, no visit was made of that operator, and a second call
+/// goes on from there.
+fn simd_to_end<'a>(
+    operators: &mut OperatorsReader<'a>,
+    list: Listed<'_, 'a>,
+    prints: &mut Prints,
+    told: &mut Told,
+) -> Result<()> {
+    let answer = operators.visit_all_simd(prints);
+    if let Some(e) = memory_refused(answer) {
+        check_stop(told, operators, list, *prints, e);
+        return operators.visit_all_simd(prints);
+    }
+    answer
 }
 
 /// The same by a plain visitor.
 pub fn visit_all<'a>(operators: &mut OperatorsReader<'a>, list: Listed<'_, 'a>) -> Told {
     let mut prints = Prints::new();
     let mut told = Told::new();
-    let mut answer = operators.visit_all(&mut prints);
-    if let Some(e) = memory_refused(answer) {
-        check_stop(&mut told, operators, list, prints, e);
-        answer = operators.visit_all(&mut prints);
-    }
+    let answer = plain_to_end(operators, list, &mut prints, &mut told);
+    let again = plain_to_end(operators, list, &mut prints, &mut told);
+    told.check(again.err() == answer.err());
     end(told, list, prints, answer)
+}
+
+fn plain_to_end<'a>(
+    operators: &mut OperatorsReader<'a>,
+    list: Listed<'_, 'a>,
+    prints: &mut Prints,
+    told: &mut Told,
+) -> Result<()> {
+    let answer = operators.visit_all(prints);
+    if let Some(e) = memory_refused(answer) {
+        check_stop(told, operators, list, *prints, e);
+        return operators.visit_all(prints);
+    }
+    answer
 }
 
 /// The visits of a visitor whose answers are large. Where memory was refused they go on.

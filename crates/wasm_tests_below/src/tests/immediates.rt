@@ -84,7 +84,7 @@ fn argument(
 }
 
 #[test]
-fn memory_arguments(rt: HostRuntime) -> std::result::Result<(), Fail> {
+fn memargs(rt: HostRuntime) -> std::result::Result<(), Fail> {
     let (plain, op, rmw) = (MemArgKind::Plain, MemArgKind::Op, MemArgKind::Rmw);
     let none = WasmFeatures::empty();
     let memories = WasmFeatures::MULTI_MEMORY;
@@ -123,7 +123,7 @@ fn memory_arguments(rt: HostRuntime) -> std::result::Result<(), Fail> {
 }
 
 #[test]
-fn more_memory_arguments(rt: HostRuntime) -> std::result::Result<(), Fail> {
+fn more_memargs(rt: HostRuntime) -> std::result::Result<(), Fail> {
     let (plain, op, rmw) = (MemArgKind::Plain, MemArgKind::Op, MemArgKind::Rmw);
     let none = WasmFeatures::empty();
     let arrays = WasmFeatures::MULTIBYTE_ARRAY_ACCESS;
@@ -163,7 +163,7 @@ fn more_memory_arguments(rt: HostRuntime) -> std::result::Result<(), Fail> {
 }
 
 #[test]
-fn plain_memory_arguments(rt: HostRuntime) -> std::result::Result<(), Fail> {
+fn non_atomic_memargs(rt: HostRuntime) -> std::result::Result<(), Fail> {
     let plain = MemArgKind::Plain;
     let none = WasmFeatures::empty();
     let all = WasmFeatures::all();
@@ -350,14 +350,20 @@ fn selects(rt: HostRuntime) -> std::result::Result<(), Fail> {
     );
     let one = Select::read(rt.alloc(), &mut BinaryReader::new(&[0x81, 0x00, 0x7f], 0))?;
     assert_eq!(rt; one, Select::One { ty: ValType::I32 });
+    let text = format!(in rt.alloc(); "{one:?}")?;
+    assert_eq!(rt; text.as_str(), "One { ty: I32 }");
     let two = Select::read(rt.alloc(), &mut BinaryReader::new(&[0x02, 0x7f, 0x7e], 0))?;
     let tys = vec![in rt.alloc(); ValType::I32, ValType::I64]?;
     assert_eq!(rt;
         two,
         Select::Multi {
             tys: Members::from_vec(tys)
-        },
-        "{two:?}"
+        }
+    );
+    let text = format!(in rt.alloc(); "{two:?}")?;
+    assert_eq!(rt;
+        text.as_str(),
+        "Multi { tys: Members { items: [I32, I64] } }"
     );
     let error = Select::read(rt.alloc(), &mut BinaryReader::new(&[0x0b], 0)).err();
     assert_eq!(rt;
@@ -441,7 +447,14 @@ fn casts(rt: HostRuntime) -> std::result::Result<(), Fail> {
         shared: false,
         ty: AbstractHeapType::Any,
     };
-    assert_eq!(rt; cast.from.heap_type(), any, "{cast:?}");
+    assert_eq!(rt; cast.from.heap_type(), any);
+    let text = format!(in rt.alloc(); "{cast:?}")?;
+    assert_eq!(rt;
+        text.as_str(),
+        "Cast { relative_depth: 0, \
+         from: RefType { nullable: true, heap_type: Abstract { shared: false, ty: Any } }, \
+         to: RefType { nullable: false, heap_type: Abstract { shared: false, ty: Eq } } }"
+    );
     let error = Cast::read(&mut BinaryReader::new(&[0x04, 0x00, 0x70, 0x70], 0)).err();
     assert_eq!(rt; error, Some(Error::new(Message::InvalidCastFlags(4), 0)));
     Ok(())
