@@ -236,8 +236,8 @@ pub extern "C" fn wasm_frames_needed(bytes_length: usize) -> usize
 /// one. Answers 0; `count` is how many there are, and what is behind them in `out` stays as it was.
 ///
 /// Else the number of the refusal, and nothing changes but `refusal`: that of what stands there, which
-/// is read as inside a block; 104 where another operator does, or `at` is the offset of none of the
-/// bytes; 100 and 101 as `wasm_read_body`.
+/// is read as inside a block, and at the end of the bytes 1; 104 where another operator does, or `at`
+/// lies before the first byte or past the end; 100 and 101 as `wasm_read_body`.
 #[unsafe(no_mangle)]
 pub extern "C" fn wasm_br_table_targets(
     alloc: Global,

@@ -27,9 +27,12 @@ pub const NO_LIST: u32 = 104;
 #[repr(C)]
 #[derive(Clone, Copy, Debug, PartialEq, Eq)]
 pub struct WasmRefusal {
-    /// The offset of what is refused; where nothing is, that of the end of the bytes.
+    /// The offset of what is refused: with 100, 101 and 103 that of the first byte, with 104 the one that
+    /// was asked for. Where nothing is refused, that of the end of the bytes, that where a reader stands,
+    /// or the one that was asked for.
     pub offset: u64,
-    /// The number of the refusal, from 1 to 25; 0 where nothing is refused.
+    /// The number of the refusal: from 1 to 25 of what was read, from 100 to 104 of what no reading
+    /// answers; 0 where nothing is refused.
     pub number: u32,
     /// Which name its text tells, counted from 0; 16 times a second one is added.
     pub name: u32,
@@ -60,14 +63,14 @@ impl WasmRefusal {
         told(end, 0, 0, 0)
     }
 
-    /// What no reading answers.
+    /// What no reading answers, at this offset.
     pub fn misuse(number: u32, offset: u64) -> WasmRefusal
         ensures { result ≡ misuse number offset }
     {
         told(offset, number, 0, 0)
     }
 
-    /// How reading ended, of bytes that end at this offset.
+    /// How reading ended: at this offset, where nothing is refused.
     pub fn of_end(end: &Result<()>, offset: u64) -> WasmRefusal
         ensures { result ≡ refusal_at end.now offset }
     {
