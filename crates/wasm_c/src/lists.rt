@@ -77,8 +77,8 @@ fn operator_at<'a>(
     }
 }
 
-/// The refusal, where this is how many members the list of an operator has, or that it has none.
-fn told(found: Option<usize>, at: u64, count: &mut usize) -> WasmRefusal
+/// Answers how many members the list of an operator has, or refuses it where it has none.
+fn answer_count(found: Option<usize>, at: u64, count: &mut usize) -> WasmRefusal
     ensures some { IfSome found (λ members. (result ≡ no_refusal at) × (count.new ≡ members)) }
     ensures none { IfNone found ((result ≡ misuse 104 at) × (count.new ≡ count.old)) }
 {
@@ -105,7 +105,7 @@ pub fn targets_at(
     ensures { AnswersList targets_of result bytes.now offset features at index count.old count.new out.old out.new }
 {
     match operator_at(alloc, bytes, offset, features, at) {
-        Ok(op) => told(targets_of(&op, index, out), at, count),
+        Ok(op) => answer_count(targets_of(&op, index, out), at, count),
         Err(refused) => refused,
     }
 }
@@ -124,7 +124,7 @@ pub fn types_at(
     ensures { AnswersList types_of result bytes.now offset features at index count.old count.new out.old out.new }
 {
     match operator_at(alloc, bytes, offset, features, at) {
-        Ok(op) => told(types_of(&op, index, out), at, count),
+        Ok(op) => answer_count(types_of(&op, index, out), at, count),
         Err(refused) => refused,
     }
 }
@@ -143,7 +143,7 @@ pub fn catches_at(
     ensures { AnswersList catches_of result bytes.now offset features at index count.old count.new out.old out.new }
 {
     match operator_at(alloc, bytes, offset, features, at) {
-        Ok(op) => told(catches_of(&op, index, out), at, count),
+        Ok(op) => answer_count(catches_of(&op, index, out), at, count),
         Err(refused) => refused,
     }
 }
@@ -162,7 +162,7 @@ pub fn handles_at(
     ensures { AnswersList handles_of result bytes.now offset features at index count.old count.new out.old out.new }
 {
     match operator_at(alloc, bytes, offset, features, at) {
-        Ok(op) => told(handles_of(&op, index, out), at, count),
+        Ok(op) => answer_count(handles_of(&op, index, out), at, count),
         Err(refused) => refused,
     }
 }
