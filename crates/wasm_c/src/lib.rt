@@ -25,7 +25,6 @@ mod counter;
 mod frames;
 pub mod laws;
 mod lists;
-mod name;
 mod reader;
 mod refusal;
 mod text;
@@ -33,7 +32,6 @@ mod viewer;
 
 use crate::body::read_body;
 use crate::lists::{catches_at, handles_at, targets_at, types_at};
-use crate::name::write_name;
 use crate::reader::WasmReader;
 use crate::refusal::{PAST_OFFSETS, UNKNOWN_FEATURES, WasmRefusal};
 use std::alloc::Global;
@@ -115,7 +113,7 @@ pub extern "C" fn wasm_operator_name(operator: &WasmOperator, name: &mut [u8]) -
     ensures numbers { AnswersText (Some (name_at operator.now.opcode operator.now.shape)) name.old result name.new }
 {
     names();
-    write_name(name_at(operator.opcode, operator.shape), name)
+    text::write_one(name_at(operator.opcode, operator.shape), name)
 }
 
 /// Opens an expression: a reader that has read none of the bytes, the first of which has this offset,
