@@ -22,6 +22,7 @@ ghost use Rattle.wasm_c.specs.Texts.{message_text, text_told, AnswersText};
 
 mod body;
 mod counter;
+mod features;
 mod frames;
 pub mod laws;
 mod lists;
@@ -31,11 +32,11 @@ mod text;
 mod viewer;
 
 use crate::body::read_body;
+use crate::features::known_features;
 use crate::lists::{catches_at, handles_at, targets_at, types_at};
 use crate::reader::WasmReader;
-use crate::refusal::{PAST_OFFSETS, UNKNOWN_FEATURES, WasmRefusal};
+use crate::refusal::WasmRefusal;
 use std::alloc::Global;
-use wasm_operators::WasmFeatures;
 use wasm_view::laws::names;
 use wasm_view::{WasmHandler, WasmOperator, WasmType, name_at};
 
@@ -79,18 +80,18 @@ pub extern "C" fn wasm_read_body(
         → (refusal.new ≡ misuse 101 offset) × (count.new ≡ 0) × (out.new ≡ out.old) }
 {
     *count = 0;
-    let Some(features) = WasmFeatures::from_bits(features) else {
-        *refusal = WasmRefusal::misuse(UNKNOWN_FEATURES, offset);
-        return UNKNOWN_FEATURES;
-    };
-    if bytes.len() as u64 > u64::MAX - offset {
-        *refusal = WasmRefusal::misuse(PAST_OFFSETS, offset);
-        return PAST_OFFSETS;
+    match known_features(bytes, offset, features) {
+        Ok(known) => {
+            let found = read_body(alloc, known, offset, bytes, out);
+            *count = found.count;
+            *refusal = WasmRefusal::of_end(&found.end, offset + bytes.len() as u64);
+            refusal.number
+        }
+        Err(refused) => {
+            *refusal = refused;
+            refusal.number
+        }
     }
-    let found = read_body(alloc, features, offset, bytes, out);
-    *count = found.count;
-    *refusal = WasmRefusal::of_end(&found.end, offset + bytes.len() as u64);
-    refusal.number
 }
 
 /// The text of a refusal, as much of it as there is room for, without a byte 0 behind it. Answers its

@@ -7,9 +7,10 @@ ghost use Rattle.wasm_c.specs.Members.{bytes_at, ReadsAt, AnswersList};
 ghost use Rattle.wasm_c.specs.Reads.{IsWithin};
 ghost use Rattle.wasm_c.specs.Refused.{no_refusal, misuse};
 
-use crate::refusal::{NO_LIST, PAST_OFFSETS, UNKNOWN_FEATURES, WasmRefusal};
+use crate::features::known_features;
+use crate::refusal::{NO_LIST, WasmRefusal};
 use std::alloc::Global;
-use wasm_operators::{BinaryReader, FrameKind, FrameStack, Operator, ReadOperators, WasmFeatures};
+use wasm_operators::{BinaryReader, FrameKind, FrameStack, Operator, ReadOperators};
 use wasm_view::{WasmHandler, WasmType, catches_of, handles_of, targets_of, types_of};
 
 /// The frame that operators with lists are read in: each frame allows them.
@@ -41,20 +42,18 @@ fn bytes_from<'a>(
     ensures there { features < 64 → IsWithin offset bytes.now → offset ≤ at → at ≤ offset + length bytes.now
         → result ≡ Ok (bytes_at bytes.now offset features at) }
 {
-    let Some(known) = WasmFeatures::from_bits(features) else {
-        return Err(WasmRefusal::misuse(UNKNOWN_FEATURES, offset));
-    };
-    let length = bytes.len() as u64;
-    if length > u64::MAX - offset {
-        return Err(WasmRefusal::misuse(PAST_OFFSETS, offset));
-    }
-    if at < offset || at - offset > length {
-        return Err(WasmRefusal::misuse(NO_LIST, at));
-    }
-    let mut ahead = BinaryReader::new_features(bytes, offset, known);
-    match ahead.read_bytes((at - offset) as usize) {
-        Ok(_) => Ok(ahead),
-        Err(_) => Err(WasmRefusal::misuse(NO_LIST, at)),
+    match known_features(bytes, offset, features) {
+        Ok(known) => {
+            if at < offset || at - offset > bytes.len() as u64 {
+                return Err(WasmRefusal::misuse(NO_LIST, at));
+            }
+            let mut ahead = BinaryReader::new_features(bytes, offset, known);
+            match ahead.read_bytes((at - offset) as usize) {
+                Ok(_) => Ok(ahead),
+                Err(_) => Err(WasmRefusal::misuse(NO_LIST, at)),
+            }
+        }
+        Err(refused) => Err(refused),
     }
 }
 
