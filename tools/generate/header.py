@@ -119,7 +119,10 @@ typedef struct wasm_reader {
 
 /* A refusal: 24 bytes without gaps. */
 typedef struct wasm_refusal {
-  /* The offset of what is refused; where nothing is, that of the end of the bytes. */
+  /* The offset of what is refused: with WASM_REFUSED_UNKNOWN_FEATURES, WASM_REFUSED_PAST_OFFSETS and
+   * WASM_REFUSED_NOT_A_READER that of the first byte, with WASM_REFUSED_NO_LIST the one that was asked for.
+   * Where nothing is refused, that of the end of the bytes, that where a reader stands, or the one that was
+   * asked for. */
   uint64_t offset;
   /* 0 where nothing is refused, else one of `enum wasm_refused`. */
   uint32_t number;
@@ -214,8 +217,9 @@ uint32_t wasm_finish(const uint8_t *bytes, size_t bytes_length, const uint8_t *f
  * `*count` is how many it has, and `out` is unchanged behind those that are written. Answers 0.
  *
  * Else the number of the refusal, and nothing changes but `*refusal`: that of what stands there, which is read
- * as inside a block; WASM_REFUSED_NO_LIST where another operator does, or `at` is the offset of none of the bytes;
- * WASM_REFUSED_UNKNOWN_FEATURES and WASM_REFUSED_PAST_OFFSETS as wasm_read_body. */
+ * as inside a block, and at the end of the bytes WASM_REFUSED_END_OF_DATA; WASM_REFUSED_NO_LIST where another
+ * operator does, or `at` lies before the first byte or past the end; WASM_REFUSED_UNKNOWN_FEATURES and
+ * WASM_REFUSED_PAST_OFFSETS as wasm_read_body. */
 uint32_t wasm_br_table_targets(const uint8_t *bytes, size_t bytes_length, uint64_t offset, uint32_t features,
                                uint64_t at, size_t index, uint32_t *out, size_t out_length, size_t *count,
                                wasm_refusal *refusal);

@@ -9,7 +9,7 @@ use Rattle.wasm_view.specs.View.{views}
 use Rattle.wasm_view.specs.declared.view.WasmOperator.{WasmOperator}
 use Rattle.wasm_c.specs.declared.reader.WasmReader.{WasmReader}
 use Rattle.wasm_c.specs.declared.refusal.WasmRefusal.{WasmRefusal}
-use Rattle.wasm_c.specs.Steps.{reader_at, state_at, TakesPlain, ReadsPlain, ReadsEach, EndsBatch, ReadsBatch}
+use Rattle.wasm_c.specs.Steps.{IsReader, reader_at, state_at, TakesPlain, ReadsPlain, ReadsEach, EndsBatch, ReadsBatch}
 use Rattle.wasm_c.proofs.Written.{one_more}
 
 -- One more.
@@ -24,15 +24,15 @@ reads_one old now next (p ∷ ps) op offset (between, first, place, others) take
 abbrev pub Batch : List ℕ → WasmReader → WasmReader → List ℕ → List ℕ → ℕ → List WasmOperator → List WasmOperator → Type 0
 Batch bytes old now frames_old frames_now count out_old out = (placed : Placed) × ReadsEach (state_at bytes old frames_old) placed (state_at bytes now frames_now) ×
     (count ≡ length placed) × (length placed ≤ length out_old) × (out ≡ views placed ++ drop (length placed) out_old) ×
-    (length frames_now ≡ length frames_old)
+    (length frames_now ≡ length frames_old) × (placed ≡ [] → (now ≡ old) × (frames_now ≡ frames_old))
 
 pub batch_first : (bytes : List ℕ) (old : WasmReader) (frames : List ℕ) (out : List WasmOperator) → Batch bytes old old frames frames 0 out out
-batch_first bytes old frames out = ([], refl, refl, omega arith, refl, refl)
+batch_first bytes old frames out = ([], refl, refl, omega arith, refl, refl, λ none. (refl, refl))
 
 pub batch_on : (bytes : List ℕ) (old now next : WasmReader) (frames_old frames_now frames_next : List ℕ) (count : ℕ) (out_old out : List WasmOperator)
     (view : WasmOperator) → Batch bytes old now frames_old frames_now count out_old out → TakesPlain bytes now next frames_now frames_next view →
     count < length out → length out ≡ length out_old → Batch bytes old next frames_old frames_next (count + 1) out_old (set out count view)
-batch_on bytes old now next frames_old frames_now frames_next count out_old out view (placed, reads, counted, fits, is, room) taken within same =
+batch_on bytes old now next frames_old frames_now frames_next count out_old out view (placed, reads, counted, fits, is, room, unchanged) taken within same =
     let p : Operator × ℕ = (taken.op, offset_of (reader_at bytes now)) in
     let few : length placed < length out_old = omega (arith, within, same, counted) in
     let n = length-append placed (p ∷ []) in (
@@ -43,26 +43,32 @@ batch_on bytes old now next frames_old frames_now frames_next count out_old out 
       omega (arith, few, n),
       one_more placed p out_old out count view is counted few taken.view_is,
       taken.same_room ∙ room,
+      λ none. absurd (omega (arith, n, ap length none)),
     )
 
+-- Those of a reader, up to where one still stands.
 pub batch_ends : (r : WasmRefusal) (bytes : List ℕ) (old now : WasmReader) (frames_old frames_now : List ℕ) (count : ℕ) (out_old out : List WasmOperator) →
-    (b : Batch bytes old now frames_old frames_now count out_old out) → EndsBatch r bytes now frames_now (length b.0 ≡ length out_old) →
-    ReadsBatch r count bytes old now frames_old frames_now out_old out
-batch_ends r bytes old now frames_old frames_now count out_old out b ends = record {
+    (b : Batch bytes old now frames_old frames_now count out_old out) → IsReader bytes (length frames_old) old → IsReader bytes (length frames_now) now →
+    EndsBatch r bytes now frames_now (length b.0 ≡ length out_old) → ReadsBatch r count bytes old now frames_old frames_now out_old out
+batch_ends r bytes old now frames_old frames_now count out_old out b was still ends = record {
   placed = b.0;
   reads = b.1;
   counted = b.2;
   fits = b.3;
   in_array = b.4;
   same_room = b.5;
+  misused = λ none. absurd (none was);
+  unchanged = b.6;
+  still = λ first. still;
   ends = ends;
 }
 
 -- One that was not read.
 pub batch_stops : (r : WasmRefusal) (bytes : List ℕ) (old now next : WasmReader) (frames_old frames_now frames_next : List ℕ) (count : ℕ)
-    (out_old out : List WasmOperator) → Batch bytes old now frames_old frames_now count out_old out →
-    ReadsPlain (Err r) bytes now next frames_now frames_next → ReadsBatch r count bytes old next frames_old frames_next out_old out
-batch_stops r bytes old now next frames_old frames_now frames_next count out_old out b (same, frames, stops) =
-    let there = batch_ends r bytes old now frames_old frames_now count out_old out b (inr stops) in
+    (out_old out : List WasmOperator) → Batch bytes old now frames_old frames_now count out_old out → IsReader bytes (length frames_old) old →
+    IsReader bytes (length frames_now) now → ReadsPlain (Err r) bytes now next frames_now frames_next →
+    ReadsBatch r count bytes old next frames_old frames_next out_old out
+batch_stops r bytes old now next frames_old frames_now frames_next count out_old out b was still (same, frames, stops) =
+    let there = batch_ends r bytes old now frames_old frames_now count out_old out b was still (inr stops) in
     subst (λ list. ReadsBatch r count bytes old next frames_old list out_old out) (sym frames)
     (subst (λ reader. ReadsBatch r count bytes old reader frames_old frames_now out_old out) (sym same) there)

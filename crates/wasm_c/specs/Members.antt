@@ -37,8 +37,8 @@ abbrev pub AnswersThere : Result Operator WasmRefusal → Reader → Type 0
 AnswersThere (Ok op) input = StandsThere input op
 AnswersThere (Err r) input = RefusesThere r input
 
--- A call on what begins at an offset: unknown features, bytes past the largest offset, and an offset that is none of the bytes are misuse, with a number and an
--- offset; of any other the second word says what is so of the bytes that stand there.
+-- A call on what begins at an offset: unknown features, bytes past the largest offset, and an offset before the first byte or past the end are misuse, with a
+-- number and an offset; of any other, the end itself among them, the second word says what is so of the bytes that stand there.
 pub record AtOffset (IsMisuse : ℕ → ℕ → Type 0) (There : Reader → Type 0) (bytes : List ℕ) (offset features at : ℕ) : Type 0 where
   pub unknown : 64 ≤ features → IsMisuse 100 offset
   pub past : features < 64 → 2 ^ 64 ≤ offset + length bytes → IsMisuse 101 offset

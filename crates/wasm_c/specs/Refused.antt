@@ -52,7 +52,7 @@ type_number type_name.ValueType = 0
 type_number type_name.ReferenceType = 1
 type_number type_name.HeapType = 2
 
--- Which name a text tells. Of numbers, too large is told from too long by 16; of a frame, 16 times its number is added.
+-- Which name a text tells; of a subopcode, which prefix. Of numbers, too large is told from too long by 16; of a frame, 16 times its number is added.
 abbrev pub told_name : Message → ℕ
 told_name (message.FeatureRequired name) = instruction_number name
 told_name (message.IntegerTooLong name) = number_name_number name
@@ -82,15 +82,15 @@ told offset number name value = record { offset = offset; number = number; name 
 abbrev pub refusal_of : Error → WasmRefusal
 refusal_of e = told e.offset (number_of e.message) (told_name e.message) (told_value e.message)
 
--- None, of bytes that end at this offset.
+-- None, at this offset.
 abbrev pub no_refusal : ℕ → WasmRefusal
-no_refusal end = told end 0 0 0
+no_refusal offset = told offset 0 0 0
 
--- What no reading answers, at the offset of the first byte.
+-- What no reading answers, at this offset.
 abbrev pub misuse : ℕ → ℕ → WasmRefusal
 misuse number offset = told offset number 0 0
 
--- How reading ended, of bytes that end at this offset.
+-- How reading ended: at this offset, where nothing is refused.
 abbrev pub refusal_at : {X : Type 0} → Result X Error → ℕ → WasmRefusal
-refusal_at (Ok x) end = no_refusal end
-refusal_at (Err e) end = refusal_of e
+refusal_at (Ok x) offset = no_refusal offset
+refusal_at (Err e) offset = refusal_of e

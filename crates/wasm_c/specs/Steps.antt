@@ -134,7 +134,8 @@ EndsBatch r bytes reader frames Full =
     ((r ≡ no_refusal (offset_of (reader_at bytes reader))) × IsReader bytes (length frames) reader × (Full ⊎ (rest (reader_at bytes reader) ≡ [])))
     ⊎ StopsPlain r bytes reader frames
 
--- A batch of reads: the plain data of these operators stands at the beginning of the array, which else is as it was.
+-- A batch of reads: the plain data of these operators stands at the beginning of the array, which else is as it was. Of plain data that
+-- is not a reader's none is read; where none is, nothing changes; and a reader stays one.
 pub record ReadsBatch (r : WasmRefusal) (count : ℕ) (bytes : List ℕ) (old new : WasmReader) (frames_old frames_new : List ℕ) (out_old out_new : List WasmOperator) : Type 0 where
   pub placed : Placed
   pub reads : ReadsEach (state_at bytes old frames_old) placed (state_at bytes new frames_new)
@@ -142,4 +143,7 @@ pub record ReadsBatch (r : WasmRefusal) (count : ℕ) (bytes : List ℕ) (old ne
   pub fits : length placed ≤ length out_old
   pub in_array : out_new ≡ views placed ++ drop (length placed) out_old
   pub same_room : length frames_new ≡ length frames_old
+  pub misused : (IsReader bytes (length frames_old) old → ⊥) → (r ≡ misuse 103 old.offset) × (placed ≡ [])
+  pub unchanged : placed ≡ [] → (new ≡ old) × (frames_new ≡ frames_old)
+  pub still : IsReader bytes (length frames_old) old → IsReader bytes (length frames_new) new
   pub ends : EndsBatch r bytes new frames_new (length placed ≡ length out_old)

@@ -22,22 +22,21 @@ ghost use Rattle.wasm_c.specs.Texts.{message_text, text_told, AnswersText};
 
 mod body;
 mod counter;
+mod features;
 mod frames;
 pub mod laws;
 mod lists;
-mod name;
 mod reader;
 mod refusal;
 mod text;
 mod viewer;
 
 use crate::body::read_body;
+use crate::features::known_features;
 use crate::lists::{catches_at, handles_at, targets_at, types_at};
-use crate::name::write_name;
 use crate::reader::WasmReader;
-use crate::refusal::{PAST_OFFSETS, UNKNOWN_FEATURES, WasmRefusal};
+use crate::refusal::WasmRefusal;
 use std::alloc::Global;
-use wasm_operators::WasmFeatures;
 use wasm_view::laws::names;
 use wasm_view::{WasmHandler, WasmOperator, WasmType, name_at};
 
@@ -81,18 +80,18 @@ pub extern "C" fn wasm_read_body(
         → (refusal.new ≡ misuse 101 offset) × (count.new ≡ 0) × (out.new ≡ out.old) }
 {
     *count = 0;
-    let Some(features) = WasmFeatures::from_bits(features) else {
-        *refusal = WasmRefusal::misuse(UNKNOWN_FEATURES, offset);
-        return UNKNOWN_FEATURES;
-    };
-    if bytes.len() as u64 > u64::MAX - offset {
-        *refusal = WasmRefusal::misuse(PAST_OFFSETS, offset);
-        return PAST_OFFSETS;
+    match known_features(bytes, offset, features) {
+        Ok(known) => {
+            let found = read_body(alloc, known, offset, bytes, out);
+            *count = found.count;
+            *refusal = WasmRefusal::of_end(&found.end, offset + bytes.len() as u64);
+            refusal.number
+        }
+        Err(refused) => {
+            *refusal = refused;
+            refusal.number
+        }
     }
-    let found = read_body(alloc, features, offset, bytes, out);
-    *count = found.count;
-    *refusal = WasmRefusal::of_end(&found.end, offset + bytes.len() as u64);
-    refusal.number
 }
 
 /// The text of a refusal, as much of it as there is room for, without a byte 0 behind it. Answers its
@@ -115,7 +114,7 @@ pub extern "C" fn wasm_operator_name(operator: &WasmOperator, name: &mut [u8]) -
     ensures numbers { AnswersText (Some (name_at operator.now.opcode operator.now.shape)) name.old result name.new }
 {
     names();
-    write_name(name_at(operator.opcode, operator.shape), name)
+    text::write_one(name_at(operator.opcode, operator.shape), name)
 }
 
 /// Opens an expression: a reader that has read none of the bytes, the first of which has this offset,
@@ -236,8 +235,8 @@ pub extern "C" fn wasm_frames_needed(bytes_length: usize) -> usize
 /// one. Answers 0; `count` is how many there are, and what is behind them in `out` stays as it was.
 ///
 /// Else the number of the refusal, and nothing changes but `refusal`: that of what stands there, which
-/// is read as inside a block; 104 where another operator does, or `at` is the offset of none of the
-/// bytes; 100 and 101 as `wasm_read_body`.
+/// is read as inside a block, and at the end of the bytes 1; 104 where another operator does, or `at`
+/// lies before the first byte or past the end; 100 and 101 as `wasm_read_body`.
 #[unsafe(no_mangle)]
 pub extern "C" fn wasm_br_table_targets(
     alloc: Global,

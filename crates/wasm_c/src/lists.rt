@@ -7,9 +7,10 @@ ghost use Rattle.wasm_c.specs.Members.{bytes_at, ReadsAt, AnswersList};
 ghost use Rattle.wasm_c.specs.Reads.{IsWithin};
 ghost use Rattle.wasm_c.specs.Refused.{no_refusal, misuse};
 
-use crate::refusal::{NO_LIST, PAST_OFFSETS, UNKNOWN_FEATURES, WasmRefusal};
+use crate::features::known_features;
+use crate::refusal::{NO_LIST, WasmRefusal};
 use std::alloc::Global;
-use wasm_operators::{BinaryReader, FrameKind, FrameStack, Operator, ReadOperators, WasmFeatures};
+use wasm_operators::{BinaryReader, FrameKind, FrameStack, Operator, ReadOperators};
 use wasm_view::{WasmHandler, WasmType, catches_of, handles_of, targets_of, types_of};
 
 /// The frame that operators with lists are read in: each frame allows them.
@@ -41,20 +42,18 @@ fn bytes_from<'a>(
     ensures there { features < 64 → IsWithin offset bytes.now → offset ≤ at → at ≤ offset + length bytes.now
         → result ≡ Ok (bytes_at bytes.now offset features at) }
 {
-    let Some(known) = WasmFeatures::from_bits(features) else {
-        return Err(WasmRefusal::misuse(UNKNOWN_FEATURES, offset));
-    };
-    let length = bytes.len() as u64;
-    if length > u64::MAX - offset {
-        return Err(WasmRefusal::misuse(PAST_OFFSETS, offset));
-    }
-    if at < offset || at - offset > length {
-        return Err(WasmRefusal::misuse(NO_LIST, at));
-    }
-    let mut ahead = BinaryReader::new_features(bytes, offset, known);
-    match ahead.read_bytes((at - offset) as usize) {
-        Ok(_) => Ok(ahead),
-        Err(_) => Err(WasmRefusal::misuse(NO_LIST, at)),
+    match known_features(bytes, offset, features) {
+        Ok(known) => {
+            if at < offset || at - offset > bytes.len() as u64 {
+                return Err(WasmRefusal::misuse(NO_LIST, at));
+            }
+            let mut ahead = BinaryReader::new_features(bytes, offset, known);
+            match ahead.read_bytes((at - offset) as usize) {
+                Ok(_) => Ok(ahead),
+                Err(_) => Err(WasmRefusal::misuse(NO_LIST, at)),
+            }
+        }
+        Err(refused) => Err(refused),
     }
 }
 
@@ -77,8 +76,8 @@ fn operator_at<'a>(
     }
 }
 
-/// The refusal, where this is how many members the list of an operator has, or that it has none.
-fn told(found: Option<usize>, at: u64, count: &mut usize) -> WasmRefusal
+/// Answers how many members the list of an operator has, or refuses it where it has none.
+fn answer_count(found: Option<usize>, at: u64, count: &mut usize) -> WasmRefusal
     ensures some { IfSome found (λ members. (result ≡ no_refusal at) × (count.new ≡ members)) }
     ensures none { IfNone found ((result ≡ misuse 104 at) × (count.new ≡ count.old)) }
 {
@@ -105,7 +104,7 @@ pub fn targets_at(
     ensures { AnswersList targets_of result bytes.now offset features at index count.old count.new out.old out.new }
 {
     match operator_at(alloc, bytes, offset, features, at) {
-        Ok(op) => told(targets_of(&op, index, out), at, count),
+        Ok(op) => answer_count(targets_of(&op, index, out), at, count),
         Err(refused) => refused,
     }
 }
@@ -124,7 +123,7 @@ pub fn types_at(
     ensures { AnswersList types_of result bytes.now offset features at index count.old count.new out.old out.new }
 {
     match operator_at(alloc, bytes, offset, features, at) {
-        Ok(op) => told(types_of(&op, index, out), at, count),
+        Ok(op) => answer_count(types_of(&op, index, out), at, count),
         Err(refused) => refused,
     }
 }
@@ -143,7 +142,7 @@ pub fn catches_at(
     ensures { AnswersList catches_of result bytes.now offset features at index count.old count.new out.old out.new }
 {
     match operator_at(alloc, bytes, offset, features, at) {
-        Ok(op) => told(catches_of(&op, index, out), at, count),
+        Ok(op) => answer_count(catches_of(&op, index, out), at, count),
         Err(refused) => refused,
     }
 }
@@ -162,7 +161,7 @@ pub fn handles_at(
     ensures { AnswersList handles_of result bytes.now offset features at index count.old count.new out.old out.new }
 {
     match operator_at(alloc, bytes, offset, features, at) {
-        Ok(op) => told(handles_of(&op, index, out), at, count),
+        Ok(op) => answer_count(handles_of(&op, index, out), at, count),
         Err(refused) => refused,
     }
 }

@@ -12,6 +12,7 @@ ghost use Rattle.wasm_c.specs.Frames.{change_of};
 ghost use Rattle.wasm_c.specs.Reads.{IsWithin};
 ghost use Rattle.wasm_c.specs.Steps.{IsReader, reader_at, StepsPlain, ReadsPlain, ReadsBatch, FinishesPlain, OpensExpression, OpensPlain, fresh_reader};
 
+use crate::features::known_features;
 use crate::frames::{BLOCK, FrameChange, change_frames, innermost};
 use crate::refusal::{NO_ROOM, NOT_A_READER, PAST_OFFSETS, UNKNOWN_FEATURES, WasmRefusal};
 use crate::viewer::Viewer;
@@ -210,18 +211,17 @@ impl WasmReader {
     ) -> WasmRefusal
         ensures { OpensExpression result bytes.now offset features self.old self.new frames.old frames.new }
     {
-        if WasmFeatures::from_bits(features).is_none() {
-            return WasmRefusal::misuse(UNKNOWN_FEATURES, offset);
+        match known_features(bytes, offset, features) {
+            Ok(_) => {
+                if frames.is_empty() {
+                    return WasmRefusal::misuse(NO_ROOM, offset);
+                }
+                frames[0] = BLOCK;
+                *self = WasmReader::fresh(offset, features, 0);
+                WasmRefusal::none(offset)
+            }
+            Err(refused) => refused,
         }
-        if bytes.len() as u64 > u64::MAX - offset {
-            return WasmRefusal::misuse(PAST_OFFSETS, offset);
-        }
-        if frames.is_empty() {
-            return WasmRefusal::misuse(NO_ROOM, offset);
-        }
-        frames[0] = BLOCK;
-        *self = WasmReader::fresh(offset, features, 0);
-        WasmRefusal::none(offset)
     }
 
     /// Opens the expression behind the locals of the body that the bytes are to encode.

@@ -1,7 +1,7 @@
 //! Refusals as plain data.
 ghost use Rattle.std.specs.Prelude.{◌≡◌};
 ghost use Rattle.wasm_c.specs.Texts.{instruction_told, frame_told, number_told, size_told, leading_told, type_told};
-ghost use Rattle.wasm_c.specs.Refused.{told, refusal_of, no_refusal, misuse, refusal_at, instruction_number, number_name_number, size_number, frame_number, leading_number, type_number};
+ghost use Rattle.wasm_c.specs.Refused.{told, told_name, told_value, refusal_of, no_refusal, misuse, refusal_at, instruction_number, number_name_number, size_number, frame_number, leading_number, type_number};
 
 use wasm_operators::{
     Error, FrameName, InstructionName, LeadingByteName, Message, NumberName, Result, SizeName,
@@ -27,9 +27,12 @@ pub const NO_LIST: u32 = 104;
 #[repr(C)]
 #[derive(Clone, Copy, Debug, PartialEq, Eq)]
 pub struct WasmRefusal {
-    /// The offset of what is refused; where nothing is, that of the end of the bytes.
+    /// The offset of what is refused: with 100, 101 and 103 that of the first byte, with 104 the one that
+    /// was asked for. Where nothing is refused, that of the end of the bytes, that where a reader stands,
+    /// or the one that was asked for.
     pub offset: u64,
-    /// The number of the refusal, from 1 to 25; 0 where nothing is refused.
+    /// The number of the refusal: from 1 to 25 of what was read, from 100 to 104 of what no reading
+    /// answers; 0 where nothing is refused.
     pub number: u32,
     /// Which name its text tells, counted from 0; 16 times a second one is added.
     pub name: u32,
@@ -39,35 +42,35 @@ pub struct WasmRefusal {
     pub reserved: u32,
 }
 
-/// A refusal whose text tells this name and this number.
-fn told(offset: u64, number: u32, name: u32, value: u32) -> WasmRefusal
-    ensures { result ≡ told offset number name value }
-{
-    WasmRefusal {
-        offset,
-        number,
-        name,
-        value,
-        reserved: 0,
-    }
-}
-
 impl WasmRefusal {
-    /// No refusal, of bytes that end at this offset.
-    pub fn none(end: u64) -> WasmRefusal
-        ensures { result ≡ no_refusal end }
+    /// A refusal of these numbers.
+    fn new(offset: u64, number: u32, name: u32, value: u32) -> WasmRefusal
+        ensures { result ≡ told offset number name value }
     {
-        told(end, 0, 0, 0)
+        WasmRefusal {
+            offset,
+            number,
+            name,
+            value,
+            reserved: 0,
+        }
     }
 
-    /// What no reading answers.
+    /// No refusal, at this offset.
+    pub fn none(offset: u64) -> WasmRefusal
+        ensures { result ≡ no_refusal offset }
+    {
+        WasmRefusal::new(offset, 0, 0, 0)
+    }
+
+    /// What no reading answers, at this offset.
     pub fn misuse(number: u32, offset: u64) -> WasmRefusal
         ensures { result ≡ misuse number offset }
     {
-        told(offset, number, 0, 0)
+        WasmRefusal::new(offset, number, 0, 0)
     }
 
-    /// How reading ended, of bytes that end at this offset.
+    /// How reading ended: at this offset, where nothing is refused.
     pub fn of_end(end: &Result<()>, offset: u64) -> WasmRefusal
         ensures { result ≡ refusal_at end.now offset }
     {
@@ -81,47 +84,50 @@ impl WasmRefusal {
     pub fn of(error: &Error) -> WasmRefusal
         ensures { result ≡ refusal_of error.now }
     {
-        let offset = error.offset;
-        match error.message {
-            Message::EndOfData => told(offset, 1, 0, 0),
-            Message::FeatureRequired(name) => told(offset, 2, instruction_number(name), 0),
-            Message::OutOfMemory => told(offset, 3, 0, 0),
-            Message::IntegerTooLong(name) => told(offset, 4, number_name_number(name), 0),
-            Message::IntegerTooLarge(name) => told(offset, 4, number_name_number(name) + 16, 0),
-            Message::SizeOutOfBounds(name) => told(offset, 5, size_number(name), 0),
-            Message::InvalidFunctionType => told(offset, 6, 0, 0),
-            Message::WrongFrame(name, frame) => told(
-                offset,
-                7,
-                instruction_number(name) + 16 * frame_number(frame),
-                0,
-            ),
-            Message::OperatorsRemaining => told(offset, 8, 0, 0),
-            Message::FramesRemain => told(offset, 9, 0, 0),
-            Message::FramesRemainConst => told(offset, 10, 0, 0),
-            Message::UnexpectedData => told(offset, 11, 0, 0),
-            Message::IllegalOpcode(code) => told(offset, 12, 0, u32::from(code)),
-            Message::UnknownSubopcode(prefix, code) => told(offset, 13, u32::from(prefix), code),
-            Message::UnexpectedSimd => told(offset, 14, 0, 0),
-            Message::ZeroByteExpected => told(offset, 15, 0, 0),
-            Message::NonzeroAfterFence => told(offset, 16, 0, 0),
-            Message::MemoryAndArray => told(offset, 17, 0, 0),
-            Message::OrderingOnPlain => told(offset, 18, 0, 0),
-            Message::InvalidOrdering { byte, hex } => {
-                told(offset, 19, if hex { 1 } else { 0 }, u32::from(byte))
-            }
-            Message::ReservedFlags => told(offset, 20, 0, 0),
-            Message::InvalidCastFlags(flags) => told(offset, 21, 0, u32::from(flags)),
-            Message::InvalidLeadingByte(byte, name) => {
-                told(offset, 22, leading_number(name), u32::from(byte))
-            }
-            Message::TooManyLocals => told(offset, 23, 0, 0),
-            Message::InvalidType(name) => told(offset, 24, type_number(name), 0),
-            Message::DataAfterSection => told(offset, 25, 0, 0),
-        }
+        let message = &error.message;
+        let number = u32::from(message.number());
+        WasmRefusal::new(
+            error.offset,
+            number,
+            told_name(message),
+            told_value(message),
+        )
     }
 }
 
+/// Which name the text of a message tells; of a subopcode, which prefix.
+fn told_name(message: &Message) -> u32
+    ensures { result ≡ told_name message.now }
+{
+    match *message {
+        Message::FeatureRequired(name) => instruction_number(name),
+        Message::IntegerTooLong(name) => number_name_number(name),
+        Message::IntegerTooLarge(name) => number_name_number(name) + 16,
+        Message::SizeOutOfBounds(name) => size_number(name),
+        Message::WrongFrame(name, frame) => instruction_number(name) + 16 * frame_number(frame),
+        Message::UnknownSubopcode(prefix, _) => u32::from(prefix),
+        Message::InvalidOrdering { hex, .. } => { if hex { 1 } else { 0 } }
+        Message::InvalidLeadingByte(_, name) => leading_number(name),
+        Message::InvalidType(name) => type_number(name),
+        _ => 0,
+    }
+}
+
+/// Which byte, code or flags it tells.
+fn told_value(message: &Message) -> u32
+    ensures { result ≡ told_value message.now }
+{
+    match *message {
+        Message::IllegalOpcode(code) => u32::from(code),
+        Message::UnknownSubopcode(_, code) => code,
+        Message::InvalidOrdering { byte, .. } => u32::from(byte),
+        Message::InvalidCastFlags(flags) => u32::from(flags),
+        Message::InvalidLeadingByte(byte, _) => u32::from(byte),
+        _ => 0,
+    }
+}
+
+/// The number of the name of an instruction.
 fn instruction_number(name: InstructionName) -> u32
     ensures { result ≡ instruction_number name }
 {
@@ -134,6 +140,7 @@ fn instruction_number(name: InstructionName) -> u32
     }
 }
 
+/// The name of an instruction, by its number.
 pub fn instruction_name(number: u32) -> Option<InstructionName>
     ensures { result ≡ instruction_told number }
 {
@@ -147,6 +154,7 @@ pub fn instruction_name(number: u32) -> Option<InstructionName>
     }
 }
 
+/// The number of the name of a frame.
 fn frame_number(name: FrameName) -> u32
     ensures { result ≡ frame_number name }
 {
@@ -156,6 +164,7 @@ fn frame_number(name: FrameName) -> u32
     }
 }
 
+/// The name of a frame, by its number.
 pub fn frame_name(number: u32) -> Option<FrameName>
     ensures { result ≡ frame_told number }
 {
@@ -166,6 +175,7 @@ pub fn frame_name(number: u32) -> Option<FrameName>
     }
 }
 
+/// The number of the name of a kind of number.
 fn number_name_number(name: NumberName) -> u32
     ensures { result ≡ number_name_number name }
 {
@@ -178,6 +188,7 @@ fn number_name_number(name: NumberName) -> u32
     }
 }
 
+/// The name of a kind of number, by its number.
 pub fn number_name(number: u32) -> Option<NumberName>
     ensures { result ≡ number_told number }
 {
@@ -191,6 +202,7 @@ pub fn number_name(number: u32) -> Option<NumberName>
     }
 }
 
+/// The number of the name of a list.
 fn size_number(name: SizeName) -> u32
     ensures { result ≡ size_number name }
 {
@@ -202,6 +214,7 @@ fn size_number(name: SizeName) -> u32
     }
 }
 
+/// The name of a list, by its number.
 pub fn size_name(number: u32) -> Option<SizeName>
     ensures { result ≡ size_told number }
 {
@@ -214,6 +227,7 @@ pub fn size_name(number: u32) -> Option<SizeName>
     }
 }
 
+/// The number of the name of what a leading byte begins.
 fn leading_number(name: LeadingByteName) -> u32
     ensures { result ≡ leading_number name }
 {
@@ -223,6 +237,7 @@ fn leading_number(name: LeadingByteName) -> u32
     }
 }
 
+/// The name of what a leading byte begins, by its number.
 pub fn leading_name(number: u32) -> Option<LeadingByteName>
     ensures { result ≡ leading_told number }
 {
@@ -233,6 +248,7 @@ pub fn leading_name(number: u32) -> Option<LeadingByteName>
     }
 }
 
+/// The number of the name of a kind of type.
 fn type_number(name: TypeName) -> u32
     ensures { result ≡ type_number name }
 {
@@ -243,6 +259,7 @@ fn type_number(name: TypeName) -> u32
     }
 }
 
+/// The name of a kind of type, by its number.
 pub fn type_name(number: u32) -> Option<TypeName>
     ensures { result ≡ type_told number }
 {

@@ -1,4 +1,4 @@
-//! The texts of refusals, written into an array.
+//! Texts, of refusals among them, written into an array.
 ghost use Rattle.std.specs.Prelude.{◌≡◌, ◌+◌, ◌*◌, ◌^◌, ◌<◌, ◌≤◌, [], ◌∷◌, ◌++◌, ◌%◌, length, Some, List, ℕ, false, codes};
 ghost use Rattle.std.specs.Option.{option_map};
 ghost use Rattle.wasm_operators.specs.below.bytes.message.Message.TheVariants as message;
@@ -97,12 +97,16 @@ fn put_binary(value: u32, at: usize, text: &mut [u8]) -> usize
     put_bit(value, first, text)
 }
 
-/// Writes a text.
-fn write_one(first: &str, text: &mut [u8]) -> usize
-    requires { length first.now < 2 ^ 16 }
+/// Writes a text of one piece.
+pub fn write_one(first: &str, text: &mut [u8]) -> usize
     ensures { AnswersText (Some first.now) text.old result text.new }
 {
-    put(first, 0, text)
+    let bytes = first.as_bytes();
+    let room = bytes.len().min(text.len());
+    'bytes: for index in 0..room {
+        text[index] = bytes[index];
+    }
+    bytes.len()
 }
 
 /// Writes a text of two pieces.

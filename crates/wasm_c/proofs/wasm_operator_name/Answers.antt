@@ -9,8 +9,8 @@ pub returns-clause-named : goal.returns-clause-named
 returns-clause-named c = λ op at is.
     let same : c.name_at.result.now ≡ name_of op =
     c.name_at.ensures ∙ ap (λ (o : WasmOperator). name_at o.opcode o.shape) is ∙ c.names.ensures op at in
-    subst (λ text. AnswersText (Some text) c.args.name.now c.write_name.result c.write_name.new.text) same c.write_name.ensures
+    subst (λ text. AnswersText (Some text) c.args.name.now c.write_one.result c.write_one.new.text) same c.write_one.ensures
 
 pub returns-clause-numbers : goal.returns-clause-numbers
 returns-clause-numbers c =
-    subst (λ text. AnswersText (Some text) c.args.name.now c.write_name.result c.write_name.new.text) c.name_at.ensures c.write_name.ensures
+    subst (λ text. AnswersText (Some text) c.args.name.now c.write_one.result c.write_one.new.text) c.name_at.ensures c.write_one.ensures

@@ -1,5 +1,24 @@
-use Rattle.wasm_c.proofs.Puts.{puts_text}
+use Rattle.std.proofs.Common.{◌≡◌, take, ap, ◌∙◌, arith}
+use Rattle.std.specs.Prelude.{◌<◌, ◌+◌, length}
+use Rattle.wasm_view.specs.Lists.{written}
+use Rattle.wasm_c.proofs.Named.{none_written, one_written, room_written}
 use Rattle.wasm_c.proofs.text.write_one.Goals as goal
 
+pub bytes-init : goal.bytes-init
+bytes-init c = none_written c.as_bytes-bytes.result.now c.args.text.now
+
+pub bytes-preserved : goal.bytes-preserved
+bytes-preserved c =
+    let n = c.bytes.index in
+    let within : n < length c.as_bytes-bytes.result.now = omega (arith, c.bytes-test.true, c.min-room.ensures) in
+    let room : n < length c.args.text.now = omega (arith, c.bytes-test.true, c.min-room.ensures) in
+    one_written c.as_bytes-bytes.result.now c.args.text.now c.bytes.text n (n + 1) c.bytes.invariant within room (omega arith)
+
 pub returns : goal.returns
-returns c = puts_text c.args.first.now c.put.result c.args.text.now c.put.new.text c.put.ensures
+returns c =
+    let bytes = c.as_bytes-bytes.result.now in
+    let all : c.bytes.index ≡ c.min-room.result = omega (arith, c.bytes.auto.index-end, c.bytes-test.false) in (
+      c.as_bytes-bytes.ensures.len,
+      c.bytes.invariant ∙ ap (λ n. written (take n bytes) c.args.text.now) all ∙ room_written bytes c.args.text.now c.min-room.result c.min-room.ensures ∙
+          ap (λ list. written list c.args.text.now) c.as_bytes-bytes.ensures.value,
+    )

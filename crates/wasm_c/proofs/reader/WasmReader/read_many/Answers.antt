@@ -19,4 +19,4 @@ pub returns-in-Err : goal.returns-in-Err
 returns-in-Err c =
     let was = c.places.invariant in
     batch_stops c.in-Err.refused c.args.bytes.now c.args.self.now c.places.self c.step.new.self c.args.frames.now c.places.frames c.step.new.frames
-    c.places.found c.args.out.now c.places.out was.0 (c.in-Err.ensures c.args.bytes.now was.1 was.2)
+    c.places.found c.args.out.now c.places.out was.0 c.in-Some.ensures.ahead.0 was.1 (c.in-Err.ensures c.args.bytes.now was.1 was.2)
