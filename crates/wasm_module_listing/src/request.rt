@@ -1,6 +1,7 @@
 //! What the program writes of a module.
+ghost use Rattle.std.specs.Prelude.{◌≡◌, IfErr};
 ghost use Rattle.std.specs.Bool.{OnTrue, OnFalse};
-ghost use Rattle.wasm_module_listing.specs.Listing.{IsFunction, IsModuleOf, ListsModule, Succeeds};
+ghost use Rattle.wasm_module_listing.specs.Listing.{IsFunction, IsModuleOf, ListsModule, Succeeds, WritesNothing};
 ghost use Rattle.wasm_module_listing.specs.ModuleCensus.{IsCounted, TabulatesModule};
 
 use crate::complaints::Complaints;
@@ -25,7 +26,7 @@ pub struct Wanted {
 /// Writes the disassembly of a module, or its census as a table. Answers whether none of its functions
 /// is refused; each that is refused is told of.
 ///
-/// Refused as `list_module` and `count_module`.
+/// Refused as `list_module` and `count_module`. On `Module` and `NoFunction` nothing is written.
 pub fn run<W: Write, C: Complaints>(
     alloc: Global,
     wanted: Wanted,
@@ -45,6 +46,7 @@ pub fn run<W: Write, C: Complaints>(
         (IsModuleOf (IsCounted wanted.features) wanted.features wanted.function bytes.now → Succeeds result) }
     ensures listed { OnFalse wanted.census
         (IsModuleOf IsFunction wanted.features wanted.function bytes.now → Succeeds result) }
+    ensures nothing { IfErr result (λ fault. WritesNothing fault → writer.new ≡ writer.old) }
 {
     if !wanted.census {
         return list_module(
