@@ -9,11 +9,13 @@ pub fn read_all<'a>(
     list: &mut Vec<(Operator<'a>, u64)>,
 ) -> Told {
     let mut told = Told::new();
-    told.refusal = read_to_end(operators, list, &mut told).err();
+    let answer = read_to_end(operators, list, &mut told);
     told.operators = list.len();
+    told.refusal = answer.err();
     let position = operators.original_position();
-    let again = read_to_end(operators, list, &mut told).err();
-    told.check(again == told.refusal && list.len() == told.operators);
+    let again = read_to_end(operators, list, &mut told);
+    let is_same = again.err() == told.refusal && list.len() == told.operators;
+    told.check(is_same);
     told.check(operators.original_position() == position);
     told
 }
