@@ -6,5 +6,6 @@ pub mod Faults
 pub mod HandlerTables
 pub mod HandlerLemmas
 pub mod ListRefusals
+pub mod PassedTargets
 pub mod ListLemmas
 pub use Rattle.wasm_below.proofs as of_below

@@ -1,5 +1,6 @@
 -- Encodings of many members, one after another.
-use Rattle.std.proofs.Common.{◌≡◌, ℕ, ◌+◌, ◌<◌, List, [], ◌∷◌, ◌++◌, length, refl, sym, ap, ◌∙◌, append_assoc, length-append, arith}
+use Rattle.std.proofs.Common.{◌≡◌, ℕ, ◌+◌, ◌<◌, List, [], ◌∷◌, ◌++◌, length, refl, sym, subst, ap, ◌∙◌, append_assoc, length-append, arith}
+use Rattle.std.proofs.lemmas.List.{append-nil}
 use Rattle.wasm_below.specs.bytes.error.Error.{Error}
 use Rattle.wasm_below.specs.Number.{EncodesSize}
 use Rattle.wasm_below.specs.Source.{Reader, rest, Takes, NoPrefix, IsRefusal}
@@ -28,19 +29,17 @@ many_prefix_code P prefix_code count a b x y m n p q e = each_prefix_code P pref
 pub list_prefix_code : {X : Type 0} (limit : ℕ) (P : List ℕ → X → Type 0) → PrefixCode P → PrefixCode (EncodesList limit P)
 list_prefix_code limit P prefix_code = then_prefix_code (EncodesSize limit) (EncodesMany P) (size_prefix_code limit) (many_prefix_code P prefix_code)
 
+-- members behind members
+pub each_both : {X : Type 0} (P : List ℕ → X → Type 0) (text more : List ℕ) (xs ys : List X) → EncodesEach P text xs → EncodesEach P more ys →
+    EncodesEach P (text ++ more) (xs ++ ys)
+each_both P text more [] ys p q = subst (λ z. EncodesEach P (z ++ more) ys) (sym p) q
+each_both P text more (x ∷ xs) ys (first, behind, e, p, ps) q =
+    (first, behind ++ more, ap (λ z. z ++ more) e ∙ append_assoc first behind more, p, each_both P behind more xs ys ps q)
+
 -- one member more
 pub each_more : {X : Type 0} (P : List ℕ → X → Type 0) (text more : List ℕ) (xs : List X) (x : X) → EncodesEach P text xs → P more x →
     EncodesEach P (text ++ more) (xs ++ x ∷ [])
-each_more P text more [] x p q = (more, [], cc_nil text more p, q, refl)
-  where
-    nil_right : (zs : List ℕ) → zs ≡ zs ++ []
-    nil_right [] = refl
-    nil_right (z ∷ zs) = ap (λ w. z ∷ w) (nil_right zs)
-
-    cc_nil : (text more : List ℕ) → text ≡ [] → text ++ more ≡ more ++ []
-    cc_nil text more e = ap (λ z. z ++ more) e ∙ nil_right more
-each_more P text more (y ∷ xs) x (first, behind, e, p, ps) q =
-    (first, behind ++ more, ap (λ z. z ++ more) e ∙ append_assoc first behind more, p, each_more P behind more xs x ps q)
+each_more P text more xs x p q = each_both P text more xs (x ∷ []) p (more, [], sym (append-nil more), q, refl)
 
 pub many_more : {X : Type 0} (P : List ℕ → X → Type 0) (count : ℕ) (text more : List ℕ) (xs : List X) (x : X) → EncodesMany P count text xs → P more x →
     EncodesMany P (count + 1) (text ++ more) (xs ++ x ∷ [])

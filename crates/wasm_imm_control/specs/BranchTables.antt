@@ -1,6 +1,6 @@
 -- Branch tables: the labels of `br_table`.
 -- WebAssembly Core Specification 3.0, Binary Format, Instructions, Control Instructions.
-use Rattle.std.specs.Prelude.{◌≡◌, ℕ, ◌+◌, ◌-◌, ◌*◌, ltb, Bool, true, false, List, [], ◌∷◌, ◌++◌, length}
+use Rattle.std.specs.Prelude.{◌≡◌, ℕ, ◌+◌, ◌-◌, ◌*◌, ltb, Bool, true, false, List, [], ◌∷◌, ◌++◌, length, drop}
 use Rattle.wasm_below.specs.Number.{EncodesUnsigned, EncodesSize}
 use Rattle.wasm_imm_control.specs.Lists.{EncodesMany}
 
@@ -13,6 +13,13 @@ pub record BranchTable : Type 0 where
 -- The bytes are this many numbers of 32 bits.
 abbrev pub AreTargets : ℕ → List ℕ → Type 0
 AreTargets count bytes = (numbers : List ℕ) × EncodesMany (EncodesUnsigned 32) count bytes numbers
+
+-- So many targets stand in the bytes from the position `start` on, and end where `behind` is.
+pub record HasTargets (count : ℕ) (bytes : List ℕ) (start behind : ℕ) : Type 0 where
+  pub text : List ℕ
+  pub targets : AreTargets count text
+  pub parts : drop start bytes ≡ text ++ drop behind bytes
+  pub ends : behind ≡ start + length text
 
 -- The bytes are this many targets, and `size` is how many bytes they are.
 abbrev pub EncodesTargets : ℕ → List ℕ → ℕ → Type 0

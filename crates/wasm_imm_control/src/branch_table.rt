@@ -1,5 +1,5 @@
 //! Branch tables, whose targets stay in the bytes.
-ghost use Rattle.std.specs.Prelude.{◌≡◌, ◌↔◌, ℕ, List, map, length, IsTrue, IfErr, IfSome, Ok};
+ghost use Rattle.std.specs.Prelude.{◌≡◌, ◌↔◌, ◌+◌, ◌<◌, ◌≤◌, ℕ, List, map, length, IsTrue, IfErr, IfSome, Ok};
 ghost use Rattle.std.specs.Iterator.{YieldsFirst, at_most, UpTo};
 ghost use Rattle.std.specs.Iterator.SizeHint.{IsWithinCount};
 ghost use Rattle.wasm_below.specs.Fault.{ManyFault};
@@ -7,7 +7,7 @@ ghost use Rattle.wasm_below.specs.Source.{Reads};
 ghost use Rattle.wasm_below.specs.Number.{EncodesUnsigned};
 ghost use Rattle.wasm_imm_control.specs.Lists.{EncodesMany};
 ghost use Rattle.wasm_imm_control.specs.BranchTableFaults.{BranchTableFault};
-ghost use Rattle.wasm_imm_control.specs.BranchTables.{EncodesBranchTable, EncodesTargets};
+ghost use Rattle.wasm_imm_control.specs.BranchTables.{EncodesBranchTable, EncodesTargets, HasTargets};
 ghost use Rattle.wasm_below.specs.Source.{U32Fault};
 
 use std::alloc::AllocError;
@@ -110,7 +110,9 @@ fn read_targets(reader: &mut BinaryReader<'_>, count: usize) -> Result<usize>
         ManyFault (EncodesUnsigned 32) U32Fault count e.message reader.old e.offset) }
 {
     let start = reader.current_position();
-    for _target in 0..count {
+    let passed = pass_targets(reader.remaining_buffer(), count);
+    reader.read_bytes(passed.position)?;
+    for _target in passed.targets..count {
         match reader.read_var_u32_in_place() {
             Ok(_) => {}
             Err(e) => {
@@ -120,6 +122,85 @@ fn read_targets(reader: &mut BinaryReader<'_>, count: usize) -> Result<usize>
         }
     }
     Ok(reader.current_position() - start)
+}
+
+/// Targets that were gone past: how many, and the position behind them.
+#[derive(Clone, Copy)]
+struct Passed {
+    targets: usize,
+    position: usize,
+}
+
+/// Goes past targets, at most this many: four at a time as long as each has one byte, then one after
+/// another as long as five bytes are left, of which a target has no more. So far no end of the data
+/// is looked for at each byte. How far it goes is a matter of speed: the others are read.
+#[inline(always)]
+fn pass_targets(bytes: &[u8], count: usize) -> Passed
+    ensures most { result.targets ≤ count }
+    ensures passed { HasTargets result.targets bytes.now 0 result.position }
+{
+    let short = pass_short_targets(bytes, count);
+    let mut targets = short;
+    let mut position = short;
+    while targets < count && bytes.len() - position >= 5 {
+        let Some(size) = target_size(bytes, position) else {
+            break;
+        };
+        targets += 1;
+        position += size;
+    }
+    Passed { targets, position }
+}
+
+/// Goes past targets, at most this many, as long as the next four have one byte each: how many.
+#[inline(always)]
+fn pass_short_targets(bytes: &[u8], count: usize) -> usize
+    ensures most { result ≤ count }
+    ensures passed { HasTargets result bytes.now 0 result }
+{
+    let mut position = 0;
+    while count - position >= 4 && bytes.len() - position >= 4 && are_four_short(bytes, position) {
+        position += 4;
+    }
+    position
+}
+
+/// Whether the next four bytes are a target each.
+#[inline(always)]
+fn are_four_short(bytes: &[u8], position: usize) -> bool
+    requires { position + 4 ≤ length bytes.now }
+    ensures { IsTrue result → HasTargets 4 bytes.now position (position + 4) }
+{
+    let mut bits = 0u8;
+    for at in position..position + 4 {
+        bits |= bytes[at];
+    }
+    bits < 128
+}
+
+/// How many bytes the target at this position has, if one stands there.
+#[inline(always)]
+fn target_size(bytes: &[u8], position: usize) -> Option<usize>
+    requires { position + 5 ≤ length bytes.now }
+    ensures target { IfSome result (λ size. HasTargets 1 bytes.now position (position + size)) }
+    ensures most { IfSome result (λ size. size ≤ 5) }
+{
+    if bytes[position] < 128 {
+        return Some(1);
+    }
+    if bytes[position + 1] < 128 {
+        return Some(2);
+    }
+    if bytes[position + 2] < 128 {
+        return Some(3);
+    }
+    if bytes[position + 3] < 128 {
+        return Some(4);
+    }
+    if bytes[position + 4] >= 16 {
+        return None;
+    }
+    Some(5)
 }
 
 impl<'a> Clone for BrTable<'a> {

@@ -1,15 +1,12 @@
-use Rattle.std.proofs.Common.{◌++◌, ◌∷◌, [], refl, ◌<◌, length, arith}
+use Rattle.std.proofs.Common.{◌++◌, ◌∷◌, [], ◌<◌, length, arith}
 use Rattle.wasm_below.specs.Number.{EncodesUnsigned}
-use Rattle.wasm_below.proofs.TakesLemmas.{takes_none, takes_then}
+use Rattle.wasm_below.proofs.TakesLemmas.{takes_then}
 use Rattle.wasm_below.proofs.Blocks.{refused_now}
 use Rattle.wasm_below.specs.Source.{U32Fault}
 use Rattle.wasm_imm_control.proofs.ListLemmas.{many_more}
 use Rattle.wasm_imm_control.proofs.BranchTables.{target_refused}
 use Rattle.wasm_imm_control.proofs.Faults.{many_fault}
 use Rattle.wasm_imm_control.proofs.branch_table.read_targets.Goals as goal
-
-pub loop-target-init : goal.loop-target-init
-loop-target-init c = ([], [], (refl, refl), takes_none c.args.reader.now)
 
 pub loop-target-preserved : goal.loop-target-preserved
 loop-target-preserved c =

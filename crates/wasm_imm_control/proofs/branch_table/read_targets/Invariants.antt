@@ -5,4 +5,4 @@ use Rattle.wasm_imm_control.specs.Lists.{EncodesMany}
 use Rattle.wasm_imm_control.proofs.branch_table.read_targets.Given as goal
 
 abbrev pub invariant-loop-target : goal.invariant-loop-target
-invariant-loop-target l = (text numbers : List ℕ) × EncodesMany (EncodesUnsigned 32) l._target text numbers × Takes l.initial.reader l.reader text
+invariant-loop-target l = (text numbers : List ℕ) × EncodesMany (EncodesUnsigned 32) l._target text numbers × Takes l.fn.reader l.reader text

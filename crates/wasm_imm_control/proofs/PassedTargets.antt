@@ -1,0 +1,99 @@
+-- Targets that stand in bytes, one behind another.
+use Rattle.std.proofs.Common.{◌≡◌, ℕ, ◌+◌, ◌-◌, ◌*◌, ◌<◌, ◌≤◌, ◌^◌, List, [], ◌∷◌, ◌++◌, length, drop, get_or, refl, sym, subst, ap, ◌∙◌, append_assoc, length-append, length-drop, add-one, arith}
+use Rattle.std.proofs.Math.Seq.{drop-cons}
+use Rattle.std.proofs.lemmas.Nat.{le_or_l, le_or_r}
+use Rattle.std.specs.Prelude.{bit_or}
+use Rattle.std.proofs.lemmas.List.{append-nil}
+use Rattle.wasm_below.specs.Number.{EncodesUnsigned}
+use Rattle.wasm_below.proofs.Numbers.{wide_fits}
+use Rattle.wasm_imm_control.specs.BranchTables.{HasTargets}
+use Rattle.wasm_imm_control.proofs.ListLemmas.{each_both}
+
+-- some behind others
+pub targets_behind : (n m : ℕ) (bytes : List ℕ) (start middle behind : ℕ) → HasTargets n bytes start middle → HasTargets m bytes middle behind →
+    HasTargets (n + m) bytes start behind
+targets_behind n m bytes start middle behind a b =
+    record {
+      text = a.text ++ b.text;
+      targets = (
+        a.targets.0 ++ b.targets.0,
+        (
+          omega (arith, length-append a.targets.0 b.targets.0, a.targets.1.0, b.targets.1.0),
+          each_both (EncodesUnsigned 32) a.text b.text a.targets.0 b.targets.0 a.targets.1.1 b.targets.1.1,
+        ),
+      );
+      parts = a.parts ∙ ap (λ z. a.text ++ z) b.parts ∙ sym (append_assoc a.text b.text (drop behind bytes));
+      ends = omega (arith, a.ends, b.ends, length-append a.text b.text);
+    }
+
+-- they lie in the bytes
+pub targets_within : (n : ℕ) (bytes : List ℕ) (start behind : ℕ) → start ≤ length bytes → HasTargets n bytes start behind → behind ≤ length bytes
+targets_within n bytes start behind le h =
+    let whole : length bytes - start ≡ length h.text + length (drop behind bytes) = sym (length-drop start bytes) ∙ ap length h.parts ∙
+    length-append h.text (drop behind bytes) in
+    omega (arith, h.ends)
+
+-- A number of at most `width` bits stands at a position, and ends where `behind` is.
+pub record HasNumber (width : ℕ) (bytes : List ℕ) (start behind : ℕ) : Type 0 where
+  pub text : List ℕ
+  pub value : ℕ
+  pub encodes : EncodesUnsigned width text value
+  pub parts : drop start bytes ≡ text ++ drop behind bytes
+  pub ends : behind ≡ start + length text
+
+byte_first : (bytes : List ℕ) (start : ℕ) → start < length bytes → drop start bytes ≡ get_or bytes start 0 ∷ drop (start + 1) bytes
+byte_first bytes start lt = drop-cons bytes start 0 lt ∙ ap (λ k. get_or bytes start 0 ∷ drop k bytes) (sym (add-one start))
+
+-- its last byte
+pub last_byte : (width : ℕ) (bytes : List ℕ) (start : ℕ) → start < length bytes → get_or bytes start 0 < 128 → get_or bytes start 0 < 2 ^ width →
+    HasNumber width bytes start (start + 1)
+last_byte width bytes start lt small fits =
+    record {
+      text = get_or bytes start 0 ∷ [];
+      value = get_or bytes start 0;
+      encodes = (small, refl, fits);
+      parts = byte_first bytes start lt;
+      ends = refl;
+    }
+
+byte_before : (width byte : ℕ) (text : List ℕ) (high : ℕ) → 7 < width → 128 ≤ byte → byte < 256 → EncodesUnsigned (width - 7) text high →
+    EncodesUnsigned width (byte ∷ text) (128 * high + (byte - 128))
+byte_before width byte [] high wide more small p = absurd p
+byte_before width byte (c ∷ text) high wide more small p = (wide, more, small, high, omega arith, p)
+
+-- a byte before it that says that more follow
+pub more_bytes : (width : ℕ) (bytes : List ℕ) (start next behind : ℕ) → 7 < width → start < length bytes → 128 ≤ get_or bytes start 0 →
+    get_or bytes start 0 < 256 → next ≡ start + 1 → HasNumber (width - 7) bytes next behind → HasNumber width bytes start behind
+more_bytes width bytes start next behind wide lt more small e h =
+    record {
+      text = get_or bytes start 0 ∷ h.text;
+      value = 128 * h.value + (get_or bytes start 0 - 128);
+      encodes = byte_before width (get_or bytes start 0) h.text h.value wide more small h.encodes;
+      parts = byte_first bytes start lt ∙ ap (λ k. get_or bytes start 0 ∷ drop k bytes) (sym e) ∙ ap (λ z. get_or bytes start 0 ∷ z) h.parts;
+      ends = omega (arith, e, h.ends);
+    }
+
+pub is_target : (bytes : List ℕ) (start behind end : ℕ) → behind ≡ end → HasNumber 32 bytes start behind → HasTargets 1 bytes start end
+is_target bytes start behind end e h =
+    subst (HasTargets 1 bytes start) e (record {
+      text = h.text;
+      targets = (h.value ∷ [], (refl, (h.text, [], sym (append-nil h.text), h.encodes, refl)));
+      parts = h.parts;
+      ends = h.ends;
+    })
+
+-- a last byte where there is room for seven bits
+pub short_byte : (width : ℕ) (bytes : List ℕ) (start : ℕ) → 7 ≤ width → start < length bytes → get_or bytes start 0 < 128 →
+    HasNumber width bytes start (start + 1)
+short_byte width bytes start wide lt small = last_byte width bytes start lt small (wide_fits (get_or bytes start 0) width small wide)
+
+-- one target of one byte more, where no bit of all of them says that more follow
+pub short_more : (bytes : List ℕ) (start at bits : ℕ) → start ≤ at → at < length bytes → (bits < 128 → HasTargets (at - start) bytes start at) →
+    bit_or bits (get_or bytes at 0) < 128 → HasTargets (at + 1 - start) bytes start (at + 1)
+short_more bytes start at bits le lt before small =
+    let byte = get_or bytes at 0 in
+    let first : bits < 128 = omega (arith, le_or_l bits byte) in
+    let last : byte < 128 = omega (arith, le_or_r bits byte) in
+    let count : at - start + 1 ≡ at + 1 - start = omega arith in
+    subst (λ n. HasTargets n bytes start (at + 1)) count
+    (targets_behind (at - start) 1 bytes start at (at + 1) (before first) (is_target bytes at (at + 1) (at + 1) refl (short_byte 32 bytes at (omega arith) lt last)))
