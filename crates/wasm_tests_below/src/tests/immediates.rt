@@ -207,6 +207,38 @@ fn branch_tables(rt: HostRuntime) -> std::result::Result<(), Fail> {
     Ok(())
 }
 
+/// Eleven targets, of one byte but for the fifth, of two, and the sixth, of five; and a default one.
+const MIXED: [u8; 18] = [
+    0x0b, 0x01, 0x02, 0x03, 0x04, 0x80, 0x01, 0xff, 0xff, 0xff, 0xff, 0x0f, 0x05, 0x06, 0x07, 0x08,
+    0x09, 0x0a,
+];
+
+#[test]
+fn targets_of_several_bytes(rt: HostRuntime) -> std::result::Result<(), Fail> {
+    let mixed = table(&MIXED)?;
+    assert_eq!(rt; mixed.len(), 11);
+    assert_eq!(rt; mixed.default(), 10);
+    let mut targets = mixed.targets();
+    for target in [1, 2, 3, 4, 128, 4294967295, 5, 6, 7, 8, 9] {
+        assert_eq!(rt; targets.next(), Some(Ok(target)));
+    }
+    assert_eq!(rt; targets.next(), None);
+    for size in [4, 6, 9, 11, 13, 17] {
+        assert_eq!(rt;
+            table(&MIXED[..size]).err(),
+            Some(Error::new(Message::EndOfData, size as u64))
+        );
+    }
+    let mut fifth = MIXED;
+    fifth[11] = 0x10;
+    let large = Message::IntegerTooLarge(NumberName::VarU32);
+    assert_eq!(rt; table(&fifth).err(), Some(Error::new(large, 11)));
+    fifth[11] = 0x8f;
+    let long = Message::IntegerTooLong(NumberName::VarU32);
+    assert_eq!(rt; table(&fifth).err(), Some(Error::new(long, 11)));
+    Ok(())
+}
+
 #[test]
 fn equal_branch_tables(rt: HostRuntime) -> std::result::Result<(), Fail> {
     let short = table(&[0x01, 0x01, 0x00])?;
