@@ -101,6 +101,23 @@ pub fn u32_at(buffer: &[u8], start: usize) -> Result<Unsigned, NumberRefusal>
     read_unsigned(buffer, start, 32)
 }
 
+/// The signed number of 32 bits at this position.
+pub fn long_i32(buffer: &[u8], start: usize) -> Result<Signed, NumberRefusal>
+    ensures number { IfOk result (λ n. NumberAt (EncodesSigned 32) buffer.now start n.value n.behind) }
+    ensures within { IfOk result (λ n. FitsWidth 32 n.value) }
+    ensures refused { IfErr result (λ r. NoNumber (EncodesSigned 32) r 32 buffer.now start) }
+{
+    read_signed(buffer, start, 32)
+}
+
+/// The signed number of 33 bits at this position.
+pub fn long_s33(buffer: &[u8], start: usize) -> Result<Signed, NumberRefusal>
+    ensures number { IfOk result (λ n. NumberAt (EncodesSigned 33) buffer.now start n.value n.behind) }
+    ensures refused { IfErr result (λ r. NoNumber (EncodesSigned 33) r 33 buffer.now start) }
+{
+    read_signed(buffer, start, 33)
+}
+
 /// The number of at most this many bits at this position.
 #[inline(always)]
 pub fn read_unsigned(buffer: &[u8], start: usize, bits: u32) -> Result<Unsigned, NumberRefusal>

@@ -1,7 +1,7 @@
-//! LEB128 numbers of several bytes by a call, for readers of which most numbers take another way. Its
-//! answer is two words, so that it stands in registers: an enum of more would go through memory.
+//! Long LEB128 numbers by calls that stay calls. What such a call answers is two words, so that it
+//! stands in registers: an enum of more would go through memory.
 ghost use Rattle.std.specs.Prelude.{◌≡◌, ◌<◌, ◌^◌, IfOk, IfErr};
-ghost use Rattle.wasm_below_bytes.specs.Number.{EncodesUnsigned, EncodesSigned, FitsWidth};
+ghost use Rattle.wasm_below_bytes.specs.Number.{EncodesUnsigned, EncodesSigned};
 ghost use Rattle.wasm_below_bytes.specs.Leb128.{NumberAt, NoNumber, refusal_of_code, unsigned_answer, signed_answer};
 
 use crate::long_numbers::{NumberRefusal, Signed, Unsigned, read_signed, read_unsigned};
@@ -25,25 +25,6 @@ pub fn long_u64(buffer: &[u8], start: usize) -> Result<Unsigned, NumberRefusal>
     unsigned_answer(call_u64(buffer, start))
 }
 
-/// The signed number of 32 bits at this position.
-#[inline(always)]
-pub fn long_i32(buffer: &[u8], start: usize) -> Result<Signed, NumberRefusal>
-    ensures number { IfOk result (λ n. NumberAt (EncodesSigned 32) buffer.now start n.value n.behind) }
-    ensures within { IfOk result (λ n. FitsWidth 32 n.value) }
-    ensures refused { IfErr result (λ r. NoNumber (EncodesSigned 32) r 32 buffer.now start) }
-{
-    signed_answer(call_i32(buffer, start))
-}
-
-/// The signed number of 33 bits at this position.
-#[inline(always)]
-pub fn long_s33(buffer: &[u8], start: usize) -> Result<Signed, NumberRefusal>
-    ensures number { IfOk result (λ n. NumberAt (EncodesSigned 33) buffer.now start n.value n.behind) }
-    ensures refused { IfErr result (λ r. NoNumber (EncodesSigned 33) r 33 buffer.now start) }
-{
-    signed_answer(call_s33(buffer, start))
-}
-
 /// The signed number of 64 bits at this position.
 #[inline(always)]
 pub fn long_i64(buffer: &[u8], start: usize) -> Result<Signed, NumberRefusal>
@@ -53,6 +34,7 @@ pub fn long_i64(buffer: &[u8], start: usize) -> Result<Signed, NumberRefusal>
     signed_answer(call_i64(buffer, start))
 }
 
+/// What `long_u32` answers, as two words.
 #[inline(never)]
 fn call_u32(buffer: &[u8], start: usize) -> Unsigned
     ensures number { IfOk (unsigned_answer result) (λ n. NumberAt (EncodesUnsigned 32) buffer.now start n.value n.behind) }
@@ -62,6 +44,7 @@ fn call_u32(buffer: &[u8], start: usize) -> Unsigned
     unsigned_words(read_unsigned(buffer, start, 32))
 }
 
+/// What `long_u64` answers, as two words.
 #[inline(never)]
 fn call_u64(buffer: &[u8], start: usize) -> Unsigned
     ensures number { IfOk (unsigned_answer result) (λ n. NumberAt (EncodesUnsigned 64) buffer.now start n.value n.behind) }
@@ -70,23 +53,7 @@ fn call_u64(buffer: &[u8], start: usize) -> Unsigned
     unsigned_words(read_unsigned(buffer, start, 64))
 }
 
-#[inline(never)]
-fn call_i32(buffer: &[u8], start: usize) -> Signed
-    ensures number { IfOk (signed_answer result) (λ n. NumberAt (EncodesSigned 32) buffer.now start n.value n.behind) }
-    ensures within { IfOk (signed_answer result) (λ n. FitsWidth 32 n.value) }
-    ensures refused { IfErr (signed_answer result) (λ r. NoNumber (EncodesSigned 32) r 32 buffer.now start) }
-{
-    signed_words(read_signed(buffer, start, 32))
-}
-
-#[inline(never)]
-fn call_s33(buffer: &[u8], start: usize) -> Signed
-    ensures number { IfOk (signed_answer result) (λ n. NumberAt (EncodesSigned 33) buffer.now start n.value n.behind) }
-    ensures refused { IfErr (signed_answer result) (λ r. NoNumber (EncodesSigned 33) r 33 buffer.now start) }
-{
-    signed_words(read_signed(buffer, start, 33))
-}
-
+/// What `long_i64` answers, as two words.
 #[inline(never)]
 fn call_i64(buffer: &[u8], start: usize) -> Signed
     ensures number { IfOk (signed_answer result) (λ n. NumberAt (EncodesSigned 64) buffer.now start n.value n.behind) }
