@@ -1,10 +1,8 @@
 -- LEB128 numbers as they are read: bytes that say that more follow, and a last one.
-use Rattle.std.specs.Prelude.{◌≡◌, ℕ, ◌+◌, ◌-◌, ◌*◌, ◌/◌, ◌<◌, ◌≤◌, zero, suc, List, [], ◌∷◌, ◌++◌, length, drop, slice_index, ℤ, ltb, unsigned_abs, Result, Ok, Err}
+use Rattle.std.specs.Prelude.{◌≡◌, ℕ, ◌+◌, ◌-◌, ◌*◌, ◌/◌, ◌<◌, ◌≤◌, List, [], ◌∷◌, ◌++◌, length, drop, slice_index, ℤ, ltb}
 use Rattle.wasm_below_bytes.specs.declared.long_numbers.Groups.{Groups}
 use Rattle.wasm_below_bytes.specs.declared.long_numbers.NumberRefusal.{NumberRefusal}
 use Rattle.wasm_below_bytes.specs.declared.long_numbers.NumberRefusal.TheVariants as refusal
-use Rattle.wasm_below_bytes.specs.declared.long_numbers.Signed.{Signed}
-use Rattle.wasm_below_bytes.specs.declared.long_numbers.Unsigned.{Unsigned}
 use Rattle.wasm_below_bytes.specs.declared.message.Message.{Message}
 use Rattle.wasm_below_bytes.specs.declared.message.Message.TheVariants as message
 use Rattle.wasm_below_bytes.specs.declared.message.NumberName.{NumberName}
@@ -79,20 +77,3 @@ refusal_offset _ width start end = last_position width start
 abbrev pub HasPlace : NumberRefusal → ℕ → ℕ → ℕ → Type 0
 HasPlace refusal.EndOfData width start end = Unit {0}
 HasPlace _ width start end = last_position width start < end
-
--- The refusal of a code.
-abbrev pub refusal_of_code : ℕ → NumberRefusal
-refusal_of_code zero = refusal.EndOfData
-refusal_of_code (suc zero) = refusal.TooLong
-refusal_of_code (suc (suc n)) = refusal.TooLarge
-
--- What two words say: where the second is 0, at which no number ends, the first is the code of a refusal.
-abbrev pub words_say : {X : Type 0} → ℕ → ℕ → X → Result X NumberRefusal
-words_say code zero number = Err (refusal_of_code code)
-words_say code (suc n) number = Ok number
-
-abbrev pub unsigned_answer : Unsigned → Result Unsigned NumberRefusal
-unsigned_answer words = words_say words.value words.behind words
-
-abbrev pub signed_answer : Signed → Result Signed NumberRefusal
-signed_answer words = words_say (unsigned_abs words.value) words.behind words

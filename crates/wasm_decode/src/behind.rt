@@ -78,15 +78,11 @@ fn gc_behind<V: VisitGroups>(
 {
     let mut lent = reader.clone();
     let mut refusal = place();
-    match gc_out_of_line(v, &mut lent, start, &mut refusal) {
-        Some(answer) => {
-            reader.set_position(lent.current_position());
-            Ok(answer)
-        }
-        None => {
-            reader.rewind(start);
-            Err(refusal)
-        }
+    let answer = gc_out_of_line(v, &mut lent, start, &mut refusal);
+    *reader = lent;
+    match answer {
+        Some(answer) => Ok(answer),
+        None => Err(refusal),
     }
 }
 
@@ -141,15 +137,11 @@ fn misc_behind<V: VisitGroups>(
 {
     let mut lent = reader.clone();
     let mut refusal = place();
-    match misc_out_of_line(v, &mut lent, start, &mut refusal) {
-        Some(answer) => {
-            reader.set_position(lent.current_position());
-            Ok(answer)
-        }
-        None => {
-            reader.rewind(start);
-            Err(refusal)
-        }
+    let answer = misc_out_of_line(v, &mut lent, start, &mut refusal);
+    *reader = lent;
+    match answer {
+        Some(answer) => Ok(answer),
+        None => Err(refusal),
     }
 }
 
@@ -204,15 +196,11 @@ fn atomic_behind<V: VisitGroups>(
 {
     let mut lent = reader.clone();
     let mut refusal = place();
-    match atomic_out_of_line(v, &mut lent, start, &mut refusal) {
-        Some(answer) => {
-            reader.set_position(lent.current_position());
-            Ok(answer)
-        }
-        None => {
-            reader.rewind(start);
-            Err(refusal)
-        }
+    let answer = atomic_out_of_line(v, &mut lent, start, &mut refusal);
+    *reader = lent;
+    match answer {
+        Some(answer) => Ok(answer),
+        None => Err(refusal),
     }
 }
 
@@ -287,15 +275,11 @@ pub fn simd_of<V: VisitSimdOperator>(
     }
     let mut lent = reader.clone();
     let mut refusal = place();
-    match simd_out_of_line(v, &mut lent, start, code, &mut refusal) {
-        Some(answer) => {
-            reader.set_position(lent.current_position());
-            Ok(answer)
-        }
-        None => {
-            reader.rewind(start);
-            Err(refusal)
-        }
+    let answer = simd_out_of_line(v, &mut lent, start, code, &mut refusal);
+    *reader = lent;
+    match answer {
+        Some(answer) => Ok(answer),
+        None => Err(refusal),
     }
 }
 

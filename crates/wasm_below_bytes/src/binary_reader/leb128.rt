@@ -7,10 +7,10 @@ ghost use Rattle.wasm_below_bytes.specs.Leb128.{HasPlace, refusal_message, refus
 use super::BinaryReader;
 use crate::error::{Error, Result};
 use crate::long_numbers::{
-    NumberRefusal, last_value, long_i32, long_s33, number_error, two_bytes, u32_at,
+    NumberRefusal, last_value, long_i32, long_i64, long_s33, long_u32, long_u64, number_error,
+    two_bytes, u32_at,
 };
 use crate::message::{Message, NumberName};
-use crate::number_calls::{long_i64, long_u32, long_u64};
 
 impl<'a> BinaryReader<'a> {
     /// An unsigned LEB128 number of 32 bits, in at most five bytes. Values, Integers.
