@@ -113,7 +113,7 @@ fn read_targets(reader: &mut BinaryReader<'_>, count: usize) -> Result<usize>
     let passed = pass_targets(reader.remaining_buffer(), count);
     reader.read_bytes(passed.position)?;
     for _target in passed.targets..count {
-        match reader.read_var_u32_in_place() {
+        match reader.read_var_u32() {
             Ok(_) => {}
             Err(e) => {
                 reader.rewind(start);
@@ -133,8 +133,9 @@ struct Passed {
 
 /// Goes past targets, at most this many: four at a time as long as each has one byte, then one after
 /// another as long as five bytes are left, of which a target has no more. So far no end of the data
-/// is looked for at each byte. How far it goes is a matter of speed: the others are read.
-#[inline(always)]
+/// is looked for at each byte. How far it goes is a matter of speed: the others are read. By a call,
+/// which answers two words, so that what calls it stays small.
+#[inline(never)]
 fn pass_targets(bytes: &[u8], count: usize) -> Passed
     ensures most { result.targets ≤ count }
     ensures passed { HasTargets result.targets bytes.now 0 result.position }

@@ -15,13 +15,13 @@ loop-target-preserved c =
       i.0 ++ r.0,
       i.1 ++ c.in-Ok.field-0 ∷ [],
       many_more (EncodesUnsigned 32) c.loop-target._target i.0 r.0 i.1 c.in-Ok.field-0 i.2 r.1,
-      takes_then c.args.reader.now c.loop-target.reader c.read_var_u32_in_place.new.self i.0 r.0 i.3 r.2,
+      takes_then c.args.reader.now c.loop-target.reader c.read_var_u32.new.self i.0 r.0 i.3 r.2,
     )
 
 pub returns-in-Err-clause-reads : goal.returns-in-Err-clause-reads
 returns-in-Err-clause-reads c =
     let i = c.loop-target.invariant in
-    target_refused c.in-Err.e c.args.reader.now c.loop-target.reader c.read_var_u32_in_place.new.self c.rewind.new.self i.0 i.1 c.loop-target._target c.args.count
+    target_refused c.in-Err.e c.args.reader.now c.loop-target.reader c.read_var_u32.new.self c.rewind.new.self i.0 i.1 c.loop-target._target c.args.count
     c.current_position-start.result i.2 c.loop-target-test.true i.3 c.in-Err.ensures.reads c.current_position-start.ensures c.rewind.ensures
 
 pub returns-in-Err-clause-fault : goal.returns-in-Err-clause-fault
