@@ -1,5 +1,5 @@
 -- LEB128 numbers as they are read: bytes that say that more follow, and a last one.
-use Rattle.std.specs.Prelude.{◌≡◌, ℕ, ◌+◌, ◌-◌, ◌*◌, ◌/◌, ◌<◌, ◌≤◌, List, [], ◌∷◌, ◌++◌, length, drop, slice_index, ℤ, ltb}
+use Rattle.std.specs.Prelude.{◌≡◌, ℕ, ◌+◌, ◌-◌, ◌*◌, ◌/◌, ◌<◌, ◌≤◌, zero, suc, List, [], ◌∷◌, ◌++◌, length, drop, slice_index, ℤ, ltb}
 use Rattle.wasm_below_bytes.specs.declared.long_numbers.Groups.{Groups}
 use Rattle.wasm_below_bytes.specs.declared.long_numbers.NumberRefusal.{NumberRefusal}
 use Rattle.wasm_below_bytes.specs.declared.long_numbers.NumberRefusal.TheVariants as refusal
@@ -77,3 +77,9 @@ refusal_offset _ width start end = last_position width start
 abbrev pub HasPlace : NumberRefusal → ℕ → ℕ → ℕ → Type 0
 HasPlace refusal.EndOfData width start end = Unit {0}
 HasPlace _ width start end = last_position width start < end
+
+-- The refusal of a code.
+abbrev pub refusal_of_code : ℕ → NumberRefusal
+refusal_of_code zero = refusal.EndOfData
+refusal_of_code (suc zero) = refusal.TooLong
+refusal_of_code (suc (suc n)) = refusal.TooLarge

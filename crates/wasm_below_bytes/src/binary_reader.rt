@@ -205,6 +205,15 @@ impl<'a> BinaryReader<'a> {
         self.position = position;
     }
 
+    /// Goes to where this many of its bytes were read, as a copy of it did.
+    #[inline(always)]
+    pub fn set_position(&mut self, to: usize)
+        requires { to ≤ length self.old.buffer }
+        ensures { self.new ≡ at_position self.old to }
+    {
+        self.position = to;
+    }
+
     /// Goes past the next byte.
     #[inline(always)]
     pub fn advance(&mut self)

@@ -12,6 +12,7 @@ pub mod laws;
 mod long_numbers;
 mod memory_use;
 mod message;
+mod number_calls;
 
 pub use binary_reader::BinaryReader;
 pub use error::{BinaryReaderError, Error, ErrorKind, Result};

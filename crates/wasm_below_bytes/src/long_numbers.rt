@@ -101,25 +101,6 @@ pub fn u32_at(buffer: &[u8], start: usize) -> Result<Unsigned, NumberRefusal>
     read_unsigned(buffer, start, 32)
 }
 
-/// The same by a call, for readers of which most numbers take another way.
-#[inline(never)]
-pub fn long_u32(buffer: &[u8], start: usize) -> Result<Unsigned, NumberRefusal>
-    ensures number { IfOk result (λ n. NumberAt (EncodesUnsigned 32) buffer.now start n.value n.behind) }
-    ensures within { IfOk result (λ n. n.value < 2 ^ 32) }
-    ensures refused { IfErr result (λ r. NoNumber (EncodesUnsigned 32) r 32 buffer.now start) }
-{
-    u32_at(buffer, start)
-}
-
-/// The unsigned number of 64 bits at this position.
-#[inline(never)]
-pub fn long_u64(buffer: &[u8], start: usize) -> Result<Unsigned, NumberRefusal>
-    ensures number { IfOk result (λ n. NumberAt (EncodesUnsigned 64) buffer.now start n.value n.behind) }
-    ensures refused { IfErr result (λ r. NoNumber (EncodesUnsigned 64) r 64 buffer.now start) }
-{
-    read_unsigned(buffer, start, 64)
-}
-
 /// The signed number of 32 bits at this position.
 pub fn long_i32(buffer: &[u8], start: usize) -> Result<Signed, NumberRefusal>
     ensures number { IfOk result (λ n. NumberAt (EncodesSigned 32) buffer.now start n.value n.behind) }
@@ -137,17 +118,9 @@ pub fn long_s33(buffer: &[u8], start: usize) -> Result<Signed, NumberRefusal>
     read_signed(buffer, start, 33)
 }
 
-/// The signed number of 64 bits at this position.
-pub fn long_i64(buffer: &[u8], start: usize) -> Result<Signed, NumberRefusal>
-    ensures number { IfOk result (λ n. NumberAt (EncodesSigned 64) buffer.now start n.value n.behind) }
-    ensures refused { IfErr result (λ r. NoNumber (EncodesSigned 64) r 64 buffer.now start) }
-{
-    read_signed(buffer, start, 64)
-}
-
 /// The number of at most this many bits at this position.
 #[inline(always)]
-fn read_unsigned(buffer: &[u8], start: usize, bits: u32) -> Result<Unsigned, NumberRefusal>
+pub fn read_unsigned(buffer: &[u8], start: usize, bits: u32) -> Result<Unsigned, NumberRefusal>
     requires low { 0 < bits }
     requires high { bits ≤ 64 }
     ensures number { IfOk result (λ n. NumberAt (EncodesUnsigned bits) buffer.now start n.value n.behind) }
@@ -169,7 +142,7 @@ fn read_unsigned(buffer: &[u8], start: usize, bits: u32) -> Result<Unsigned, Num
 
 /// The number with a sign, of at most this many bits, at this position.
 #[inline(always)]
-fn read_signed(buffer: &[u8], start: usize, bits: u32) -> Result<Signed, NumberRefusal>
+pub fn read_signed(buffer: &[u8], start: usize, bits: u32) -> Result<Signed, NumberRefusal>
     requires low { 0 < bits }
     requires high { bits ≤ 64 }
     ensures number { IfOk result (λ n. NumberAt (EncodesSigned bits) buffer.now start n.value n.behind) }

@@ -9,7 +9,7 @@ use Rattle.wasm_visit.specs.below.Refusal.{IsReadFault}
 use Rattle.wasm_visit.specs.below.Source.{Reader, rest, offset_of, end_of, at_position, Takes, NoPrefix, MayFollow, BeginsWith, IsRefusal, Reads, IsByte, IsEndHere, U32Fault}
 use Rattle.wasm_visit.proofs.of_below.Blocks.{refused_now}
 use Rattle.wasm_visit.proofs.of_below.Faults.{none_here}
-use Rattle.wasm_visit.proofs.of_below.TakesLemmas.{takes_then, rewound, first_byte_read}
+use Rattle.wasm_visit.proofs.of_below.TakesLemmas.{takes_then, rewound, first_byte_read, within_buffer}
 use Rattle.wasm_visit.specs.grammar.declared.frame_kind.FrameKind.{FrameKind}
 use Rattle.wasm_visit.specs.instr.declared.operator.Operator.{Operator}
 use Rattle.wasm_visit.specs.instr.declared.operator.Operator.TheVariants as operator
@@ -18,7 +18,7 @@ use Rattle.wasm_visit.specs.instr.Immediate.{Kind}
 use Rattle.wasm_visit.specs.instr.Kinds.{IsVector}
 use Rattle.wasm_visit.specs.instr.Row.{prefix_of, opcode_of}
 use Rattle.wasm_visit.specs.opcodes.Allowed.{EncodesAllowed, EncodesScalar, EncodesIn}
-use Rattle.wasm_visit.specs.opcodes.Decoding.{Decodes, RefusesOperator, StandsBehind}
+use Rattle.wasm_visit.specs.opcodes.Decoding.{Decodes, DecodesAt, RefusesOperator, StandsBehind}
 use Rattle.wasm_visit.specs.opcodes.declared.guard.Guard.{Guard}
 use Rattle.wasm_visit.specs.opcodes.Entry.{Entry, prefixes, guard_of, kinds_of, guarded_entry, entry_of}
 use Rattle.wasm_visit.specs.opcodes.Entries.{opcode_entries, entry_at}
@@ -28,6 +28,38 @@ use Rattle.wasm_visit.proofs.of_opcodes.OperatorLemmas.{within_behind}
 use Rattle.wasm_visit.proofs.of_opcodes.Told.{told}
 use Rattle.wasm_visit.proofs.of_decode.Ranges.{InRanges, codes_in}
 use Rattle.wasm_decode.specs.Reading.{DecodesOperator}
+
+-- ---- by a copy of the reader
+
+-- a call changes the reader's position alone
+position_alone : {V A : Type 0} (visits : V → Operator → A → V → Type 0) (k : FrameKind) (start : ℕ) (result : Result A Error) (old mid : Reader) (v w : V) →
+    DecodesAt visits k start result old mid v w → mid ≡ at_position old mid.position
+position_alone visits k start (Ok a) old mid v w (text, op, encodes, takes, visited) =
+    takes.moved ∙ ap (at_position old) (sym (ap (λ (r : Reader). r.position) takes.moved))
+position_alone visits k start (Err e) old mid v w (same, refuses) = refuses.0 ∙ ap (at_position old) (sym (ap (λ (r : Reader). r.position) refuses.0))
+
+module _ {V A : Type 0} (visits : V → Operator → A → V → Type 0) (k : FrameKind) (start : ℕ) (old lent mid : Reader) (v w : V) (same : lent ≡ old) where
+  -- the copy stands at a byte, or at the end of all
+  pub copy_within : (p : Option ℕ) (code : ℕ) (a : A) → StandsBehind start p code old → DecodesAt visits k start (Ok a) lent mid v w → mid.position ≤ length old.buffer
+  copy_within p code a b (text, op, encodes, takes, visited) =
+      let within = within_behind start p code old b in
+      let t : Takes (at_position old start) mid text = subst (λ r. Takes (at_position r start) mid text) same takes in
+      let whole = within_buffer (at_position old start) mid text (omega (arith, within, b.begun)) t in
+      let at : mid.position ≡ start + length text = ap (λ (r : Reader). r.position) t.moved in
+      omega (arith, whole, at)
+
+  -- a reader that is set where its copy stands did what that did
+  pub by_copy : (result : Result A Error) (new : Reader) (position : ℕ) → DecodesAt visits k start result lent mid v w → position ≡ mid.position →
+      new ≡ at_position old position → DecodesAt visits k start result old new v w
+  by_copy result new position h at went =
+      let read : DecodesAt visits k start result old mid v w = subst (λ r. DecodesAt visits k start result r mid v w) same h in
+      let e : new ≡ mid = went ∙ ap (at_position old) at ∙ sym (position_alone visits k start result old mid v w read) in
+      subst (λ r. DecodesAt visits k start result old r v w) (sym e) read
+
+  -- a copy whose call was refused went back
+  pub copy_refused : (e : Error) (new : Reader) → DecodesAt visits k start (Err e) lent mid v w → new ≡ at_position old start →
+      DecodesAt visits k start (Err e) old new v w
+  copy_refused e new h went = by_copy (Err e) new start h (sym (ap (λ (r : Reader). r.position) h.1.0)) went
 
 -- ---- the first byte
 

@@ -78,11 +78,15 @@ fn gc_behind<V: VisitGroups>(
 {
     let mut lent = reader.clone();
     let mut refusal = place();
-    let answer = gc_out_of_line(v, &mut lent, start, &mut refusal);
-    *reader = lent;
-    match answer {
-        Some(answer) => Ok(answer),
-        None => Err(refusal),
+    match gc_out_of_line(v, &mut lent, start, &mut refusal) {
+        Some(answer) => {
+            reader.set_position(lent.current_position());
+            Ok(answer)
+        }
+        None => {
+            reader.rewind(start);
+            Err(refusal)
+        }
     }
 }
 
@@ -137,11 +141,15 @@ fn misc_behind<V: VisitGroups>(
 {
     let mut lent = reader.clone();
     let mut refusal = place();
-    let answer = misc_out_of_line(v, &mut lent, start, &mut refusal);
-    *reader = lent;
-    match answer {
-        Some(answer) => Ok(answer),
-        None => Err(refusal),
+    match misc_out_of_line(v, &mut lent, start, &mut refusal) {
+        Some(answer) => {
+            reader.set_position(lent.current_position());
+            Ok(answer)
+        }
+        None => {
+            reader.rewind(start);
+            Err(refusal)
+        }
     }
 }
 
@@ -196,11 +204,15 @@ fn atomic_behind<V: VisitGroups>(
 {
     let mut lent = reader.clone();
     let mut refusal = place();
-    let answer = atomic_out_of_line(v, &mut lent, start, &mut refusal);
-    *reader = lent;
-    match answer {
-        Some(answer) => Ok(answer),
-        None => Err(refusal),
+    match atomic_out_of_line(v, &mut lent, start, &mut refusal) {
+        Some(answer) => {
+            reader.set_position(lent.current_position());
+            Ok(answer)
+        }
+        None => {
+            reader.rewind(start);
+            Err(refusal)
+        }
     }
 }
 
@@ -275,11 +287,15 @@ pub fn simd_of<V: VisitSimdOperator>(
     }
     let mut lent = reader.clone();
     let mut refusal = place();
-    let answer = simd_out_of_line(v, &mut lent, start, code, &mut refusal);
-    *reader = lent;
-    match answer {
-        Some(answer) => Ok(answer),
-        None => Err(refusal),
+    match simd_out_of_line(v, &mut lent, start, code, &mut refusal) {
+        Some(answer) => {
+            reader.set_position(lent.current_position());
+            Ok(answer)
+        }
+        None => {
+            reader.rewind(start);
+            Err(refusal)
+        }
     }
 }
 

@@ -160,6 +160,6 @@ fn branch_table<'a>(reader: &mut BinaryReader<'a>, start: usize) -> Result<BrTab
 {
     let mut lent = reader.clone();
     let targets = immediates::branch_table(&mut lent, start);
-    *reader = lent;
+    reader.set_position(lent.current_position());
     targets
 }

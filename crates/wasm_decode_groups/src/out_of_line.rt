@@ -29,7 +29,7 @@ pub fn other_one_byte<V: VisitOneByte>(
     let mut lent = reader.clone();
     let mut refusal = Error::new(Message::EndOfData, 0);
     let answer = out_of_line(v, alloc, &mut lent, start, frame, code, &mut refusal);
-    *reader = lent;
+    reader.set_position(lent.current_position());
     match answer {
         Some(answer) => Ok(answer),
         None => Err(refusal),

@@ -148,7 +148,7 @@ fn read_announced(
 {
     let mut lent = reader.clone();
     let answer = read_announced_out_of_line(&mut lent, start, flags, max_align, kind);
-    *reader = lent;
+    reader.set_position(lent.current_position());
     answer
 }
 

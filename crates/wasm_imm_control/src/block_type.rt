@@ -70,7 +70,7 @@ fn read_by_copy(reader: &mut BinaryReader<'_>) -> Result<BlockType>
 {
     let mut lent = reader.clone();
     let answer = read_other(&mut lent);
-    *reader = lent;
+    reader.set_position(lent.current_position());
     answer
 }
 

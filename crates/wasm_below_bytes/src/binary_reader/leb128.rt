@@ -2,15 +2,15 @@
 ghost use Rattle.std.specs.Prelude.{◌≡◌, ◌<◌, [], ◌∷◌, IfErr, IfSome, IfNone};
 ghost use Rattle.wasm_below_bytes.specs.Source.{Takes, Reads, U32Fault, U64Fault, I32Fault, S33Fault, I64Fault, as_too_long, offset_of, end_of};
 ghost use Rattle.wasm_below_bytes.specs.Number.{EncodesUnsigned, EncodesSigned};
-ghost use Rattle.wasm_below_bytes.specs.Leb128.{HasPlace, refusal_message, refusal_offset};
+ghost use Rattle.wasm_below_bytes.specs.Leb128.{HasPlace, refusal_message, refusal_of_code, refusal_offset};
 
 use super::BinaryReader;
 use crate::error::{Error, Result};
 use crate::long_numbers::{
-    NumberRefusal, last_value, long_i32, long_i64, long_s33, long_u32, long_u64, number_error,
-    two_bytes, u32_at,
+    NumberRefusal, last_value, long_i32, long_s33, number_error, two_bytes, u32_at,
 };
 use crate::message::{Message, NumberName};
+use crate::number_calls::{coded_error, long_i64, long_u32, long_u64};
 
 impl<'a> BinaryReader<'a> {
     /// An unsigned LEB128 number of 32 bits, in at most five bytes. Values, Integers.
@@ -126,13 +126,12 @@ impl<'a> BinaryReader<'a> {
             self.position = number.behind;
             return Ok(number.value as u32);
         }
-        match long_u32(self.buffer, self.position) {
-            Ok(number) => {
-                self.position = number.behind;
-                Ok(number.value as u32)
-            }
-            Err(refusal) => Err(self.no_number(refusal, 32, NumberName::VarU32)),
+        let number = long_u32(self.buffer, self.position);
+        if number.behind == 0 {
+            return Err(self.coded_refusal(number.value, 32, NumberName::VarU32));
         }
+        self.position = number.behind;
+        Ok(number.value as u32)
     }
 
     /// The long form of `read_var_u64`.
@@ -145,13 +144,12 @@ impl<'a> BinaryReader<'a> {
             self.position = number.behind;
             return Ok(number.value);
         }
-        match long_u64(self.buffer, self.position) {
-            Ok(number) => {
-                self.position = number.behind;
-                Ok(number.value)
-            }
-            Err(refusal) => Err(self.no_number(refusal, 64, NumberName::VarU64)),
+        let number = long_u64(self.buffer, self.position);
+        if number.behind == 0 {
+            return Err(self.coded_refusal(number.value, 64, NumberName::VarU64));
         }
+        self.position = number.behind;
+        Ok(number.value)
     }
 
     /// The long form of `read_var_i32`.
@@ -190,13 +188,24 @@ impl<'a> BinaryReader<'a> {
         ensures reads { Reads (EncodesSigned 64) result self.old self.new }
         ensures fault { IfErr result (λ e. I64Fault e.message self.old e.offset) }
     {
-        match long_i64(self.buffer, self.position) {
-            Ok(number) => {
-                self.position = number.behind;
-                Ok(number.value)
-            }
-            Err(refusal) => Err(self.no_number(refusal, 64, NumberName::VarI64)),
+        let number = long_i64(self.buffer, self.position);
+        if number.behind == 0 {
+            return Err(self.coded_refusal(number.value.unsigned_abs(), 64, NumberName::VarI64));
         }
+        self.position = number.behind;
+        Ok(number.value)
+    }
+
+    /// The error of a number that does not stand here, of whose refusal this is the code.
+    #[inline(always)]
+    fn coded_refusal(&self, code: u64, bits: u32, name: NumberName) -> Error
+        requires some { 0 < bits }
+        requires place { HasPlace (refusal_of_code code) bits (offset_of self.now) (end_of self.now) }
+        ensures message { result.message ≡ refusal_message (refusal_of_code code) name }
+        ensures offset { result.offset ≡ refusal_offset (refusal_of_code code) bits (offset_of self.now) (end_of self.now) }
+    {
+        let end = self.original_offset + self.buffer.len() as u64;
+        coded_error(code, self.original_position(), end, bits, name)
     }
 
     /// The error of a number of at most this many bits that does not stand here.

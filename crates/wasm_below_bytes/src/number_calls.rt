@@ -1,0 +1,94 @@
+//! Long LEB128 numbers by calls that stay calls. What such a call answers is two words, so that it
+//! stands in registers: an enum of more would go through memory. No number ends at the position 0, so
+//! that position says that none stands there, and the value is the code of the refusal.
+ghost use Rattle.std.specs.Prelude.{◌≡◌, ◌<◌, ◌^◌, unsigned_abs};
+ghost use Rattle.wasm_below_bytes.specs.Number.{EncodesUnsigned, EncodesSigned};
+ghost use Rattle.wasm_below_bytes.specs.Leb128.{NumberAt, NoNumber, HasPlace, refusal_of_code, refusal_message, refusal_offset};
+
+use crate::error::Error;
+use crate::long_numbers::{
+    NumberRefusal, Signed, Unsigned, number_error, read_signed, read_unsigned,
+};
+use crate::message::NumberName;
+
+/// The unsigned number of 32 bits at this position.
+#[inline(never)]
+pub fn long_u32(buffer: &[u8], start: usize) -> Unsigned
+    ensures number { 0 < result.behind → NumberAt (EncodesUnsigned 32) buffer.now start result.value result.behind }
+    ensures within { 0 < result.behind → result.value < 2 ^ 32 }
+    ensures refused { result.behind ≡ 0 → NoNumber (EncodesUnsigned 32) (refusal_of_code result.value) 32 buffer.now start }
+{
+    match read_unsigned(buffer, start, 32) {
+        Ok(number) => number,
+        Err(refusal) => Unsigned {
+            value: u64::from(refusal_code(refusal)),
+            behind: 0,
+        },
+    }
+}
+
+/// The unsigned number of 64 bits at this position.
+#[inline(never)]
+pub fn long_u64(buffer: &[u8], start: usize) -> Unsigned
+    ensures number { 0 < result.behind → NumberAt (EncodesUnsigned 64) buffer.now start result.value result.behind }
+    ensures refused { result.behind ≡ 0 → NoNumber (EncodesUnsigned 64) (refusal_of_code result.value) 64 buffer.now start }
+{
+    match read_unsigned(buffer, start, 64) {
+        Ok(number) => number,
+        Err(refusal) => Unsigned {
+            value: u64::from(refusal_code(refusal)),
+            behind: 0,
+        },
+    }
+}
+
+/// The signed number of 64 bits at this position.
+#[inline(never)]
+pub fn long_i64(buffer: &[u8], start: usize) -> Signed
+    ensures number { 0 < result.behind → NumberAt (EncodesSigned 64) buffer.now start result.value result.behind }
+    ensures refused { result.behind ≡ 0 → NoNumber (EncodesSigned 64) (refusal_of_code (unsigned_abs result.value)) 64 buffer.now start }
+{
+    match read_signed(buffer, start, 64) {
+        Ok(number) => number,
+        Err(refusal) => Signed {
+            value: i64::from(refusal_code(refusal)),
+            behind: 0,
+        },
+    }
+}
+
+/// The error of a refusal with this code.
+#[cold]
+#[inline(never)]
+pub fn coded_error(code: u64, start: u64, end: u64, bits: u32, name: NumberName) -> Error
+    requires some { 0 < bits }
+    requires place { HasPlace (refusal_of_code code) bits start end }
+    ensures message { result.message ≡ refusal_message (refusal_of_code code) name }
+    ensures offset { result.offset ≡ refusal_offset (refusal_of_code code) bits start end }
+{
+    number_error(refusal_of_code(code), start, end, bits, name)
+}
+
+/// The code of a refusal.
+#[inline(always)]
+fn refusal_code(refusal: NumberRefusal) -> u8
+    ensures { refusal_of_code result ≡ refusal }
+{
+    match refusal {
+        NumberRefusal::EndOfData => 0,
+        NumberRefusal::TooLong => 1,
+        NumberRefusal::TooLarge => 2,
+    }
+}
+
+/// The refusal of a code.
+#[inline(always)]
+fn refusal_of_code(code: u64) -> NumberRefusal
+    ensures { result ≡ refusal_of_code code }
+{
+    match code {
+        0 => NumberRefusal::EndOfData,
+        1 => NumberRefusal::TooLong,
+        _ => NumberRefusal::TooLarge,
+    }
+}
