@@ -6,7 +6,7 @@ use Rattle.wasm_module.specs.below.Sequence.{PrefixCode}
 use Rattle.wasm_module.specs.below.Source.{Reader}
 use Rattle.wasm_module.specs.Imports.{EncodesImport}
 use Rattle.wasm_functions.specs.Sections.{IsSection}
-use Rattle.wasm_functions.specs.Table.{Table, functions_in, CountsImports, ListsTypes, NamesFunctions, IsTableOf}
+use Rattle.wasm_functions.specs.ModuleFunctions.{ModuleFunctions, functions_in, CountsImports, ListsTypes, NamesFunctions, TellsFunctions}
 use Rattle.wasm_functions.proofs.Next.{one_list}
 use Rattle.wasm_functions.proofs.Unique.{one_found}
 
@@ -20,8 +20,8 @@ module _ (numbers : PrefixCode (EncodesUnsigned 32)) where
   one_types None ts us a b = a ∙ sym b
   one_types (Some contents) ts us a b = one_list (EncodesUnsigned 32) numbers numbers contents ts us a b
 
-pub one_own : PrefixCode (EncodesUnsigned 32) → PrefixCode (EncodesFixed w32) → PrefixCode EncodesImport → (whole : Reader) (t u : Table) →
-    IsTableOf whole t → IsTableOf whole u → (t.imported ≡ u.imported) × (t.types ≡ u.types)
+pub one_own : PrefixCode (EncodesUnsigned 32) → PrefixCode (EncodesFixed w32) → PrefixCode EncodesImport → (whole : Reader) (t u : ModuleFunctions) →
+    TellsFunctions whole t → TellsFunctions whole u → (t.imported ≡ u.imported) × (t.types ≡ u.types)
 one_own numbers fixed code whole t u a b =
     let imports = one_found numbers fixed whole 2 a.imports b.imports a.section_of_imports b.section_of_imports in
     let functions = one_found numbers fixed whole 3 a.functions b.functions a.section_of_functions b.section_of_functions in (
@@ -29,12 +29,12 @@ one_own numbers fixed code whole t u a b =
       one_types numbers b.functions t.types u.types (subst (λ s. ListsTypes s t.types) functions a.types) b.types,
     )
 
--- the names that a table has are those of as many functions as were found
-pub names_of_table : PrefixCode (EncodesUnsigned 32) → PrefixCode (EncodesFixed w32) → PrefixCode EncodesImport → (whole : Reader) (t : Table) →
-    IsTableOf whole t → (n : ℕ) → (section : Option Reader) × IsSection whole 2 section × CountsImports section n → (types : List ℕ) →
+-- the names that a module tells are those of as many functions as were found
+pub names_of_functions : PrefixCode (EncodesUnsigned 32) → PrefixCode (EncodesFixed w32) → PrefixCode EncodesImport → (whole : Reader) (t : ModuleFunctions) →
+    TellsFunctions whole t → (n : ℕ) → (section : Option Reader) × IsSection whole 2 section × CountsImports section n → (types : List ℕ) →
     (section : Option Reader) × IsSection whole 3 section × ListsTypes section types → (count : ℕ) → count ≡ length types →
     NamesFunctions whole n count t.names
-names_of_table numbers fixed code whole t is n (imports, there, counted) types (functions, there', listed) count all =
+names_of_functions numbers fixed code whole t is n (imports, there, counted) types (functions, there', listed) count all =
     let imported = one_count numbers code is.imports n t.imported (subst (λ s. CountsImports s n) (same_imports imports there) counted) is.imported in
     let own = one_types numbers is.functions types t.types (subst (λ s. ListsTypes s types) (same_functions functions there') listed) is.types in
     subst (λ k. NamesFunctions whole n k t.names) (sym (all ∙ ap length own))

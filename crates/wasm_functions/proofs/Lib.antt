@@ -9,3 +9,6 @@ pub mod Laws
 pub mod OfSection
 pub mod Refused
 pub mod OneFault
+pub mod OneListFault
+pub mod OneTypesFault
+pub mod OneModuleFault

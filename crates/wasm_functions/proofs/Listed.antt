@@ -5,7 +5,7 @@ use Rattle.wasm_module.specs.below.Source.{Reader, Reads}
 use Rattle.wasm_module.specs.below.Number.{EncodesUnsigned}
 use Rattle.wasm_module.specs.Imports.{ImportParts}
 use Rattle.wasm_functions.specs.Items.{ItemsStand, IsList}
-use Rattle.wasm_functions.specs.Table.{functions_in}
+use Rattle.wasm_functions.specs.ModuleFunctions.{functions_in}
 
 pub item_more : {X : Type 0} (P : List ℕ → X → Type 0) (r : Reader) (xs : List X) (mid new : Reader) (x : X) → ItemsStand P r xs mid →
     Reads P (Ok x) mid new → ItemsStand P r (xs ++ x ∷ []) new

@@ -87,12 +87,12 @@ module _ (rec_type : PrefixCode EncodesRecTypeLength) (sub : PrefixCode EncodesS
   one_announced n m r a b (inr p) (inl q) = absurd (p.0 q.0)
   one_announced n m r a b (inr p) (inr q) = (p.1 ∙ sym q.1, p.2 ∙ sym q.2)
 
-  one_rec_type : (r mid end : Reader) (g h : List CompositeType) → RecTypeStands r g mid → RecTypeStands r h end → (g ≡ h) × (mid ≡ end)
+  pub one_rec_type : (r mid end : Reader) (g h : List CompositeType) → RecTypeStands r g mid → RecTypeStands r h end → (g ≡ h) × (mid ≡ end)
   one_rec_type r mid end g h (first, announces, stand) (first', announces', stand') =
       let same = one_announced (length g) (length h) r first first' announces announces' in
       same_items EncodesSubType sub first g h mid end stand (subst (λ z. ItemsStand EncodesSubType z h end) (sym same.1) stand') same.0
 
-  more_rec_types : (r : Reader) (gs hs : List (List CompositeType)) (mid end : Reader) → RecTypesStand r gs mid → RecTypesStand r hs end → length gs < length hs →
+  pub more_rec_types : (r : Reader) (gs hs : List (List CompositeType)) (mid end : Reader) → RecTypesStand r gs mid → RecTypesStand r hs end → length gs < length hs →
       (h : List CompositeType) × (others : List (List CompositeType)) × (next : Reader) × (hs ≡ gs ++ h ∷ others) × RecTypeStands mid h next
   more_rec_types r gs [] mid end a b l = absurd (omega (arith, l))
   more_rec_types r [] (h ∷ hs) mid end a (next, stands, others) l = (h, hs, next, refl, subst (λ z. RecTypeStands z h next) (sym a) stands)

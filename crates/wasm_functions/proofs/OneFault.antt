@@ -20,7 +20,7 @@ use Rattle.wasm_functions.proofs.Unique.{one_step, one_preamble, begins_as, no_p
 abbrev error_by : Message → ℕ → Error
 error_by message offset = record { message = message; offset = offset }
 
-one_error : (e f : Error) → (e.message ≡ f.message) × (e.offset ≡ f.offset) → e ≡ f
+pub one_error : (e f : Error) → (e.message ≡ f.message) × (e.offset ≡ f.offset) → e ≡ f
 one_error e f same = ap (λ m. error_by m e.offset) same.0 ∙ ap (λ o. error_by f.message o) same.1
 
 module _ (numbers : PrefixCode (EncodesUnsigned 32)) where

@@ -2,7 +2,7 @@
 use Rattle.std.proofs.Common.{◌≡◌, ℕ, Bool, true, false, List, [], refl}
 use Rattle.std.specs.Str.{IsUtf8, is_utf8}
 use Rattle.std.proofs.lemmas.Str.{IsUtf8-from_is_utf8, is_utf8-from_IsUtf8}
-use Rattle.wasm_functions.specs.Table.{text_of_name}
+use Rattle.wasm_functions.specs.ModuleFunctions.{text_of_name}
 
 pub name_is_text : (bs : List ℕ) → IsUtf8 bs → bs ≡ text_of_name bs
 name_is_text bs p = rw (is_utf8-from_IsUtf8 bs p) refl

@@ -18,13 +18,18 @@ use Rattle.wasm_module.specs.declared.preamble.PreambleKind.TheVariants as kind
 use Rattle.wasm_functions.specs.Items.{ItemsStand}
 use Rattle.wasm_functions.specs.Parameters.{AreKnownTypes, Announces, RecTypesStand, CountsParameters}
 use Rattle.wasm_functions.specs.Sections.{BeginsModule, SectionsStand, IsSection}
-use Rattle.wasm_functions.specs.Table.{IsKnownImport, CountsImports, ListsTypes}
+use Rattle.wasm_functions.specs.ModuleFunctions.{IsKnownImport, CountsImports, ListsTypes}
 use Rattle.wasm_functions.specs.declared.fault.ModuleFault.{ModuleFault}
 use Rattle.wasm_functions.specs.declared.fault.ModuleFault.TheVariants as fault
 
 -- What should stand here is refused: no prefix of the rest is one, and message and offset are those of its fault.
 abbrev pub IsRefusedAs : {X : Type 0} → (List ℕ → X → Type 0) → (Message → Reader → ℕ → Type 0) → Error → Reader → Type 0
 IsRefusedAs Encodes Fault e r = IsRefusal Encodes e r × Fault e.message r e.offset
+
+-- The fault is a refusal, of which this holds.
+abbrev pub RefusedWith : (Error → Type 0) → ModuleFault → Type 0
+RefusedWith Holds (fault.Refused e) = Holds e
+RefusedWith Holds _ = ⊥
 
 -- The bytes begin with a preamble that says this of the binary.
 abbrev pub BeginsAs : PreambleKind → Reader → Type 0
@@ -81,8 +86,7 @@ FunctionsFault _ contents = ⊥
 
 -- Of exports.
 abbrev pub ExportsFault : ModuleFault → Reader → Type 0
-ExportsFault (fault.Refused e) contents = ListFault EncodesExport ExportFault IsAny e contents
-ExportsFault _ contents = ⊥
+ExportsFault f contents = RefusedWith (λ e. ListFault EncodesExport ExportFault IsAny e contents) f
 
 -- Fewer sub types than this many stand up to the second reader, all of known sorts.
 pub record HasSubTypesTo (n : ℕ) (r next : Reader) : Type 0 where
@@ -101,8 +105,7 @@ SubTypesFault _ n r = ⊥
 
 -- The number of sub types is refused that a recursive type announces.
 abbrev pub AnnouncedFault : ModuleFault → Reader → Type 0
-AnnouncedFault (fault.Refused e) r = BeginsWith 0x4e (rest r) × IsRefusedAs EncodesRecTypeLength RecTypeLengthFault e r
-AnnouncedFault _ r = ⊥
+AnnouncedFault f r = RefusedWith (λ e. BeginsWith 0x4e (rest r) × IsRefusedAs EncodesRecTypeLength RecTypeLengthFault e r) f
 
 -- That is refused, or one of them.
 abbrev pub RecTypeFault : ModuleFault → Reader → Type 0
@@ -120,8 +123,7 @@ pub record HasTypesTo (contents next : Reader) : Type 0 where
 
 -- The number of recursive types is refused.
 abbrev pub TypesLengthFault : ModuleFault → Reader → Type 0
-TypesLengthFault (fault.Refused e) contents = IsRefusedAs (EncodesUnsigned 32) U32Fault e contents
-TypesLengthFault _ contents = ⊥
+TypesLengthFault f contents = RefusedWith (λ e. IsRefusedAs (EncodesUnsigned 32) U32Fault e contents) f
 
 -- Which fault the contents of a section of types have: that number is refused, or behind some recursive types the next.
 abbrev pub TypesFault : ModuleFault → Reader → Type 0
@@ -151,8 +153,8 @@ NamesFault f whole = (f ≡ fault.Memory) ⊎ SectionFaultAt f whole 7 ExportsFa
 
 -- Which fault comes in place of the functions of a module: that of bytes that are no module; or of the first section that is refused, in this order: types,
 -- imports, functions, exports; or memory is refused.
-abbrev pub TableFault : ModuleFault → Reader → Type 0
-TableFault fault whole =
+abbrev pub ModuleFunctionsFault : ModuleFault → Reader → Type 0
+ModuleFunctionsFault fault whole =
     SectionFaultAt fault whole 1 TypesFault ⊎
     ((HasTypes whole × SectionFaultAt fault whole 2 ImportsFault) ⊎
     ((HasTypes whole × HasImports whole × SectionFaultAt fault whole 3 FunctionsFault) ⊎

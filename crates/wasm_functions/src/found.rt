@@ -6,7 +6,7 @@ ghost use Rattle.wasm_functions.specs.Names.{bytes_of, NamesExported, NamesGiven
 ghost use Rattle.wasm_functions.specs.Parameters.{CountsParameters};
 ghost use Rattle.wasm_functions.specs.Refusals.{SectionsFault, SectionFaultAt, TypesFault, ImportsFault, FunctionsFault, ExportsFault, NamesFault};
 ghost use Rattle.wasm_functions.specs.Sections.{IsSection};
-ghost use Rattle.wasm_functions.specs.Table.{CountsImports, ListsTypes, NamesFunctions};
+ghost use Rattle.wasm_functions.specs.ModuleFunctions.{CountsImports, ListsTypes, NamesFunctions};
 
 use crate::fault::ModuleFault;
 use crate::imports::imported_functions;

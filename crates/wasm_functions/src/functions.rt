@@ -2,9 +2,9 @@
 ghost use Rattle.std.specs.Prelude.{◌≡◌, ◌↔◌, [], List, IsTrue, IfOk, IfErr};
 ghost use Rattle.wasm_module.specs.below.Source.{reader_of};
 ghost use Rattle.wasm_module.specs.Module.{SectionParts};
-ghost use Rattle.wasm_functions.specs.Refusals.{TableFault};
+ghost use Rattle.wasm_functions.specs.Refusals.{ModuleFunctionsFault};
 ghost use Rattle.wasm_functions.specs.Sections.{IsModule};
-ghost use Rattle.wasm_functions.specs.Table.{Table, IsTableOf, IsOwn, index_of, parameters_at, text_of_name, name_at, NamesModule};
+ghost use Rattle.wasm_functions.specs.ModuleFunctions.{ModuleFunctions, TellsFunctions, IsOwn, index_of, parameters_at, text_of_name, name_at, NamesModule};
 
 use crate::fault::ModuleFault;
 use crate::found::{find_function_names, find_imported, find_parameters, find_types};
@@ -28,9 +28,9 @@ pub struct Functions<'a> {
 
 impl<'a> Model for Functions<'a> {
     ghost use Rattle.wasm_functions.specs.Names.{bytes_of};
-    ghost use Rattle.wasm_functions.specs.Table.{Table};
+    ghost use Rattle.wasm_functions.specs.ModuleFunctions.{ModuleFunctions};
 
-    ghost Value = { Table };
+    ghost Value = { ModuleFunctions };
 
     ghost view = { λ f. record { imported = f.imported; parameters = f.parameters.items; types = f.types.items; names = bytes_of f.names.items } };
 }
@@ -48,10 +48,10 @@ impl<'a> Functions<'a> {
         features: WasmFeatures,
         bytes: &'a [u8],
     ) -> Result<Functions<'a>, ModuleFault>
-        ensures ok { IfOk result (λ f. IsTableOf (reader_of features 0 bytes.now) f) }
-        ensures refused { IfErr result (λ fault. (t : Table) → IsTableOf (reader_of features 0 bytes.now) t
+        ensures ok { IfOk result (λ f. TellsFunctions (reader_of features 0 bytes.now) f) }
+        ensures refused { IfErr result (λ fault. (t : ModuleFunctions) → TellsFunctions (reader_of features 0 bytes.now) t
             → fault ≡ ModuleFault.Memory) }
-        ensures fault { IfErr result (λ fault. TableFault fault (reader_of features 0 bytes.now)) }
+        ensures fault { IfErr result (λ fault. ModuleFunctionsFault fault (reader_of features 0 bytes.now)) }
     {
         unsigned_numbers();
         fixed_numbers();

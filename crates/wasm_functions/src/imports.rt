@@ -1,7 +1,7 @@
 //! How many functions are imported.
 ghost use Rattle.std.specs.Prelude.{ℕ, Some, IfOk, IfErr};
 ghost use Rattle.wasm_functions.specs.Refusals.{ImportsFault};
-ghost use Rattle.wasm_functions.specs.Table.{CountsImports};
+ghost use Rattle.wasm_functions.specs.ModuleFunctions.{CountsImports};
 
 use crate::fault::ModuleFault;
 use wasm_module::below::BinaryReader;

@@ -4,11 +4,11 @@
 
 mod fault;
 mod found;
+pub mod function_laws;
 mod functions;
 mod imports;
 mod names;
 mod sections;
-pub mod table_laws;
 mod types;
 
 pub use fault::ModuleFault;

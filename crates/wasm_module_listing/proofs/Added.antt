@@ -3,12 +3,12 @@ use Rattle.std.proofs.Common.{◌≡◌, ℕ, ◌+◌, List, [], ◌∷◌, ◌+
 use Rattle.wasm_disassembly.specs.operators.below.bytes.error.Error.{Error}
 use Rattle.wasm_disassembly.specs.operators.below.bytes.features.WasmFeatures.{WasmFeatures}
 use Rattle.wasm_disassembly.specs.operators.below.Source.{Reader}
-use Rattle.wasm_functions.specs.Table.{Table}
+use Rattle.wasm_functions.specs.ModuleFunctions.{ModuleFunctions}
 use Rattle.wasm_module_listing.specs.Listing.{Refusals, Told}
 use Rattle.wasm_module_listing.specs.ModuleCensus.{IsAdded, AreAdded, Adds, no_counts}
 use Rattle.wasm_module_listing.proofs.Bodies.{told_both}
 
-added_more : (features : WasmFeatures) (t : Table) (only : Option ℕ) (place : ℕ) (bs : List Reader) (b : Reader) (told one : Refusals)
+added_more : (features : WasmFeatures) (t : ModuleFunctions) (only : Option ℕ) (place : ℕ) (bs : List Reader) (b : Reader) (told one : Refusals)
     (before mid after : List ℕ) (at : ℕ) → at ≡ place + length bs → AreAdded features t only place bs told before mid →
     IsAdded features t only at b one mid after → AreAdded features t only place (bs ++ b ∷ []) (told ++ one) before after
 added_more features t only place [] b told one before mid after at is (all, none) added =
@@ -31,12 +31,12 @@ added_more features t only place (c ∷ cs) b told one before mid after at is (f
     )
 
 -- none was counted
-pub adds_none : {S : Type 0} (tells : S → ℕ → Error → S → Type 0) (features : WasmFeatures) (t : Table) (only : Option ℕ) (s : S) →
+pub adds_none : {S : Type 0} (tells : S → ℕ → Error → S → Type 0) (features : WasmFeatures) (t : ModuleFunctions) (only : Option ℕ) (s : S) →
     Adds tells features t only [] [] s s no_counts
 adds_none tells features t only s = record { added = (refl, refl); told_of = refl }
 
 -- one more was counted
-pub adds_more : {S : Type 0} (tells : S → ℕ → Error → S → Type 0) (features : WasmFeatures) (t : Table) (only : Option ℕ) (bs : List Reader) (b : Reader)
+pub adds_more : {S : Type 0} (tells : S → ℕ → Error → S → Type 0) (features : WasmFeatures) (t : ModuleFunctions) (only : Option ℕ) (bs : List Reader) (b : Reader)
     (told one : Refusals) (at : ℕ) (before mid after : S) (counts more : List ℕ) → at ≡ length bs →
     Adds tells features t only bs told before mid counts → IsAdded features t only at b one counts more → Told tells one mid after →
     Adds tells features t only (bs ++ b ∷ []) (told ++ one) before after more

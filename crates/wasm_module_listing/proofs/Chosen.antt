@@ -19,6 +19,10 @@ pub not_on_false : (b : Bool) (P : Type 0) → not b ≡ false → OnFalse b P
 not_on_false true P is = tt
 not_on_false false P is = let h : true ≡ false = is in absurd cc
 
+pub not_on_true : (b : Bool) (P : Type 0) → not b ≡ true → OnTrue b P
+not_on_true true P is = let h : false ≡ true = is in absurd cc
+not_on_true false P is = tt
+
 -- where nothing is counted, nothing is written
 pub tabulates_none : {S : Type 0} (tells : S → ℕ → Error → S → Type 0) (features : WasmFeatures) (only : Option ℕ) (bytes : List ℕ) (f : Fault)
     (before after : S) (old : Option (List ℕ)) → CountsModule tells features only bytes (Err f) before after →

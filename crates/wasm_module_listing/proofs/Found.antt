@@ -3,7 +3,7 @@ use Rattle.std.proofs.Common.{◌≡◌, ◌&&◌, ℕ, ◌+◌, ◌-◌, ◌^�
 use Rattle.wasm_disassembly.specs.operators.below.bytes.features.WasmFeatures.{WasmFeatures}
 use Rattle.wasm_disassembly.specs.operators.below.Source.{Reader, reader_of}
 use Rattle.wasm_functions.specs.Sections.{IsSection}
-use Rattle.wasm_functions.specs.Table.{Table, IsTableOf, IsOwn, index_of}
+use Rattle.wasm_functions.specs.ModuleFunctions.{ModuleFunctions, TellsFunctions, IsOwn, index_of}
 use Rattle.wasm_module_listing.specs.declared.fault.Fault.{Fault}
 use Rattle.wasm_module_listing.specs.declared.fault.Fault.TheVariants as fault
 use Rattle.wasm_module_listing.specs.Listing.{is_asked, WhereAsked, AreAsked, HasAsked, IsModuleOf, OpensModule, RefusesModule, IsThere, IsOutside}
@@ -14,7 +14,7 @@ both_true true false p q = q
 both_true false b p q = p
 
 -- the bodies before the last, and the last
-pub asked_split : (Is : Reader → Type 0) (t : Table) (only : Option ℕ) (place : ℕ) (bs : List Reader) (b : Reader) (at : ℕ) → at ≡ place + length bs →
+pub asked_split : (Is : Reader → Type 0) (t : ModuleFunctions) (only : Option ℕ) (place : ℕ) (bs : List Reader) (b : Reader) (at : ℕ) → at ≡ place + length bs →
     AreAsked Is t only place (bs ++ b ∷ []) → AreAsked Is t only place bs × WhereAsked (is_asked only (index_of t at)) (Is b) (Unit {0})
 asked_split Is t only place [] b at is (one, none) =
     let here : place ≡ at = let h : at ≡ place + 0 = is in omega (arith, h) in
@@ -23,8 +23,8 @@ asked_split Is t only place (c ∷ cs) b at is (first, others) =
     let next : at ≡ place + 1 + length cs = is ∙ omega arith in
     let more = asked_split Is t only (place + 1) cs b at next others in ((first, more.0), more.1)
 
--- another table that imports as many functions numbers them in the same way
-same_asked : (Is : Reader → Type 0) (t u : Table) (only : Option ℕ) (place : ℕ) (bs : List Reader) → t.imported ≡ u.imported →
+-- another module that imports as many functions numbers them in the same way
+same_asked : (Is : Reader → Type 0) (t u : ModuleFunctions) (only : Option ℕ) (place : ℕ) (bs : List Reader) → t.imported ≡ u.imported →
     AreAsked Is t only place bs → AreAsked Is u only place bs
 same_asked Is t u only place [] same h = tt
 same_asked Is t u only place (b ∷ bs) same (one, others) = (
@@ -32,38 +32,38 @@ same_asked Is t u only place (b ∷ bs) same (one, others) = (
   same_asked Is t u only (place + 1) bs same others,
 )
 
-same_found : (Is : Reader → Type 0) (t u : Table) (only : Option ℕ) (code : Option Reader) → t.imported ≡ u.imported → HasAsked Is t only code →
+same_found : (Is : Reader → Type 0) (t u : ModuleFunctions) (only : Option ℕ) (code : Option Reader) → t.imported ≡ u.imported → HasAsked Is t only code →
     HasAsked Is u only code
 same_found Is t u only None same h = tt
 same_found Is t u only (Some contents) same (bodies, is, asked) = (bodies, is, same_asked Is t u only 0 bodies same asked)
 
-same_own : (t u : Table) (index : ℕ) → t.imported ≡ u.imported → t.types ≡ u.types → IsOwn t index → IsOwn u index
+same_own : (t u : ModuleFunctions) (index : ℕ) → t.imported ≡ u.imported → t.types ≡ u.types → IsOwn t index → IsOwn u index
 same_own t u index imported types (from, to) = let l = ap length types in (omega (arith, imported, from), omega (arith, imported, l, to))
 
 abbrev OneSection : Type 0
 OneSection = (whole : Reader) → (id : ℕ) → (a b : Option Reader) → IsSection whole id a → IsSection whole id b → a ≡ b
 
-abbrev OneTable : Type 0
-OneTable = (whole : Reader) → (t u : Table) → IsTableOf whole t → IsTableOf whole u → (t.imported ≡ u.imported) × (t.types ≡ u.types)
+abbrev SameFunctions : Type 0
+SameFunctions = (whole : Reader) → (t u : ModuleFunctions) → TellsFunctions whole t → TellsFunctions whole u → (t.imported ≡ u.imported) × (t.types ≡ u.types)
 
 -- a module of which each function that is asked for has such a body has these where it was opened
-pub asked_there : OneSection → OneTable → (Is : Reader → Type 0) (features : WasmFeatures) (only : Option ℕ) (bytes : List ℕ) (t : Table)
+pub asked_there : OneSection → SameFunctions → (Is : Reader → Type 0) (features : WasmFeatures) (only : Option ℕ) (bytes : List ℕ) (t : ModuleFunctions)
     (code : Option Reader) → OpensModule features only bytes t code → IsModuleOf Is features only bytes → HasAsked Is t only code
-asked_there one_section one_table Is features only bytes t code o h =
+asked_there one_section same_functions Is features only bytes t code o h =
     let whole = reader_of features 0 bytes in
     let found = one_section whole 10 h.code code h.opens.is_code o.is_code in
-    let table = one_table whole h.table t h.opens.is_table o.is_table in
-    subst (λ c. HasAsked Is t only c) found (same_found Is h.table t only h.code table.0 h.bodies)
+    let same = same_functions whole h.functions t h.opens.is_told o.is_told in
+    subst (λ c. HasAsked Is t only c) found (same_found Is h.functions t only h.code same.0 h.bodies)
 
 -- and is refused for memory alone
-pub refused_outside : OneTable → (Is : Reader → Type 0) (features : WasmFeatures) (only : Option ℕ) (bytes : List ℕ) (f : Fault) →
+pub refused_outside : SameFunctions → (Is : Reader → Type 0) (features : WasmFeatures) (only : Option ℕ) (bytes : List ℕ) (f : Fault) →
     RefusesModule features only bytes f → IsModuleOf Is features only bytes → IsOutside f
-refused_outside one_table Is features only bytes (fault.Module f) refuses h = refuses h.table h.opens.is_table
-refused_outside one_table Is features only bytes (fault.NoFunction index) (is, lacks) h =
-    let table = one_table (reader_of features 0 bytes) h.table lacks.table h.opens.is_table lacks.is_table in
-    let own : IsOwn h.table index = subst (λ o. IsThere h.table o) is h.opens.is_there in
-    absurd (lacks.is_not (same_own h.table lacks.table index table.0 table.1 own))
-refused_outside one_table Is features only bytes (fault.Code e) refuses h = absurd refuses
-refused_outside one_table Is features only bytes fault.Reading refuses h = absurd refuses
-refused_outside one_table Is features only bytes fault.Writing refuses h = absurd refuses
-refused_outside one_table Is features only bytes fault.Memory refuses h = absurd refuses
+refused_outside same_functions Is features only bytes (fault.Module f) refuses h = refuses.1 h.functions h.opens.is_told
+refused_outside same_functions Is features only bytes (fault.NoFunction index) (is, lacks) h =
+    let same = same_functions (reader_of features 0 bytes) h.functions lacks.functions h.opens.is_told lacks.is_told in
+    let own : IsOwn h.functions index = subst (λ o. IsThere h.functions o) is h.opens.is_there in
+    absurd (lacks.is_not (same_own h.functions lacks.functions index same.0 same.1 own))
+refused_outside same_functions Is features only bytes (fault.Code e) refuses h = absurd refuses
+refused_outside same_functions Is features only bytes fault.Reading refuses h = absurd refuses
+refused_outside same_functions Is features only bytes fault.Writing refuses h = absurd refuses
+refused_outside same_functions Is features only bytes fault.Memory refuses h = absurd refuses

@@ -3,11 +3,11 @@ use Rattle.std.proofs.Common.{◌≡◌, ℕ, ◌+◌, List, [], ◌∷◌, ◌+
 use Rattle.std.specs.Io.KnownBytes.{Appends}
 use Rattle.wasm_disassembly.specs.operators.below.bytes.error.Error.{Error}
 use Rattle.wasm_disassembly.specs.operators.below.Source.{Reader}
-use Rattle.wasm_functions.specs.Table.{Table}
+use Rattle.wasm_functions.specs.ModuleFunctions.{ModuleFunctions}
 use Rattle.wasm_module_listing.specs.Listing.{Refusals, Told, IsWritten, AreWritten, Writes}
 use Rattle.wasm_module_listing.proofs.Bodies.{told_both, appends_both, appends_none}
 
-written_more : (t : Table) (only : Option ℕ) (place : ℕ) (bs : List Reader) (b : Reader) (told one : Refusals) (text own : List ℕ) (at : ℕ) →
+written_more : (t : ModuleFunctions) (only : Option ℕ) (place : ℕ) (bs : List Reader) (b : Reader) (told one : Refusals) (text own : List ℕ) (at : ℕ) →
     at ≡ place + length bs → AreWritten t only place bs told text → IsWritten t only at b one own →
     AreWritten t only place (bs ++ b ∷ []) (told ++ one) (text ++ own)
 written_more t only place [] b told one text own at is (all, none) written =
@@ -34,12 +34,12 @@ written_more t only place (c ∷ cs) b told one text own at is (first, others, f
     )
 
 -- none was written
-pub writes_none : {S : Type 0} (tells : S → ℕ → Error → S → Type 0) (t : Table) (only : Option ℕ) (s : S) (old : Option (List ℕ)) →
+pub writes_none : {S : Type 0} (tells : S → ℕ → Error → S → Type 0) (t : ModuleFunctions) (only : Option ℕ) (s : S) (old : Option (List ℕ)) →
     Writes tells t only [] [] s s old old
 writes_none tells t only s old = record { text = []; written = (refl, refl); appends = appends_none old; told_of = refl }
 
 -- one more was written
-pub writes_more : {S : Type 0} (tells : S → ℕ → Error → S → Type 0) (t : Table) (only : Option ℕ) (bs : List Reader) (b : Reader) (told one : Refusals)
+pub writes_more : {S : Type 0} (tells : S → ℕ → Error → S → Type 0) (t : ModuleFunctions) (only : Option ℕ) (bs : List Reader) (b : Reader) (told one : Refusals)
     (own : List ℕ) (at : ℕ) (before mid after : S) (old between new : Option (List ℕ)) → at ≡ length bs →
     Writes tells t only bs told before mid old between → IsWritten t only at b one own → Told tells one mid after → Appends between new own →
     Writes tells t only (bs ++ b ∷ []) (told ++ one) before after old new

@@ -13,8 +13,9 @@ use Rattle.wasm_disassembly.specs.operators.Locals.{Declaration, max_locals}
 use Rattle.wasm_disassembly.specs.operators.Section.{StopsSection}
 use Rattle.wasm_disassembly.specs.Disassembly.{Heading, IsText}
 use Rattle.wasm_disassembly.specs.LocalLines.{locals_in}
+use Rattle.wasm_functions.specs.Refusals.{ModuleFunctionsFault}
 use Rattle.wasm_functions.specs.Sections.{IsSection}
-use Rattle.wasm_functions.specs.Table.{Table, IsTableOf, IsOwn, index_of, name_at, parameters_at, NamesModule}
+use Rattle.wasm_functions.specs.ModuleFunctions.{ModuleFunctions, TellsFunctions, IsOwn, index_of, name_at, parameters_at, NamesModule}
 use Rattle.wasm_functions.specs.declared.fault.ModuleFault.TheVariants as whole_fault
 use Rattle.wasm_module_listing.specs.declared.fault.Fault.{Fault}
 use Rattle.wasm_module_listing.specs.declared.fault.Fault.TheVariants as fault
@@ -69,7 +70,7 @@ Told tells [] old new = new ≡ old
 Told {S} tells (r ∷ rs) old new = (mid : S) × tells old r.0 r.1 mid × Told tells rs mid new
 
 -- What the text of the own function at a place begins with.
-abbrev pub heading_at : Table → ℕ → Heading
+abbrev pub heading_at : ModuleFunctions → ℕ → Heading
 heading_at t place = record { index = index_of t place; name = name_at t place; parameters = parameters_at t place }
 
 -- What a body that ended so is told of.
@@ -78,24 +79,24 @@ refusals_of index (Ok x) = []
 refusals_of index (Err e) = (index, e) ∷ []
 
 -- The text of the function at a place: of the body that the bytes are; or, of other bytes, of what stands before the refusal, which is told.
-abbrev pub ListsFunction : Table → ℕ → Reader → Refusals → List ℕ → Type 0
+abbrev pub ListsFunction : ModuleFunctions → ℕ → Reader → Refusals → List ℕ → Type 0
 ListsFunction t place body told text =
     (answer : Result (Unit {0}) Error) × IsText (heading_at t place) answer body text × (told ≡ refusals_of (index_of t place) answer)
 
 -- What is written of the function at a place: its text, or nothing where it is not asked for.
-abbrev pub IsWritten : Table → Option ℕ → ℕ → Reader → Refusals → List ℕ → Type 0
+abbrev pub IsWritten : ModuleFunctions → Option ℕ → ℕ → Reader → Refusals → List ℕ → Type 0
 IsWritten t only place body told text =
     WhereAsked (is_asked only (index_of t place)) (ListsFunction t place body told text) ((told ≡ []) × (text ≡ []))
 
 -- What is written of these functions, from a place on, one behind the other, and what is told.
-abbrev pub AreWritten : Table → Option ℕ → ℕ → List Reader → Refusals → List ℕ → Type 0
+abbrev pub AreWritten : ModuleFunctions → Option ℕ → ℕ → List Reader → Refusals → List ℕ → Type 0
 AreWritten t only place [] told text = (told ≡ []) × (text ≡ [])
 AreWritten t only place (b ∷ bs) told text =
     (one others : Refusals) × (own more : List ℕ) × (told ≡ one ++ others) × (text ≡ own ++ more) × IsWritten t only place b one own ×
     AreWritten t only (place + 1) bs others more
 
 -- These functions were written and told of, the first ones of a module.
-pub record Writes {S : Type 0} (tells : S → ℕ → Error → S → Type 0) (t : Table) (only : Option ℕ) (bodies : List Reader) (told : Refusals)
+pub record Writes {S : Type 0} (tells : S → ℕ → Error → S → Type 0) (t : ModuleFunctions) (only : Option ℕ) (bodies : List Reader) (told : Refusals)
     (before after : S) (old new : Option (List ℕ)) : Type 0 where
   pub text : List ℕ
   pub written : AreWritten t only 0 bodies told text
@@ -104,7 +105,7 @@ pub record Writes {S : Type 0} (tells : S → ℕ → Error → S → Type 0) (t
 
 -- The functions of a code section are written, and answered is whether none is refused; or the section is refused, behind those that stand before.
 -- Of the other faults nothing is said here.
-abbrev pub ListsCode : {S : Type 0} → (S → ℕ → Error → S → Type 0) → Table → Option ℕ → Reader → Result Bool Fault → S → S → Option (List ℕ) →
+abbrev pub ListsCode : {S : Type 0} → (S → ℕ → Error → S → Type 0) → ModuleFunctions → Option ℕ → Reader → Result Bool Fault → S → S → Option (List ℕ) →
     Option (List ℕ) → Type 0
 ListsCode tells t only contents (Ok whole) before after old new =
     (bodies : List Reader) × IsCode contents bodies × (told : Refusals) × Writes tells t only bodies told before after old new × (whole ≡ are_none told)
@@ -113,7 +114,7 @@ ListsCode tells t only contents (Err (fault.Code e)) before after old new =
 ListsCode tells t only contents (Err _) before after old new = Unit {0}
 
 -- The same where the module has a code section or none.
-abbrev pub ListsFound : {S : Type 0} → (S → ℕ → Error → S → Type 0) → Table → Option ℕ → Option Reader → Result Bool Fault → S → S → Option (List ℕ) →
+abbrev pub ListsFound : {S : Type 0} → (S → ℕ → Error → S → Type 0) → ModuleFunctions → Option ℕ → Option Reader → Result Bool Fault → S → S → Option (List ℕ) →
     Option (List ℕ) → Type 0
 ListsFound tells t only (Some contents) result before after old new = ListsCode tells t only contents result before after old new
 ListsFound tells t only None (Ok whole) before after old new = (whole ≡ true) × (after ≡ before) × Keeps old new
@@ -131,39 +132,40 @@ abbrev pub title_of : List ℕ → List ℕ → List ℕ
 title_of file name = file_line file ++ (name_line name ++ codes "\nCode Disassembly:\n\n")
 
 -- One of the functions is asked for that the module has, or all.
-abbrev pub IsThere : Table → Option ℕ → Type 0
+abbrev pub IsThere : ModuleFunctions → Option ℕ → Type 0
 IsThere t None = Unit {0}
 IsThere t (Some index) = IsOwn t index
 
 -- The bytes are a module: this is what it tells of its functions, one of which is asked for or all, and this its code section, where it has one.
-pub record OpensModule (features : WasmFeatures) (only : Option ℕ) (bytes : List ℕ) (table : Table) (code : Option Reader) : Type 0 where
-  pub is_table : IsTableOf (reader_of features 0 bytes) table
-  pub is_there : IsThere table only
+pub record OpensModule (features : WasmFeatures) (only : Option ℕ) (bytes : List ℕ) (functions : ModuleFunctions) (code : Option Reader) : Type 0 where
+  pub is_told : TellsFunctions (reader_of features 0 bytes) functions
+  pub is_there : IsThere functions only
   pub is_code : IsSection (reader_of features 0 bytes) 10 code
 
 -- The bytes are a module that has no own function with this index.
 pub record LacksFunction (features : WasmFeatures) (bytes : List ℕ) (index : ℕ) : Type 0 where
-  pub table : Table
-  pub is_table : IsTableOf (reader_of features 0 bytes) table
-  pub is_not : IsOwn table index → ⊥
+  pub functions : ModuleFunctions
+  pub is_told : TellsFunctions (reader_of features 0 bytes) functions
+  pub is_not : IsOwn functions index → ⊥
 
--- Nothing is written: the bytes are no module with such a table, or memory was refused; or the one function that is asked for is none of the module's.
+-- Nothing is written: the bytes are no module that tells its functions, and this is their fault, or memory was refused; or the one function that is asked for is none of the module's.
 abbrev pub RefusesModule : WasmFeatures → Option ℕ → List ℕ → Fault → Type 0
-RefusesModule features only bytes (fault.Module f) = (table : Table) → IsTableOf (reader_of features 0 bytes) table → f ≡ whole_fault.Memory
+RefusesModule features only bytes (fault.Module f) =
+    ModuleFunctionsFault f (reader_of features 0 bytes) × ((functions : ModuleFunctions) → TellsFunctions (reader_of features 0 bytes) functions → f ≡ whole_fault.Memory)
 RefusesModule features only bytes (fault.NoFunction index) = (only ≡ Some index) × LacksFunction features bytes index
 RefusesModule features only bytes _ = ⊥
 
 -- A module is written: a title with its name, and behind it the functions of its code section.
 pub record WritesModule {S : Type 0} (tells : S → ℕ → Error → S → Type 0) (features : WasmFeatures) (only : Option ℕ) (file bytes : List ℕ)
     (result : Result Bool Fault) (before after : S) (old new : Option (List ℕ)) : Type 0 where
-  pub table : Table
+  pub functions : ModuleFunctions
   pub code : Option Reader
-  pub opens : OpensModule features only bytes table code
+  pub opens : OpensModule features only bytes functions code
   pub name : List ℕ
   pub is_name : NamesModule (reader_of features 0 bytes) name
   pub titled : Option (List ℕ)
   pub title : Appends old titled (title_of file name)
-  pub lists : ListsFound tells table only code result before after titled new
+  pub lists : ListsFound tells functions only code result before after titled new
 
 -- The disassembly of a module: it is written; or its code section is refused, behind the functions that were written; or nothing is. Where writing failed, or
 -- memory behind the beginning, nothing is said here.
@@ -181,21 +183,21 @@ abbrev pub IsFunction : Reader → Type 0
 IsFunction body = (declarations : List Declaration) × (placed : Placed) × EncodesBody (source_of body) declarations placed × (locals_in declarations ≤ max_locals)
 
 -- Each of these functions, from a place on, that is asked for has a body of this kind.
-abbrev pub AreAsked : (Reader → Type 0) → Table → Option ℕ → ℕ → List Reader → Type 0
+abbrev pub AreAsked : (Reader → Type 0) → ModuleFunctions → Option ℕ → ℕ → List Reader → Type 0
 AreAsked Is t only place [] = Unit {0}
 AreAsked Is t only place (b ∷ bs) = WhereAsked (is_asked only (index_of t place)) (Is b) (Unit {0}) × AreAsked Is t only (place + 1) bs
 
 -- The same of those of a code section, where there is one.
-abbrev pub HasAsked : (Reader → Type 0) → Table → Option ℕ → Option Reader → Type 0
+abbrev pub HasAsked : (Reader → Type 0) → ModuleFunctions → Option ℕ → Option Reader → Type 0
 HasAsked Is t only None = Unit {0}
 HasAsked Is t only (Some contents) = (bodies : List Reader) × IsCode contents bodies × AreAsked Is t only 0 bodies
 
 -- The bytes are a module of which each function that is asked for has a body of this kind.
 pub record IsModuleOf (Is : Reader → Type 0) (features : WasmFeatures) (only : Option ℕ) (bytes : List ℕ) : Type 0 where
-  pub table : Table
+  pub functions : ModuleFunctions
   pub code : Option Reader
-  pub opens : OpensModule features only bytes table code
-  pub bodies : HasAsked Is table only code
+  pub opens : OpensModule features only bytes functions code
+  pub bodies : HasAsked Is functions only code
 
 -- The faults before anything is written.
 abbrev pub WritesNothing : Fault → Type 0

@@ -8,7 +8,7 @@ use Rattle.wasm_disassembly.specs.operators.Locals.{Declaration}
 use Rattle.wasm_listing.specs.declared.fault.DumpFault.TheVariants as dump
 use Rattle.wasm_listing.specs.Census.{Counts}
 use Rattle.wasm_listing.specs.Dump.{input_of, IsBody}
-use Rattle.wasm_functions.specs.Table.{Table, index_of}
+use Rattle.wasm_functions.specs.ModuleFunctions.{ModuleFunctions, index_of}
 use Rattle.std.specs.Io.KnownBytes.{Appends}
 use Rattle.wasm_module_listing.specs.CountTable.{Row, IsTable, table_text}
 use Rattle.wasm_module_listing.specs.declared.counts.ModuleCounts.{ModuleCounts}
@@ -32,12 +32,12 @@ AddsBody features index body told before after =
     ((e : Error) × Counts (input_of features (rest body)) (Err (dump.Refused e)) × (after ≡ before) × (told ≡ (index, moved (offset_of body) e) ∷ []))
 
 -- What the function at a place adds: its census, or nothing where it is not asked for.
-abbrev pub IsAdded : WasmFeatures → Table → Option ℕ → ℕ → Reader → Refusals → List ℕ → List ℕ → Type 0
+abbrev pub IsAdded : WasmFeatures → ModuleFunctions → Option ℕ → ℕ → Reader → Refusals → List ℕ → List ℕ → Type 0
 IsAdded features t only place body told before after =
     WhereAsked (is_asked only (index_of t place)) (AddsBody features (index_of t place) body told before after) ((told ≡ []) × (after ≡ before))
 
 -- What these functions add, from a place on, one after the other, and what is told.
-abbrev pub AreAdded : WasmFeatures → Table → Option ℕ → ℕ → List Reader → Refusals → List ℕ → List ℕ → Type 0
+abbrev pub AreAdded : WasmFeatures → ModuleFunctions → Option ℕ → ℕ → List Reader → Refusals → List ℕ → List ℕ → Type 0
 AreAdded features t only place [] told before after = (told ≡ []) × (after ≡ before)
 AreAdded features t only place (b ∷ bs) told before after =
     (one others : Refusals) × (mid : List ℕ) × (told ≡ one ++ others) × IsAdded features t only place b one before mid ×
@@ -47,14 +47,14 @@ abbrev pub no_counts : List ℕ
 no_counts = replicate 19 0
 
 -- These functions were counted and told of, the first ones of a module.
-pub record Adds {S : Type 0} (tells : S → ℕ → Error → S → Type 0) (features : WasmFeatures) (t : Table) (only : Option ℕ) (bodies : List Reader)
+pub record Adds {S : Type 0} (tells : S → ℕ → Error → S → Type 0) (features : WasmFeatures) (t : ModuleFunctions) (only : Option ℕ) (bodies : List Reader)
     (told : Refusals) (before after : S) (counts : List ℕ) : Type 0 where
   pub added : AreAdded features t only 0 bodies told no_counts counts
   pub told_of : Told tells told before after
 
 -- The functions of a code section are counted, and answered is whether none is refused; or the section is refused, behind those that stand before.
 -- Of the other faults nothing is said here.
-abbrev pub CountsCode : {S : Type 0} → (S → ℕ → Error → S → Type 0) → WasmFeatures → Table → Option ℕ → Reader → Result ModuleCounts Fault → S → S → Type 0
+abbrev pub CountsCode : {S : Type 0} → (S → ℕ → Error → S → Type 0) → WasmFeatures → ModuleFunctions → Option ℕ → Reader → Result ModuleCounts Fault → S → S → Type 0
 CountsCode tells features t only contents (Ok found) before after =
     (bodies : List Reader) × IsCode contents bodies × (told : Refusals) × Adds tells features t only bodies told before after found.counts ×
     (found.whole ≡ are_none told)
@@ -64,7 +64,7 @@ CountsCode tells features t only contents (Err (fault.Code e)) before after =
 CountsCode tells features t only contents (Err _) before after = Unit {0}
 
 -- The same where the module has a code section or none.
-abbrev pub CountsFound : {S : Type 0} → (S → ℕ → Error → S → Type 0) → WasmFeatures → Table → Option ℕ → Option Reader → Result ModuleCounts Fault → S → S →
+abbrev pub CountsFound : {S : Type 0} → (S → ℕ → Error → S → Type 0) → WasmFeatures → ModuleFunctions → Option ℕ → Option Reader → Result ModuleCounts Fault → S → S →
     Type 0
 CountsFound tells features t only (Some contents) result before after = CountsCode tells features t only contents result before after
 CountsFound tells features t only None (Ok found) before after = (found.counts ≡ no_counts) × (found.whole ≡ true) × (after ≡ before)
@@ -73,10 +73,10 @@ CountsFound tells features t only None (Err f) before after = Unit {0}
 -- The operators of a module are counted.
 pub record CountsOf {S : Type 0} (tells : S → ℕ → Error → S → Type 0) (features : WasmFeatures) (only : Option ℕ) (bytes : List ℕ)
     (result : Result ModuleCounts Fault) (before after : S) : Type 0 where
-  pub table : Table
+  pub functions : ModuleFunctions
   pub code : Option Reader
-  pub opens : OpensModule features only bytes table code
-  pub counts : CountsFound tells features table only code result before after
+  pub opens : OpensModule features only bytes functions code
+  pub counts : CountsFound tells features functions only code result before after
 
 -- The census of a module: it is counted; or its code section is refused, behind the functions that were told of; or nothing is. Where telling failed, or memory
 -- behind the beginning, nothing is said here.

@@ -1,7 +1,7 @@
 //! How many operators of each proposal the functions of a code section have.
 ghost use Rattle.std.specs.Prelude.{◌≡◌, true, List, IfOk, IfErr};
 ghost use Rattle.wasm_disassembly.specs.operators.below.Source.{Reader, offset_of};
-ghost use Rattle.wasm_functions.specs.Table.{index_of};
+ghost use Rattle.wasm_functions.specs.ModuleFunctions.{index_of};
 ghost use Rattle.wasm_module_listing.specs.Listing.{is_asked, are_none, Refusals, Told, WhereAsked, IsCode, AreAsked, IsHalt, IsLater};
 ghost use Rattle.wasm_module_listing.specs.ModuleCensus.{add_counts, no_counts, IsAdded, CountsCode, IsCounted, CountsAll, moved};
 

@@ -3,7 +3,7 @@ ghost use Rattle.std.specs.Prelude.{◌≡◌, true, List, ℕ, IsOk, IfOk, IfEr
 ghost use Rattle.std.specs.Io.KnownBytes.{Appends, Keeps};
 ghost use Rattle.wasm_disassembly.specs.Disassembly.{IsText};
 ghost use Rattle.wasm_disassembly.specs.operators.below.Source.{Reader};
-ghost use Rattle.wasm_functions.specs.Table.{index_of};
+ghost use Rattle.wasm_functions.specs.ModuleFunctions.{index_of};
 ghost use Rattle.wasm_module_listing.specs.Listing.{is_asked, are_none, heading_at, Refusals, Told, WhereAsked, IsWritten};
 ghost use Rattle.wasm_module_listing.specs.Listing.{IsCode, ListsCode, IsFunction, AreAsked, Succeeds, IsHalt, IsLater};
 

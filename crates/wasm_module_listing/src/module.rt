@@ -13,7 +13,7 @@ use crate::writing::write_text;
 use std::alloc::{AllocError, Global};
 use std::io::Write;
 use wasm_disassembly::operators::WasmFeatures;
-use wasm_functions::{module_name, table_laws};
+use wasm_functions::{function_laws, module_name};
 
 /// Writes the line with the name of a module, where it has one.
 fn push_name(out: &mut String, name: &str) -> Result<(), AllocError>
@@ -79,8 +79,8 @@ pub fn list_module<W: Write, C: Complaints>(
     ensures whole { IsModuleOf IsFunction features only bytes.now → Succeeds result }
     ensures nothing { IfErr result (λ fault. WritesNothing fault → writer.new ≡ writer.old) }
 {
-    table_laws::sections();
-    table_laws::own_functions();
+    function_laws::sections();
+    function_laws::own_functions();
     let (functions, code) = match open_module(alloc, features, only, bytes) {
         Ok(opened) => opened,
         Err(fault) => return Err(fault),
@@ -110,8 +110,8 @@ pub fn count_module<C: Complaints>(
     // Where each function that is asked for has a body, none is refused.
     ensures whole { IsModuleOf (IsCounted features) features only bytes.now → CountsAll result }
 {
-    table_laws::sections();
-    table_laws::own_functions();
+    function_laws::sections();
+    function_laws::own_functions();
     let (functions, code) = match open_module(alloc, features, only, bytes) {
         Ok(opened) => opened,
         Err(fault) => return Err(fault),

@@ -1,7 +1,7 @@
 //! What a module tells of its functions, and where their bodies stand.
 ghost use Rattle.std.specs.Prelude.{◌≡◌, Some, MatchOption, IfOk, IfErr};
 ghost use Rattle.wasm_disassembly.specs.operators.below.Source.{reader_of};
-ghost use Rattle.wasm_functions.specs.Table.{IsOwn};
+ghost use Rattle.wasm_functions.specs.ModuleFunctions.{IsOwn};
 ghost use Rattle.wasm_module_listing.specs.Listing.{IsThere, OpensModule, RefusesModule};
 
 use crate::fault::Fault;

@@ -2,7 +2,7 @@ use Rattle.std.proofs.Common.{◌≡◌, Some, inl, rules}
 use Rattle.wasm_module.specs.below.Source.{reader_of}
 use Rattle.wasm_functions.specs.Refusals.{FunctionsFault}
 use Rattle.wasm_functions.specs.Sections.{IsSection}
-use Rattle.wasm_functions.specs.Table.{ListsTypes}
+use Rattle.wasm_functions.specs.ModuleFunctions.{ListsTypes}
 use Rattle.wasm_functions.specs.declared.fault.ModuleFault.{ModuleFault}
 use Rattle.wasm_functions.specs.declared.fault.ModuleFault.TheVariants as fault
 use Rattle.wasm_functions.proofs.OfSection.{of_section, fault_at}

@@ -2,7 +2,7 @@ use Rattle.std.proofs.Common.{◌≡◌, ◌+◌, ◌≤◌, ◌<◌, [], ◌∷
 use Rattle.std.specs.Prelude.{◌==◌}
 use Rattle.std.proofs.lemmas.List.Elements.{All-push}
 use Rattle.wasm_functions.specs.Refusals.{ImportsFault}
-use Rattle.wasm_functions.specs.Table.{IsKnownImport}
+use Rattle.wasm_functions.specs.ModuleFunctions.{IsKnownImport}
 use Rattle.wasm_module.specs.below.Number.{EncodesUnsigned}
 use Rattle.wasm_module.specs.Imports.{ImportParts, EncodesImport}
 use Rattle.wasm_functions.proofs.Named.{one_value, not_both}

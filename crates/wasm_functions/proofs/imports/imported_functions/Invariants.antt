@@ -2,7 +2,7 @@ use Rattle.std.proofs.Common.{◌≡◌, ◌≤◌, List, length}
 use Rattle.std.specs.List.{All}
 use Rattle.wasm_module.specs.Imports.{ImportParts, EncodesImport}
 use Rattle.wasm_functions.specs.Items.{ItemsStand}
-use Rattle.wasm_functions.specs.Table.{functions_in, IsKnownImport}
+use Rattle.wasm_functions.specs.ModuleFunctions.{functions_in, IsKnownImport}
 use Rattle.wasm_functions.proofs.imports.imported_functions.Given as goal
 
 -- so many imports were read, and among them so many functions

@@ -1,5 +1,5 @@
 use Rattle.std.proofs.Common.{List, ℕ, [], ◌∷◌, Err, Ok, refl, sym, ap, subst, ◌∙◌, inl, inr}
-use Rattle.wasm_functions.specs.Table.{index_of}
+use Rattle.wasm_functions.specs.ModuleFunctions.{index_of}
 use Rattle.wasm_listing.specs.Dump.{input_of, IsBody, IsNotRefused}
 use Rattle.wasm_listing.specs.Census.{Counts}
 use Rattle.wasm_listing.specs.declared.fault.DumpFault.{DumpFault}

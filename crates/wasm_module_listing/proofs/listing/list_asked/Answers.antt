@@ -1,5 +1,5 @@
 use Rattle.std.proofs.Common.{[], ◌∷◌, refl, sym, ap, ◌∙◌}
-use Rattle.wasm_functions.specs.Table.{index_of}
+use Rattle.wasm_functions.specs.ModuleFunctions.{index_of}
 use Rattle.wasm_module_listing.specs.Listing.{is_asked, refusals_of, ListsFunction}
 use Rattle.wasm_module_listing.proofs.Asked.{asked_for, not_asked_for}
 use Rattle.wasm_module_listing.proofs.Bodies.{appends_none, keeps_both}

@@ -3,8 +3,12 @@ use Rattle.wasm_disassembly.specs.operators.below.Source.{Reader}
 use Rattle.wasm_module_listing.specs.Listing.{OpensModule, HasAsked}
 use Rattle.wasm_module_listing.specs.ModuleCensus.{IsCounted}
 use Rattle.wasm_module_listing.proofs.Found.{asked_there, refused_outside}
-use Rattle.wasm_module_listing.proofs.Modules.{counts_module}
+use Rattle.wasm_module_listing.proofs.Modules.{counts_module, counts_refused}
 use Rattle.wasm_module_listing.proofs.module.count_module.Goals as goal
+
+pub returns-in-Err-clause-counts : goal.returns-in-Err-clause-counts
+returns-in-Err-clause-counts g c =
+    counts_refused g.C.Complaints.tells c.args.features c.args.only c.args.bytes.now c.in-Err.fault c.args.complaints.now c.in-Err.ensures.refuses
 
 pub returns-in-Err-clause-whole : goal.returns-in-Err-clause-whole
 returns-in-Err-clause-whole g c =

@@ -2,8 +2,13 @@ use Rattle.std.proofs.Common.{Option, subst}
 use Rattle.wasm_disassembly.specs.operators.below.Source.{Reader}
 use Rattle.wasm_module_listing.specs.Listing.{OpensModule, HasAsked, IsFunction}
 use Rattle.wasm_module_listing.proofs.Found.{asked_there, refused_outside}
-use Rattle.wasm_module_listing.proofs.Modules.{lists_module, lists_none}
+use Rattle.wasm_module_listing.proofs.Modules.{lists_module, lists_none, lists_refused}
 use Rattle.wasm_module_listing.proofs.module.list_module.Goals as goal
+
+pub returns-in-Err-clause-lists : goal.returns-in-Err-clause-lists
+returns-in-Err-clause-lists g c =
+    lists_refused g.C.Complaints.tells c.args.features c.args.only c.args.file.now c.args.bytes.now c.in-Err.fault c.args.complaints.now
+    (g.W.Write.contents c.args.writer.now) c.in-Err.ensures.refuses
 
 pub returns-in-Err-clause-whole : goal.returns-in-Err-clause-whole
 returns-in-Err-clause-whole g c =

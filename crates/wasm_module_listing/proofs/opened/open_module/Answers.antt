@@ -3,4 +3,4 @@ use Rattle.wasm_module_listing.proofs.opened.open_module.Goals as goal
 pub returns-clause-refuses : goal.returns-clause-refuses
 returns-clause-refuses c =
     let (sections, is_module, found) = c.in-Ok.ensures.ok.section_of_imports in
-    λ table is. absurd (c.in-Err-find_section.ensures.refused sections is_module)
+    absurd (c.in-Err-find_section.ensures.refused sections is_module)

@@ -1,5 +1,11 @@
-use Rattle.wasm_module_listing.proofs.Chosen.{on_true, on_false, not_on_false, tabulates_none}
+use Rattle.wasm_module_listing.proofs.Chosen.{on_true, on_false, not_on_true, not_on_false, tabulates_none}
 use Rattle.wasm_module_listing.proofs.request.run.Goals as goal
+
+pub returns-then-not-wanted-clause-tabulates : goal.returns-then-not-wanted-clause-tabulates
+returns-then-not-wanted-clause-tabulates g c = not_on_true c.args.wanted.census _ c.if-not-wanted.true
+
+pub returns-then-not-wanted-clause-counted : goal.returns-then-not-wanted-clause-counted
+returns-then-not-wanted-clause-counted g c = not_on_true c.args.wanted.census _ c.if-not-wanted.true
 
 pub returns-then-not-wanted-clause-listed : goal.returns-then-not-wanted-clause-listed
 returns-then-not-wanted-clause-listed g c = on_false c.args.wanted.census _ c.list_module.ensures.whole

@@ -1,5 +1,5 @@
 use Rattle.wasm_functions.proofs.OneFault.{fault_or_module, one_fault}
-use Rattle.wasm_functions.proofs.table_laws.refusals.Goals as goal
+use Rattle.wasm_functions.proofs.function_laws.refusals.Goals as goal
 
 pub returns-clause-one : goal.returns-clause-one
 returns-clause-one c whole a b p q =

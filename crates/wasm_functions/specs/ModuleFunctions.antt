@@ -17,7 +17,7 @@ functions_in [] = 0
 functions_in (i ∷ is) = (if i.kind == 0 then 1 else 0) + functions_in is
 
 -- What is known of the functions of a module: how many are imported; how many parameters each type has; and of its own functions the types and the names.
-pub record Table : Type 0 where
+pub record ModuleFunctions : Type 0 where
   pub imported : ℕ
   pub parameters : List ℕ
   pub types : List ℕ
@@ -48,7 +48,7 @@ pub record NamesFunctions (whole : Reader) (imported count : ℕ) (names : List 
   pub from_names : NamesGiven imported given exported names
 
 -- This is what the sections of a module tell of its functions.
-pub record IsTableOf (whole : Reader) (t : Table) : Type 0 where
+pub record TellsFunctions (whole : Reader) (t : ModuleFunctions) : Type 0 where
   pub imports : Option Reader
   pub section_of_imports : IsSection whole 2 imports
   pub imported : CountsImports imports t.imported
@@ -61,11 +61,11 @@ pub record IsTableOf (whole : Reader) (t : Table) : Type 0 where
   pub names : NamesFunctions whole t.imported (length t.types) t.names
 
 -- The index of the own function with an ordinal: those that are imported come first.
-abbrev pub index_of : Table → ℕ → ℕ
+abbrev pub index_of : ModuleFunctions → ℕ → ℕ
 index_of t ordinal = min (t.imported + ordinal) (2 ^ 32 - 1)
 
 -- The function with this index is one of the module's own.
-abbrev pub IsOwn : Table → ℕ → Type 0
+abbrev pub IsOwn : ModuleFunctions → ℕ → Type 0
 IsOwn t index = (t.imported ≤ index) × (index < t.imported + length t.types)
 
 -- How many parameters a type has, where it is known; else none.
@@ -74,7 +74,7 @@ parameters_of_type parameters None = 0
 parameters_of_type parameters (Some ty) = slice_index_or parameters ty 0
 
 -- How many parameters the own function with an ordinal has: those of its type.
-abbrev pub parameters_at : Table → ℕ → ℕ
+abbrev pub parameters_at : ModuleFunctions → ℕ → ℕ
 parameters_at t ordinal = parameters_of_type t.parameters (slice_get t.types ordinal)
 
 -- A name as text: it is empty where its bytes are no UTF-8.
@@ -82,7 +82,7 @@ abbrev pub text_of_name : List ℕ → List ℕ
 text_of_name name = if is_utf8 name then name else []
 
 -- The name of the own function with an ordinal, which is empty where it has none.
-abbrev pub name_at : Table → ℕ → List ℕ
+abbrev pub name_at : ModuleFunctions → ℕ → List ℕ
 name_at t ordinal = text_of_name (slice_index_or t.names ordinal [])
 
 -- The name of a module as text, which is empty where it has none.
