@@ -1,12 +1,14 @@
 #!/usr/bin/env python3
 """Measures how the time and the memory of visiting grow with the bytes, and draws it.
 
-    tools/growth.py [--rounds N] [--figure FILE]
+    tools/growth.py [--rounds N] [--passes N] [--figure FILE]
 
 Bodies of `nop`, of blocks within each other and of one branch table are made and visited by `count_any` of
 crates/wasm_bench (`rt lib` there), by way of large_bodies.c, each at several sizes, the best of N rounds (20 if
-left out). It prints a table of nanoseconds an operator, for branch tables a byte, and of the memory that the
-visit took beside the body, and writes the figure, docs/growth.svg if left out.
+left out). All of them are measured once more in each pass (3 if left out), and of each body the least is kept, so
+that what slows the machine for a while slows no one body. It prints a table of nanoseconds an operator, for branch
+tables a byte, and of the memory that the visit took beside the body, and writes the figure, docs/growth.svg if left
+out.
 """
 
 import math
@@ -22,6 +24,7 @@ import large_bodies
 
 FIGURE = large_bodies.TOP / "docs" / "growth.svg"
 ROUNDS = 20
+PASSES = 3
 # The bodies: what one is called, what its time is divided by, and its sizes.
 BODIES = {
     "nops": ("`nop`", "operator", (1_000, 10_000, 100_000, 1_000_000, 10_000_000, 100_000_000)),
@@ -42,6 +45,10 @@ class Measured:
         self.time = float(nanoseconds) / (int(operators) if unit == "operator" else self.bytes)
         self.memory = int(memory) - self.bytes // 1024
 
+    def keep_least(self, other):
+        """Keeps the least time and the least memory of this and of another measurement of the same body."""
+        self.time, self.memory = min(self.time, other.time), min(self.memory, other.memory)
+
 
 def measured(driver, name, rounds):
     """The visits of a body at its sizes."""
@@ -51,6 +58,16 @@ def measured(driver, name, rounds):
         line = subprocess.run([driver, name, str(size), str(rounds)], capture_output=True, text=True, check=True).stdout
         found.append(Measured(size, line, unit))
     return found
+
+
+def passes(count, measure):
+    """All bodies measured so many times, one pass behind the other: of each the least."""
+    series = {name: measure(name) for name in BODIES}
+    for _ in range(count - 1):
+        for name, found in series.items():
+            for it, again in zip(found, measure(name)):
+                it.keep_least(again)
+    return series
 
 
 def rows(name, found):
@@ -92,7 +109,7 @@ def figure(series):
 
 
 def main():
-    words, given = sys.argv[1:], {"--rounds": str(ROUNDS), "--figure": str(FIGURE)}
+    words, given = sys.argv[1:], {"--rounds": str(ROUNDS), "--passes": str(PASSES), "--figure": str(FIGURE)}
     while words[1:] and words[0] in given:
         given[words[0]], words = words[1], words[2:]
     if words:
@@ -102,7 +119,7 @@ def main():
         sys.exit(f"{large_bodies.LIBRARY}: no library is built: run rt lib in crates/wasm_bench")
     with tempfile.TemporaryDirectory() as folder:
         driver = large_bodies.built_driver(folder)
-        series = {name: measured(driver, name, int(given["--rounds"])) for name in BODIES}
+        series = passes(int(given["--passes"]), lambda name: measured(driver, name, int(given["--rounds"])))
     print("| Body | Bytes | Time | Memory beside it |\n|---|---|---|---|")
     print("\n".join(row for name, found in series.items() for row in rows(name, found)))
     Path(given["--figure"]).write_text(figure(series), encoding="utf-8")

@@ -4,8 +4,9 @@ use Rattle.wasm_operators.specs.below.Source.{Reader, rest, offset_of, source_of
 use Rattle.wasm_operators.specs.Expression.{Placed, operators, LaidOut, AreWalk, EncodesRest, EncodesExpression}
 use Rattle.wasm_operators.specs.Reading.{State}
 use Rattle.wasm_operators.specs.Headline.{StoodBefore}
+use Rattle.wasm_operators.specs.Laws.{LaysOutBoth}
 use Rattle.uses.specs.Again.{HasFound}
-use Rattle.uses.proofs.Parts.{IsJoined, operators_join}
+use Rattle.uses.proofs.Parts.{operators_join}
 
 -- What is laid out from a reader on that took a text of another is laid out behind that text.
 laid_behind : (r old : Reader) (text : List ℕ) (placed : Placed) (more : List ℕ) → Takes r old text → LaidOut old.features (offset_of old) placed more →
@@ -36,7 +37,7 @@ stands_first r now same stood =
     }
 
 -- A call more that was refused.
-pub stands_on : (r : Reader) (old new : State) (found placed : Placed) (text : List ℕ) → IsJoined r.features → HasFound r old found →
+pub stands_on : (r : Reader) (old new : State) (found placed : Placed) (text : List ℕ) → LaysOutBoth r.features → HasFound r old found →
     Takes old.reader new.reader text → LaidOut old.reader.features (offset_of old.reader) placed text →
     StoodBefore (operators found ++ operators placed) new → HasFound r new (found ++ placed)
 stands_on r old new found placed text joined h takes laid stood = record {
@@ -47,7 +48,7 @@ stands_on r old new found placed text joined h takes laid stood = record {
 }
 
 -- A call more that read to the end.
-pub whole_behind : (r : Reader) (old : State) (found placed : Placed) → IsJoined r.features → HasFound r old found →
+pub whole_behind : (r : Reader) (old : State) (found placed : Placed) → LaysOutBoth r.features → HasFound r old found →
     EncodesRest (operators found) (source_of old.reader) placed → EncodesExpression (source_of r) (found ++ placed)
 whole_behind r old found placed joined h (laid, walk) =
     let all = joined (offset_of r) found placed h.text (rest old.reader) h.laid (laid_behind r old.reader h.text placed (rest old.reader) h.takes laid) in (

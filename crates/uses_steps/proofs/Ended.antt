@@ -1,5 +1,5 @@
 -- Where no operator follows an expression that bytes begin with, so that bytes which no reading finds ended begin with none.
-use Rattle.std.proofs.Common.{◌≡◌, ℕ, ◌≤◌, List, [], ◌∷◌, ◌++◌, length, Option, Some, None, sym, ap, subst, ◌∙◌, append-nil}
+use Rattle.std.proofs.Common.{◌≡◌, ℕ, List, [], ◌∷◌, ◌++◌, Option, Some, None, sym, ap, subst, ◌∙◌, append-nil}
 use Rattle.std.specs.Option.{option_and_then}
 use Rattle.wasm_operators.specs.below.bytes.features.WasmFeatures.{WasmFeatures}
 use Rattle.wasm_operators.specs.below.Source.{rest, reader_of, Takes}
@@ -8,7 +8,8 @@ use Rattle.wasm_operators.specs.grammar.declared.frame_kind.FrameKind.TheVariant
 use Rattle.wasm_operators.specs.grammar.Beginning.{IsWalk}
 use Rattle.wasm_operators.specs.grammar.Frames.{frames_after, frames_along}
 use Rattle.wasm_operators.specs.instr.Roles.{role_of, roles_of}
-use Rattle.wasm_operators.specs.Expression.{Placed, IsAny, operators, LaidOut, AreEncoded, IsBeginningOf, IsLongestOf}
+use Rattle.wasm_operators.specs.Expression.{Placed, IsAny, operators, LaidOut, AreEncoded, IsLongestOf}
+use Rattle.wasm_operators.specs.Laws.{HasEncodings, BeginsLonger}
 use Rattle.wasm_operators.specs.Reading.{State}
 use Rattle.uses_steps.specs.Begun.{BeginsExpression}
 use Rattle.uses_steps.specs.Input.{input}
@@ -38,16 +39,8 @@ none_follows [] frames h =
     sym same
 none_follows (p ∷ ps) frames h = absurd (cc h)
 
--- What the laws say that are cited: lists that are laid out, and frames of walks.
-abbrev pub AreBeginnings : WasmFeatures → Type 0
-AreBeginnings features = (offset : ℕ) (first second : Placed) (a b x y : List ℕ) → LaidOut features offset first a → LaidOut features offset second b →
-    a ++ x ≡ b ++ y → length first ≤ length second → IsBeginningOf first second
-
-abbrev pub HaveEncodings : WasmFeatures → Type 0
-HaveEncodings features = (offset : ℕ) (placed : Placed) (bytes : List ℕ) → LaidOut features offset placed bytes → AreEncoded features (operators placed)
-
 -- The longest beginning leaves a frame open, so that no expression stands at the start of the bytes.
-pub begins_none : (features : WasmFeatures) (bytes text : List ℕ) (new : State) (longest : Placed) → AreBeginnings features → HaveEncodings features →
+pub begins_none : (features : WasmFeatures) (bytes text : List ℕ) (new : State) (longest : Placed) → BeginsLonger features → HasEncodings features →
     ((placed : Placed) → IsWalk (roles_of (operators placed)) → along (frame.Block ∷ []) placed ≡ Some []) →
     IsLongestOf IsAny [] (input features bytes) longest → Takes (reader_of features 0 bytes) new.reader text → LaidOut features 0 longest text →
     along (frame.Block ∷ []) longest ≡ Some new.frames → (new.frames ≡ [] → ⊥) → (n : ℕ) → BeginsExpression (input features bytes) n → ⊥

@@ -1,23 +1,18 @@
 -- Vector operators of beginnings.
-use Rattle.std.proofs.Common.{◌≡◌, ℕ, ◌≤◌, List, [], ◌∷◌, ◌++◌, ◌⊎◌, inl, inr, length, sym, ◌∙◌, append_assoc}
-use Rattle.wasm_operators.specs.below.bytes.features.WasmFeatures.{WasmFeatures}
+use Rattle.std.proofs.Common.{◌≡◌, ℕ, [], ◌∷◌, ◌++◌, ◌⊎◌, inl, inr, sym, ◌∙◌, append_assoc}
 use Rattle.wasm_operators.specs.below.Source.{Source}
 use Rattle.wasm_operators.specs.instr.declared.operator.Operator.{Operator}
 use Rattle.wasm_operators.specs.instr.Kinds.{IsVector}
-use Rattle.wasm_operators.specs.Expression.{Placed, LaidOut, IsBeginningBehind, IsLongestBehind, IsBeginningOf}
+use Rattle.wasm_operators.specs.Expression.{Placed, IsBeginningBehind, IsLongestBehind}
+use Rattle.wasm_operators.specs.Laws.{BeginsLonger}
 use Rattle.wasm_operators.specs.Visiting.{IsScalar, scalar_beginning}
-
--- What the law `one_layout` says of the shorter of two lists.
-abbrev pub IsOneLayout : WasmFeatures → Type 0
-IsOneLayout f = (offset : ℕ) (first second : Placed) (a b x y : List ℕ) → LaidOut f offset first a → LaidOut f offset second b → a ++ x ≡ b ++ y →
-    length first ≤ length second → IsBeginningOf first second
 
 -- What the law `scalar_beginnings` says.
 abbrev pub HasNoVector : Type 0
 HasNoVector = (placed before after : Placed) (op : Operator) (at : ℕ) → scalar_beginning placed ≡ before ++ (op, at) ∷ after → ¬ IsVector op
 
 -- Where the longest beginning has no vector operator, no other has one.
-pub none_in : (s : Source) (longest before after : Placed) (op : Operator) (at : ℕ) → IsOneLayout s.features → HasNoVector →
+pub none_in : (s : Source) (longest before after : Placed) (op : Operator) (at : ℕ) → BeginsLonger s.features → HasNoVector →
     IsLongestBehind [] s longest → IsScalar longest → IsBeginningBehind [] s (before ++ (op, at) ∷ after) → ¬ IsVector op
 none_in s longest before after op at layout none is scalar there =
     let few = is.longest (before ++ (op, at) ∷ after) there tt in
@@ -26,7 +21,7 @@ none_in s longest before after op at layout none is scalar there =
     none longest before (after ++ part.0) op at (scalar ∙ part.1 ∙ append_assoc before ((op, at) ∷ after) part.0)
 
 -- The same where it is known that the longest one, which exists, would else be refused otherwise.
-pub none_at : (s : Source) (before after : Placed) (op : Operator) (at : ℕ) → IsOneLayout s.features → HasNoVector →
+pub none_at : (s : Source) (before after : Placed) (op : Operator) (at : ℕ) → BeginsLonger s.features → HasNoVector →
     ¬ ((placed : Placed) → ¬ IsLongestBehind [] s placed) → ((longest : Placed) → IsLongestBehind [] s longest → ¬ ¬ IsScalar longest) →
     IsBeginningBehind [] s (before ++ (op, at) ∷ after) → ¬ IsVector op
 none_at s before after op at layout none exists scalar there =

@@ -1,10 +1,11 @@
 -- Operators that were gone past, one after another.
-use Rattle.std.proofs.Common.{◌≡◌, ℕ, ◌+◌, ◌-◌, ◌*◌, ◌≤◌, [], ◌∷◌, ◌++◌, length, length-append, refl, ap, arith}
+use Rattle.std.proofs.Common.{◌≡◌, ℕ, ◌+◌, ◌-◌, ◌≤◌, [], ◌∷◌, ◌++◌, length, length-append, refl, ap, arith}
 use Rattle.wasm_operators.specs.below.Source.{Reader, offset_of}
 use Rattle.wasm_operators.specs.instr.declared.operator.Operator.{Operator}
 use Rattle.wasm_operators.specs.opcodes.Allowed.{EncodesAllowed}
 use Rattle.wasm_operators.specs.Expression.{Placed}
 use Rattle.wasm_operators.specs.Headline.{IsWithinDepth}
+use Rattle.wasm_operators.specs.Laws.{TakesNone, TakesOneMore, TakesNoMore, AddsFewFrames, AddsUp}
 use Rattle.wasm_operators.specs.Reading.{State, GrowsLittle, IsUnchanged, TakesOperator, TakesOperators}
 
 -- So many operators were taken, few frames were opened, and their memory grew little.
@@ -16,32 +17,13 @@ pub record HasSkipped (count : ℕ) (old now : State) : Type 0 where
   pub forward : old.reader.position ≤ now.reader.position
   pub memory : GrowsLittle (now.reader.position - old.reader.position) old now
 
--- What the laws `one_depth` and `memory_adds_up` say.
-abbrev pub IsOneDepth : Type 0
-IsOneDepth = (op : Operator) (old new : State) → TakesOperator EncodesAllowed op old new → IsWithinDepth old new
-
-abbrev pub AddsUp : Type 0
-AddsUp = (first second : ℕ) (old mid new : State) → GrowsLittle first old mid → 2 * length mid.frames ≤ 2 * length old.frames + first →
-    GrowsLittle second mid new → GrowsLittle (first + second) old new
-
--- What the law `single_reads` says.
-abbrev pub IsFirst : Type 0
-IsFirst = (s : State) → TakesOperators s s []
-
-abbrev pub IsNext : Type 0
-IsNext = (old mid new : State) (placed : Placed) (op : Operator) → TakesOperators old mid placed → TakesOperator EncodesAllowed op mid new →
-    TakesOperators old new (placed ++ (op, offset_of mid.reader) ∷ [])
-
-abbrev pub IsRefusedBehind : Type 0
-IsRefusedBehind = (old mid new : State) (placed : Placed) → TakesOperators old mid placed → IsUnchanged mid new → TakesOperators old new placed
-
-pub skips_none : (s : State) → IsFirst → HasSkipped 0 s s
+pub skips_none : (s : State) → TakesNone → HasSkipped 0 s s
 skips_none s first = record { placed = []; many = refl; taken = first s; depth = omega arith; forward = omega arith; memory = omega arith }
 
 grows_more : (few many : ℕ) (old new : State) → few ≤ many → GrowsLittle few old new → GrowsLittle many old new
 grows_more few many old new less grows = omega (arith, less, grows)
 
-pub skips_on : (op : Operator) (count : ℕ) (old mid new : State) → IsOneDepth → AddsUp → IsNext → HasSkipped count old mid →
+pub skips_on : (op : Operator) (count : ℕ) (old mid new : State) → AddsFewFrames → AddsUp → TakesOneMore → HasSkipped count old mid →
     TakesOperator EncodesAllowed op mid new → HasSkipped (count + 1) old new
 skips_on op count old mid new one adds next h taken =
     let moved : new.reader.position ≡ mid.reader.position + length taken.text = ap (λ (r : Reader). r.position) taken.takes.moved in
@@ -58,7 +40,7 @@ skips_on op count old mid new one adds next h taken =
       memory = grows_more (first + 0) (new.reader.position - old.reader.position) old new (omega (arith, h.forward, moved)) grows;
     }
 
-pub skips_refused : (count : ℕ) (old mid new : State) → AddsUp → IsRefusedBehind → HasSkipped count old mid → IsUnchanged mid new → HasSkipped count old new
+pub skips_refused : (count : ℕ) (old mid new : State) → AddsUp → TakesNoMore → HasSkipped count old mid → IsUnchanged mid new → HasSkipped count old new
 skips_refused count old mid new adds behind h unchanged =
     let (reader, frames, room, memory) = unchanged in
     let place : new.reader.position ≡ mid.reader.position = ap (λ (r : Reader). r.position) reader in

@@ -1,7 +1,6 @@
 -- Operators that an iterator gave, one after another.
 use Rattle.std.proofs.Common.{◌≡◌, ℕ, ◌+◌, List, [], ◌∷◌, ◌++◌, length, false, Some, inl, inr, IsSome, refl, sym, ap, subst, ◌∙◌, arith, append_assoc, append-nil, length-append}
 use Rattle.std.proofs.lemmas.Bool.{false≢true}
-use Rattle.wasm_operators.specs.below.bytes.features.WasmFeatures.{WasmFeatures}
 use Rattle.wasm_operators.specs.below.Source.{Reader, rest, offset_of, source_of, at_position, Takes}
 use Rattle.wasm_operators.specs.grammar.declared.frame_kind.FrameKind.TheVariants as frame
 use Rattle.wasm_operators.specs.grammar.Frames.{frames_along}
@@ -10,15 +9,12 @@ use Rattle.wasm_operators.specs.instr.Roles.{roles_of}
 use Rattle.wasm_operators.specs.opcodes.Allowed.{EncodesAllowed}
 use Rattle.wasm_operators.specs.Expression.{Placed, operators, LaidOut}
 use Rattle.wasm_operators.specs.Headline.{StoodBefore}
+use Rattle.wasm_operators.specs.Laws.{LaysOutBoth}
 use Rattle.wasm_operators.specs.Iterating.{Iterating, HasEnded, iterating_over}
 use Rattle.wasm_operators.specs.Reading.{State, TakesOperator}
 use Rattle.uses_steps.specs.Iterated.{AreAllAllowed}
 
--- What the laws `layouts` and `one_operator` say.
-abbrev pub IsJoined : WasmFeatures → Type 0
-IsJoined f = (offset : ℕ) (first second : Placed) (a b : List ℕ) → LaidOut f offset first a → LaidOut f (offset + length a) second b →
-    LaidOut f offset (first ++ second) (a ++ b)
-
+-- What the law `one_operator` says.
 abbrev pub StandsNext : Type 0
 StandsNext = (before : List Operator) (op : Operator) (old new : State) → TakesOperator EncodesAllowed op old new → StoodBefore before old →
     StoodBefore (before ++ op ∷ []) new
@@ -48,7 +44,7 @@ gives_none r s same stood =
     }
 
 -- One more.
-pub gives_one : (r : Reader) (old new : Iterating) (found : Placed) (op : Operator) (at : ℕ) → IsJoined r.features → StandsNext → HasGiven r old found →
+pub gives_one : (r : Reader) (old new : Iterating) (found : Placed) (op : Operator) (at : ℕ) → LaysOutBoth r.features → StandsNext → HasGiven r old found →
     TakesOperator EncodesAllowed op old.reader new.reader → at ≡ offset_of old.reader.reader → new.refused ≡ false →
     HasGiven r new (found ++ (op, at) ∷ [])
 gives_one r old new found op at joined stands h taken is goes_on =

@@ -5,9 +5,9 @@ use Rattle.wasm_operators.specs.instr.declared.operator.Operator.{Operator}
 use Rattle.wasm_operators.specs.opcodes.Allowed.{EncodesAllowed}
 use Rattle.wasm_operators.specs.Expression.{Placed}
 use Rattle.wasm_operators.specs.Reading.{State, IsUnchanged, TakesOperator, TakesOperators}
+use Rattle.wasm_operators.specs.Laws.{TakesOneMore, TakesNoMore}
 use Rattle.wasm_view.specs.View.{view_of, views}
 use Rattle.wasm_view.specs.declared.view.WasmOperator.{WasmOperator}
-use Rattle.wasm_c.proofs.Cited.{OfNext, OfRefused}
 use Rattle.wasm_c.proofs.Written.{one_more}
 
 -- So many were read since the reader was opened, and stand at the beginning of the array, which else is as it was.
@@ -18,7 +18,7 @@ Filled opened now count old out = (found : Placed) × TakesOperators opened now 
 pub filled_first : (opened : State) (old : List WasmOperator) → TakesOperators opened opened [] → Filled opened opened 0 old old
 filled_first opened old none = ([], none, refl, omega arith, refl)
 
-pub filled_on : (opened now next : State) (old out : List WasmOperator) (count offset : ℕ) (op : Operator) (v : WasmOperator) → OfNext →
+pub filled_on : (opened now next : State) (old out : List WasmOperator) (count offset : ℕ) (op : Operator) (v : WasmOperator) → TakesOneMore →
     Filled opened now count old out → TakesOperator EncodesAllowed op now next → offset ≡ offset_of now.reader → count < length out →
     length out ≡ length old → v ≡ view_of (op, offset) → Filled opened next (count + 1) old (set out count v)
 filled_on opened now next old out count offset op v law (found, ran, counted, fits, is) takes at within same_length same =
@@ -32,6 +32,6 @@ filled_on opened now next old out count offset op v law (found, ran, counted, fi
       one_more found p old out count v is counted room same,
     )
 
-pub filled_still : (opened now next : State) (old out : List WasmOperator) (count : ℕ) → OfRefused → Filled opened now count old out → IsUnchanged now next →
+pub filled_still : (opened now next : State) (old out : List WasmOperator) (count : ℕ) → TakesNoMore → Filled opened now count old out → IsUnchanged now next →
     Filled opened next count old out
 filled_still opened now next old out count law (found, ran, counted, fits, is) same = (found, law opened now next found ran same, counted, fits, is)

@@ -6,13 +6,14 @@ use Rattle.wasm_operators.specs.below.Source.{Source, Reader, rest, offset_of, s
 use Rattle.wasm_operators.specs.opcodes.Allowed.{EncodesAllowed}
 use Rattle.wasm_operators.specs.opcodes.OperatorFaults.{OperatorFault}
 use Rattle.wasm_operators.specs.Body.{source_behind, EncodesBody, OpensBody, StopsBody}
-use Rattle.wasm_operators.specs.Expression.{Placed, OfPlaced, LaidOut, EncodesExpression}
+use Rattle.wasm_operators.specs.Expression.{Placed, OfPlaced, EncodesExpression}
 use Rattle.wasm_operators.specs.Locals.{Declaration, IsPastLocals, RefusesLocals}
 use Rattle.wasm_operators.specs.Reading.{State, Adds, Anywhere, TakesOperators, EndsRun, RunsToEnd}
 use Rattle.wasm_operators.specs.Next.{NextMayAllocate}
 use Rattle.wasm_operators.specs.Headline.{StoodBefore}
+use Rattle.wasm_operators.specs.Laws.{TakesBoth, IsNoLonger}
 use Rattle.wasm_c.specs.Reads.{EndsBody, EndsOperators}
-use Rattle.wasm_c.proofs.Cited.{OfJoined, OfTree, OfBeginning, OfStops}
+use Rattle.wasm_c.proofs.Cited.{OfTree, OfBeginning, OfStops}
 
 -- Where memory may be refused is not said of a body.
 ends_anywhere : {X : Type 0} → OfStops → (result : Result X Error) (s : State) → EndsRun EncodesAllowed OperatorFault (NextMayAllocate EncodesAllowed) result s →
@@ -27,7 +28,7 @@ ends_run tree beginning (Ok x) opened new all stood ran (closed, taken) = (tree 
 ends_run tree beginning (Err e) opened new all stood ran stops = (new, beginning [] e opened new all stood ran stops)
 
 -- The operators that were found before, and those that were read to the end behind them.
-pub ends_joined : {X : Type 0} → OfJoined → OfTree → OfBeginning → (result : Result X Error) (opened old new : State) (found more : Placed) →
+pub ends_joined : {X : Type 0} → TakesBoth → OfTree → OfBeginning → (result : Result X Error) (opened old new : State) (found more : Placed) →
     StoodBefore [] opened → TakesOperators opened old found → RunsToEnd (Adds [] more) EncodesAllowed OperatorFault Anywhere result old new →
     EndsOperators result opened (found ++ more)
 ends_joined joined tree beginning result opened old new found more stood ran (placed, came, on, ends) =
@@ -35,7 +36,7 @@ ends_joined joined tree beginning result opened old new found more stood ran (pl
     (ends_run tree beginning result opened new (found ++ placed) stood (joined opened old new found placed ran on) ends)
 
 -- The same of those that were visited.
-pub ends_visited : {X : Type 0} (Happened : OfPlaced) → OfJoined → OfTree → OfBeginning → OfStops → (result : Result X Error) (opened old new : State)
+pub ends_visited : {X : Type 0} (Happened : OfPlaced) → TakesBoth → OfTree → OfBeginning → OfStops → (result : Result X Error) (opened old new : State)
     (found : Placed) → StoodBefore [] opened → TakesOperators opened old found →
     RunsToEnd Happened EncodesAllowed OperatorFault (NextMayAllocate EncodesAllowed) result old new →
     (more : Placed) × Happened more × EndsOperators result opened (found ++ more)
@@ -45,12 +46,8 @@ ends_visited Happened joined tree beginning stops result opened old new found st
   ends_run tree beginning result opened new (found ++ placed) stood (joined opened old new found placed ran on) (ends_anywhere stops result new ends),
 )
 
--- What the law `layouts` says of lengths.
-abbrev pub Lengths : WasmFeatures → Type 0
-Lengths f = (offset : ℕ) (placed : Placed) (bytes : List ℕ) → LaidOut f offset placed bytes → length placed ≤ length bytes
-
 -- They are no more than the bytes.
-pub ends_few : {X : Type 0} (result : Result X Error) (opened : State) (placed : Placed) → Lengths opened.reader.features →
+pub ends_few : {X : Type 0} (result : Result X Error) (opened : State) (placed : Placed) → IsNoLonger opened.reader.features →
     EndsOperators result opened placed → length placed ≤ end_of opened.reader
 ends_few (Ok x) opened placed lengths h =
     let few = lengths (offset_of opened.reader) placed (rest opened.reader) h.0 in

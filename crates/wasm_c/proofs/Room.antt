@@ -5,31 +5,27 @@ use Rattle.wasm_operators.specs.below.Source.{rest}
 use Rattle.wasm_operators.specs.below.bytes.features.WasmFeatures.{WasmFeatures}
 use Rattle.wasm_operators.specs.instr.declared.operator.Operator.{Operator}
 use Rattle.wasm_operators.specs.instr.Encoding.{EncodesOperator}
-use Rattle.wasm_operators.specs.opcodes.Allowed.{EncodesAllowed}
 use Rattle.wasm_operators.specs.Expression.{Placed}
 use Rattle.wasm_operators.specs.Headline.{IsWithinDepth}
+use Rattle.wasm_operators.specs.Laws.{AddsFewFrames}
 use Rattle.wasm_operators.specs.Openings.{opened_by}
-use Rattle.wasm_operators.specs.Reading.{State, IsFresh, TakesOperator}
+use Rattle.wasm_operators.specs.Reading.{State, IsFresh}
 use Rattle.wasm_c.specs.declared.reader.WasmReader.{WasmReader}
 use Rattle.wasm_c.specs.Steps.{IsReader, reader_at, state_at, FindsNoRoom, ReadsEach}
 use Rattle.wasm_c.proofs.Steps.{kinds_length}
-
--- What the law `one_depth` says.
-abbrev pub OneDepth : Type 0
-OneDepth = (op : Operator) (old new : State) → TakesOperator EncodesAllowed op old new → IsWithinDepth old new
 
 -- What the law `frames_opened` says of the half.
 abbrev pub OpensHalf : WasmFeatures → Type 0
 OpensHalf f = (op : Operator) (text : List ℕ) → EncodesOperator f op text → 2 * opened_by op ≤ length text
 
-depth_along : OneDepth → (old new : State) (placed : Placed) → ReadsEach old placed new → IsWithinDepth old new
+depth_along : AddsFewFrames → (old new : State) (placed : Placed) → ReadsEach old placed new → IsWithinDepth old new
 depth_along law old new [] same = subst (λ s. IsWithinDepth old s) (sym same) (omega arith)
 depth_along law old new (p ∷ ps) (between, takes, at, others) =
     let first = law p.0 old between takes in
     let behind = depth_along law between new ps others in
     omega (arith, first, behind)
 
-pub room_along : OneDepth → (features : WasmFeatures) → OpensHalf features → (bytes : List ℕ) (opened now : WasmReader) (frames_opened frames_now : List ℕ)
+pub room_along : AddsFewFrames → (features : WasmFeatures) → OpensHalf features → (bytes : List ℕ) (opened now : WasmReader) (frames_opened frames_now : List ℕ)
     (placed : Placed) → IsFresh (state_at bytes opened frames_opened) →
     ReadsEach (state_at bytes opened frames_opened) placed (state_at bytes now frames_now) → IsReader bytes (length frames_now) now →
     features_of now.features ≡ features → length bytes / 2 + 1 ≤ length frames_now → FindsNoRoom (state_at bytes now frames_now) → ⊥

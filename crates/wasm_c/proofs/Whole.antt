@@ -13,13 +13,14 @@ use Rattle.wasm_operators.specs.Body.{EncodesBody, OpensBody}
 use Rattle.wasm_operators.specs.Expression.{Placed, EncodesExpression}
 use Rattle.wasm_operators.specs.Locals.{Declaration}
 use Rattle.wasm_operators.specs.Reading.{State, IsFresh, TakesOperators, Finishes}
+use Rattle.wasm_operators.specs.Laws.{TakesNone, TakesOneMore}
 use Rattle.wasm_view.specs.View.{view_of}
 use Rattle.wasm_view.specs.declared.view.WasmOperator.{WasmOperator}
 use Rattle.wasm_c.specs.declared.reader.WasmReader.{WasmReader}
 use Rattle.wasm_c.specs.declared.refusal.WasmRefusal.{WasmRefusal}
 use Rattle.wasm_c.specs.Refused.{refusal_of, refusal_at, misuse}
 use Rattle.wasm_c.specs.Steps.{reader_at, state_at, fresh_reader, TakesPlain, ReadsEach, OpensExpression, OpensBehindLocals, OpensPlain, FinishesPlain}
-use Rattle.wasm_c.proofs.Cited.{Fresh, OfFirst, OfNext, OfTree}
+use Rattle.wasm_c.proofs.Cited.{Fresh, OfTree}
 use Rattle.wasm_c.proofs.Found.{ends_body}
 
 -- ---- reads, one behind the other
@@ -34,7 +35,7 @@ pub reads_join : (old mid new : State) (first second : Placed) → ReadsEach old
 reads_join old mid new [] second same others = subst (λ s. ReadsEach s second new) same others
 reads_join old mid new (p ∷ ps) second (between, takes, at, more) others = (between, takes, at, reads_join between mid new ps second more others)
 
-each_behind : OfNext → (opened old new : State) (found placed : Placed) → TakesOperators opened old found → ReadsEach old placed new →
+each_behind : TakesOneMore → (opened old new : State) (found placed : Placed) → TakesOperators opened old found → ReadsEach old placed new →
     TakesOperators opened new (found ++ placed)
 each_behind law opened old new found [] ran same =
     subst (λ list. TakesOperators opened new list) (sym (append-nil found)) (subst (λ s. TakesOperators opened s found) (sym same) ran)
@@ -69,8 +70,8 @@ finished r bytes reader frames (inr (none, told)) zero =
 -- What the laws say that a whole expression needs.
 pub record HasLaws : Type 0 where
   pub fresh : Fresh
-  pub first : OfFirst
-  pub next : OfNext
+  pub first : TakesNone
+  pub next : TakesOneMore
   pub tree : OfTree
 
 -- Where all frames are closed and all bytes are read, an expression was read.

@@ -10,6 +10,7 @@ use Rattle.wasm_operators.specs.opcodes.Allowed.{EncodesAllowed}
 use Rattle.wasm_operators.specs.opcodes.OperatorFaults.{OperatorFault}
 use Rattle.wasm_operators.specs.Expression.{Placed, IsAny, EncodesExpression}
 use Rattle.wasm_operators.specs.Headline.{ReadsTree, ReadsBeginning}
+use Rattle.wasm_operators.specs.Laws.{TakesNone, TakesOneMore, TakesBytes}
 use Rattle.wasm_operators.specs.Reading.{State, IsFresh, Anywhere, TakesOperator, TakesOperators}
 use Rattle.wasm_lines.specs.Rows.{line_of}
 use Rattle.wasm_lines.specs.Lines.{opens, closes, depth_of, depth_behind, between, next_offset, lines_from, lines_of}
@@ -30,18 +31,7 @@ pub record AreListed (start : ℕ) (bytes : List ℕ) (opened now : State) (dept
       lines_of text_of start bytes end (placed ++ more) ≡ written ++ lines_from text_of start bytes end depth more
   pub few : depth ≤ offset_of now.reader
 
--- What the law `single_reads` says of the first read, and of one more.
-abbrev pub OfFirst : Type 0
-OfFirst = (s : State) → TakesOperators s s []
-
-abbrev pub OfNext : Type 0
-OfNext = (old mid new : State) (placed : Placed) (op : Operator) → TakesOperators old mid placed → TakesOperator EncodesAllowed op mid new →
-    TakesOperators old new (placed ++ (op, offset_of mid.reader) ∷ [])
-
-abbrev pub Progresses : Type 0
-Progresses = (op : Operator) (old new : State) → TakesOperator EncodesAllowed op old new → offset_of old.reader < offset_of new.reader
-
-pub listed_none : (start : ℕ) (bytes : List ℕ) (opened : State) (before : Option (List ℕ)) → OfFirst → AreListed start bytes opened opened 0 before before
+pub listed_none : (start : ℕ) (bytes : List ℕ) (opened : State) (before : Option (List ℕ)) → TakesNone → AreListed start bytes opened opened 0 before before
 listed_none start bytes opened before first = record {
   placed = [];
   ran = first opened;
@@ -57,7 +47,7 @@ one_deeper false true n = omega arith
 one_deeper false false n = omega arith
 
 pub listed_more : (start depth deeper at : ℕ) (bytes shown : List ℕ) (opened mid new : State) (before between_lines after : Option (List ℕ)) (op : Operator) →
-    OfNext → Progresses → AreListed start bytes opened mid depth before between_lines → TakesOperator EncodesAllowed op mid new →
+    TakesOneMore → TakesBytes → AreListed start bytes opened mid depth before between_lines → TakesOperator EncodesAllowed op mid new →
     at ≡ offset_of mid.reader → shown ≡ between start bytes at (offset_of new.reader) →
     Appends between_lines after (line_of (depth_of (slice_index shown 0) depth) at shown (text_of op)) → deeper ≡ depth_behind (slice_index shown 0) depth →
     AreListed start bytes opened new deeper before after
@@ -86,7 +76,7 @@ listed_more start depth deeper at bytes shown opened mid new before between_line
     }
 
 -- Fewer bytes are left.
-pub fewer_left : (op : Operator) (old new : State) → Progresses → TakesOperator EncodesAllowed op old new → length (rest new.reader) < length (rest old.reader)
+pub fewer_left : (op : Operator) (old new : State) → TakesBytes → TakesOperator EncodesAllowed op old new → length (rest new.reader) < length (rest old.reader)
 fewer_left op old new progresses t =
     let on = progresses op old new t in
     let place : offset_of new.reader ≡ offset_of old.reader + length t.text = ap offset_of t.takes.moved ∙ omega arith in

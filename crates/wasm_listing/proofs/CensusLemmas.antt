@@ -3,12 +3,12 @@ use Rattle.std.proofs.Common.{◌≡◌, ◌≢◌, ℕ, ◌+◌, ◌-◌, ◌^�
 use Rattle.std.proofs.lemmas.List.{length-append}
 use Rattle.std.specs.Cmp.Lexicographic.{pointwise}
 use Rattle.wasm_operators.specs.below.bytes.error.Error.{Error}
+use Rattle.wasm_operators.specs.Laws.{IsNoLonger}
 use Rattle.wasm_operators.specs.below.bytes.message.Message.TheVariants as message
 use Rattle.wasm_operators.specs.below.Source.{Reader, rest, offset_of}
-use Rattle.wasm_operators.specs.below.bytes.features.WasmFeatures.{WasmFeatures}
 use Rattle.wasm_operators.specs.instr.declared.operator.Operator.{Operator}
 use Rattle.wasm_operators.specs.instr.Row.{proposal_of}
-use Rattle.wasm_operators.specs.readers.Expression.{Placed, LaidOut}
+use Rattle.wasm_operators.specs.readers.Expression.{Placed}
 use Rattle.wasm_operators.specs.readers.Visiting.{VisitRun, Visited}
 use Rattle.wasm_operators.specs.Locals.{Declaration}
 use Rattle.wasm_operators.specs.Body.{StopsBody, ReadsBody}
@@ -92,11 +92,7 @@ visited_counts placed before after none below (answers, run) =
     counts_along placed answers before after 0 (ap length (sym none)) (subst (AreWithin 0) (sym none) (zeros_within proposals)) (omega (arith, below)) run ∙
     ap (λ counts. added proposals counts placed) none ∙ added_zeros proposals placed
 
--- What the law `layouts` says: a list that is laid out has at most as many operators as bytes.
-abbrev pub IsNoLonger : WasmFeatures → Type 0
-IsNoLonger f = (offset : ℕ) (placed : Placed) (bytes : List ℕ) → LaidOut f offset placed bytes → length placed ≤ length bytes
-
--- So has a body.
+-- A body has at most as many operators as bytes.
 pub body_length : (input : Reader) (declarations : List Declaration) (placed : Placed) → IsNoLonger input.features → IsBody input declarations placed →
     length placed ≤ length (rest input)
 body_length input declarations placed no_longer h =

@@ -8,6 +8,7 @@ pub use Rattle.wasm_operators_readers.specs.Reading
 pub use Rattle.wasm_operators_readers.specs.Headline
 pub use Rattle.wasm_operators_readers.specs.Next
 pub use Rattle.wasm_operators_readers.specs.Iterating
+pub use Rattle.wasm_operators_readers.specs.Laws
 pub mod Locals
 pub mod Body
 pub mod Constant

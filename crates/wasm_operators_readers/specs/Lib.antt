@@ -10,6 +10,7 @@ pub mod Reading
 pub mod Headline
 pub mod Next
 pub mod Guarded
+pub mod Laws
 pub use Rattle.wasm_decode.specs.below as below
 pub use Rattle.wasm_decode.specs.imm as imm
 pub use Rattle.wasm_decode.specs.grammar as grammar

@@ -6,8 +6,9 @@ ghost use Rattle.wasm_decode.specs.grammar.declared.frame_kind.FrameKind.{FrameK
 ghost use Rattle.wasm_decode.specs.instr.declared.operator.Operator.{Operator};
 ghost use Rattle.wasm_decode.specs.instr.Encoding.{EncodesOperator};
 ghost use Rattle.wasm_decode.specs.instr.Kinds.{IsVector};
-ghost use Rattle.wasm_operators_readers.specs.Expression.{Placed, operators, LaidOut, EndsAt, AreEncoded, EncodesRest, EncodesExpression, IsBeginningOf, IsBeginningBehind, IsLongestOf, IsLongestBehind, IsLongestBeginning};
+ghost use Rattle.wasm_operators_readers.specs.Expression.{Placed, LaidOut, EndsAt, AreEncoded, EncodesRest, EncodesExpression, IsBeginningOf, IsBeginningBehind, IsLongestOf, IsLongestBehind, IsLongestBeginning};
 ghost use Rattle.wasm_operators_readers.specs.Flat.{IsFlatOf, IsFlatFrom, IsFlatBeginning};
+ghost use Rattle.wasm_operators_readers.specs.Laws.{IsNoLonger, HasEncodings, LaysOutBoth, BeginsLonger};
 ghost use Rattle.wasm_operators_readers.specs.Headline.{StoodBefore, ClosesFrom};
 ghost use Rattle.wasm_operators_readers.specs.Openings.{opened_by, LeadsFrame};
 ghost use Rattle.wasm_operators_readers.specs.Reading.{State};
@@ -19,10 +20,7 @@ use wasm_decode::below::WasmFeatures;
 /// beginning of the other; and lists of one length are the same, in the same bytes. For no encoding
 /// of an operator is a proper prefix of another's, and one encoding belongs to one operator.
 pub fn one_layout(features: WasmFeatures)
-    ensures beginning { (offset : ℕ) (first second : Placed) (a b x y : List ℕ)
-        → LaidOut features offset first a → LaidOut features offset second b
-        → a ++ x ≡ b ++ y → length first ≤ length second
-        → IsBeginningOf first second }
+    ensures beginning { BeginsLonger features }
     ensures same { (offset : ℕ) (first second : Placed) (a b x y : List ℕ)
         → LaidOut features offset first a → LaidOut features offset second b
         → a ++ x ≡ b ++ y → length first ≡ length second
@@ -32,14 +30,11 @@ pub fn one_layout(features: WasmFeatures)
 /// A list that is laid out is no longer than its bytes, and its operators have encodings; and where it
 /// is two lists, one behind the other, so are its bytes.
 pub fn layouts(features: WasmFeatures)
-    ensures length { (offset : ℕ) (placed : Placed) (bytes : List ℕ) → LaidOut features offset placed bytes
-        → length placed ≤ length bytes }
-    ensures encoded { (offset : ℕ) (placed : Placed) (bytes : List ℕ) → LaidOut features offset placed bytes
-        → AreEncoded features (operators placed) }
+    ensures length { IsNoLonger features }
+    ensures encoded { HasEncodings features }
     ensures parts { (offset : ℕ) (first second : Placed) (bytes : List ℕ) → LaidOut features offset (first ++ second) bytes
         → (a b : List ℕ) × (bytes ≡ a ++ b) × LaidOut features offset first a × LaidOut features (offset + length a) second b }
-    ensures joined { (offset : ℕ) (first second : Placed) (a b : List ℕ) → LaidOut features offset first a
-        → LaidOut features (offset + length a) second b → LaidOut features offset (first ++ second) (a ++ b) }
+    ensures joined { LaysOutBoth features }
 {}
 
 /// Each operator of a list that is laid out ends where the next begins, and the last where the bytes

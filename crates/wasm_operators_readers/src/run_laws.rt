@@ -1,13 +1,14 @@
 //! Laws of readers of operators. Each is the contract of a function that does nothing.
-ghost use Rattle.std.specs.Prelude.{◌≡◌, [], ◌∷◌, ◌++◌, ◌+◌, ◌*◌, ◌<◌, ◌≤◌, ℕ, List, length, Err};
+ghost use Rattle.std.specs.Prelude.{◌≡◌, [], ◌∷◌, ◌++◌, ◌+◌, List, Err};
 ghost use Rattle.wasm_decode.specs.below.bytes.error.Error.{Error};
-ghost use Rattle.wasm_decode.specs.below.Source.{rest, offset_of, source_of};
+ghost use Rattle.wasm_decode.specs.below.Source.{rest, source_of};
 ghost use Rattle.wasm_decode.specs.instr.declared.operator.Operator.{Operator};
 ghost use Rattle.wasm_decode.specs.opcodes.Allowed.{EncodesAllowed, EncodesScalar};
 ghost use Rattle.wasm_decode.specs.opcodes.OperatorFaults.{OperatorFault};
 ghost use Rattle.wasm_operators_readers.specs.Expression.{Placed, IsAny, EncodesRest};
 ghost use Rattle.wasm_operators_readers.specs.Next.{NextMayAllocate};
-ghost use Rattle.wasm_operators_readers.specs.Reading.{State, IsFresh, GrowsLittle, IsUnchanged, TakesOperator, TakesOperators, Finishes, FramesLeft, StopsRead, StopsRun, Anywhere};
+ghost use Rattle.wasm_operators_readers.specs.Reading.{State, IsFresh, IsUnchanged, TakesOperator, TakesOperators, Finishes, FramesLeft, StopsRead, StopsRun, Anywhere};
+ghost use Rattle.wasm_operators_readers.specs.Laws.{TakesNone, TakesOneMore, TakesNoMore, TakesBoth, TakesBytes, AddsFewFrames, AddsUp};
 ghost use Rattle.wasm_operators_readers.specs.Headline.{StoodBefore, ReadsTree, ReadsBeginning, IsWithinDepth};
 
 use wasm_decode::below::Message;
@@ -30,7 +31,7 @@ pub fn one_operator()
 
 /// Twice the frames that one operator added is at most the bytes that it took.
 pub fn one_depth()
-    ensures any { (op : Operator) (old new : State) → TakesOperator EncodesAllowed op old new → IsWithinDepth old new }
+    ensures any { AddsFewFrames }
     ensures scalar { (op : Operator) (old new : State) → TakesOperator EncodesScalar op old new
         → IsWithinDepth old new }
 {}
@@ -38,25 +39,18 @@ pub fn one_depth()
 /// The memory of the frames stays little over one step and another, where the first opened no more
 /// frames than half of its bytes: as every read and visit does.
 pub fn memory_adds_up()
-    ensures { (first second : ℕ) (old mid new : State) → GrowsLittle first old mid
-        → 2 * length mid.frames ≤ 2 * length old.frames + first → GrowsLittle second mid new
-        → GrowsLittle (first + second) old new }
+    ensures { AddsUp }
 {}
 
 /// Single reads, one behind the other, take a list: before the first it is empty, each that is taken
 /// adds its operator, at the offset where the reader stood, and one that is refused adds none. Each
 /// that is taken takes a byte at the least. And the lists of two runs of reads are one list.
 pub fn single_reads()
-    ensures first { (s : State) → TakesOperators s s [] }
-    ensures next { (old mid new : State) (placed : Placed) (op : Operator) → TakesOperators old mid placed
-        → TakesOperator EncodesAllowed op mid new
-        → TakesOperators old new (placed ++ (op, offset_of mid.reader) ∷ []) }
-    ensures refused { (old mid new : State) (placed : Placed) → TakesOperators old mid placed → IsUnchanged mid new
-        → TakesOperators old new placed }
-    ensures joined { (old mid new : State) (first second : Placed) → TakesOperators old mid first
-        → TakesOperators mid new second → TakesOperators old new (first ++ second) }
-    ensures progress { (op : Operator) (old new : State) → TakesOperator EncodesAllowed op old new
-        → offset_of old.reader < offset_of new.reader }
+    ensures first { TakesNone }
+    ensures next { TakesOneMore }
+    ensures refused { TakesNoMore }
+    ensures joined { TakesBoth }
+    ensures progress { TakesBytes }
 {}
 
 /// What single reads took, up to the end of the data or a refusal, is what `read_all` takes: where the
