@@ -13,6 +13,7 @@ use Rattle.wasm_visit.proofs.of_below.TakesLemmas.{takes_then, rewound, first_by
 use Rattle.wasm_visit.specs.grammar.declared.frame_kind.FrameKind.{FrameKind}
 use Rattle.wasm_visit.specs.instr.declared.operator.Operator.{Operator}
 use Rattle.wasm_visit.specs.instr.declared.operator.Operator.TheVariants as operator
+use Rattle.wasm_visit.specs.instr.ops.gc.GcOperator.{GcOperator}
 use Rattle.wasm_visit.specs.instr.Encoding.{EncodesOpcode, EncodesOperator}
 use Rattle.wasm_visit.specs.instr.Immediate.{Kind}
 use Rattle.wasm_visit.specs.instr.Kinds.{IsVector}
@@ -27,7 +28,7 @@ use Rattle.wasm_visit.specs.opcodes.Refused.{IsRefusedOperator}
 use Rattle.wasm_visit.proofs.of_opcodes.OperatorLemmas.{within_behind}
 use Rattle.wasm_visit.proofs.of_opcodes.Told.{told}
 use Rattle.wasm_visit.proofs.of_decode.Ranges.{InRanges, codes_in}
-use Rattle.wasm_decode.specs.Reading.{DecodesOperator}
+use Rattle.wasm_decode.specs.Reading.{DecodesOperator, DecodesOperatorAt, DecodesGcAt}
 
 -- ---- by a copy of the reader
 
@@ -310,6 +311,61 @@ pub as_read : {V : Type 0} (E : List ℕ → Operator → Type 0) (F : Message �
     Decodes {V = V} (λ before op answer after. answer ≡ op) E F result old new v w → DecodesOperator E F result old new
 as_read E F old new v w (Ok op) (text, it, s, taken, same) = (text, subst (E text) (sym same) s, taken)
 as_read E F old new v w (Err e) (same, h) = h
+
+-- and what is read is decoded by it
+pub as_visited : (E : List ℕ → Operator → Type 0) (F : Message → Reader → ℕ → Type 0) (old new : Reader) (result : Result Operator Error) →
+    DecodesOperator E F result old new → Decodes {V = Unit {0}} (λ before op answer after. answer ≡ op) E F result old new tt tt
+as_visited E F old new (Ok op) (text, s, taken) = (text, op, s, taken, refl)
+as_visited E F old new (Err e) h = (refl, h)
+
+module _ (k : FrameKind) (start : ℕ) (old lent mid : Reader) (same : lent ≡ old) where
+  abbrev AnswersOperator : Unit {0} → Operator → Operator → Unit {0} → Type 0
+  AnswersOperator before op answer after = answer ≡ op
+
+  visited : (result : Result Operator Error) → DecodesOperatorAt k start result lent mid → DecodesAt AnswersOperator k start result lent mid tt tt
+  visited result h = as_visited (EncodesAllowed lent.features k) (OperatorFault lent.features k) (at_position lent start) mid result h
+
+  -- by a copy of the reader too
+  pub read_within : (p : Option ℕ) (code : ℕ) (op : Operator) → StandsBehind start p code old → DecodesOperatorAt k start (Ok op) lent mid →
+      mid.position ≤ length old.buffer
+  read_within p code op b h = copy_within AnswersOperator k start old lent mid tt tt same p code op b (visited (Ok op) h)
+
+  pub read_by_copy : (result : Result Operator Error) (new : Reader) (position : ℕ) → DecodesOperatorAt k start result lent mid → position ≡ mid.position →
+      new ≡ at_position old position → DecodesOperatorAt k start result old new
+  read_by_copy result new position h at went =
+      as_read (EncodesAllowed old.features k) (OperatorFault old.features k) (at_position old start) new tt tt result
+      (by_copy AnswersOperator k start old lent mid tt tt same result new position (visited result h) at went)
+
+  pub read_refused : (e : Error) (new : Reader) → DecodesOperatorAt k start (Err e) lent mid → new ≡ at_position old start →
+      DecodesOperatorAt k start (Err e) old new
+  read_refused e new h went =
+      as_read (EncodesAllowed old.features k) (OperatorFault old.features k) (at_position old start) new tt tt (Err e)
+      (copy_refused AnswersOperator k start old lent mid tt tt same e new (visited (Err e) h) went)
+
+-- ---- reading what stands behind 0xfb
+
+-- the operator of a visit, where that is one behind 0xfb
+abbrev IsGc : Operator → GcOperator → Type 0
+IsGc op answer = (made : GcOperator) → op ≡ operator.Gc made → answer ≡ made
+
+prefix_gc : (op : Operator) (answer : GcOperator) → prefix_of op ≡ Some 0xfb → IsGc op answer → op ≡ operator.Gc answer
+prefix_gc (operator.Gc op) answer e is = ap operator.Gc (sym (is op refl))
+prefix_gc op answer e is = absurd (omega (arith, ap number_in e))
+
+-- what a visitor decodes that answers it by itself, from behind the subopcode
+pub as_gc : {V : Type 0} (k : FrameKind) (start : ℕ) (old mid new : Reader) (v w : V) (result : Result GcOperator Error) → entry_at None 0xfb ≡ prefixes →
+    StandsBehind start None 0xfb old → mid ≡ at_position old mid.position → DecodesAt {V = V} (λ before op answer after. IsGc op answer) k start result mid new v w →
+    DecodesGcAt k start result old new
+as_gc {V} k start old mid new v w result prefix b stays h =
+    go result b.opcode (subst (λ r. DecodesAt {V = V} (λ before op answer after. IsGc op answer) k start result r new v w) stays h)
+  where
+    go : (result : Result GcOperator Error) → Reads (λ text it. EncodesOpcode None it text) (Ok 0xfb) (at_position old start) old →
+        DecodesAt {V = V} (λ before op answer after. IsGc op answer) k start result old new v w → DecodesGcAt k start result old new
+    go (Ok answer) (head, opcode, t) (text, op, s, taken, visited) =
+        let parts : rest (at_position old start) ≡ 0xfb ∷ rest old = t.parts ∙ ap (λ z. z ++ rest old) opcode in
+        let o = begins_prefix old.features op 0xfb text (rest old) (rest new) prefix s.0 (sym parts ∙ taken.parts) in
+        (text, subst (EncodesAllowed old.features k text) (prefix_gc op answer o.2 visited) s, taken)
+    go (Err e) read (same, refused) = refused
 
 pub read_from_start : (E : WasmFeatures → FrameKind → List ℕ → Operator → Type 0) (F : WasmFeatures → FrameKind → Message → Reader → ℕ → Type 0) (k : FrameKind) (start : ℕ)
     (old mid new : Reader) (result : Result Operator Error) → at_position mid start ≡ old →

@@ -5,6 +5,8 @@ use Rattle.wasm_visit.specs.below.bytes.message.Message.{Message}
 use Rattle.wasm_visit.specs.below.Source.{Reader, at_position, Takes}
 use Rattle.wasm_visit.specs.grammar.declared.frame_kind.FrameKind.{FrameKind}
 use Rattle.wasm_visit.specs.instr.declared.operator.Operator.{Operator}
+use Rattle.wasm_visit.specs.instr.declared.operator.Operator.TheVariants as operator
+use Rattle.wasm_visit.specs.instr.ops.gc.GcOperator.{GcOperator}
 use Rattle.wasm_visit.specs.opcodes.Allowed.{EncodesAllowed, EncodesIn}
 use Rattle.wasm_visit.specs.opcodes.Decoding.{RefusesOperator}
 use Rattle.wasm_visit.specs.opcodes.OperatorFaults.{OperatorFault, FaultIn}
@@ -23,3 +25,8 @@ DecodesOperatorAt frame start result old new =
 abbrev pub DecodesOperatorIn : Option FrameKind → Result Operator Error → Reader → Reader → Type 0
 DecodesOperatorIn frame result old new =
     DecodesOperator (EncodesIn (EncodesAllowed old.features) frame) (FaultIn (OperatorFault old.features) frame) result old new
+
+-- The same of an operator behind 0xfb, which is answered by itself.
+abbrev pub DecodesGcAt : FrameKind → ℕ → Result GcOperator Error → Reader → Reader → Type 0
+DecodesGcAt frame start (Ok op) old new = DecodesOperatorAt frame start (Ok (operator.Gc op)) old new
+DecodesGcAt frame start (Err e) old new = DecodesOperatorAt frame start (Err e) old new

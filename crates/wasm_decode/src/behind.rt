@@ -19,7 +19,7 @@ use wasm_visit::{VisitGroups, VisitSimdOperator, decode};
 
 /// A place for a refusal.
 #[inline(always)]
-fn place() -> Error {
+pub fn place() -> Error {
     Error::new(Message::EndOfData, 0)
 }
 

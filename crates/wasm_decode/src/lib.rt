@@ -6,6 +6,7 @@
 #![tactic(auto)]
 
 mod behind;
+mod gc_factory;
 pub mod laws;
 mod read;
 mod refusals;

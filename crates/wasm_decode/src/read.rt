@@ -1,16 +1,17 @@
-//! An operator is read, by the visitor that makes it in place.
-ghost use Rattle.std.specs.Prelude.{◌≡◌, ◌≢◌, None, Some};
-ghost use Rattle.wasm_decode.specs.Reading.{DecodesOperatorIn, DecodesOperatorAt};
+//! An operator is read, by the visitor that makes it in place, or the one that makes what stands behind 0xfb.
+ghost use Rattle.std.specs.Prelude.{◌≡◌, ◌≢◌, None, Some, Ok, Err, IfSome, IfNone};
+ghost use Rattle.wasm_decode.specs.Reading.{DecodesOperatorIn, DecodesOperatorAt, DecodesGcAt};
 ghost use Rattle.wasm_visit.specs.grammar.declared.frame_kind.FrameKind.{FrameKind};
 ghost use Rattle.wasm_visit.specs.opcodes.Decoding.{StandsBehind};
 
-use crate::behind::{group_behind, simd_of, subopcode, vector_without_immediates};
+use crate::behind::{group_behind, place, simd_of, subopcode, vector_without_immediates};
+use crate::gc_factory::GcFactory;
 use crate::refusals::no_frame;
 use std::alloc::Global;
-use wasm_visit::below::{BinaryReader, Result};
+use wasm_visit::below::{BinaryReader, Error, Result};
 use wasm_visit::decode;
 use wasm_visit::grammar::FrameKind;
-use wasm_visit::instr::Operator;
+use wasm_visit::instr::{GcOperator, Operator};
 use wasm_visit::layer_factory::Factory;
 use wasm_visit::opcodes::immediates;
 
@@ -52,6 +53,7 @@ pub fn read_behind<'a>(
 {
     match code {
         0x0e => read_table(reader, start),
+        0xfb => read_gc(reader, start),
         0xfd => read_simd(reader, start),
         _ => read_group(alloc, reader, start, frame, code),
     }
@@ -65,6 +67,62 @@ fn read_table<'a>(reader: &mut BinaryReader<'a>, start: usize) -> Result<Operato
 {
     match immediates::branch_table(reader, start) {
         Ok(targets) => Ok(Operator::BrTable { targets }),
+        Err(e) => Err(e),
+    }
+}
+
+/// An operator behind the byte 0xfb: by a copy of the reader, which is lent out of line.
+#[inline(always)]
+fn read_gc(reader: &mut BinaryReader<'_>, start: usize) -> Result<Operator<'static>>
+    requires { StandsBehind start None 0xfb reader.old }
+    ensures { (frame : FrameKind) → DecodesOperatorAt frame start result reader.old reader.new }
+{
+    let mut lent = reader.clone();
+    let mut refusal = place();
+    match gc_out_of_line(&mut lent, start, &mut refusal) {
+        Some(op) => {
+            reader.set_position(lent.current_position());
+            Ok(op)
+        }
+        None => {
+            reader.rewind(start);
+            Err(refusal)
+        }
+    }
+}
+
+/// The operator of the subopcode behind the byte 0xfb; else the refusal in the place for it. The
+/// `Operator` is made here, at an end of the call that no refusal comes to.
+#[inline(never)]
+fn gc_out_of_line(
+    reader: &mut BinaryReader<'_>,
+    start: usize,
+    refusal: &mut Error,
+) -> Option<Operator<'static>>
+    requires { StandsBehind start None 0xfb reader.old }
+    ensures read { IfSome result (λ op. (frame : FrameKind)
+        → DecodesOperatorAt frame start (Ok op) reader.old reader.new) }
+    ensures refused { IfNone result ((frame : FrameKind)
+        → DecodesOperatorAt frame start (Err refusal.new) reader.old reader.new) }
+{
+    let op = match gc_of(reader, start) {
+        Ok(op) => op,
+        Err(e) => {
+            *refusal = e;
+            return None;
+        }
+    };
+    Some(Operator::Gc(op))
+}
+
+/// The same inline, by itself.
+#[inline(always)]
+fn gc_of(reader: &mut BinaryReader<'_>, start: usize) -> Result<GcOperator>
+    requires { StandsBehind start None 0xfb reader.old }
+    ensures { (frame : FrameKind) → DecodesGcAt frame start result reader.old reader.new }
+{
+    match subopcode(reader, start, 0xfb) {
+        Ok(code) => decode::gc(&mut GcFactory, reader, start, code),
         Err(e) => Err(e),
     }
 }
