@@ -2,7 +2,8 @@
 //! visited where the call stands. All others behind a prefix byte are decoded out of line, by a call for
 //! each prefix, so that the code for operators of one byte stays small. These calls are lent a copy of
 //! the reader and a place for a refusal, so that a caller's reader stays in registers, and so does what
-//! a call answers that visits.
+//! a call answers that visits. They are marked cold, so that what is done for a call stands behind the
+//! loop that makes it, and not within.
 ghost use Rattle.std.specs.Prelude.{◌≡◌, ◌≢◌, [], Some, None, Ok, Err, IfOk, IfErr, IfSome, IfNone};
 ghost use Rattle.wasm_visit.specs.below.Source.{at_position};
 ghost use Rattle.wasm_visit.specs.grammar.declared.frame_kind.FrameKind.{FrameKind};
@@ -91,6 +92,7 @@ fn gc_behind<V: VisitGroups>(
 }
 
 /// The subopcode behind the byte 0xfb, and the operator's visit; else the refusal in the place for it.
+#[cold]
 #[inline(never)]
 fn gc_out_of_line<V: VisitGroups>(
     v: &mut V,
@@ -154,6 +156,7 @@ fn misc_behind<V: VisitGroups>(
 }
 
 /// The subopcode behind the byte 0xfc, and the operator's visit; else the refusal in the place for it.
+#[cold]
 #[inline(never)]
 fn misc_out_of_line<V: VisitGroups>(
     v: &mut V,
@@ -217,6 +220,7 @@ fn atomic_behind<V: VisitGroups>(
 }
 
 /// The subopcode behind the byte 0xfe, and the operator's visit; else the refusal in the place for it.
+#[cold]
 #[inline(never)]
 fn atomic_out_of_line<V: VisitGroups>(
     v: &mut V,
@@ -324,6 +328,7 @@ fn visit_without_immediates<V: VisitSimdOperator>(v: &mut V, code: u32) -> V::Ou
 }
 
 /// What stands behind the subopcode, and the operator's visit; else the refusal in the place for it.
+#[cold]
 #[inline(never)]
 fn simd_out_of_line<V: VisitSimdOperator>(
     v: &mut V,

@@ -93,6 +93,7 @@ fn read_gc(reader: &mut BinaryReader<'_>, start: usize) -> Result<Operator<'stat
 
 /// The operator of the subopcode behind the byte 0xfb; else the refusal in the place for it. The
 /// `Operator` is made here, at an end of the call that no refusal comes to.
+#[cold]
 #[inline(never)]
 fn gc_out_of_line(
     reader: &mut BinaryReader<'_>,
