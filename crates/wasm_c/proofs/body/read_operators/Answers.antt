@@ -1,12 +1,13 @@
 use Rattle.std.proofs.Common.{◌++◌, length, take, drop, ap, sym, subst, ◌∙◌, arith, length-append}
 use Rattle.wasm_operators.specs.opcodes.Allowed.{EncodesAllowed}
 use Rattle.wasm_operators.specs.opcodes.OperatorFaults.{OperatorFault}
+use Rattle.wasm_operators.specs.Laws.{IsNoLonger}
 use Rattle.wasm_operators.specs.Reading.{Adds, Anywhere, RunsToEnd}
 use Rattle.wasm_view.specs.View.{views}
 use Rattle.wasm_view.specs.Lists.{written}
 use Rattle.wasm_c.specs.declared.counter.Counter.{Counter}
 use Rattle.wasm_c.proofs.Counted.{counted_on, array_full}
-use Rattle.wasm_c.proofs.Found.{Lengths, ends_joined, ends_visited, ends_few}
+use Rattle.wasm_c.proofs.Found.{ends_joined, ends_visited, ends_few}
 use Rattle.wasm_c.proofs.Written.{array_joined}
 use Rattle.wasm_c.proofs.body.read_operators.Goals as goal
 
@@ -37,7 +38,7 @@ returns c =
     let end =
     ends_visited _ c.single_reads.ensures.joined c.read_to_the_end.ensures.tree c.read_to_the_end.ensures.beginning c.read_to_the_end.ensures.refused result
     c.args.operators.now c.fill-placed.new.operators c.visit_all_simd-end.new.self f.0 c.requires.stood f.1 c.visit_all_simd-end.ensures.runs in
-    let few = ends_few result c.args.operators.now (f.0 ++ end.0) (subst Lengths (sym c.requires.features) c.layouts.ensures.length) end.2 in (
+    let few = ends_few result c.args.operators.now (f.0 ++ end.0) (subst IsNoLonger (sym c.requires.features) c.layouts.ensures.length) end.2 in (
       f.0 ++ end.0,
       record {
         ends = end.2;
