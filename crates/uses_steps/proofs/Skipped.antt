@@ -5,7 +5,7 @@ use Rattle.wasm_operators.specs.instr.declared.operator.Operator.{Operator}
 use Rattle.wasm_operators.specs.opcodes.Allowed.{EncodesAllowed}
 use Rattle.wasm_operators.specs.Expression.{Placed}
 use Rattle.wasm_operators.specs.Headline.{IsWithinDepth}
-use Rattle.wasm_operators.specs.Laws.{TakesNone, TakesOneMore, TakesNoMore, AddsFewFrames, AddsUp}
+use Rattle.wasm_operators.specs.Laws.{TakesNone, TakesOneMore, TakesNoMore, AddsFewFrames, MemoryAddsUp}
 use Rattle.wasm_operators.specs.Reading.{State, GrowsLittle, IsUnchanged, TakesOperator, TakesOperators}
 
 -- So many operators were taken, few frames were opened, and their memory grew little.
@@ -23,7 +23,7 @@ skips_none s first = record { placed = []; many = refl; taken = first s; depth =
 grows_more : (few many : ℕ) (old new : State) → few ≤ many → GrowsLittle few old new → GrowsLittle many old new
 grows_more few many old new less grows = omega (arith, less, grows)
 
-pub skips_on : (op : Operator) (count : ℕ) (old mid new : State) → AddsFewFrames → AddsUp → TakesOneMore → HasSkipped count old mid →
+pub skips_on : (op : Operator) (count : ℕ) (old mid new : State) → AddsFewFrames → MemoryAddsUp → TakesOneMore → HasSkipped count old mid →
     TakesOperator EncodesAllowed op mid new → HasSkipped (count + 1) old new
 skips_on op count old mid new one adds next h taken =
     let moved : new.reader.position ≡ mid.reader.position + length taken.text = ap (λ (r : Reader). r.position) taken.takes.moved in
@@ -40,7 +40,7 @@ skips_on op count old mid new one adds next h taken =
       memory = grows_more (first + 0) (new.reader.position - old.reader.position) old new (omega (arith, h.forward, moved)) grows;
     }
 
-pub skips_refused : (count : ℕ) (old mid new : State) → AddsUp → TakesNoMore → HasSkipped count old mid → IsUnchanged mid new → HasSkipped count old new
+pub skips_refused : (count : ℕ) (old mid new : State) → MemoryAddsUp → TakesNoMore → HasSkipped count old mid → IsUnchanged mid new → HasSkipped count old new
 skips_refused count old mid new adds behind h unchanged =
     let (reader, frames, room, memory) = unchanged in
     let place : new.reader.position ≡ mid.reader.position = ap (λ (r : Reader). r.position) reader in

@@ -1,10 +1,6 @@
 //! What stands behind an opcode, but for the branch table. Vector operators without immediates are
-//! visited where the call stands. All others behind a prefix byte are decoded out of line, by a call for
-//! each prefix, so that the code for operators of one byte stays small. These calls are lent a copy of
-//! the reader and a place for a refusal, so that a caller's reader stays in registers, and so does what
-//! a call answers that visits. They are marked cold, so that what is done for a call stands behind the
-//! loop that makes it, and not within.
-ghost use Rattle.std.specs.Prelude.{◌≡◌, ◌≢◌, [], Some, None, Ok, Err, IfOk, IfErr, IfSome, IfNone};
+//! visited where the call stands. All others behind a prefix byte are decoded out of line.
+ghost use Rattle.std.specs.Prelude.{◌≡◌, ◌≢◌, [], Some, None, IfOk, IfErr};
 ghost use Rattle.wasm_visit.specs.below.Source.{at_position};
 ghost use Rattle.wasm_visit.specs.grammar.declared.frame_kind.FrameKind.{FrameKind};
 ghost use Rattle.wasm_visit.specs.opcodes.Decoding.{StandsBehind, DecodesAt, RefusesAt, VisitsRow};
@@ -12,17 +8,13 @@ ghost use Rattle.wasm_visit.specs.opcodes.Entries.{entry_at};
 ghost use Rattle.wasm_visit.specs.opcodes.Entry.{free, prefixes};
 ghost use Rattle.wasm_visit.specs.decode.WithoutImmediates.{IsVectorWithoutImmediates};
 
+use crate::out_of_line::visit_behind_prefix;
+use crate::prefixes::{Atomic, Gc, Misc, Simd};
 use std::alloc::Global;
-use wasm_visit::below::{BinaryReader, Error, Message, Result};
+use wasm_visit::below::{BinaryReader, Result};
 use wasm_visit::grammar::FrameKind;
 use wasm_visit::instr::SimdOperator;
 use wasm_visit::{VisitGroups, VisitSimdOperator, decode};
-
-/// A place for a refusal.
-#[inline(always)]
-pub fn place() -> Error {
-    Error::new(Message::EndOfData, 0)
-}
 
 /// The subopcode behind a prefix byte that was read at the position `start`: a LEB128 number of 32
 /// bits, overlong ones too. Where it is refused the reader goes back.
@@ -59,203 +51,11 @@ pub fn group_behind<V: VisitGroups>(
     ensures { DecodesAt V.visits frame start result reader.old reader.new v.old v.new }
 {
     match code {
-        0xfb => gc_behind(v, reader, start),
-        0xfc => misc_behind(v, reader, start),
-        0xfe => atomic_behind(v, reader, start),
+        0xfb => visit_behind_prefix(v, reader, start, Gc),
+        0xfc => visit_behind_prefix(v, reader, start, Misc),
+        0xfe => visit_behind_prefix(v, reader, start, Atomic),
         0x45..=0xc4 => Ok(v.decode_numeric(code)),
         _ => v.decode_one_byte(alloc, reader, start, frame, code),
-    }
-}
-
-/// An operator behind the byte 0xfb.
-#[inline(always)]
-fn gc_behind<V: VisitGroups>(
-    v: &mut V,
-    reader: &mut BinaryReader<'_>,
-    start: usize,
-) -> Result<V::Output>
-    requires { StandsBehind start None 0xfb reader.old }
-    ensures { (frame : FrameKind) → DecodesAt V.visits frame start result reader.old reader.new v.old v.new }
-{
-    let mut lent = reader.clone();
-    let mut refusal = place();
-    match gc_out_of_line(v, &mut lent, start, &mut refusal) {
-        Some(answer) => {
-            reader.set_position(lent.current_position());
-            Ok(answer)
-        }
-        None => {
-            reader.rewind(start);
-            Err(refusal)
-        }
-    }
-}
-
-/// The subopcode behind the byte 0xfb, and the operator's visit; else the refusal in the place for it.
-#[cold]
-#[inline(never)]
-fn gc_out_of_line<V: VisitGroups>(
-    v: &mut V,
-    reader: &mut BinaryReader<'_>,
-    start: usize,
-    refusal: &mut Error,
-) -> Option<V::Output>
-    requires { StandsBehind start None 0xfb reader.old }
-    ensures visited { IfSome result (λ answer. (frame : FrameKind)
-        → DecodesAt V.visits frame start (Ok answer) reader.old reader.new v.old v.new) }
-    ensures refused { IfNone result ((frame : FrameKind)
-        → DecodesAt V.visits frame start (Err refusal.new) reader.old reader.new v.old v.new) }
-{
-    match gc_of(v, reader, start) {
-        Ok(answer) => Some(answer),
-        Err(e) => {
-            *refusal = e;
-            None
-        }
-    }
-}
-
-/// The same inline.
-#[inline(always)]
-fn gc_of<V: VisitGroups>(
-    v: &mut V,
-    reader: &mut BinaryReader<'_>,
-    start: usize,
-) -> Result<V::Output>
-    requires { StandsBehind start None 0xfb reader.old }
-    ensures { (frame : FrameKind) → DecodesAt V.visits frame start result reader.old reader.new v.old v.new }
-{
-    match subopcode(reader, start, 0xfb) {
-        Ok(code) => v.decode_gc(reader, start, code),
-        Err(e) => Err(e),
-    }
-}
-
-/// An operator behind the byte 0xfc.
-#[inline(always)]
-fn misc_behind<V: VisitGroups>(
-    v: &mut V,
-    reader: &mut BinaryReader<'_>,
-    start: usize,
-) -> Result<V::Output>
-    requires { StandsBehind start None 0xfc reader.old }
-    ensures { (frame : FrameKind) → DecodesAt V.visits frame start result reader.old reader.new v.old v.new }
-{
-    let mut lent = reader.clone();
-    let mut refusal = place();
-    match misc_out_of_line(v, &mut lent, start, &mut refusal) {
-        Some(answer) => {
-            reader.set_position(lent.current_position());
-            Ok(answer)
-        }
-        None => {
-            reader.rewind(start);
-            Err(refusal)
-        }
-    }
-}
-
-/// The subopcode behind the byte 0xfc, and the operator's visit; else the refusal in the place for it.
-#[cold]
-#[inline(never)]
-fn misc_out_of_line<V: VisitGroups>(
-    v: &mut V,
-    reader: &mut BinaryReader<'_>,
-    start: usize,
-    refusal: &mut Error,
-) -> Option<V::Output>
-    requires { StandsBehind start None 0xfc reader.old }
-    ensures visited { IfSome result (λ answer. (frame : FrameKind)
-        → DecodesAt V.visits frame start (Ok answer) reader.old reader.new v.old v.new) }
-    ensures refused { IfNone result ((frame : FrameKind)
-        → DecodesAt V.visits frame start (Err refusal.new) reader.old reader.new v.old v.new) }
-{
-    match misc_of(v, reader, start) {
-        Ok(answer) => Some(answer),
-        Err(e) => {
-            *refusal = e;
-            None
-        }
-    }
-}
-
-/// The same inline.
-#[inline(always)]
-fn misc_of<V: VisitGroups>(
-    v: &mut V,
-    reader: &mut BinaryReader<'_>,
-    start: usize,
-) -> Result<V::Output>
-    requires { StandsBehind start None 0xfc reader.old }
-    ensures { (frame : FrameKind) → DecodesAt V.visits frame start result reader.old reader.new v.old v.new }
-{
-    match subopcode(reader, start, 0xfc) {
-        Ok(code) => v.decode_misc(reader, start, code),
-        Err(e) => Err(e),
-    }
-}
-
-/// An operator behind the byte 0xfe.
-#[inline(always)]
-fn atomic_behind<V: VisitGroups>(
-    v: &mut V,
-    reader: &mut BinaryReader<'_>,
-    start: usize,
-) -> Result<V::Output>
-    requires { StandsBehind start None 0xfe reader.old }
-    ensures { (frame : FrameKind) → DecodesAt V.visits frame start result reader.old reader.new v.old v.new }
-{
-    let mut lent = reader.clone();
-    let mut refusal = place();
-    match atomic_out_of_line(v, &mut lent, start, &mut refusal) {
-        Some(answer) => {
-            reader.set_position(lent.current_position());
-            Ok(answer)
-        }
-        None => {
-            reader.rewind(start);
-            Err(refusal)
-        }
-    }
-}
-
-/// The subopcode behind the byte 0xfe, and the operator's visit; else the refusal in the place for it.
-#[cold]
-#[inline(never)]
-fn atomic_out_of_line<V: VisitGroups>(
-    v: &mut V,
-    reader: &mut BinaryReader<'_>,
-    start: usize,
-    refusal: &mut Error,
-) -> Option<V::Output>
-    requires { StandsBehind start None 0xfe reader.old }
-    ensures visited { IfSome result (λ answer. (frame : FrameKind)
-        → DecodesAt V.visits frame start (Ok answer) reader.old reader.new v.old v.new) }
-    ensures refused { IfNone result ((frame : FrameKind)
-        → DecodesAt V.visits frame start (Err refusal.new) reader.old reader.new v.old v.new) }
-{
-    match atomic_of(v, reader, start) {
-        Ok(answer) => Some(answer),
-        Err(e) => {
-            *refusal = e;
-            None
-        }
-    }
-}
-
-/// The same inline.
-#[inline(always)]
-fn atomic_of<V: VisitGroups>(
-    v: &mut V,
-    reader: &mut BinaryReader<'_>,
-    start: usize,
-) -> Result<V::Output>
-    requires { StandsBehind start None 0xfe reader.old }
-    ensures { (frame : FrameKind) → DecodesAt V.visits frame start result reader.old reader.new v.old v.new }
-{
-    match subopcode(reader, start, 0xfe) {
-        Ok(code) => v.decode_atomic(reader, start, code),
-        Err(e) => Err(e),
     }
 }
 
@@ -289,18 +89,7 @@ pub fn simd_of<V: VisitSimdOperator>(
     if decode::has_no_immediates(code) {
         return Ok(visit_without_immediates(v, code));
     }
-    let mut lent = reader.clone();
-    let mut refusal = place();
-    match simd_out_of_line(v, &mut lent, start, code, &mut refusal) {
-        Some(answer) => {
-            reader.set_position(lent.current_position());
-            Ok(answer)
-        }
-        None => {
-            reader.rewind(start);
-            Err(refusal)
-        }
-    }
+    visit_behind_prefix(v, reader, start, Simd { code })
 }
 
 /// The vector operator without immediates of a subopcode.
@@ -324,48 +113,5 @@ fn visit_without_immediates<V: VisitSimdOperator>(v: &mut V, code: u32) -> V::Ou
     match code {
         0x00..=0x7f => v.dispatch_simd_low(decode::simd_low_without_immediates(code)),
         _ => v.dispatch_simd_high(decode::simd_high_without_immediates(code)),
-    }
-}
-
-/// What stands behind the subopcode, and the operator's visit; else the refusal in the place for it.
-#[cold]
-#[inline(never)]
-fn simd_out_of_line<V: VisitSimdOperator>(
-    v: &mut V,
-    reader: &mut BinaryReader<'_>,
-    start: usize,
-    code: u32,
-    refusal: &mut Error,
-) -> Option<V::Output>
-    requires { StandsBehind start (Some 0xfd) code reader.old }
-    ensures visited { IfSome result (λ answer. (frame : FrameKind)
-        → DecodesAt V.visits frame start (Ok answer) reader.old reader.new v.old v.new) }
-    ensures refused { IfNone result ((frame : FrameKind)
-        → DecodesAt V.visits frame start (Err refusal.new) reader.old reader.new v.old v.new) }
-{
-    match simd_half(v, reader, start, code) {
-        Ok(answer) => Some(answer),
-        Err(e) => {
-            *refusal = e;
-            None
-        }
-    }
-}
-
-/// The same inline, in the half of the subopcode.
-#[inline(always)]
-fn simd_half<V: VisitSimdOperator>(
-    v: &mut V,
-    reader: &mut BinaryReader<'_>,
-    start: usize,
-    code: u32,
-) -> Result<V::Output>
-    requires { StandsBehind start (Some 0xfd) code reader.old }
-    ensures { (frame : FrameKind) → DecodesAt V.visits frame start result reader.old reader.new v.old v.new }
-{
-    if code < 0x80 {
-        v.decode_simd_low(reader, start, code)
-    } else {
-        v.decode_simd_high(reader, start, code)
     }
 }

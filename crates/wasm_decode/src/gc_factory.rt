@@ -8,6 +8,8 @@ use wasm_visit::{VisitGc, Visitor};
 
 /// Answers the operator behind 0xfb, and not the `Operator` that it is: of that all other bytes are
 /// zero, and each call on the way back would copy them.
+///
+/// It is handed no other operator: of one its relation says nothing, and it answers any.
 #[derive(Drop)]
 pub struct GcFactory;
 

@@ -8,6 +8,8 @@
 mod behind;
 mod gc_factory;
 pub mod laws;
+mod out_of_line;
+mod prefixes;
 mod read;
 mod refusals;
 mod visit;

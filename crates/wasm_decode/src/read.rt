@@ -4,8 +4,9 @@ ghost use Rattle.wasm_decode.specs.Reading.{DecodesOperatorIn, DecodesOperatorAt
 ghost use Rattle.wasm_visit.specs.grammar.declared.frame_kind.FrameKind.{FrameKind};
 ghost use Rattle.wasm_visit.specs.opcodes.Decoding.{StandsBehind};
 
-use crate::behind::{group_behind, place, simd_of, subopcode, vector_without_immediates};
+use crate::behind::{group_behind, simd_of, subopcode, vector_without_immediates};
 use crate::gc_factory::GcFactory;
+use crate::out_of_line::place;
 use crate::refusals::no_frame;
 use std::alloc::Global;
 use wasm_visit::below::{BinaryReader, Error, Result};

@@ -19,8 +19,8 @@ use Rattle.wasm_functions.proofs.Next.{all_at, one_read, one_announced, one_rec_
 use Rattle.wasm_functions.proofs.OneFault.{one_error}
 use Rattle.wasm_functions.proofs.OneListFault.{one_refusal, no_refusal, order, refused_there, next_there, one_place}
 
-abbrev pub IsOther : ModuleFault → Type 0
-IsOther f = f ≡ fault.Memory → ⊥
+abbrev pub IsNotMemory : ModuleFault → Type 0
+IsNotMemory f = f ≡ fault.Memory → ⊥
 
 abbrev byte_of : CompositeType → ℕ
 byte_of (composite.Other byte) = byte
@@ -44,7 +44,7 @@ module _ (sub : PrefixCode EncodesSubType) where
       not_both EncodesSubType e b behind (composite.Other byte) (subst (λ z. IsRefusal EncodesSubType e z) same p.0) q
 
   -- known sub types, as many as are announced, are not refused
-  no_sub_types : (f : ModuleFault) (n : ℕ) (r end : Reader) (types : List CompositeType) → SubTypesFault f n r → IsOther f →
+  no_sub_types : (f : ModuleFault) (n : ℕ) (r end : Reader) (types : List CompositeType) → SubTypesFault f n r → IsNotMemory f →
       ItemsStand EncodesSubType r types end → length types ≡ n → AreKnownTypes types → ⊥
   no_sub_types (fault.Refused e) n r end types (a, h, p) other stand all known =
       let (y, next, reads, is) = next_there EncodesSubType sub IsKnownType r a end h.types types h.stand stand known (subst (λ k. length h.types < k) (sym all) h.fewer) in
@@ -57,7 +57,7 @@ module _ (sub : PrefixCode EncodesSubType) where
   no_sub_types (fault.ImportKind byte offset) n r end types p other stand all known = p
 
   module _ (determines : DeterminesRefusal SubTypeFault) where
-    of_refused : (n : ℕ) (r : Reader) (e : Error) (g : ModuleFault) → SubTypesFault (fault.Refused e) n r → SubTypesFault g n r → IsOther g → fault.Refused e ≡ g
+    of_refused : (n : ℕ) (r : Reader) (e : Error) (g : ModuleFault) → SubTypesFault (fault.Refused e) n r → SubTypesFault g n r → IsNotMemory g → fault.Refused e ≡ g
     of_refused n r e (fault.Refused f) (a, h, p) (b, k, q) other =
         let same = sub_place n r a b h k (refused_there EncodesSubType IsKnownType e a p.0) (refused_there EncodesSubType IsKnownType f b q.0) in
         let shown = determines e.message f.message b e.offset f.offset (subst (λ z. SubTypeFault e.message z e.offset) same p.1) q.1 in
@@ -67,7 +67,7 @@ module _ (sub : PrefixCode EncodesSubType) where
     of_refused n r e (fault.NotModule said) p q other = absurd q
     of_refused n r e (fault.ImportKind byte offset) p q other = absurd q
 
-    of_kind : (n : ℕ) (r : Reader) (byte offset : ℕ) (g : ModuleFault) → SubTypesFault (fault.TypeKind byte offset) n r → SubTypesFault g n r → IsOther g →
+    of_kind : (n : ℕ) (r : Reader) (byte offset : ℕ) (g : ModuleFault) → SubTypesFault (fault.TypeKind byte offset) n r → SubTypesFault g n r → IsNotMemory g →
         fault.TypeKind byte offset ≡ g
     of_kind n r byte offset (fault.TypeKind byte' offset') (a, h, at, behind, p) (b, k, at', behind', q) other =
         let same = sub_place n r a b h k (other_there byte a behind p) (other_there byte' b behind' q) in
@@ -80,7 +80,7 @@ module _ (sub : PrefixCode EncodesSubType) where
     of_kind n r byte offset (fault.NotModule said) p q other = absurd q
     of_kind n r byte offset (fault.ImportKind b o) p q other = absurd q
 
-    one_sub_fault : (n : ℕ) (r : Reader) (f g : ModuleFault) → SubTypesFault f n r → SubTypesFault g n r → IsOther f → IsOther g → f ≡ g
+    one_sub_fault : (n : ℕ) (r : Reader) (f g : ModuleFault) → SubTypesFault f n r → SubTypesFault g n r → IsNotMemory f → IsNotMemory g → f ≡ g
     one_sub_fault n r (fault.Refused e) g p q other other' = of_refused n r e g p q other'
     one_sub_fault n r (fault.TypeKind byte offset) g p q other other' = of_kind n r byte offset g p q other'
     one_sub_fault n r fault.Memory g p q other other' = absurd (other refl)
@@ -116,7 +116,7 @@ one_length_fault u32 f g contents p q =
 
 module _ (rec_type : PrefixCode EncodesRecTypeLength) (sub : PrefixCode EncodesSubType) where
   -- a recursive type of known types is not refused
-  no_rec_type : (f : ModuleFault) (r : Reader) → RecTypeFault f r → IsOther f → (types : List CompositeType) → (next : Reader) → RecTypeStands r types next →
+  no_rec_type : (f : ModuleFault) (r : Reader) → RecTypeFault f r → IsNotMemory f → (types : List CompositeType) → (next : Reader) → RecTypeStands r types next →
       AreKnownTypes types → ⊥
   no_rec_type f r (inl p) other types next (first, announces, stand) known = no_announced f (length types) r first p announces
   no_rec_type f r (inr (n, first, announces, p)) other types next (first', announces', stand) known =
@@ -132,13 +132,13 @@ module _ (rec_type : PrefixCode EncodesRecTypeLength) (sub : PrefixCode EncodesS
       same_rec_types n gs hs a b others (subst (λ z. RecTypesStand z hs b) (sym first.1) others') (omega (arith, l))
 
   no_more : (r a b : Reader) (gs hs : List (List CompositeType)) (f : ModuleFault) → RecTypesStand r gs a → RecTypesStand r hs b → All AreKnownTypes hs →
-      RecTypeFault f a → IsOther f → length gs < length hs → ⊥
+      RecTypeFault f a → IsNotMemory f → length gs < length hs → ⊥
   no_more r a b gs hs f stand stand' known p other less =
       let (t, others, next, is, stands) = more_rec_types rec_type sub r gs hs a b stand stand' less in
       no_rec_type f a p other t next stands (all_at AreKnownTypes gs t others hs is known)
 
   place_by : (r a b : Reader) (gs hs : List (List CompositeType)) (f g : ModuleFault) → RecTypesStand r gs a → RecTypesStand r hs b → All AreKnownTypes gs →
-      All AreKnownTypes hs → RecTypeFault f a → RecTypeFault g b → IsOther f → IsOther g →
+      All AreKnownTypes hs → RecTypeFault f a → RecTypeFault g b → IsNotMemory f → IsNotMemory g →
       (length gs < length hs) ⊎ ((length gs ≡ length hs) ⊎ (length hs < length gs)) → a ≡ b
   place_by r a b gs hs f g stand stand' known known' p q other other' (inl less) = absurd (no_more r a b gs hs f stand stand' known' p other less)
   place_by r a b gs hs f g stand stand' known known' p q other other' (inr (inl same)) = same_rec_types r gs hs a b stand stand' same
@@ -146,7 +146,7 @@ module _ (rec_type : PrefixCode EncodesRecTypeLength) (sub : PrefixCode EncodesS
 
   module _ (numbers : PrefixCode (EncodesUnsigned 32)) where
     -- known types are not refused
-    pub no_types_fault : (f : ModuleFault) (contents : Reader) (gs : List (List CompositeType)) → TypesFault f contents → IsOther f → AreTypes contents gs →
+    pub no_types_fault : (f : ModuleFault) (contents : Reader) (gs : List (List CompositeType)) → TypesFault f contents → IsNotMemory f → AreTypes contents gs →
         All AreKnownTypes gs → ⊥
     no_types_fault f contents gs (inl p) other types known = no_length f contents types.first (length gs) p types.count
     no_types_fault f contents gs (inr (a, h, p)) other types known =
@@ -154,14 +154,14 @@ module _ (rec_type : PrefixCode EncodesRecTypeLength) (sub : PrefixCode EncodesS
         no_rec_type f a p other t next stands (all_at AreKnownTypes h.rec_types t others gs is known)
 
     types_place : (contents a b : Reader) (f g : ModuleFault) → HasTypesTo contents a → HasTypesTo contents b → RecTypeFault f a → RecTypeFault g b →
-        IsOther f → IsOther g → a ≡ b
+        IsNotMemory f → IsNotMemory g → a ≡ b
     types_place contents a b f g h k p q other other' =
         let same = (one_read (EncodesUnsigned 32) numbers contents h.first k.first h.announced k.announced h.count k.count).1 in
         place_by h.first a b h.rec_types k.rec_types f g h.stand (subst (λ z. RecTypesStand z k.rec_types b) (sym same) k.stand) h.known k.known p q other other'
         (order (length h.rec_types) (length k.rec_types))
 
     module _ (u32 : DeterminesRefusal U32Fault) (types : DeterminesRefusal SubTypeFault) (lengths : DeterminesRefusal RecTypeLengthFault) where
-      one_rec_fault : (f g : ModuleFault) (r : Reader) → RecTypeFault f r → RecTypeFault g r → IsOther f → IsOther g → f ≡ g
+      one_rec_fault : (f g : ModuleFault) (r : Reader) → RecTypeFault f r → RecTypeFault g r → IsNotMemory f → IsNotMemory g → f ≡ g
       one_rec_fault f g r (inl p) (inl q) other other' = one_announced_fault lengths f g r p q
       one_rec_fault f g r (inl p) (inr (m, first, announces, q)) other other' = absurd (no_announced f m r first p announces)
       one_rec_fault f g r (inr (n, first, announces, p)) (inl q) other other' = absurd (no_announced g n r first q announces)
@@ -170,7 +170,7 @@ module _ (rec_type : PrefixCode EncodesRecTypeLength) (sub : PrefixCode EncodesS
           let here = subst (λ z. SubTypesFault f m z) same.1 (subst (λ k. SubTypesFault f k first) same.0 p) in
           one_sub_fault sub types m first' f g here q other other'
 
-      pub one_types_fault : (f g : ModuleFault) (contents : Reader) → TypesFault f contents → TypesFault g contents → IsOther f → IsOther g → f ≡ g
+      pub one_types_fault : (f g : ModuleFault) (contents : Reader) → TypesFault f contents → TypesFault g contents → IsNotMemory f → IsNotMemory g → f ≡ g
       one_types_fault f g contents (inl p) (inl q) other other' = one_length_fault u32 f g contents p q
       one_types_fault f g contents (inl p) (inr (b, k, q)) other other' = absurd (no_length f contents k.first k.announced p k.count)
       one_types_fault f g contents (inr (a, h, p)) (inl q) other other' = absurd (no_length g contents h.first h.announced q h.count)

@@ -57,6 +57,6 @@ abbrev pub AddsFewFrames : Type 0
 AddsFewFrames = (op : Operator) (old new : State) → TakesOperator EncodesAllowed op old new → IsWithinDepth old new
 
 -- The memory of frames stays little over one step and another, where the first opened no more frames than half of its bytes.
-abbrev pub AddsUp : Type 0
-AddsUp = (first second : ℕ) (old mid new : State) → GrowsLittle first old mid → 2 * length mid.frames ≤ 2 * length old.frames + first →
+abbrev pub MemoryAddsUp : Type 0
+MemoryAddsUp = (first second : ℕ) (old mid new : State) → GrowsLittle first old mid → 2 * length mid.frames ≤ 2 * length old.frames + first →
     GrowsLittle second mid new → GrowsLittle (first + second) old new

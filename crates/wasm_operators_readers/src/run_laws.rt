@@ -8,7 +8,7 @@ ghost use Rattle.wasm_decode.specs.opcodes.OperatorFaults.{OperatorFault};
 ghost use Rattle.wasm_operators_readers.specs.Expression.{Placed, IsAny, EncodesRest};
 ghost use Rattle.wasm_operators_readers.specs.Next.{NextMayAllocate};
 ghost use Rattle.wasm_operators_readers.specs.Reading.{State, IsFresh, IsUnchanged, TakesOperator, TakesOperators, Finishes, FramesLeft, StopsRead, StopsRun, Anywhere};
-ghost use Rattle.wasm_operators_readers.specs.Laws.{TakesNone, TakesOneMore, TakesNoMore, TakesBoth, TakesBytes, AddsFewFrames, AddsUp};
+ghost use Rattle.wasm_operators_readers.specs.Laws.{TakesNone, TakesOneMore, TakesNoMore, TakesBoth, TakesBytes, AddsFewFrames, MemoryAddsUp};
 ghost use Rattle.wasm_operators_readers.specs.Headline.{StoodBefore, ReadsTree, ReadsBeginning, IsWithinDepth};
 
 use wasm_decode::below::Message;
@@ -39,7 +39,7 @@ pub fn one_depth()
 /// The memory of the frames stays little over one step and another, where the first opened no more
 /// frames than half of its bytes: as every read and visit does.
 pub fn memory_adds_up()
-    ensures { AddsUp }
+    ensures { MemoryAddsUp }
 {}
 
 /// Single reads, one behind the other, take a list: before the first it is empty, each that is taken

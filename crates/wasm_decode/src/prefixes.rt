@@ -1,0 +1,82 @@
+//! What stands behind each prefix byte, as a visitor's groups decode it.
+ghost use Rattle.std.specs.Prelude.{Some, None};
+
+use crate::behind::subopcode;
+use crate::out_of_line::BehindPrefix;
+use wasm_visit::below::{BinaryReader, Result};
+use wasm_visit::{VisitGroups, VisitSimdOperator};
+
+/// A subopcode behind the byte 0xfb.
+#[derive(Drop)]
+pub struct Gc;
+
+impl<V: VisitGroups> BehindPrefix<V> for Gc {
+    ghost prefix = { λ it. None };
+
+    ghost code = { λ it. 0xfb };
+
+    #[inline(always)]
+    fn decode(self, v: &mut V, reader: &mut BinaryReader<'_>, start: usize) -> Result<V::Output> {
+        match subopcode(reader, start, 0xfb) {
+            Ok(code) => v.decode_gc(reader, start, code),
+            Err(e) => Err(e),
+        }
+    }
+}
+
+/// A subopcode behind the byte 0xfc.
+#[derive(Drop)]
+pub struct Misc;
+
+impl<V: VisitGroups> BehindPrefix<V> for Misc {
+    ghost prefix = { λ it. None };
+
+    ghost code = { λ it. 0xfc };
+
+    #[inline(always)]
+    fn decode(self, v: &mut V, reader: &mut BinaryReader<'_>, start: usize) -> Result<V::Output> {
+        match subopcode(reader, start, 0xfc) {
+            Ok(code) => v.decode_misc(reader, start, code),
+            Err(e) => Err(e),
+        }
+    }
+}
+
+/// A subopcode behind the byte 0xfe.
+#[derive(Drop)]
+pub struct Atomic;
+
+impl<V: VisitGroups> BehindPrefix<V> for Atomic {
+    ghost prefix = { λ it. None };
+
+    ghost code = { λ it. 0xfe };
+
+    #[inline(always)]
+    fn decode(self, v: &mut V, reader: &mut BinaryReader<'_>, start: usize) -> Result<V::Output> {
+        match subopcode(reader, start, 0xfe) {
+            Ok(code) => v.decode_atomic(reader, start, code),
+            Err(e) => Err(e),
+        }
+    }
+}
+
+/// This subopcode behind the byte 0xfd, which was read.
+#[derive(Drop)]
+pub struct Simd {
+    pub code: u32,
+}
+
+impl<V: VisitSimdOperator> BehindPrefix<V> for Simd {
+    ghost prefix = { λ it. Some 0xfd };
+
+    ghost code = { λ it. it.code };
+
+    #[inline(always)]
+    fn decode(self, v: &mut V, reader: &mut BinaryReader<'_>, start: usize) -> Result<V::Output> {
+        if self.code < 0x80 {
+            v.decode_simd_low(reader, start, self.code)
+        } else {
+            v.decode_simd_high(reader, start, self.code)
+        }
+    }
+}
