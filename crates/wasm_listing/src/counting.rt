@@ -1,5 +1,5 @@
 //! The visitor that counts the operators of each proposal.
-ghost use Rattle.std.specs.Prelude.{◌≡◌, ◌<◌, [], replicate, slice_index_or};
+ghost use Rattle.std.specs.Prelude.{◌≡◌, [], replicate, slice_index_or};
 ghost use Rattle.wasm_listing.specs.Census.{proposals, one_more_of, CountsVisit};
 
 use std::marker::Model;
@@ -28,12 +28,11 @@ static PROPOSALS: [&str; 19] = [
     "acquire_release_atomics",
 ];
 
-/// The proposal of the count at this place.
-fn proposal_at(place: usize) -> &'static str
-    requires { place < 19 }
+/// The proposal of the count at this place, and no text where there is none.
+pub fn proposal_at(place: usize) -> &'static str
     ensures { result.now ≡ slice_index_or proposals place [] }
 {
-    PROPOSALS[place]
+    if place < 19 { PROPOSALS[place] } else { "" }
 }
 
 /// A visitor that counts the operators of each proposal.
@@ -60,8 +59,8 @@ impl Census {
         Census { counts: [0; 19] }
     }
 
-    /// How many operators of each proposal were visited, in the order of the proposals. A count that
-    /// came to the greatest u64 stayed there.
+    /// How many operators of each proposal were visited: `proposal_at` tells of which. A count that came
+    /// to the greatest u64 stayed there.
     pub fn counts(&self) -> [u64; 19]
         ensures { result ≡ self.now }
     {

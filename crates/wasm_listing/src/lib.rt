@@ -13,7 +13,7 @@ mod lines;
 mod words;
 
 pub use body_census::census;
-pub use counting::Census;
+pub use counting::{Census, proposal_at};
 pub use dump::run;
 pub use fault::DumpFault;
 pub use lines::lines_of;

@@ -1,7 +1,6 @@
 //! The census of a module as a table.
-ghost use Rattle.std.specs.Prelude.{◌≡◌, ◌++◌, List, [], IfOk, IfErr, OnOk, string_bytes, slice_index_or};
+ghost use Rattle.std.specs.Prelude.{◌≡◌, ◌++◌, List, IfOk, IfErr, OnOk, string_bytes};
 ghost use Rattle.std.specs.Io.KnownBytes.{Appends};
-ghost use Rattle.wasm_listing.specs.Census.{proposals};
 ghost use Rattle.wasm_module_listing.specs.CountTable.{Row, IsTable, row_text, table_text};
 ghost use Rattle.wasm_module_listing.specs.Listing.{IsHalt};
 
@@ -10,36 +9,7 @@ use crate::writing::write_text;
 use std::alloc::{AllocError, Global};
 use std::cmp::Reverse;
 use std::io::Write;
-
-/// The proposals, in the order of the counts.
-static PROPOSALS: [&str; 19] = [
-    "mvp",
-    "sign_extension",
-    "gc",
-    "custom_descriptors",
-    "saturating_float_to_int",
-    "bulk_memory",
-    "reference_types",
-    "tail_call",
-    "memory_control",
-    "threads",
-    "simd",
-    "relaxed_simd",
-    "exceptions",
-    "legacy_exceptions",
-    "shared_everything_threads",
-    "function_references",
-    "stack_switching",
-    "wide_arithmetic",
-    "acquire_release_atomics",
-];
-
-/// The proposal of the count at this place, and no text where there is none.
-fn proposal_at(place: usize) -> &'static str
-    ensures { result.now ≡ slice_index_or proposals place [] }
-{
-    if place < 19 { PROPOSALS[place] } else { "" }
-}
+use wasm_listing::proposal_at;
 
 /// The counts that are not 0, each with its place, the largest first.
 fn rows_of(alloc: Global, counts: &[u64; 19]) -> Result<Vec<(Reverse<u64>, usize)>, AllocError>
