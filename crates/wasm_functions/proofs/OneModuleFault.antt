@@ -23,7 +23,7 @@ use Rattle.wasm_functions.proofs.Named.{not_both}
 use Rattle.wasm_functions.proofs.Next.{one_read}
 use Rattle.wasm_functions.proofs.OneFault.{fault_or_module, one_fault}
 use Rattle.wasm_functions.proofs.OneListFault.{one_refusal, no_refusal, refused_there, one_stop, no_stop, one_list_fault, no_list_fault}
-use Rattle.wasm_functions.proofs.OneTypesFault.{IsOther, no_types_fault, one_types_fault}
+use Rattle.wasm_functions.proofs.OneTypesFault.{IsNotMemory, no_types_fault, one_types_fault}
 use Rattle.wasm_functions.proofs.Refused.{any_items}
 use Rattle.wasm_functions.proofs.Unique.{one_found}
 
@@ -87,7 +87,7 @@ module _ (numbers : PrefixCode (EncodesUnsigned 32)) (code : PrefixCode EncodesI
 -- ---- functions and exports
 
 module _ (numbers : PrefixCode (EncodesUnsigned 32)) where
-  no_functions_fault : (f : ModuleFault) (contents : Reader) (types : List ℕ) → FunctionsFault f contents → IsOther f →
+  no_functions_fault : (f : ModuleFault) (contents : Reader) (types : List ℕ) → FunctionsFault f contents → IsNotMemory f →
       IsList (EncodesUnsigned 32) contents types → ⊥
   no_functions_fault (fault.Refused e) contents types p other list =
       no_list_fault (EncodesUnsigned 32) numbers IsAny numbers U32Fault e contents types p list (any_items types)
@@ -97,7 +97,7 @@ module _ (numbers : PrefixCode (EncodesUnsigned 32)) where
   no_functions_fault (fault.TypeKind byte offset) contents types p other list = p
 
   one_functions_fault : DeterminesRefusal U32Fault → (f g : ModuleFault) (contents : Reader) → FunctionsFault f contents → FunctionsFault g contents →
-      IsOther f → IsOther g → f ≡ g
+      IsNotMemory f → IsNotMemory g → f ≡ g
   one_functions_fault u32 (fault.Refused e) (fault.Refused f) contents p q other other' =
       ap (λ x. fault.Refused x) (one_list_fault (EncodesUnsigned 32) numbers IsAny numbers U32Fault u32 u32 e f contents p q)
   one_functions_fault u32 (fault.Refused e) fault.Memory contents p q other other' = absurd (other' refl)
@@ -155,7 +155,7 @@ IsMemory _ = ⊥
 
 module _ (numbers : PrefixCode (EncodesUnsigned 32)) (fixed : PrefixCode (EncodesFixed w32)) (imports : PrefixCode EncodesImport)
     (exports : PrefixCode EncodesExport) (sub : PrefixCode EncodesSubType) (rec_type : PrefixCode EncodesRecTypeLength) where
-  no_types : (f : ModuleFault) (whole : Reader) → IsOther f → SectionFaultAt f whole 1 TypesFault → HasTypes whole → ⊥
+  no_types : (f : ModuleFault) (whole : Reader) → IsNotMemory f → SectionFaultAt f whole 1 TypesFault → HasTypes whole → ⊥
   no_types f whole other p (section, counts, there, counted) =
       not_at numbers fixed TypesFault CountsParameters f whole 1
       (λ contents counts fault (gs, types, known, is). no_types_fault rec_type sub numbers f contents gs fault other types known) p section counts there counted
@@ -165,12 +165,12 @@ module _ (numbers : PrefixCode (EncodesUnsigned 32)) (fixed : PrefixCode (Encode
       not_at numbers fixed ImportsFault CountsImports f whole 2
       (λ contents n fault (is, list, known, all). no_imports_fault numbers imports f contents is fault list known) p section n there counted
 
-  no_functions : (f : ModuleFault) (whole : Reader) → IsOther f → SectionFaultAt f whole 3 FunctionsFault → HasFunctions whole → ⊥
+  no_functions : (f : ModuleFault) (whole : Reader) → IsNotMemory f → SectionFaultAt f whole 3 FunctionsFault → HasFunctions whole → ⊥
   no_functions f whole other p (section, types, there, listed) =
       not_at numbers fixed FunctionsFault ListsTypes f whole 3
       (λ contents types fault list. no_functions_fault numbers f contents types fault other list) p section types there listed
 
-  no_names : (f : ModuleFault) (whole : Reader) (imported : ℕ) (before : List (List ℕ)) (section : Option Reader) (after : List (List ℕ)) → IsOther f →
+  no_names : (f : ModuleFault) (whole : Reader) (imported : ℕ) (before : List (List ℕ)) (section : Option Reader) (after : List (List ℕ)) → IsNotMemory f →
       NamesFault f whole → IsSection whole 7 section → NamesExported imported section before after → ⊥
   no_names f whole imported before section after other (inl memory) there named = other memory
   no_names f whole imported before section after other (inr p) there named =
@@ -178,7 +178,7 @@ module _ (numbers : PrefixCode (EncodesUnsigned 32)) (fixed : PrefixCode (Encode
       (λ contents names fault exported. no_exports_fault numbers exports f contents imported before names fault exported) p section after there named
 
   -- a module that tells its functions has no fault
-  no_fault : (f : ModuleFault) (whole : Reader) (t : ModuleFunctions) → IsOther f → ModuleFunctionsFault f whole → TellsFunctions whole t → ⊥
+  no_fault : (f : ModuleFault) (whole : Reader) (t : ModuleFunctions) → IsNotMemory f → ModuleFunctionsFault f whole → TellsFunctions whole t → ⊥
   no_fault f whole t other (inl p) is = no_types f whole other p (is.signatures, t.parameters, is.section_of_types, is.parameters)
   no_fault f whole t other (inr (inl (types, p))) is = no_imports f whole p (is.imports, t.imported, is.section_of_imports, is.imported)
   no_fault f whole t other (inr (inr (inl (types, imported, p)))) is =
@@ -197,13 +197,13 @@ module _ (numbers : PrefixCode (EncodesUnsigned 32)) (fixed : PrefixCode (Encode
   module _ (u32 : DeterminesRefusal U32Fault) (preambles : DeterminesRefusal PreambleFault) (sections : DeterminesRefusal SectionFault)
       (of_imports : DeterminesRefusal ImportFault) (of_exports : DeterminesRefusal ExportFault) (of_types : DeterminesRefusal SubTypeFault)
       (of_lengths : DeterminesRefusal RecTypeLengthFault) where
-    one_names : (f g : ModuleFault) (whole : Reader) → NamesFault f whole → NamesFault g whole → IsOther f → IsOther g → f ≡ g
+    one_names : (f g : ModuleFault) (whole : Reader) → NamesFault f whole → NamesFault g whole → IsNotMemory f → IsNotMemory g → f ≡ g
     one_names f g whole (inl memory) q other other' = absurd (other memory)
     one_names f g whole (inr p) (inl memory) other other' = absurd (other' memory)
     one_names f g whole (inr p) (inr q) other other' =
         one_at numbers fixed preambles sections ExportsFault f g whole 7 (one_exports_fault numbers exports u32 of_exports f g) p q
 
-    pub one_module_fault : (whole : Reader) (f g : ModuleFault) → ModuleFunctionsFault f whole → ModuleFunctionsFault g whole → IsOther f → IsOther g → f ≡ g
+    pub one_module_fault : (whole : Reader) (f g : ModuleFault) → ModuleFunctionsFault f whole → ModuleFunctionsFault g whole → IsNotMemory f → IsNotMemory g → f ≡ g
     one_module_fault whole f g (inl p) (inl q) other other' =
         one_at numbers fixed preambles sections TypesFault f g whole 1
         (λ contents a b. one_types_fault rec_type sub numbers u32 of_types of_lengths f g contents a b other other') p q
