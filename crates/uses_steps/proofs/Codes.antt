@@ -1,5 +1,5 @@
 -- What a reading says where a caller knows what stands there: no encoding is a proper prefix of another, and a fault determines the refusal.
-use Rattle.std.proofs.Common.{◌≡◌, ◌≢◌, ℕ, ◌+◌, List, [], ◌++◌, length, Result, Ok, Err, IfErr, refl, sym, ap, ◌∙◌, append-nil}
+use Rattle.std.proofs.Common.{◌≡◌, ◌≢◌, ℕ, ◌+◌, List, [], ◌++◌, length, Result, Ok, Err, IfOk, IfErr, refl, sym, ap, ◌∙◌, append-nil}
 use Rattle.wasm_operators.specs.below.bytes.error.Error.{Error}
 use Rattle.wasm_operators.specs.below.bytes.message.Message.{Message}
 use Rattle.wasm_operators.specs.below.bytes.message.Message.TheVariants as message
@@ -20,6 +20,12 @@ reads_known Encodes (Ok y) old new x text more code (taken, encodes, takes) part
     ap (λ v. Ok v) (code taken text (rest new) more y x encodes known (sym takes.parts ∙ parts)).1
 reads_known Encodes (Err e) old new x text more code (same, refusal) parts known =
     absurd (refusal.refuses [] (nothing_follows e.message refusal.fault) text more x known (append-nil (rest old) ∙ parts))
+
+-- What is read stands there.
+pub reads_some : {X : Type 0} (Encodes : List ℕ → X → Type 0) (result : Result X Error) (old new : Reader) → Reads Encodes result old new →
+    IfOk result (λ x. (text more : List ℕ) × (rest old ≡ text ++ more) × Encodes text x)
+reads_some Encodes (Ok x) old new (text, encodes, takes) = (text, rest new, takes.parts, encodes)
+reads_some Encodes (Err e) old new stopped = tt
 
 -- As many bytes are taken as the encoding has that stands there.
 pub takes_known : {X : Type 0} (same : X → X → Type 0) (Encodes : List ℕ → X → Type 0) (old new : Reader) (x y : X) (taken text more : List ℕ) →

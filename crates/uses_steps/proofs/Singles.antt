@@ -1,12 +1,13 @@
 -- What one read says.
-use Rattle.std.proofs.Common.{◌≡◌, ◌≢◌, ℕ, ◌+◌, ◌<◌, List, [], ◌∷◌, ◌++◌, length, inl, inr, Some, Result, Ok, Err, IfOk, IfErr, refl, ap, subst, ◌∙◌, arith}
+use Rattle.std.proofs.Common.{◌≡◌, ◌≢◌, ℕ, ◌+◌, ◌<◌, List, [], ◌∷◌, ◌++◌, length, inl, inr, Some, Result, Ok, Err, IfOk, IfErr, refl, ap, subst, ◌∙◌, append-nil, arith}
 use Rattle.std.specs.Result.{result_err}
 use Rattle.wasm_operators.specs.below.bytes.error.Error.{Error}
 use Rattle.wasm_operators.specs.below.bytes.features.WasmFeatures.{WasmFeatures}
 use Rattle.wasm_operators.specs.below.bytes.message.Message.{Message}
 use Rattle.wasm_operators.specs.below.bytes.message.Message.TheVariants as message
-use Rattle.wasm_operators.specs.below.Source.{Reader, rest, offset_of, source_of, reader_of, Takes, BeginsWith}
+use Rattle.wasm_operators.specs.below.Source.{Reader, rest, offset_of, source_of, reader_of, Takes, BeginsWith, MayFollow}
 use Rattle.wasm_operators.specs.grammar.declared.frame_kind.FrameKind.{FrameKind}
+use Rattle.wasm_operators.specs.grammar.declared.frame_kind.FrameKind.TheVariants as frame_kind
 use Rattle.wasm_operators.specs.grammar.Frames.{innermost}
 use Rattle.wasm_operators.specs.instr.declared.operator.Operator.{Operator}
 use Rattle.wasm_operators.specs.instr.Encoding.{EncodesOperator}
@@ -71,6 +72,34 @@ first_read (Ok op) r old new same taken =
     subst (λ (s : Reader). (text more : List ℕ) × (rest s ≡ text ++ more) × EncodesOperator s.features op text) same
     (taken.text, rest new.reader, taken.takes.parts, taken.encodes.0)
 first_read (Err e) r old new same stopped = tt
+
+may_follow : (m : Message) → m ≢ message.OutOfMemory → MayFollow m []
+may_follow message.EndOfData other = refl
+may_follow message.OutOfMemory other = absurd (other refl)
+may_follow _ other = tt
+
+-- Where memory was not refused, no operator stands there that the innermost frame allows.
+none_there : (e : Error) (s : State) (frame : FrameKind) → innermost s.frames ≡ Some frame → e.message ≢ message.OutOfMemory →
+    StopsRead EncodesAllowed OperatorFault (NextMayAllocate EncodesAllowed) e s → (op : Operator) (text more : List ℕ) →
+    rest s.reader ≡ text ++ more → EncodesAllowed s.reader.features frame text op → ⊥
+none_there e s frame inner other (inl (closed, said, at)) op text more parts encodes =
+    let none : innermost [] ≡ Some frame = subst (λ frames. innermost frames ≡ Some frame) closed inner in
+    absurd (cc none)
+none_there e s frame inner other (inr (inl there)) op text more parts encodes =
+    let same : frame ≡ there.kind = cc (there.open_frame, inner) in
+    there.refuses [] (may_follow e.message other) text more op (subst (λ kind. EncodesAllowed s.reader.features kind text op) same encodes)
+    (append-nil (rest s.reader) ∙ parts)
+none_there e s frame inner other (inr (inr (memory, at, may))) op text more parts encodes = other memory
+
+-- The same where the first one was refused.
+pub first_refused : (result : Result Operator Error) (r : Reader) (old new : State) → old.reader ≡ r → innermost old.frames ≡ Some frame_kind.Block →
+    ReadsNext result old new →
+    IfErr result (λ e. e.message ≢ message.OutOfMemory → (op : Operator) (text more : List ℕ) → rest r ≡ text ++ more →
+    EncodesAllowed r.features frame_kind.Block text op → ⊥)
+first_refused (Ok op) r old new same inner taken = tt
+first_refused (Err e) r old new same inner (unchanged, stops) = λ other.
+    subst (λ (z : Reader). (op : Operator) (text more : List ℕ) → rest z ≡ text ++ more → EncodesAllowed z.features frame_kind.Block text op → ⊥)
+    (unchanged.0 ∙ same) (none_there e new frame_kind.Block (ap innermost unchanged.1 ∙ inner) other stops)
 
 -- What the law `memory_asked` says.
 abbrev pub IsAsked : Type 0

@@ -23,6 +23,7 @@ use wasm_operators::{
 pub fn peek_index(reader: &BinaryReader<'_>) -> Result<u32>
     ensures reads { (n : ℕ) (text more : List ℕ) → rest reader.now ≡ text ++ more → EncodesUnsigned 32 text n
         → result ≡ Ok n }
+    ensures found { IfOk result (λ n. (text more : List ℕ) × (rest reader.now ≡ text ++ more) × EncodesUnsigned 32 text n) }
     ensures refused { (m : Message) (offset : ℕ) → U32Fault m reader.now offset
         → IfErr result (λ e. (e.message ≡ m) × (e.offset ≡ offset)) }
 {
@@ -67,6 +68,7 @@ pub fn value_size<'a, T: FromReader<'a>>(alloc: Global, reader: &BinaryReader<'a
 pub fn peek_block_type(reader: &BinaryReader<'_>) -> Result<BlockType>
     ensures reads { (ty : BlockType) (text more : List ℕ) → rest reader.now ≡ text ++ more → EncodesBlockType text ty
         → result ≡ Ok ty }
+    ensures found { IfOk result (λ ty. (text more : List ℕ) × (rest reader.now ≡ text ++ more) × EncodesBlockType text ty) }
     ensures refused { (m : Message) (offset : ℕ) → BlockTypeFault m reader.now offset
         → IfErr result (λ e. (e.message ≡ m) × (e.offset ≡ offset)) }
 {
@@ -78,8 +80,10 @@ pub fn peek_block_type(reader: &BinaryReader<'_>) -> Result<BlockType>
 /// The argument of a plain access of memory that stands next, and stays there. The law is
 /// `memory_arguments`.
 pub fn peek_memory_argument(reader: &BinaryReader<'_>, max_align: u8) -> Result<MemArg>
-    ensures { (argument : MemArg) (text more : List ℕ) → rest reader.now ≡ text ++ more
+    ensures reads { (argument : MemArg) (text more : List ℕ) → rest reader.now ≡ text ++ more
         → EncodesMemArg reader.now.features MemArgKind.Plain max_align text argument → result ≡ Ok argument }
+    ensures found { IfOk result (λ argument. (text more : List ℕ) × (rest reader.now ≡ text ++ more)
+        × EncodesMemArg reader.now.features MemArgKind.Plain max_align text argument) }
 {
     memory_laws::memory_arguments(reader.features(), MemArgKind::Plain, max_align);
     MemArg::read(&mut reader.clone(), max_align, MemArgKind::Plain)
@@ -87,8 +91,9 @@ pub fn peek_memory_argument(reader: &BinaryReader<'_>, max_align: u8) -> Result<
 
 /// The number of `f64.const` that stands next, and stays there. The law is `fixed_numbers`.
 pub fn peek_f64(reader: &BinaryReader<'_>) -> Result<Ieee64>
-    ensures { (bits : Ieee64) (text more : List ℕ) → rest reader.now ≡ text ++ more → EncodesFixed w64 text bits
+    ensures reads { (bits : Ieee64) (text more : List ℕ) → rest reader.now ≡ text ++ more → EncodesFixed w64 text bits
         → result ≡ Ok bits }
+    ensures found { IfOk result (λ bits. (text more : List ℕ) × (rest reader.now ≡ text ++ more) × EncodesFixed w64 text bits) }
 {
     byte_laws::fixed_numbers();
     reader.clone().read_f64()

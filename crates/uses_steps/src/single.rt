@@ -2,8 +2,10 @@
 ghost use Rattle.std.specs.Prelude.{◌≡◌, ◌≢◌, ◌↔◌, ◌<◌, ◌⊎◌, ℕ, List, [], ◌∷◌, ◌++◌, length, Ok, Option, IsTrue, IfOk, IfErr, IfSome, IfNone};
 ghost use Rattle.wasm_operators.specs.below.bytes.error.Error.{Error};
 ghost use Rattle.wasm_operators.specs.below.Source.{rest, BeginsWith};
+ghost use Rattle.wasm_operators.specs.grammar.declared.frame_kind.FrameKind.{FrameKind};
 ghost use Rattle.wasm_operators.specs.instr.declared.operator.Operator.{Operator};
 ghost use Rattle.wasm_operators.specs.instr.Encoding.{EncodesOperator};
+ghost use Rattle.wasm_operators.specs.opcodes.Allowed.{EncodesAllowed};
 ghost use Rattle.wasm_operators.specs.opcodes.declared.guard.Guard.{Guard};
 ghost use Rattle.wasm_operators.specs.opcodes.OperatorFaults.{LacksFeature};
 ghost use Rattle.wasm_operators.specs.opcodes.Refused.{LeadsList};
@@ -117,7 +119,8 @@ pub fn read_in_step<'a>(
 }
 
 /// The first operator of an expression, where there is room for the frame that it may open: so memory
-/// is refused only to an operator that may own a list.
+/// is refused only to an operator that may own a list. Where it is refused otherwise, nothing stands
+/// there that the frame of an expression allows.
 ///
 /// The law `memory_asked` says where memory may be refused.
 pub fn first_operator<'a>(
@@ -130,6 +133,8 @@ pub fn first_operator<'a>(
         × EncodesOperator reader.entry.features op text) }
     ensures memory { IfErr result (λ e. e.message ≡ Message.OutOfMemory
         → (byte : ℕ) × LeadsList byte × BeginsWith byte (rest reader.entry)) }
+    ensures none { IfErr result (λ e. e.message ≢ Message.OutOfMemory → (op : Operator) (text more : List ℕ)
+        → rest reader.entry ≡ text ++ more → EncodesAllowed reader.entry.features FrameKind.Block text op → ⊥) }
 {
     decoding_laws::memory_asked();
     OperatorsReader::new_with_allocs(alloc, reader, allocs).read()

@@ -1,6 +1,6 @@
 use Rattle.wasm_operators.specs.imm.BlockTypes.{EncodesBlockType}
 use Rattle.wasm_operators.specs.imm.BlockTypeFaults.{BlockTypeFault}
-use Rattle.uses_steps.proofs.Codes.{reads_known, fault_known}
+use Rattle.uses_steps.proofs.Codes.{reads_known, reads_some, fault_known}
 use Rattle.uses_steps.proofs.numbers.peek_block_type.Goals as goal
 
 pub returns-clause-reads : goal.returns-clause-reads
@@ -12,3 +12,8 @@ pub returns-clause-refused : goal.returns-clause-refused
 returns-clause-refused c = λ m offset known.
     let fault = rw c.clone.ensures at c.read.ensures.fault in
     fault_known BlockTypeFault c.read.result c.args.reader.now m offset c.control_refusals.ensures.block fault known
+
+pub returns-clause-found : goal.returns-clause-found
+returns-clause-found c =
+    let reads = rw c.clone.ensures at c.read.ensures.reads in
+    reads_some EncodesBlockType c.read.result c.args.reader.now _ reads

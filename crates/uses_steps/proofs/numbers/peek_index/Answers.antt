@@ -1,6 +1,6 @@
 use Rattle.wasm_operators.specs.below.Number.{EncodesUnsigned}
 use Rattle.wasm_operators.specs.below.Source.{U32Fault}
-use Rattle.uses_steps.proofs.Codes.{reads_known, fault_known}
+use Rattle.uses_steps.proofs.Codes.{reads_known, reads_some, fault_known}
 use Rattle.uses_steps.proofs.numbers.peek_index.Goals as goal
 
 pub returns-clause-reads : goal.returns-clause-reads
@@ -12,3 +12,8 @@ pub returns-clause-refused : goal.returns-clause-refused
 returns-clause-refused c = λ m offset known.
     let fault = rw c.clone.ensures at c.read_var_u32.ensures.fault in
     fault_known U32Fault c.read_var_u32.result c.args.reader.now m offset (c.number_refusals.ensures.any 32 _) fault known
+
+pub returns-clause-found : goal.returns-clause-found
+returns-clause-found c =
+    let reads = rw c.clone.ensures at c.read_var_u32.ensures.reads in
+    reads_some (EncodesUnsigned 32) c.read_var_u32.result c.args.reader.now _ reads

@@ -1,10 +1,15 @@
 use Rattle.wasm_operators.specs.imm.MemoryArgument.{EncodesMemArg}
 use Rattle.wasm_operators.specs.imm.declared.memory_argument.MemArgKind.TheVariants as kind
-use Rattle.uses_steps.proofs.Codes.{reads_known}
+use Rattle.uses_steps.proofs.Codes.{reads_known, reads_some}
 use Rattle.uses_steps.proofs.numbers.peek_memory_argument.Goals as goal
 
-pub returns : goal.returns
-returns c = λ argument text more parts known.
+pub returns-clause-reads : goal.returns-clause-reads
+returns-clause-reads c = λ argument text more parts known.
     let reads = rw c.clone.ensures at c.read.ensures.reads in
     let code = rw c.features.ensures at c.memory_arguments.ensures in
     reads_known (EncodesMemArg c.args.reader.now.features kind.Plain c.args.max_align) c.read.result c.args.reader.now _ argument text more code reads parts known
+
+pub returns-clause-found : goal.returns-clause-found
+returns-clause-found c =
+    let reads = rw c.clone.ensures at c.read.ensures.reads in
+    reads_some (EncodesMemArg c.args.reader.now.features kind.Plain c.args.max_align) c.read.result c.args.reader.now _ reads

@@ -1,5 +1,6 @@
-use Rattle.std.proofs.Common.{◌<◌, subst, sym}
-use Rattle.uses_steps.proofs.Singles.{first_read, first_memory}
+use Rattle.std.proofs.Common.{◌<◌, ap, subst, sym}
+use Rattle.wasm_operators.specs.grammar.Frames.{innermost}
+use Rattle.uses_steps.proofs.Singles.{first_read, first_memory, first_refused}
 use Rattle.uses_steps.proofs.single.first_operator.Goals as goal
 
 pub returns : goal.returns
@@ -9,4 +10,5 @@ returns c =
     record {
       reads = first_read c.read.result c.args.reader s.result c.read.new.self s.ensures.reader c.read.ensures;
       memory = first_memory c.read.result c.args.reader s.result c.read.new.self c.memory_asked.ensures.read s.ensures.reader some c.read.ensures;
+      none = first_refused c.read.result c.args.reader s.result c.read.new.self s.ensures.reader (ap innermost s.ensures.fresh) c.read.ensures;
     }
