@@ -1,7 +1,9 @@
 -- What was peeked, inside a frame of the caller's.
-use Rattle.std.proofs.Common.{◌≡◌, List, ◌++◌, ℕ, Some, Result, Ok, Err, IfOk}
+use Rattle.std.proofs.Common.{◌≡◌, ◌≢◌, List, [], ◌++◌, ℕ, Some, Result, Ok, Err, IfOk, IfErr, refl, ◌∙◌, append-nil}
 use Rattle.wasm_operators.specs.below.bytes.error.Error.{Error}
-use Rattle.wasm_operators.specs.below.Source.{Reader, rest}
+use Rattle.wasm_operators.specs.below.bytes.message.Message.{Message}
+use Rattle.wasm_operators.specs.below.bytes.message.Message.TheVariants as message
+use Rattle.wasm_operators.specs.below.Source.{Reader, rest, MayFollow}
 use Rattle.wasm_operators.specs.grammar.declared.frame_kind.FrameKind.{FrameKind}
 use Rattle.wasm_operators.specs.grammar.Frames.{Allows}
 use Rattle.wasm_operators.specs.instr.declared.operator.Operator.{Operator}
@@ -13,3 +15,16 @@ pub peeked : (kind : FrameKind) (r : Reader) (result : Result Operator Error) �
     IfOk result (λ op. (text more : List ℕ) × (rest r ≡ text ++ more) × EncodesOperator r.features op text × Allows kind (role_of op))
 peeked kind r (Ok op) (behind, (text, encodes, takes)) = (text, rest behind, takes.parts, encodes.0, encodes.1)
 peeked kind r (Err e) h = tt
+
+may_follow : (m : Message) → m ≢ message.OutOfMemory → MayFollow m []
+may_follow message.EndOfData other = refl
+may_follow message.OutOfMemory other = absurd (other refl)
+may_follow _ other = tt
+
+-- Where nothing was peeked, nothing stands there that the frame allows.
+pub none_peeked : (kind : FrameKind) (r : Reader) (result : Result Operator Error) → PeeksOperator (Some kind) result r →
+    IfErr result (λ e. e.message ≢ message.OutOfMemory → (op : Operator) (text more : List ℕ) → rest r ≡ text ++ more →
+    EncodesOperator r.features op text → Allows kind (role_of op) → ⊥)
+none_peeked kind r (Ok op) h = tt
+none_peeked kind r (Err e) (behind, (same, refused, fault)) = λ other op text more parts encodes allowed.
+    refused.refuses [] (may_follow e.message other) text more op (encodes, allowed) (append-nil (rest r) ∙ parts)

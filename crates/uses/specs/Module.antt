@@ -18,6 +18,12 @@ block_of arity.Nothing = block.Empty
 block_of arity.OneResult = block.Value value.I32
 block_of (arity.OfType index) = block.FuncType index
 
+-- The arity of a block type.
+abbrev pub arity_of : BlockType → BlockArity
+arity_of block.Empty = arity.Nothing
+arity_of (block.Value ty) = arity.OneResult
+arity_of (block.FuncType index) = arity.OfType index
+
 -- The block type and the kind of the frame at a depth, the innermost being 0, of frames from the outermost to the innermost.
 abbrev pub label : List Frame → ℕ → Option (BlockType × FrameKind)
 label frames depth = if nat_lt depth (length frames) then option_map (λ f. (block_of f.arity, f.kind)) (slice_get frames (length frames - 1 - depth)) else None

@@ -1,6 +1,6 @@
 //! What a module answers to the questions on which arities depend, from types kept in lists.
 ghost use Rattle.std.specs.Prelude.{◌≡◌};
-ghost use Rattle.uses.specs.Module.{block_of};
+ghost use Rattle.uses.specs.Module.{arity_of, block_of};
 
 use wasm_operators::{BlockType, FrameKind, ModuleArity, ValType};
 
@@ -17,7 +17,9 @@ pub enum BlockArity {
 
 impl BlockArity {
     /// That of a block type.
-    pub fn new(ty: BlockType) -> BlockArity {
+    pub fn new(ty: BlockType) -> BlockArity
+        ensures { result ≡ arity_of ty }
+    {
         match ty {
             BlockType::Empty => BlockArity::Nothing,
             BlockType::Value(_) => BlockArity::OneResult,

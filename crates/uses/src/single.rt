@@ -1,6 +1,8 @@
 //! One operator at a time, under frames of the caller's own.
-ghost use Rattle.std.specs.Prelude.{◌≡◌, ℕ, List, ◌++◌, IfOk};
+ghost use Rattle.std.specs.Prelude.{◌≡◌, ◌≢◌, ℕ, List, ◌++◌, IfOk, IfErr};
+ghost use Rattle.wasm_operators.specs.below.bytes.message.Message.{Message};
 ghost use Rattle.wasm_operators.specs.below.Source.{rest};
+ghost use Rattle.wasm_operators.specs.instr.declared.operator.Operator.{Operator};
 ghost use Rattle.wasm_operators.specs.instr.Encoding.{EncodesOperator};
 ghost use Rattle.wasm_operators.specs.instr.Roles.{role_of};
 ghost use Rattle.wasm_operators.specs.grammar.Frames.{Allows};
@@ -27,14 +29,16 @@ impl FrameStack for Inside {
 /// The operator at the start of the rest, which stays there, inside a frame of this kind.
 ///
 /// `peek_operator` answers what a reading would: a prefix of the rest encodes the operator, and the
-/// frame allows it.
+/// frame allows it. Where it is refused no such operator stands there, memory aside.
 pub fn operator_inside<'a>(
     alloc: Global,
     reader: &BinaryReader<'a>,
     kind: FrameKind,
 ) -> Result<Operator<'a>>
-    ensures { IfOk result (λ op. (text more : List ℕ) × (rest reader.now ≡ text ++ more)
+    ensures found { IfOk result (λ op. (text more : List ℕ) × (rest reader.now ≡ text ++ more)
         × EncodesOperator reader.now.features op text × Allows kind (role_of op)) }
+    ensures none { IfErr result (λ e. e.message ≢ Message.OutOfMemory → (op : Operator) (text more : List ℕ)
+        → rest reader.now ≡ text ++ more → EncodesOperator reader.now.features op text → Allows kind (role_of op) → ⊥) }
 {
     reader.peek_operator(alloc, &Inside { kind })
 }
