@@ -66,12 +66,15 @@ refusal_of (Ok op) old new taken = (op, taken)
 refusal_of (Err e) old new stopped = stopped
 
 -- The first operator that was read.
-pub first_read : (result : Result Operator Error) (r : Reader) (old new : State) → old.reader ≡ r → ReadsNext result old new →
-    IfOk result (λ op. (text more : List ℕ) × (rest r ≡ text ++ more) × EncodesOperator r.features op text)
-first_read (Ok op) r old new same taken =
-    subst (λ (s : Reader). (text more : List ℕ) × (rest s ≡ text ++ more) × EncodesOperator s.features op text) same
-    (taken.text, rest new.reader, taken.takes.parts, taken.encodes.0)
-first_read (Err e) r old new same stopped = tt
+pub first_read : (result : Result Operator Error) (r : Reader) (old new : State) → old.reader ≡ r → innermost old.frames ≡ Some frame_kind.Block →
+    ReadsNext result old new →
+    IfOk result (λ op. (text more : List ℕ) × (rest r ≡ text ++ more) × EncodesAllowed r.features frame_kind.Block text op)
+first_read (Ok op) r old new same inner taken =
+    let kind : taken.kind ≡ frame_kind.Block = cc (taken.open_frame, inner) in
+    let encodes = subst (λ k. EncodesAllowed old.reader.features k taken.text op) kind taken.encodes in
+    subst (λ (s : Reader). (text more : List ℕ) × (rest s ≡ text ++ more) × EncodesAllowed s.features frame_kind.Block text op) same
+    (taken.text, rest new.reader, taken.takes.parts, encodes)
+first_read (Err e) r old new same inner stopped = tt
 
 may_follow : (m : Message) → m ≢ message.OutOfMemory → MayFollow m []
 may_follow message.EndOfData other = refl

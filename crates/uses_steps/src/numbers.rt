@@ -16,7 +16,7 @@ use wasm_operators::{
     Result, byte_laws, control_laws, memory_laws,
 };
 
-/// The number of 32 bits that stands next, and stays there.
+/// The number of 32 bits that stands next, and stays there: what is answered stands there.
 ///
 /// `Reads` says that it is read wherever one stands, and the law `unsigned_numbers` that no other one
 /// does; `number_refusals`, that what a caller knows to be wrong is what is refused.

@@ -130,7 +130,7 @@ pub fn first_operator<'a>(
 ) -> Result<Operator<'a>>
     requires { 0 < allocs }
     ensures reads { IfOk result (λ op. (text more : List ℕ) × (rest reader.entry ≡ text ++ more)
-        × EncodesOperator reader.entry.features op text) }
+        × EncodesAllowed reader.entry.features FrameKind.Block text op) }
     ensures memory { IfErr result (λ e. e.message ≡ Message.OutOfMemory
         → (byte : ℕ) × LeadsList byte × BeginsWith byte (rest reader.entry)) }
     ensures none { IfErr result (λ e. e.message ≢ Message.OutOfMemory → (op : Operator) (text more : List ℕ)
