@@ -19,12 +19,13 @@ sys.path.insert(0, str(Path(__file__).resolve().parent / "generate"))
 from arities import fixed_arity_source, fixed_arity_specs
 from cargo import cargo_files
 from counts import wrong_counts
-from decode import decode_files, unread
+from decode import decode_files
 from entries import entry_files
 from header import header_files
 from layout import laid_out
 from original import differences
 from own_visits import own_visit_files
+from parts import unread
 from paths import by_listed
 from plain import plain_files, unshaped
 from printed import made_source, values_source
