@@ -6,7 +6,24 @@ use Rattle.wasm_operators.specs.below.bytes.message.Message.TheVariants as messa
 use Rattle.wasm_operators.specs.below.Fault.{DeterminesRefusal, HasFault}
 use Rattle.wasm_operators.specs.below.Refusal.{IsReadFault}
 use Rattle.wasm_operators.specs.below.Sequence.{PrefixCode, PrefixCodeUpTo}
-use Rattle.wasm_operators.specs.below.Source.{Reader, rest, Takes, Reads, MayFollow}
+use Rattle.wasm_operators.specs.below.Source.{Reader, rest, Takes, Reads, Refuses, MayFollow}
+
+-- Unless memory was refused, the data may end there.
+pub may_follow : (m : Message) → m ≢ message.OutOfMemory → MayFollow m []
+may_follow message.EndOfData other = refl
+may_follow message.OutOfMemory other = absurd (other refl)
+may_follow _ other = tt
+
+-- A message that can be no other is that memory was refused.
+pub memory_alone : (m : Message) → (m ≢ message.OutOfMemory → ⊥) → m ≡ message.OutOfMemory
+memory_alone message.OutOfMemory none = refl
+memory_alone _ none = absurd (none (λ is. absurd (cc is)))
+
+-- What stands there is refused for want of memory alone.
+pub refused_there : {X : Type 0} (Encodes : List ℕ → X → Type 0) (m : Message) (r : Reader) (text more : List ℕ) (x : X) →
+    Refuses Encodes (rest r) m → Encodes text x → rest r ≡ text ++ more → m ≡ message.OutOfMemory
+refused_there Encodes m r text more x refuses encodes parts =
+    memory_alone m (λ other. refuses [] (may_follow m other) text more x encodes (append-nil (rest r) ∙ parts))
 
 nothing_follows : (m : Message) → IsReadFault m → MayFollow m []
 nothing_follows message.EndOfData fault = refl

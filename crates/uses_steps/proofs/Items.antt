@@ -1,11 +1,16 @@
 -- The items of a section that were read so far.
-use Rattle.std.proofs.Common.{◌≡◌, ℕ, ◌+◌, List, [], ◌∷◌, ◌++◌, length, false, inl, inr, refl, sym, ap, ◌∙◌, arith, append_assoc, append-nil, length-append}
+use Rattle.std.proofs.Common.{◌≡◌, ℕ, ◌+◌, ◌≤◌, Bool, List, [], ◌∷◌, ◌++◌, length, false, inl, inr, refl, sym, ap, subst, ◌∙◌, arith, append_assoc, append-nil, length-append}
 use Rattle.std.proofs.lemmas.Bool.{false≢true}
+use Rattle.std.proofs.lemmas.List.{append_cancel_left}
+use Rattle.wasm_operators.specs.below.bytes.error.Error.{Error}
+use Rattle.wasm_operators.specs.below.bytes.message.Message.{Message}
+use Rattle.wasm_operators.specs.below.bytes.message.Message.TheVariants as message
 use Rattle.wasm_operators.specs.below.Number.{EncodesUnsigned}
-use Rattle.wasm_operators.specs.below.Sequence.{Then}
-use Rattle.wasm_operators.specs.below.Source.{Reader, rest}
+use Rattle.wasm_operators.specs.below.Sequence.{Then, PrefixCode}
+use Rattle.wasm_operators.specs.below.Source.{Reader, rest, IsRefusal}
 use Rattle.wasm_operators.specs.imm.Lists.{EncodesEach, EncodesMany}
-use Rattle.wasm_operators.specs.Section.{Section, SectionItems, items_of, IsDone}
+use Rattle.wasm_operators.specs.Section.{Section, SectionItems, items_of, IsDone, StopsSection}
+use Rattle.uses_steps.proofs.Codes.{refused_there}
 
 -- Behind the count stand the items that were read, and as many are left as the count has more.
 pub record HasRead {X : Type 0} (Encodes : List ℕ → X → Type 0) (r : Reader) (items : SectionItems) (found : List X) : Type 0 where
@@ -65,3 +70,47 @@ reads_all Encodes r items found h (inr (none, nothing)) = (
   h.announces,
   (omega (arith, h.all, none), h.each),
 )
+
+-- Where the bytes are a number and that many items, the number is not refused.
+pub number_there : {X : Type 0} (Encodes : List ℕ → X → Type 0) (r : Reader) (e : Error) (all : List X) → IsRefusal (EncodesUnsigned 32) e r →
+    Then (EncodesUnsigned 32) (EncodesMany Encodes) (rest r) all → e.message ≡ message.OutOfMemory
+number_there Encodes r e all refusal (number, text, count, parts, announces, many) =
+    refused_there (EncodesUnsigned 32) e.message r number text count refusal.refuses announces parts
+
+-- Items of which so many are left stand there.
+abbrev pub IsLeft : {X : Type 0} → (List ℕ → X → Type 0) → SectionItems → Type 0
+IsLeft {X} Encodes items = (others : List X) × (length others ≡ items.remaining) × EncodesEach Encodes (rest items.reader) others
+
+-- Behind the first items of a list stand the others.
+others_there : {X : Type 0} (Encodes : List ℕ → X → Type 0) (found all : List X) (text whole left : List ℕ) → PrefixCode Encodes →
+    EncodesEach Encodes text found → EncodesEach Encodes whole all → text ++ left ≡ whole → length found ≤ length all →
+    (others : List X) × (length found + length others ≡ length all) × EncodesEach Encodes left others
+others_there Encodes [] all text whole left code nothing each parts few =
+    let same : left ≡ whole = ap (λ t. t ++ left) (sym nothing) ∙ parts in
+    (all, omega arith, subst (λ t. EncodesEach Encodes t all) (sym same) each)
+others_there Encodes (x ∷ xs) [] text whole left code found each parts few = absurd (omega arith)
+others_there Encodes (x ∷ xs) (y ∷ ys) text whole left code (first, behind, is, one, found) (other, after, so, two, each) parts few =
+    let there : first ++ (behind ++ left) ≡ other ++ after = sym (append_assoc first behind left) ∙ ap (λ t. t ++ left) (sym is) ∙ parts ∙ so in
+    let same : first ≡ other = (code first other (behind ++ left) after x y one two there).0 in
+    let on : behind ++ left ≡ after = append_cancel_left other _ _ (ap (λ t. t ++ (behind ++ left)) (sym same) ∙ there) in
+    let h = others_there Encodes xs ys behind after left code found each on (omega arith) in
+    (h.0, omega (arith, h.1), h.2)
+
+-- Where the bytes are such a list, the items that are left stand behind those that were read.
+pub left_there : {X : Type 0} (Encodes : List ℕ → X → Type 0) (r : Reader) (items : SectionItems) (found all : List X) → PrefixCode (EncodesUnsigned 32) →
+    PrefixCode Encodes → HasRead Encodes r items found → Then (EncodesUnsigned 32) (EncodesMany Encodes) (rest r) all → IsLeft Encodes items
+left_there Encodes r items found all numbers code h (number, text, count, parts, announces, (size, each)) =
+    let same = numbers h.number number (h.text ++ rest items.reader) text h.count count h.announces announces (sym h.parts ∙ parts) in
+    let there : h.text ++ rest items.reader ≡ text =
+    append_cancel_left number _ _ (ap (λ t. t ++ (h.text ++ rest items.reader)) (sym same.0) ∙ sym h.parts ∙ parts) in
+    let others = others_there Encodes found all h.text text (rest items.reader) code h.each each there (omega (arith, h.all, same.1, size)) in
+    (others.0, omega (arith, others.1, h.all, same.1, size), others.2)
+
+-- They are refused for want of memory alone.
+pub stops_memory : {X : Type 0} (Encodes : List ℕ → X → Type 0) (Fault : Message → Reader → ℕ → Type 0) (takes_memory : Bool) (e : Error) (items : SectionItems) →
+    IsLeft Encodes items → StopsSection Encodes Fault takes_memory e items → e.message ≡ message.OutOfMemory
+stops_memory Encodes Fault takes_memory e items ([], size, nothing) (inl (some, refused, fault)) = absurd (omega (arith, size, some))
+stops_memory Encodes Fault takes_memory e items (x ∷ xs, size, (first, behind, parts, one, others)) (inl (some, refused, fault)) =
+    refused_there Encodes e.message items.reader first behind x refused.refuses one parts
+stops_memory Encodes Fault takes_memory e items ([], size, nothing) (inr (none, left)) = absurd (left.0 nothing)
+stops_memory Encodes Fault takes_memory e items (x ∷ xs, size, each) (inr (none, left)) = absurd (omega (arith, size, none))

@@ -1,5 +1,6 @@
 -- Where the operators of a list end.
-use Rattle.std.proofs.Common.{◌≡◌, ℕ, ◌+◌, ◌≤◌, List, [], ◌∷◌, ◌++◌, length, refl, sym, ap, subst, ◌∙◌, arith, length-append}
+use Rattle.std.proofs.Common.{◌≡◌, ℕ, ◌+◌, ◌≤◌, List, [], ◌∷◌, ◌++◌, length, sym, ap, subst, ◌∙◌, arith, length-append}
+use Rattle.std.proofs.lemmas.List.{nil_from_length}
 use Rattle.wasm_operators.specs.below.bytes.features.WasmFeatures.{WasmFeatures}
 use Rattle.wasm_operators.specs.instr.declared.operator.Operator.{Operator}
 use Rattle.wasm_operators.specs.Expression.{Placed, LaidOut, EndsAt}
@@ -13,10 +14,6 @@ EndsAtNext f = (offset : ℕ) (before after : Placed) (p q : Operator × ℕ) (b
 abbrev pub EndsAtLast : WasmFeatures → Type 0
 EndsAtLast f = (offset : ℕ) (before : Placed) (p : Operator × ℕ) (bytes : List ℕ) → LaidOut f offset (before ++ p ∷ []) bytes →
     EndsAt f p (offset + length bytes)
-
-none_left : {X : Type 0} (xs : List X) → length xs ≡ 0 → xs ≡ []
-none_left [] none = refl
-none_left (x ∷ xs) none = absurd (omega arith)
 
 range_is : (f : WasmFeatures) (list before after : Placed) (p : Operator × ℕ) (index start end : ℕ) → list ≡ before ++ p ∷ after → length before ≡ index →
     start ≡ p.1 → EndsAt f p end → IsRangeOf f list index start end
@@ -34,7 +31,7 @@ pub range_last : (f : WasmFeatures) (list : Placed) (p : Operator × ℕ) (index
     start ≡ p.1 → length list ≤ index + 1 → LaidOut f offset list bytes → end ≡ offset + length bytes → IsRangeOf f list index start end
 range_last f list p index start end offset bytes law split start_is last laid end_is =
     let all = ap length split.parts in
-    let none : split.after ≡ [] = none_left split.after (omega (arith, all, length-append split.before (p ∷ split.after), split.place)) in
+    let none : split.after ≡ [] = nil_from_length split.after (omega (arith, all, length-append split.before (p ∷ split.after), split.place)) in
     let parts = split.parts ∙ ap (λ others. split.before ++ p ∷ others) none in
     let ends = law offset split.before p bytes (subst (λ l. LaidOut f offset l bytes) parts laid) in
     range_is f list split.before [] p index start end parts split.place start_is (subst (EndsAt f p) (sym end_is) ends)

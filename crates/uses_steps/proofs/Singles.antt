@@ -1,24 +1,30 @@
 -- What one read says.
-use Rattle.std.proofs.Common.{◌≡◌, ◌≢◌, ℕ, ◌+◌, ◌<◌, List, [], ◌∷◌, ◌++◌, length, inl, inr, Some, Result, Ok, Err, IfOk, IfErr, refl, ap, subst, ◌∙◌, append-nil, arith}
+use Rattle.std.proofs.Common.{◌≡◌, ◌≢◌, ℕ, ◌+◌, ◌<◌, List, [], ◌∷◌, ◌++◌, length, inl, inr, Option, Some, None, Result, Ok, Err, IfOk, IfErr, refl, ap, subst, ◌∙◌, append-nil, arith}
+use Rattle.std.specs.Prelude.{IsSome}
+use Rattle.std.specs.Option.{option_and_then}
 use Rattle.std.specs.Result.{result_err}
 use Rattle.wasm_operators.specs.below.bytes.error.Error.{Error}
 use Rattle.wasm_operators.specs.below.bytes.features.WasmFeatures.{WasmFeatures}
 use Rattle.wasm_operators.specs.below.bytes.message.Message.{Message}
 use Rattle.wasm_operators.specs.below.bytes.message.Message.TheVariants as message
-use Rattle.wasm_operators.specs.below.Source.{Reader, rest, offset_of, source_of, reader_of, Takes, BeginsWith, MayFollow}
+use Rattle.wasm_operators.specs.below.Source.{Reader, rest, offset_of, source_of, reader_of, Takes, BeginsWith}
 use Rattle.wasm_operators.specs.grammar.declared.frame_kind.FrameKind.{FrameKind}
 use Rattle.wasm_operators.specs.grammar.declared.frame_kind.FrameKind.TheVariants as frame_kind
-use Rattle.wasm_operators.specs.grammar.Frames.{innermost}
+use Rattle.wasm_operators.specs.grammar.Beginning.{IsWalk}
+use Rattle.wasm_operators.specs.grammar.Frames.{innermost, frames_after}
 use Rattle.wasm_operators.specs.instr.declared.operator.Operator.{Operator}
 use Rattle.wasm_operators.specs.instr.Encoding.{EncodesOperator}
+use Rattle.wasm_operators.specs.instr.Roles.{role_of, roles_of}
 use Rattle.wasm_operators.specs.opcodes.Allowed.{EncodesAllowed}
 use Rattle.wasm_operators.specs.opcodes.OperatorFaults.{OperatorFault}
 use Rattle.wasm_operators.specs.opcodes.Refused.{LeadsList}
-use Rattle.wasm_operators.specs.Expression.{Placed, LaidOut, EncodesRest, EncodesExpression}
+use Rattle.wasm_operators.specs.Expression.{Placed, operators, LaidOut, EncodesRest, EncodesExpression}
 use Rattle.wasm_operators.specs.Next.{NextMayAllocate, ReadsNext, StopsNext}
 use Rattle.wasm_operators.specs.Reading.{State, TakesOperator, StopsRead, StopsFinish}
 use Rattle.uses_steps.specs.Complaints.{IsRefusal}
 use Rattle.uses_steps.specs.Input.{input}
+use Rattle.uses_steps.proofs.Codes.{may_follow}
+use Rattle.uses_steps.proofs.Ended.{along}
 
 -- The fault of what stands there, where a frame is inner and memory was not refused.
 pub fault_there : (e : Error) (s : State) (frame : FrameKind) → innermost s.frames ≡ Some frame → e.message ≢ message.OutOfMemory →
@@ -76,11 +82,6 @@ first_read (Ok op) r old new same inner taken =
     (taken.text, rest new.reader, taken.takes.parts, encodes)
 first_read (Err e) r old new same inner stopped = tt
 
-may_follow : (m : Message) → m ≢ message.OutOfMemory → MayFollow m []
-may_follow message.EndOfData other = refl
-may_follow message.OutOfMemory other = absurd (other refl)
-may_follow _ other = tt
-
 -- Where memory was not refused, no operator stands there that the innermost frame allows.
 none_there : (e : Error) (s : State) (frame : FrameKind) → innermost s.frames ≡ Some frame → e.message ≢ message.OutOfMemory →
     StopsRead EncodesAllowed OperatorFault (NextMayAllocate EncodesAllowed) e s → (op : Operator) (text more : List ℕ) →
@@ -103,6 +104,20 @@ first_refused (Ok op) r old new same inner taken = tt
 first_refused (Err e) r old new same inner (unchanged, stops) = λ other.
     subst (λ (z : Reader). (op : Operator) (text more : List ℕ) → rest z ≡ text ++ more → EncodesAllowed z.features frame_kind.Block text op → ⊥)
     (unchanged.0 ∙ same) (none_there e new frame_kind.Block (ap innermost unchanged.1 ∙ inner) other stops)
+
+-- A role that leads to open frames is allowed.
+leads_on : {A B : Type 0} (f : A → Option B) (o : Option A) (b : B) → option_and_then f o ≡ Some b → IsSome o
+leads_on f None b h = absurd (cc h)
+leads_on f (Some a) b h = refl
+
+-- Where no operator stands there that the frame of an expression allows, the bytes are no expression.
+pub is_no_expression : (features : WasmFeatures) (bytes : List ℕ) (whole : Placed) →
+    (IsWalk (roles_of (operators whole)) → along (frame_kind.Block ∷ []) whole ≡ Some []) →
+    ((op : Operator) (text more : List ℕ) → bytes ≡ text ++ more → EncodesAllowed features frame_kind.Block text op → ⊥) →
+    EncodesExpression (input features bytes) whole → ⊥
+is_no_expression features bytes [] closes none (laid, walk) = absurd (cc (closes walk))
+is_no_expression features bytes (p ∷ ps) closes none ((at, text, more, parts, encodes, others), walk) =
+    none p.0 text more parts (encodes, leads_on (λ next. along next ps) (frames_after (frame_kind.Block ∷ []) (role_of p.0)) [] (closes walk))
 
 -- What the law `memory_asked` says.
 abbrev pub IsAsked : Type 0

@@ -1,20 +1,24 @@
 //! Sections that are lists.
-ghost use Rattle.std.specs.Prelude.{IfOk};
+ghost use Rattle.std.specs.Prelude.{◌≡◌, ℕ, List, IfOk, IfErr};
 ghost use Rattle.wasm_operators.specs.below.Number.{EncodesUnsigned};
 ghost use Rattle.wasm_operators.specs.below.Sequence.{Then};
 ghost use Rattle.wasm_operators.specs.below.Source.{rest};
 ghost use Rattle.wasm_operators.specs.imm.Lists.{EncodesMany};
 
 use std::alloc::Global;
-use wasm_operators::{BinaryReader, Error, Message, Result, SectionLimited};
+use wasm_operators::{BinaryReader, Error, Message, Result, SectionLimited, byte_laws};
 
-/// The indices of a section that is a list of them, as the function section is one of types.
+/// The indices of a section that is a list of them, as the function section is one of types. Where the
+/// bytes are one, only memory is refused.
 ///
 /// `SectionLimited::new` reads how many they are, each step of its iterator one of them, and nothing
-/// is left behind the last.
+/// is left behind the last. The law `unsigned_numbers` says that no other list stands there.
 pub fn read_indices(alloc: Global, reader: BinaryReader<'_>) -> Result<Vec<u32>>
-    ensures { IfOk result (λ indices. Then (EncodesUnsigned 32) (EncodesMany (EncodesUnsigned 32)) (rest reader.entry) indices.items) }
+    ensures found { IfOk result (λ indices. Then (EncodesUnsigned 32) (EncodesMany (EncodesUnsigned 32)) (rest reader.entry) indices.items) }
+    ensures only { (indices : List ℕ) → Then (EncodesUnsigned 32) (EncodesMany (EncodesUnsigned 32)) (rest reader.entry) indices
+        → IfErr result (λ e. e.message ≡ Message.OutOfMemory) }
 {
+    byte_laws::unsigned_numbers();
     let section: SectionLimited<'_, u32> = SectionLimited::new(alloc, reader)?;
     let mut items = section.into_iter();
     let mut indices = Vec::new(alloc);

@@ -9,7 +9,7 @@ ghost use Rattle.wasm_operators.specs.opcodes.Allowed.{EncodesAllowed};
 ghost use Rattle.wasm_operators.specs.opcodes.declared.guard.Guard.{Guard};
 ghost use Rattle.wasm_operators.specs.opcodes.OperatorFaults.{LacksFeature};
 ghost use Rattle.wasm_operators.specs.opcodes.Refused.{LeadsList};
-ghost use Rattle.wasm_operators.specs.Expression.{EncodesExpression};
+ghost use Rattle.wasm_operators.specs.Expression.{Placed, EncodesExpression};
 ghost use Rattle.wasm_operators.specs.readers.Guarded.{BeginsGuarded};
 ghost use Rattle.wasm_operators.specs.readers.Next.{ReadsNext};
 ghost use Rattle.wasm_operators.specs.Reading.{StandAlike};
@@ -19,8 +19,8 @@ ghost use Rattle.uses_steps.specs.Input.{input};
 use std::alloc::Global;
 use wasm_operators::{
     BinaryReader, Error, FrameStack, Message, Operator, OperatorsReader,
-    OperatorsReaderAllocations, Result, WasmFeatures, decoder_laws, decoding_laws, operator_laws,
-    reading_laws, run_laws,
+    OperatorsReaderAllocations, Result, WasmFeatures, decoder_laws, decoding_laws, grammar_laws,
+    operator_laws, reading_laws, run_laws,
 };
 
 /// Why an operator that stands there is not read.
@@ -163,18 +163,26 @@ pub fn is_whole(operators: &OperatorsReader<'_>) -> bool
     }
 }
 
-/// The first operator of an expression, and then the others.
+/// The first operator of an expression, and then the others. Where the bytes encode an expression,
+/// only memory is refused.
 ///
 /// The law `one_operator` says that the first stands before the reader then, so that what `read_all`
-/// promises is of the expression that begins with it.
+/// promises is of the expression that begins with it; and `single_reads` that the operator and what
+/// `read_all` took are one list, which has what `read_to_the_end` says. That an expression begins with
+/// an operator which its frame allows, `rules_accept_walks` says.
 pub fn first_and_rest<'a>(
     alloc: Global,
     features: WasmFeatures,
     bytes: &'a [u8],
 ) -> Result<(Operator<'a>, Vec<(Operator<'a>, u64)>)>
-    ensures { IfOk result (λ found. EncodesExpression (input features bytes.now) ((found.0, 0) ∷ found.1.items)) }
+    ensures found { IfOk result (λ found. EncodesExpression (input features bytes.now) ((found.0, 0) ∷ found.1.items)) }
+    ensures only { (whole : Placed) → EncodesExpression (input features bytes.now) whole
+        → IfErr result (λ e. e.message ≡ Message.OutOfMemory) }
 {
+    grammar_laws::rules_accept_walks::<Operator<'_>>();
     run_laws::one_operator();
+    run_laws::single_reads();
+    run_laws::read_to_the_end();
     let mut reader = OperatorsReader::new(alloc, BinaryReader::new_features(bytes, 0, features));
     match reader.read() {
         Ok(first) => {

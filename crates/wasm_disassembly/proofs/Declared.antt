@@ -1,5 +1,6 @@
 -- Declarations of locals that were read, one after another, and their lines.
 use Rattle.std.proofs.Common.{◌≡◌, ◌≢◌, ℕ, ◌+◌, ◌^◌, ◌<◌, ◌≤◌, List, [], ◌∷◌, ◌++◌, length, Option, Ok, Err, refl, sym, subst, ap, ◌∙◌, append_assoc, append-nil, length-append, arith}
+use Rattle.std.proofs.lemmas.List.{append_cancel_left}
 use Rattle.std.specs.Io.KnownBytes.{Appends}
 use Rattle.wasm_operators.specs.below.bytes.error.Error.{Error}
 use Rattle.wasm_operators.specs.below.bytes.message.Message.{Message}
@@ -157,14 +158,6 @@ ends_here message.EndOfData other = refl
 ends_here message.OutOfMemory other = absurd (other refl)
 ends_here _ other = tt
 
-pub cancel : (a x y : List ℕ) → a ++ x ≡ a ++ y → x ≡ y
-cancel [] x y e = e
-cancel (n ∷ a) x y e = cancel a x y (ap tail e)
-  where
-    tail : List ℕ → List ℕ
-    tail [] = []
-    tail (z ∷ zs) = zs
-
 -- Of declarations of which some were read, the next stands behind these.
 record NextStands (many total : ℕ) (left : List ℕ) : Type 0 where
   declaration : Declaration
@@ -185,7 +178,7 @@ next_stands offset [] (d ∷ ds) a b x y code none (t, m, parts, encodes, each) 
 next_stands offset (p ∷ ps) (d ∷ ds) a b x y code (is, t, m, parts, encodes, laid) (u, v, others, encoded, each) same short =
     let whole : t ++ (m ++ x) ≡ u ++ (v ++ y) = sym (append_assoc t m x) ∙ ap (λ z. z ++ x) (sym parts) ∙ same ∙ ap (λ z. z ++ y) others ∙ append_assoc u v y in
     let one = code t u (m ++ x) (v ++ y) p.0 d encodes encoded whole in
-    let behind : m ++ x ≡ v ++ y = cancel t (m ++ x) (v ++ y) (whole ∙ ap (λ z. z ++ (v ++ y)) (sym one.0)) in
+    let behind : m ++ x ≡ v ++ y = append_cancel_left t (m ++ x) (v ++ y) (whole ∙ ap (λ z. z ++ (v ++ y)) (sym one.0)) in
     let fewer : length ps < length ds = omega (arith, short) in
     let h = next_stands (offset + length t) ps ds m v x y code laid each behind fewer in
     let number : p.0.0 ≡ d.0 = ap (λ (z : Declaration). z.0) one.1 in

@@ -1,6 +1,6 @@
 -- How the text of a function is put together, and where only memory is refused.
 use Rattle.std.proofs.Common.{◌≡◌, ◌≢◌, ℕ, ◌+◌, inl, inr, List, [], ◌∷◌, ◌++◌, length, Option, Result, Ok, Err, refl, sym, subst, ap, ◌∙◌, append_assoc, append-nil, length-append, arith}
-use Rattle.std.proofs.lemmas.List.{length-map}
+use Rattle.std.proofs.lemmas.List.{append_cancel_left, length-map}
 use Rattle.std.specs.Io.KnownBytes.{Appends}
 use Rattle.wasm_operators.specs.below.bytes.error.Error.{Error}
 use Rattle.wasm_operators.specs.below.bytes.message.Message.TheVariants as message
@@ -16,7 +16,7 @@ use Rattle.wasm_disassembly.specs.declared.fault.DisassemblyFault.{DisassemblyFa
 use Rattle.wasm_disassembly.specs.declared.fault.DisassemblyFault.TheVariants as fault
 use Rattle.wasm_disassembly.specs.LocalLines.{PlacedLocals, declarations_of, LaidOutLocals, ListsDeclarations}
 use Rattle.wasm_disassembly.specs.Disassembly.{Heading, header, local_lines, operator_lines, ReadsLocals, Disassembles, ListsOperators}
-use Rattle.wasm_disassembly.proofs.Declared.{takes_both, ends_here, cancel}
+use Rattle.wasm_disassembly.proofs.Declared.{takes_both, ends_here}
 use Rattle.wasm_disassembly.proofs.Written.{appends_both, appends_three}
 
 laid_each : (offset : ℕ) (placed : PlacedLocals) (text : List ℕ) → LaidOutLocals offset placed text →
@@ -198,5 +198,5 @@ announced body unread declarations placed code (number, encodes, takes, none) h 
       text = l.1;
       more = h.expression;
       each = subst (λ n. EncodesMany EncodesDeclaration n l.1 declarations) (sym one.1) l.5;
-      stands = cancel number (rest unread.reader) (l.1 ++ h.expression) (there ∙ ap (λ z. z ++ (l.1 ++ h.expression)) (sym one.0));
+      stands = append_cancel_left number (rest unread.reader) (l.1 ++ h.expression) (there ∙ ap (λ z. z ++ (l.1 ++ h.expression)) (sym one.0));
     }

@@ -1,5 +1,5 @@
 -- Items of a section one behind the other, and one more.
-use Rattle.std.proofs.Common.{◌≡◌, ℕ, ◌+◌, List, [], ◌∷◌, ◌++◌, length, Ok, refl, sym, subst, length-append, arith, cond}
+use Rattle.std.proofs.Common.{◌≡◌, ℕ, ◌+◌, List, [], ◌∷◌, ◌++◌, length, Ok, refl, sym, subst, arith, cond}
 use Rattle.std.specs.Prelude.{◌==◌}
 use Rattle.wasm_module.specs.below.Source.{Reader, Reads}
 use Rattle.wasm_module.specs.below.Number.{EncodesUnsigned}
@@ -11,9 +11,6 @@ pub item_more : {X : Type 0} (P : List ℕ → X → Type 0) (r : Reader) (xs : 
     Reads P (Ok x) mid new → ItemsStand P r (xs ++ x ∷ []) new
 item_more P r [] mid new x same reads = (new, subst (λ z. Reads P (Ok x) z new) same reads, refl)
 item_more P r (y ∷ ys) mid new x (next, first, others) reads = (next, first, item_more P next ys mid new x others reads)
-
-pub one_longer : {X : Type 0} (xs : List X) (x : X) → length (xs ++ x ∷ []) ≡ length xs + 1
-one_longer xs x = length-append xs (x ∷ [])
 
 -- all items stand there
 pub all_stand : {X : Type 0} (P : List ℕ → X → Type 0) (contents first end : Reader) (xs : List X) (n : ℕ) → Reads (EncodesUnsigned 32) (Ok n) contents first →

@@ -1,5 +1,6 @@
 -- Values that are read one behind the other: of which only the last is kept, and of which both are.
-use Rattle.std.proofs.Common.{◌≡◌, ℕ, ◌+◌, List, [], ◌∷◌, ◌++◌, length, Ok, Err, refl, ap, sym, subst, ◌∙◌, append_assoc, arith}
+use Rattle.std.proofs.Common.{◌≡◌, ℕ, ◌+◌, List, ◌++◌, length, Ok, Err, refl, ap, sym, subst, ◌∙◌, append_assoc, arith}
+use Rattle.std.proofs.lemmas.List.{append_cancel_left}
 use Rattle.wasm_below.specs.bytes.error.Error.{Error}
 use Rattle.wasm_below.specs.Sequence.{Then, PrefixCode}
 use Rattle.wasm_below.specs.Source.{Reader, rest, end_of, at_position, IsRefusal, Reads}
@@ -9,11 +10,7 @@ use Rattle.wasm_module.proofs.Parts.{takes_both, back}
 
 -- an encoding that is a prefix of what stands there
 first_text : (a b x y : List ℕ) → a ≡ b → a ++ x ≡ b ++ y → x ≡ y
-first_text a b x y same e = append_cancel a x y (e ∙ ap (λ t. t ++ y) (sym same))
-  where
-    append_cancel : (a x y : List ℕ) → a ++ x ≡ a ++ y → x ≡ y
-    append_cancel [] x y e = e
-    append_cancel (c ∷ a) x y e = append_cancel a x y (cc e)
+first_text a b x y same e = append_cancel_left a x y (e ∙ ap (λ t. t ++ y) (sym same))
 
 module _ {X Y : Type 0} (P : List ℕ → X → Type 0) (Q : X → List ℕ → Y → Type 0) where
   pub then_read : (old mid new : Reader) (x : X) (y : Y) → Reads P (Ok x) old mid → Reads (Q x) (Ok y) mid new → Reads (Then P Q) (Ok y) old new

@@ -1,4 +1,5 @@
 use Rattle.std.proofs.Common.{◌≡◌, ◌+◌, ◌≤◌, ◌<◌, [], ◌∷◌, ◌++◌, length, sym, ap, ◌∙◌, inl, inr, rules, cond, arith}
+use Rattle.std.proofs.lemmas.List.{length_push}
 use Rattle.std.specs.Prelude.{◌==◌}
 use Rattle.std.proofs.lemmas.List.Elements.{All-push}
 use Rattle.wasm_functions.specs.Refusals.{ImportsFault}
@@ -7,7 +8,7 @@ use Rattle.wasm_module.specs.below.Number.{EncodesUnsigned}
 use Rattle.wasm_module.specs.Imports.{ImportParts, EncodesImport}
 use Rattle.wasm_functions.proofs.Named.{one_value, not_both}
 use Rattle.wasm_functions.proofs.Next.{all_at, next_item, none_refused}
-use Rattle.wasm_functions.proofs.Listed.{item_more, one_longer, functions_more}
+use Rattle.wasm_functions.proofs.Listed.{item_more, functions_more}
 use Rattle.wasm_functions.proofs.Refused.{of_refusal, items_to}
 use Rattle.wasm_functions.proofs.imports.imported_functions.Goals as goal
 
@@ -20,7 +21,7 @@ loop-import-preserved c =
     let one : c.from-functions.result ≡ cond (import.kind == 0) 1 0 = search rules in
     let few : c.from-functions.result ≤ 1 = search rules in
     let sum = functions_more h.0 import in
-    let long = one_longer h.0 import in (
+    let long = length_push h.0 import in (
       h.0 ++ import ∷ [],
       stand,
       long ∙ ap (λ n. n + 1) h.2,

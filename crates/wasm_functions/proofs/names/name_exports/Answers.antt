@@ -1,9 +1,10 @@
 use Rattle.std.proofs.Common.{◌+◌, ◌<◌, [], ◌∷◌, ◌++◌, length, sym, ap, ◌∙◌, inl, inr, arith}
+use Rattle.std.proofs.lemmas.List.{length_push}
 use Rattle.wasm_module.specs.below.Number.{EncodesUnsigned}
 use Rattle.wasm_module.specs.Exports.{EncodesExport}
 use Rattle.wasm_functions.specs.Names.{bytes_of, with_exports}
 use Rattle.wasm_functions.specs.Refusals.{ExportsFault, IsAny}
-use Rattle.wasm_functions.proofs.Listed.{item_more, one_longer}
+use Rattle.wasm_functions.proofs.Listed.{item_more}
 use Rattle.wasm_functions.proofs.Named.{exports_more, not_both}
 use Rattle.wasm_functions.proofs.Next.{none_refused}
 use Rattle.wasm_functions.proofs.Refused.{of_refusal, any_items, items_to}
@@ -15,7 +16,7 @@ loop-export-preserved c =
     let export = c.in-Ok-read.export in (
       h.0 ++ export ∷ [],
       item_more EncodesExport c.read_var_u32.new.self h.0 c.loop-export.reader c.read.new.reader export h.1 c.in-Ok-read.ensures.reads,
-      one_longer h.0 export ∙ ap (λ n. n + 1) h.2,
+      length_push h.0 export ∙ ap (λ n. n + 1) h.2,
       c.set_exported.ensures ∙ ap (λ names. with_exports c.args.imported names (export ∷ [])) h.3 ∙
           sym (exports_more c.args.imported (bytes_of c.args.names.now.items) h.0 export),
     )

@@ -1,10 +1,11 @@
 use Rattle.std.proofs.Common.{◌≡◌, ◌+◌, ◌<◌, [], ◌∷◌, ◌++◌, length, sym, subst, ap, ◌∙◌, inl, inr, rules, arith}
+use Rattle.std.proofs.lemmas.List.{length_push}
 use Rattle.wasm_module.specs.below.Number.{EncodesUnsigned}
 use Rattle.wasm_functions.specs.Items.{ItemsStand}
 use Rattle.wasm_functions.specs.Refusals.{FunctionsFault, IsAny}
 use Rattle.wasm_functions.proofs.Named.{not_both}
 use Rattle.wasm_functions.proofs.Next.{none_refused}
-use Rattle.wasm_functions.proofs.Listed.{item_more, one_longer}
+use Rattle.wasm_functions.proofs.Listed.{item_more}
 use Rattle.wasm_functions.proofs.Refused.{of_refusal, any_items, items_to}
 use Rattle.wasm_functions.proofs.types.function_types.Goals as goal
 
@@ -18,7 +19,7 @@ loop-function-preserved c =
     let now = c.read_var_u32-in-loop-function.new.self in
     let stand = item_more (EncodesUnsigned 32) first types c.loop-function.reader now ty h.0 c.in-Ok-read_var_u32.ensures.reads in (
       subst (λ xs. ItemsStand (EncodesUnsigned 32) first xs now) (sym pushed) stand,
-      ap length pushed ∙ one_longer types ty ∙ ap (λ n. n + 1) h.1,
+      ap length pushed ∙ length_push types ty ∙ ap (λ n. n + 1) h.1,
     )
 
 pub returns-in-Err-clause-refused : goal.returns-in-Err-clause-refused

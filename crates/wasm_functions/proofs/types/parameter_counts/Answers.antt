@@ -1,4 +1,5 @@
 use Rattle.std.proofs.Common.{◌+◌, ◌<◌, ℕ, List, [], ◌∷◌, ◌++◌, length, map, subst, ap, ◌∙◌, inl, inr, arith}
+use Rattle.std.proofs.lemmas.List.{length_push}
 use Rattle.std.proofs.lemmas.List.Elements.{All-push}
 use Rattle.wasm_module.specs.below.Number.{EncodesUnsigned}
 use Rattle.wasm_module.specs.below.Source.{Reader}
@@ -7,7 +8,6 @@ use Rattle.wasm_functions.specs.Items.{ItemsStand}
 use Rattle.wasm_functions.specs.Parameters.{parameter_count, AreKnownTypes}
 use Rattle.wasm_functions.specs.Refusals.{TypesLengthFault}
 use Rattle.wasm_functions.proofs.RecTypes.{rec_type_more, rec_type_stands, rec_type_announced, parameters_more}
-use Rattle.wasm_functions.proofs.Listed.{one_longer}
 use Rattle.wasm_functions.proofs.Named.{not_both}
 use Rattle.wasm_functions.proofs.Next.{all_at, next_rec_type, one_announced, none_announced}
 use Rattle.wasm_functions.proofs.Refused.{of_refusal, announced_refused, types_to}
@@ -21,7 +21,7 @@ loop-rec_type-preserved c =
     let stands = rec_type_stands c.in-Ok-read_rec_type_len.len c.loop-rec_type.reader c.read_rec_type_len.new.reader c.read_rec_type.new.reader g.0 len.rec_type len.one g.1 g.2 in (
       h.0 ++ g.0 ∷ [],
       rec_type_more c.read_var_u32.new.self h.0 c.loop-rec_type.reader c.read_rec_type.new.reader g.0 h.1 stands,
-      one_longer h.0 g.0 ∙ ap (λ n. n + 1) h.2,
+      length_push h.0 g.0 ∙ ap (λ n. n + 1) h.2,
       All-push AreKnownTypes h.0 g.0 h.3 g.3,
       g.4 ∙ ap (λ (counts : List ℕ). counts ++ map parameter_count g.0) h.4 ∙ parameters_more h.0 g.0,
     )

@@ -1,4 +1,5 @@
 use Rattle.std.proofs.Common.{◌≡◌, ◌+◌, ◌<◌, [], ◌∷◌, ◌++◌, length, Ok, sym, subst, ap, ◌∙◌, rules, arith}
+use Rattle.std.proofs.lemmas.List.{length_push}
 use Rattle.std.proofs.lemmas.List.Elements.{All-push}
 use Rattle.wasm_module.specs.below.Source.{Reads}
 use Rattle.wasm_module.specs.Types.{EncodesSubType}
@@ -6,7 +7,7 @@ use Rattle.wasm_module.specs.declared.composite.CompositeType.{CompositeType}
 use Rattle.wasm_functions.specs.Parameters.{parameter_count, IsKnownType}
 use Rattle.wasm_functions.specs.Refusals.{SubTypesFault}
 use Rattle.wasm_functions.proofs.RecTypes.{count_more}
-use Rattle.wasm_functions.proofs.Listed.{item_more, one_longer}
+use Rattle.wasm_functions.proofs.Listed.{item_more}
 use Rattle.wasm_functions.proofs.Named.{one_value, not_both}
 use Rattle.wasm_functions.proofs.Next.{all_at, more_items}
 use Rattle.wasm_functions.proofs.Refused.{of_refusal, sub_types_to}
@@ -20,7 +21,7 @@ loop-ty-preserved c =
     let pushed : c.push.new.self.items ≡ c.loop-ty.counts.items ++ parameter_count ty ∷ [] = search rules in (
       h.0 ++ ty ∷ [],
       item_more EncodesSubType c.args.reader.now h.0 c.loop-ty.reader c.read.new.reader ty h.1 c.in-Ok.ensures.reads,
-      one_longer h.0 ty ∙ ap (λ n. n + 1) h.2,
+      length_push h.0 ty ∙ ap (λ n. n + 1) h.2,
       All-push IsKnownType h.0 ty h.3 known,
       pushed ∙ ap (λ z. z ++ parameter_count ty ∷ []) h.4 ∙ count_more c.args.counts.now.items h.0 ty,
     )
