@@ -26,7 +26,7 @@ HEAD = """\
 
 Written by tools/gate_table.py from the log of a run of `.ci/run`; a new run's log replaces all of it.
 
-The whole of `rt ci` took {wall} minutes on {count} processors, and {processor} minutes of a processor. It ended with \
+The whole of `rt ci` took {wall} minutes on {count} processors, and {processor} minutes of a processor. The run ended with \
 `{last}`.{note}
 
 Before it proves a crate, `rt` reads the files of all that the crate stands on, along every path to them: {readings} \

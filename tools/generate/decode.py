@@ -17,6 +17,7 @@ WITH_MEMORY = ("TypedSelect", "TryTable", "Resume", "ResumeThrow", "ResumeThrowR
 
 
 def decodes():
+    """What a call that decodes says, in any frame."""
     return "(frame : FrameKind) → DecodesAt V.visits frame start result reader.old reader.new v.old v.new"
 
 
@@ -116,7 +117,7 @@ def group_call(ops, group, those):
     if group.module not in ALL:
         return whole_group(ops, group, those, group.module)
     whole = [
-        *group_head(group, those, group.module, "inline(always)", "pub ", " Common ones inline, the others out of line."),
+        *group_head(group, those, group.module, " Common ones inline, the others out of line."),
         f"    match {COMMON_CALL}(v, reader, start, code) {{",
         "        Some(answer) => answer,",
         f"        None => {OTHERS_CALL}(v, alloc, reader, start, frame, code),",
@@ -149,7 +150,7 @@ def common_call(ops, group, those):
     ]
 
 
-def group_head(group, those, name, inline, visibility, more=""):
+def group_head(group, those, name, more=""):
     """The head of a call that decodes an operator of a group, up to its body."""
     is_own = group.enum == "Own"
     ty = "u8" if is_own else "u32"
@@ -157,8 +158,8 @@ def group_head(group, those, name, inline, visibility, more=""):
     doc = f"/// Reads what stands behind the {'opcode' if is_own else 'subopcode'} of one of {group.short}, and visits the operator.{more}"
     out = [
         doc,
-        f"#[{inline}]",
-        f"{visibility}fn {name}<V: {group.trait}>({given}) -> Result<V::Output>",
+        "#[inline(always)]",
+        f"pub fn {name}<V: {group.trait}>({given}) -> Result<V::Output>",
         f"    requires behind {{ StandsBehind start {those[0].place} code reader.old }}",
     ]
     if is_own:
@@ -182,13 +183,13 @@ def group_arms(those, takes):
 def whole_group(ops, group, those, name):
     """The call that decodes each operator of a group."""
     more = " Each of them is an arm here." if name in ALL.values() else ""
-    out = group_head(group, those, name, "inline(always)", "pub ", more)
+    out = group_head(group, those, name, more)
     is_own = group.enum == "Own"
     unknown = "unknown_opcode(reader, start, code)" if is_own else f"unknown_subopcode(reader, start, 0x{those[0].prefix}, code)"
     last = f"Err({unknown})"
     if group.enum == "Simd":
-        alone, those = [it for it in those if is_without_immediates(it)], [it for it in those if not is_without_immediates(it)]
-        out += ["    if has_no_immediates(code) {", f"        return {alone[0].function}(v, reader, start, code);", "    }"]
+        bare, those = [it for it in those if is_without_immediates(it)], [it for it in those if not is_without_immediates(it)]
+        out += ["    if has_no_immediates(code) {", f"        return {bare[0].function}(v, reader, start, code);", "    }"]
         if not those:
             return [*out, f"    Err({unknown})", "}", ""]
         *others, last = group_arms(those, lambda code: True)

@@ -92,6 +92,7 @@ def answers(part):
 
 
 def answer_file(part):
+    """The proofs of a part's call, as a file."""
     return proof_file(part, f"{part.group.module}_operators.{part.function}", answers(part))
 
 

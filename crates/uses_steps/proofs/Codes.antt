@@ -1,5 +1,5 @@
 -- What a reading says where a caller knows what stands there: no encoding is a proper prefix of another, and a fault determines the refusal.
-use Rattle.std.proofs.Common.{◌≡◌, ◌≢◌, ℕ, ◌+◌, List, [], ◌++◌, length, Result, Ok, Err, IfOk, IfErr, refl, sym, ap, ◌∙◌, append-nil}
+use Rattle.std.proofs.Common.{◌≡◌, ◌≢◌, ℕ, ◌+◌, List, [], ◌++◌, length, Result, Ok, Err, IfOk, IfErr, refl, sym, ap, subst, ◌∙◌, append-nil}
 use Rattle.wasm_operators.specs.below.bytes.error.Error.{Error}
 use Rattle.wasm_operators.specs.below.bytes.message.Message.{Message}
 use Rattle.wasm_operators.specs.below.bytes.message.Message.TheVariants as message
@@ -19,16 +19,14 @@ pub memory_alone : (m : Message) → (m ≢ message.OutOfMemory → ⊥) → m �
 memory_alone message.OutOfMemory none = refl
 memory_alone _ none = absurd (none (λ is. absurd (cc is)))
 
--- What stands there is refused for want of memory alone.
+-- What stands there is refused by allocation failure alone.
 pub refused_there : {X : Type 0} (Encodes : List ℕ → X → Type 0) (m : Message) (r : Reader) (text more : List ℕ) (x : X) →
     Refuses Encodes (rest r) m → Encodes text x → rest r ≡ text ++ more → m ≡ message.OutOfMemory
 refused_there Encodes m r text more x refuses encodes parts =
     memory_alone m (λ other. refuses [] (may_follow m other) text more x encodes (append-nil (rest r) ∙ parts))
 
 nothing_follows : (m : Message) → IsReadFault m → MayFollow m []
-nothing_follows message.EndOfData fault = refl
-nothing_follows message.OutOfMemory fault = fault
-nothing_follows _ fault = tt
+nothing_follows m fault = may_follow m (λ is. subst IsReadFault is fault)
 
 -- What stands there is read.
 pub reads_known : {X : Type 0} (Encodes : List ℕ → X → Type 0) (result : Result X Error) (old new : Reader) (x : X) (text more : List ℕ) →

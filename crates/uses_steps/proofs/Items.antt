@@ -77,7 +77,7 @@ pub number_there : {X : Type 0} (Encodes : List ℕ → X → Type 0) (r : Reade
 number_there Encodes r e all refusal (number, text, count, parts, announces, many) =
     refused_there (EncodesUnsigned 32) e.message r number text count refusal.refuses announces parts
 
--- Items of which so many are left stand there.
+-- As many items stand there as are left.
 abbrev pub IsLeft : {X : Type 0} → (List ℕ → X → Type 0) → SectionItems → Type 0
 IsLeft {X} Encodes items = (others : List X) × (length others ≡ items.remaining) × EncodesEach Encodes (rest items.reader) others
 
@@ -106,7 +106,7 @@ left_there Encodes r items found all numbers code h (number, text, count, parts,
     let others = others_there Encodes found all h.text text (rest items.reader) code h.each each there (omega (arith, h.all, same.1, size)) in
     (others.0, omega (arith, others.1, h.all, same.1, size), others.2)
 
--- They are refused for want of memory alone.
+-- They are refused by allocation failure alone.
 pub stops_memory : {X : Type 0} (Encodes : List ℕ → X → Type 0) (Fault : Message → Reader → ℕ → Type 0) (takes_memory : Bool) (e : Error) (items : SectionItems) →
     IsLeft Encodes items → StopsSection Encodes Fault takes_memory e items → e.message ≡ message.OutOfMemory
 stops_memory Encodes Fault takes_memory e items ([], size, nothing) (inl (some, refused, fault)) = absurd (omega (arith, size, some))

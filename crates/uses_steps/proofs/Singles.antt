@@ -1,8 +1,8 @@
 -- What one read says.
-use Rattle.std.proofs.Common.{◌≡◌, ◌≢◌, ℕ, ◌+◌, ◌<◌, List, [], ◌∷◌, ◌++◌, length, inl, inr, Option, Some, None, Result, Ok, Err, IfOk, IfErr, refl, ap, subst, ◌∙◌, append-nil, arith}
-use Rattle.std.specs.Prelude.{IsSome}
-use Rattle.std.specs.Option.{option_and_then}
+use Rattle.std.proofs.Common.{◌≡◌, ◌≢◌, ℕ, ◌+◌, ◌<◌, List, [], ◌∷◌, ◌++◌, length, inl, inr, Some, Result, Ok, Err, IfOk, IfErr, refl, ap, subst, ◌∙◌, append-nil, arith}
+use Rattle.std.specs.Prelude.{is_some}
 use Rattle.std.specs.Result.{result_err}
+use Rattle.std.proofs.lemmas.Option.{option_and_then_some}
 use Rattle.wasm_operators.specs.below.bytes.error.Error.{Error}
 use Rattle.wasm_operators.specs.below.bytes.features.WasmFeatures.{WasmFeatures}
 use Rattle.wasm_operators.specs.below.bytes.message.Message.{Message}
@@ -105,11 +105,6 @@ first_refused (Err e) r old new same inner (unchanged, stops) = λ other.
     subst (λ (z : Reader). (op : Operator) (text more : List ℕ) → rest z ≡ text ++ more → EncodesAllowed z.features frame_kind.Block text op → ⊥)
     (unchanged.0 ∙ same) (none_there e new frame_kind.Block (ap innermost unchanged.1 ∙ inner) other stops)
 
--- A role that leads to open frames is allowed.
-leads_on : {A B : Type 0} (f : A → Option B) (o : Option A) (b : B) → option_and_then f o ≡ Some b → IsSome o
-leads_on f None b h = absurd (cc h)
-leads_on f (Some a) b h = refl
-
 -- Where no operator stands there that the frame of an expression allows, the bytes are no expression.
 pub is_no_expression : (features : WasmFeatures) (bytes : List ℕ) (whole : Placed) →
     (IsWalk (roles_of (operators whole)) → along (frame_kind.Block ∷ []) whole ≡ Some []) →
@@ -117,7 +112,8 @@ pub is_no_expression : (features : WasmFeatures) (bytes : List ℕ) (whole : Pla
     EncodesExpression (input features bytes) whole → ⊥
 is_no_expression features bytes [] closes none (laid, walk) = absurd (cc (closes walk))
 is_no_expression features bytes (p ∷ ps) closes none ((at, text, more, parts, encodes, others), walk) =
-    none p.0 text more parts (encodes, leads_on (λ next. along next ps) (frames_after (frame_kind.Block ∷ []) (role_of p.0)) [] (closes walk))
+    let allowed = option_and_then_some (λ next. along next ps) (frames_after (frame_kind.Block ∷ []) (role_of p.0)) [] (closes walk) (λ next is on. ap is_some is) in
+    none p.0 text more parts (encodes, allowed)
 
 -- What the law `memory_asked` says.
 abbrev pub IsAsked : Type 0
