@@ -1,14 +1,15 @@
 #!/usr/bin/env python3
-"""Writes docs/GATE.md, what each crate costs the gate, from the log of a run.
+"""Writes docs/GATE.md, the CPU minutes of each crate in the gate, from the logs of runs.
 
-    tools/gate_table.py LOG [NOTE]
+    tools/gate_table.py LOG NOTE [LOG NOTE ..]
     tools/gate_table.py --summary LOG
 
-LOG is what `.ci/run` wrote: `.ci/run > LOG 2>&1`. NOTE, a sentence on the run, stands above the table. With
-`--summary` the same is printed in a few lines, and nothing is written: so `.ci/run` ends. Logs of several runs may
-stand in it one behind the other, of which each took over what those before had proved: what they cost is added up. The
-functions of a crate come from the prover's last line for it, the edits from rt's line for each, the minutes from the
-lines of tools/timed.py, and how often files are read from crates.txt.
+Each LOG is the output of one run of `.ci/run`: `.ci/run > LOG 2>&1`. NOTE is a sentence on that run, printed above its
+table. `--summary` prints the figures of one log in a few lines and writes nothing; `.ci/run` ends with it. A LOG may be
+several logs joined together, if each run continued with what the runs before it had proved: then their costs are
+added. The functions of a crate come from the prover's last line for it, the edits from `rt`'s line for each edit, the
+minutes from the lines of tools/timed.py, and how often files are read from crates.txt. The table of the edits outside
+the gate comes from tools/more_must_fail.tsv, which `tools/run more_must_fail --record` writes.
 """
 
 import re
@@ -16,46 +17,56 @@ import sys
 import textwrap
 from pathlib import Path
 
-sys.path.insert(0, str(Path(__file__).resolve().parent / "generate"))
+sys.path[:0] = [str(Path(__file__).resolve().parent / "generate"), str(Path(__file__).resolve().parent)]
 
+from more_must_fail import recorded
 from paths import crates as crates_listed
 
 TOP = Path(__file__).resolve().parent.parent
 HEAD = """\
 # What the gate costs
 
-Written by tools/gate_table.py from the log of a run of `.ci/run`; a new run's log replaces all of it.
+`tools/gate_table.py` writes this page from the logs of `.ci/run`. Minutes are CPU minutes unless the text says \
+wall-clock.
 
-The whole of `rt ci` took {wall} minutes on {count} processors, and {processor} minutes of a processor. The run ended with \
-`{last}`.{note}
+- Each crate is proved once, from nothing.
+- A crate with `#[test]` functions is proved once more with them.
+- A crate with two or more must-fail edits is proved once more, as the base for its edits. Each edit is then a check of \
+the crate over that base.
+- Compiling, linking and running the programs is in the sum alone.
+- The column *Wall* is the wall-clock time of the crate's proof, with as many jobs as the run gave it.
 
-Before it proves a crate, `rt` reads the files of all that the crate stands on, along every path to them: {readings} \
-readings of a crate's files, all crates together. With 38 crates of which each listed all that it named they were 256,000.
-
-The table has minutes of a processor. A proof from nothing is a crate's own; where a crate has tests it is proved \
-once more with them, and each must-fail edit is a check of the crate over what the first proved. Time that \
-compiling, linking and running took is in the sum alone. The wait of a crate's proof is in minutes by the clock, with as \
-many jobs as the run gave it.
-
-| Crate | Functions | Proof | Wait | Tests | Edits | Number of edits |
-|---|---|---|---|---|---|---|
+Before `rt` proves a crate, it reads the files of all crates below it, along every path to them: {readings} readings of \
+a crate's files in all.
 """
 
+RUN = """
+## {count} processors
+
+`rt ci` took {wall} minutes wall-clock on {count} processors, and {processor} CPU minutes. The run ended with \
+`{last}`.{note}
+
+| Crate | Functions | Proof | Wall | Tests | Edits | Number of edits |
+|---|---|---|---|---|---|---|
+"""
 
 # The crates that hold lists over all operators, which tools/lists.py writes.
 LISTS = """wasm_instr_ops wasm_instr_simd wasm_instr wasm_visit_groups wasm_visit_factory wasm_visit
 wasm_decode_groups""".split()
 
 MADE_OF = """
-## What it is made of
+- A proof takes {each} seconds per function. The lists over the 628 operators ({names}) take {lists} minutes of proofs.
+- About {again} of the minutes of edits are the proofs that serve as bases. Each edit takes {edit} seconds beyond that.
+- Proofs and tests of the test crates, `uses`, `uses_steps` and `wasm_bench` take {callers} minutes.
+"""
 
-- The proofs take {each} seconds a function. {lists} of their minutes are those of the lists over the 628 operators \
-({names}), in which a function, or an arm of one, stands for each operator.
-- Of the minutes of edits about {again} are proofs: `rt` proves a crate that has two edits or more once more, and tries its \
-edits over what that proved. One edit more takes the rest, {edit} seconds: the libraries are read, and the functions that it \
-reaches are tried until the prover gives up.
-- {callers} minutes of proofs and tests are those of test crates and of `uses`, `uses_steps` and `wasm_bench`. At a \
-visitor that is known, a call is proved by comparing each visit of the traits that it is bound by.
+OUTSIDE = """
+## Must-fail edits outside the gate
+
+`tools/run more_must_fail` tries the edits in `crates/*/more-must-fail/`. The prover rejected all of them at these commits:
+
+| Crate | Edits | Commit | Date |
+|---|---|---|---|
 """
 
 
@@ -121,7 +132,7 @@ def readings(listed):
 
 
 def made_of(crates):
-    """What the minutes of a run went into, in words."""
+    """Returns what the minutes of a run went into, in words."""
     proofs = {name: it.processor.get("proof", 0) for name, it in crates.items()}
     edits = sum(it.processor.get("edits", 0) for it in crates.values())
     again = min(edits, sum(proofs[name] for name, it in crates.items() if it.edits > 1))
@@ -152,18 +163,18 @@ def by_cost(crates):
 def summary(text):
     """The costs that a log has, in a few lines."""
     crates, (processor, wall, count), _ = measured(text)
-    whole = f"{minutes(wall)} minutes on {count} processors, {minutes(processor)} of a processor"
+    whole = f"{minutes(wall)} minutes wall-clock on {count} processors, {minutes(processor)} CPU minutes"
     parts = lambda it: "+".join(minutes(it.processor.get(part, 0)) or "0" for part in ("proof", "tests", "edits"))
     cells = [f"{name} {crates[name].functions} {parts(crates[name])}" for name in by_cost(crates)]
-    head = f"rt ci took {whole}. Each crate's functions, and minutes of a processor for proof, tests and edits:"
+    head = f"rt ci took {whole}. Each crate's functions, and CPU minutes for proof, tests and edits:"
     return "\n".join([head, *textwrap.wrap(", ".join(cells), 116)])
 
 
-def page(text, note=""):
-    """The page that a log gives, with a note on the run."""
+def run_section(text, note=""):
+    """Returns the section of one run, with a note on it."""
     crates, (processor, wall, count), last = measured(text)
     said = {"wall": minutes(wall), "processor": minutes(processor), "count": count, "last": last}
-    head = HEAD.format(**said, note=f" {note}" if note else "", readings=readings(crates_listed()))
+    head = RUN.format(**said, note=f" {note}" if note else "")
     functions, edits = (sum(getattr(it, word) for it in crates.values()) for word in ("functions", "edits"))
     parts = [sum(it.processor.get(part, 0) for it in crates.values()) for part in ("proof", "tests", "edits")]
     proof, tests, tried = map(minutes, parts)
@@ -172,16 +183,36 @@ def page(text, note=""):
     return head + table + made_of(crates)
 
 
+def outside_section(rows):
+    """Returns the section on the edits outside the gate, from the rows of tools/more_must_fail.tsv."""
+    if not rows:
+        return ""
+    total = sum(int(row["edits"]) for row in rows)
+    lines = [f"| `{row['crate']}` | {row['edits']} | `{row['commit']}` | {row['date']} |" for row in rows]
+    return OUTSIDE + "\n".join([*lines, f"| all | {total} | | |", ""])
+
+
+def page(runs, rows=()):
+    """Returns the page of these runs, pairs of a log and a note, and of the edits outside the gate."""
+    sections = [run_section(text, note) for text, note in runs]
+    return "".join([HEAD.format(readings=readings(crates_listed())), *sections, outside_section(rows)])
+
+
+def text_of(path):
+    return Path(path).read_text(encoding="utf-8", errors="replace")
+
+
 def main():
     sys.dont_write_bytecode = True
-    if sys.argv[1:2] == ["--summary"] and len(sys.argv) == 3:
-        print(summary(Path(sys.argv[2]).read_text(encoding="utf-8", errors="replace")))
+    words = sys.argv[1:]
+    if words[:1] == ["--summary"] and len(words) == 2:
+        print(summary(text_of(words[1])))
         return
-    if len(sys.argv) not in (2, 3) or sys.argv[1].startswith("-"):
+    if not words or len(words) % 2 or words[0].startswith("-"):
         print(__doc__)
-        sys.exit(sys.argv[1:] not in (["--help"], ["-h"]))
-    text = Path(sys.argv[1]).read_text(encoding="utf-8", errors="replace")
-    (TOP / "docs" / "GATE.md").write_text(page(text, "".join(sys.argv[2:])), encoding="utf-8")
+        sys.exit(words not in (["--help"], ["-h"]))
+    runs = [(text_of(log), note) for log, note in zip(words[::2], words[1::2])]
+    (TOP / "docs" / "GATE.md").write_text(page(runs, recorded()), encoding="utf-8")
     print("docs/GATE.md")
 
 

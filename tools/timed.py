@@ -122,12 +122,14 @@ def count_of_crates(text):
 
 
 def expected_minutes(page, processors):
-    """The minutes by the clock that docs/GATE.md lets expect on so many processors; None where it tells none."""
-    found = re.search(r"took ([\d.]+) minutes on (\d+) processors, and ([\d.]+) minutes of a processor", page)
-    if not found:
+    """Returns the wall-clock minutes that docs/GATE.md lets expect on so many processors, or None if it has none."""
+    found = re.findall(r"took ([\d.]+) minutes wall-clock on (\d+) processors", page)
+    runs = {int(count): float(wall) for wall, count in found}
+    if not runs:
         return None
-    # (fewer processors than then: each of them has that much more to do)
-    return float(found[1]) * max(1, int(found[2]) / processors)
+    # on fewer processors than in any run, each has that much more to do
+    count = max((count for count in runs if count <= processors), default=min(runs))
+    return runs[count] * max(1, count / processors)
 
 
 class Progress:

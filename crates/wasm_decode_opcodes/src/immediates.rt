@@ -1,7 +1,8 @@
-//! The immediates behind an opcode, by their kinds.
+//! Readers of the immediates after an opcode, by their kinds.
 //!
-//! Each call answers `Ok` exactly where such immediates stand. Else the reader goes back to the
-//! position `start`, where the operator began, and the refusal is that of the first that is none.
+//! Each function returns `Ok` if and only if such immediates follow, unless allocation fails. On an
+//! error the reader goes back to the position `start`, the start of the operator. The error is that
+//! of the first immediate that cannot be read.
 ghost use Rattle.std.specs.Prelude.{◌≡◌, ◌+◌, ◌≤◌, [], ◌∷◌, false, true, IfErr};
 ghost use Rattle.wasm_instr.specs.below.Source.{at_position, offset_of, end_of, rest, NoPrefix};
 ghost use Rattle.wasm_instr.specs.imm.HandlerTables.{EncodesOne};
@@ -16,7 +17,7 @@ use wasm_instr::imm::{
     read_table_index, refuse_from,
 };
 
-/// Goes back to where an operator began, with this refusal of what stands behind its opcode.
+/// Moves the reader back to the start of the operator, and returns the error.
 #[inline(always)]
 fn back(reader: &mut BinaryReader<'_>, start: usize, e: Error) -> Error
     requires { start ≤ reader.old.position }
@@ -27,7 +28,7 @@ fn back(reader: &mut BinaryReader<'_>, start: usize, e: Error) -> Error
     e
 }
 
-/// An unsigned number of 32 bits: an index, mostly.
+/// Reads an unsigned number of 32 bits, usually an index.
 #[inline(always)]
 pub fn unsigned(reader: &mut BinaryReader<'_>, start: usize) -> Result<u32>
     requires { start ≤ reader.old.position }
@@ -39,7 +40,7 @@ pub fn unsigned(reader: &mut BinaryReader<'_>, start: usize) -> Result<u32>
     }
 }
 
-/// The number of `i32.const`.
+/// Reads the number of `i32.const`.
 #[inline(always)]
 pub fn signed_32(reader: &mut BinaryReader<'_>, start: usize) -> Result<i32>
     requires { start ≤ reader.old.position }
@@ -51,7 +52,7 @@ pub fn signed_32(reader: &mut BinaryReader<'_>, start: usize) -> Result<i32>
     }
 }
 
-/// The number of `i64.const`.
+/// Reads the number of `i64.const`.
 #[inline(always)]
 pub fn signed_64(reader: &mut BinaryReader<'_>, start: usize) -> Result<i64>
     requires { start ≤ reader.old.position }
@@ -63,7 +64,7 @@ pub fn signed_64(reader: &mut BinaryReader<'_>, start: usize) -> Result<i64>
     }
 }
 
-/// The bits of `f32.const`.
+/// Reads the bits of `f32.const`.
 #[inline(always)]
 pub fn float_32(reader: &mut BinaryReader<'_>, start: usize) -> Result<Ieee32>
     requires { start ≤ reader.old.position }
@@ -75,7 +76,7 @@ pub fn float_32(reader: &mut BinaryReader<'_>, start: usize) -> Result<Ieee32>
     }
 }
 
-/// The bits of `f64.const`.
+/// Reads the bits of `f64.const`.
 #[inline(always)]
 pub fn float_64(reader: &mut BinaryReader<'_>, start: usize) -> Result<Ieee64>
     requires { start ≤ reader.old.position }
@@ -87,7 +88,7 @@ pub fn float_64(reader: &mut BinaryReader<'_>, start: usize) -> Result<Ieee64>
     }
 }
 
-/// The bytes of `v128.const`.
+/// Reads the 16 bytes of `v128.const`.
 #[inline(always)]
 pub fn vector(reader: &mut BinaryReader<'_>, start: usize) -> Result<V128>
     requires { start ≤ reader.old.position }
@@ -99,7 +100,7 @@ pub fn vector(reader: &mut BinaryReader<'_>, start: usize) -> Result<V128>
     }
 }
 
-/// A lane.
+/// Reads a lane index.
 #[inline(always)]
 pub fn lane(reader: &mut BinaryReader<'_>, start: usize) -> Result<u8>
     requires { start ≤ reader.old.position }
@@ -111,7 +112,7 @@ pub fn lane(reader: &mut BinaryReader<'_>, start: usize) -> Result<u8>
     }
 }
 
-/// The sixteen lanes of a shuffle.
+/// Reads the sixteen lane indices of a shuffle.
 #[inline(always)]
 pub fn lanes(reader: &mut BinaryReader<'_>, start: usize) -> Result<[u8; 16]>
     requires { start ≤ reader.old.position }
@@ -123,7 +124,7 @@ pub fn lanes(reader: &mut BinaryReader<'_>, start: usize) -> Result<[u8; 16]>
     }
 }
 
-/// A memory argument of an operator of this kind, whose own alignment has the exponent `max_align`.
+/// Reads a memory argument. `max_align` is the exponent of the operator's natural alignment.
 #[inline(always)]
 pub fn memory(
     reader: &mut BinaryReader<'_>,
@@ -141,7 +142,7 @@ pub fn memory(
     }
 }
 
-/// The memory of `memory.size` and `memory.grow`.
+/// Reads the memory index of `memory.size` and `memory.grow`.
 #[inline(always)]
 pub fn memory_index(reader: &mut BinaryReader<'_>, start: usize) -> Result<u32>
     requires { start ≤ reader.old.position }
@@ -153,7 +154,7 @@ pub fn memory_index(reader: &mut BinaryReader<'_>, start: usize) -> Result<u32>
     }
 }
 
-/// The table of `call_indirect`.
+/// Reads the table index of `call_indirect`.
 #[inline(always)]
 pub fn table_index(reader: &mut BinaryReader<'_>, start: usize) -> Result<u32>
     requires { start ≤ reader.old.position }
@@ -165,7 +166,7 @@ pub fn table_index(reader: &mut BinaryReader<'_>, start: usize) -> Result<u32>
     }
 }
 
-/// A heap type.
+/// Reads a heap type.
 #[inline(always)]
 pub fn heap_type(reader: &mut BinaryReader<'_>, start: usize) -> Result<HeapType>
     requires { start ≤ reader.old.position }
@@ -177,7 +178,7 @@ pub fn heap_type(reader: &mut BinaryReader<'_>, start: usize) -> Result<HeapType
     }
 }
 
-/// What the branches on a cast carry.
+/// Reads the immediates of a branch on a cast: flags, label and two heap types.
 #[inline(always)]
 pub fn cast(reader: &mut BinaryReader<'_>, start: usize) -> Result<Cast>
     requires { start ≤ reader.old.position }
@@ -189,7 +190,7 @@ pub fn cast(reader: &mut BinaryReader<'_>, start: usize) -> Result<Cast>
     }
 }
 
-/// The type of a block.
+/// Reads a block type.
 #[inline(always)]
 pub fn block_type(reader: &mut BinaryReader<'_>, start: usize) -> Result<BlockType>
     requires { start ≤ reader.old.position }
@@ -201,7 +202,7 @@ pub fn block_type(reader: &mut BinaryReader<'_>, start: usize) -> Result<BlockTy
     }
 }
 
-/// The targets of `br_table`.
+/// Reads the targets of `br_table`.
 #[inline(always)]
 pub fn branch_table<'a>(reader: &mut BinaryReader<'a>, start: usize) -> Result<BrTable<'a>>
     requires { start ≤ reader.old.position }
@@ -212,7 +213,7 @@ pub fn branch_table<'a>(reader: &mut BinaryReader<'a>, start: usize) -> Result<B
         Err(e) => Err(back(reader, start, e)),
     }
 }
-/// The byte of `atomic.fence`.
+/// Reads the byte of `atomic.fence`.
 #[inline(always)]
 pub fn fence(reader: &mut BinaryReader<'_>, start: usize) -> Result<Ordering>
     requires { start ≤ reader.old.position }
@@ -226,7 +227,7 @@ pub fn fence(reader: &mut BinaryReader<'_>, start: usize) -> Result<Ordering>
     }
 }
 
-/// The types of a `select`. One type takes no memory.
+/// Reads the types of a `select`. It does not allocate for one type.
 #[inline(always)]
 pub fn select(alloc: Global, reader: &mut BinaryReader<'_>, start: usize) -> Result<Select>
     requires begun { start ≤ reader.old.position }
@@ -241,7 +242,7 @@ pub fn select(alloc: Global, reader: &mut BinaryReader<'_>, start: usize) -> Res
     }
 }
 
-/// A block type and catches.
+/// Reads the block type and the catches of a `try_table`.
 #[inline(always)]
 pub fn try_table(alloc: Global, reader: &mut BinaryReader<'_>, start: usize) -> Result<TryTable>
     requires begun { start ≤ reader.old.position }
@@ -254,7 +255,7 @@ pub fn try_table(alloc: Global, reader: &mut BinaryReader<'_>, start: usize) -> 
     }
 }
 
-/// The clauses of a resume table.
+/// Reads the clauses of a resume table.
 #[inline(always)]
 pub fn resume_table(
     alloc: Global,
@@ -271,7 +272,7 @@ pub fn resume_table(
     }
 }
 
-/// Two unsigned numbers of 32 bits.
+/// Reads two unsigned numbers of 32 bits.
 #[inline(always)]
 pub fn two_unsigned(reader: &mut BinaryReader<'_>, start: usize) -> Result<(u32, u32)>
     requires { start ≤ reader.old.position }
@@ -287,7 +288,7 @@ pub fn two_unsigned(reader: &mut BinaryReader<'_>, start: usize) -> Result<(u32,
     }
 }
 
-/// The type and the table of `call_indirect`.
+/// Reads the type index and the table index of `call_indirect`.
 #[inline(always)]
 pub fn call_indirect(reader: &mut BinaryReader<'_>, start: usize) -> Result<(u32, u32)>
     requires { start ≤ reader.old.position }
@@ -295,15 +296,15 @@ pub fn call_indirect(reader: &mut BinaryReader<'_>, start: usize) -> Result<(u32
         false start result reader.old reader.new }
 {
     match reader.read_var_u32() {
-        Ok(first) => match table_index(reader, start) {
-            Ok(second) => Ok((first, second)),
+        Ok(typeidx) => match table_index(reader, start) {
+            Ok(tableidx) => Ok((typeidx, tableidx)),
             Err(e) => Err(e),
         },
         Err(e) => Err(back(reader, start, e)),
     }
 }
 
-/// A memory argument and a lane, of a vector operator.
+/// Reads the memory argument and the lane index of a SIMD operator.
 #[inline(always)]
 pub fn memory_lane(
     reader: &mut BinaryReader<'_>,
@@ -324,7 +325,7 @@ pub fn memory_lane(
     }
 }
 
-/// An ordering and an index.
+/// Reads an ordering and an index.
 #[inline(always)]
 pub fn ordered(reader: &mut BinaryReader<'_>, start: usize) -> Result<(Ordering, u32)>
     requires { start ≤ reader.old.position }
@@ -340,7 +341,7 @@ pub fn ordered(reader: &mut BinaryReader<'_>, start: usize) -> Result<(Ordering,
     }
 }
 
-/// An ordering and two indices.
+/// Reads an ordering and two indices.
 #[inline(always)]
 pub fn ordered_two(reader: &mut BinaryReader<'_>, start: usize) -> Result<(Ordering, (u32, u32))>
     requires { start ≤ reader.old.position }
@@ -356,7 +357,7 @@ pub fn ordered_two(reader: &mut BinaryReader<'_>, start: usize) -> Result<(Order
     }
 }
 
-/// A continuation's type and a resume table.
+/// Reads the type index of a continuation and a resume table.
 #[inline(always)]
 pub fn resume(
     alloc: Global,
@@ -376,7 +377,7 @@ pub fn resume(
     }
 }
 
-/// A continuation's type, a tag and a resume table.
+/// Reads the type index of a continuation, a tag index and a resume table.
 #[inline(always)]
 pub fn resume_throw(
     alloc: Global,
