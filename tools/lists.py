@@ -1,14 +1,13 @@
 #!/usr/bin/env python3
-"""Writes every list over the operators from the one table, operators.tsv.
+"""Writes every list over the operators from one table, operators.tsv.
 
     tools/lists.py            writes the files
-    tools/lists.py --check    fails where a file is not what the table gives, byte by byte, or where a
-                              page tells a count of operators that is not the table's
+    tools/lists.py --check    fails if a file is not, byte by byte, what the table gives, or if a page
+                              states a count of operators that the table does not give
 
-Before that it judges the table: the rows by themselves and together (generate/rules.py), and against what
-the original lists (generate/original.py). The writers stand in generate/ too. `rt fmt` lays the files out,
-so the Rattle kit has to be there.
-docs/ARCHITECTURE.md says what the columns are, docs/ADDING-AN-OPERATOR.md what a new row needs besides.
+First it checks the table: its rows (generate/rules.py), and that they equal wasmparser's list
+(generate/original.py). The generators are in generate/ too. `rt fmt` lays out the files, so the Rattle kit
+must be installed. docs/ADDING-AN-OPERATOR.md describes the columns and the other changes that a new row needs.
 """
 
 import sys
@@ -30,16 +29,16 @@ from paths import by_listed
 from plain import plain_files, unshaped
 from printed import made_source, values_source
 from printed_fields import printed_field_files
-from rows import enum_by_opcode, enum_rows, operator_rows, operators_by_opcode
+from rows import enum_by_opcode, enum_rows, equality_answer, operator_rows, operators_by_opcode
 from rules import faults
-from source import enum_source, operator_source
+from source import Shape, enum_source, operator_source
 from table import ENUMS, HEAD, TOP, table
 from texts import text_files
 from visits import visit_files
 
 
 def files(ops):
-    """Each generated file with its text."""
+    """Returns the generated files, by path."""
     out = {}
     for enum in ENUMS:
         those = [op for op in ops if op.group == enum.group]
@@ -47,6 +46,8 @@ def files(ops):
         out[f"{crate}/src/{enum.module}.rt"] = enum_source(enum, those)
         out[f"{crate}/specs/{enum.group}.antt"] = enum_rows(enum, those)
         out[f"{crate}/proofs/{enum.group}ByOpcode.antt"] = enum_by_opcode(enum, those)
+        if Shape(those).by_fields:
+            out[f"{crate}/proofs/{enum.module}/{enum.type}PartialEq/eq/Answers.antt"] = equality_answer(enum)
     own = [op for op in ops if op.group == "Own"]
     out["crates/wasm_instr/src/operator.rt"] = operator_source(own, {op.group for op in ops if op.holds_list})
     out["crates/wasm_instr/specs/Row.antt"] = operator_rows(own)
@@ -68,13 +69,13 @@ def files(ops):
 
 
 def stale(wanted, top=TOP):
-    """The files that are not, byte by byte, what they should be."""
+    """Returns the files that differ from what they should be."""
     paths = {name: top / name for name in wanted}
     return [it for it, path in paths.items() if not path.exists() or path.read_bytes() != wanted[it].encode()]
 
 
 def left_over(wanted, top=TOP):
-    """The files that say they are written from the table, and no longer are."""
+    """Returns the files whose head says that they are generated, but that no generator writes."""
     found = [*top.glob("crates/*/src/**/*.rt"), *top.glob("crates/*/specs/*.antt"), *top.glob("crates/*/proofs/**/*.antt")]
     names = [str(path.relative_to(top)) for path in found if HEAD in path.read_text(encoding="utf-8")[:200]]
     return sorted(name for name in names if name not in wanted)
@@ -92,7 +93,7 @@ def main():
     wrong = stale(wanted)
     if check:
         found = [f"{name}: not what the table gives: run tools/lists.py" for name in wrong]
-        found += [f"{name}: no list is written there any more: remove it" for name in left_over(wanted)]
+        found += [f"{name}: no generator writes this file: remove it" for name in left_over(wanted)]
         sys.exit("\n".join(found + wrong_counts(table())) or None)
     for name in wrong:
         path = TOP / name

@@ -1,18 +1,18 @@
-"""What operators take and leave, where that is fixed."""
+"""Writes the arities of the operators that have a fixed arity."""
 
 from source import joined_arm
-from table import ENUMS, HEAD, enum_uses, grouped, held, pattern
+from table import ENUMS, HEAD, enum_uses, grouped, held, pattern, singular
 
 REACHING = " and an array"
 
 
 def argument_of(op):
-    """The name of the field that is the memory argument, if the operator has one."""
+    """Returns the name of the field that is the memory argument, if the operator has one."""
     return next((name for name, ty in op.fields if ty == "MemArg"), None)
 
 
 def pair_of(op):
-    """What a fixed operator takes and leaves, in both languages."""
+    """Returns the arity of an operator with a fixed one, in antt and in Rust."""
     takes = op.takes.removesuffix(REACHING)
     if op.takes == takes:
         return (f"({takes}, {op.leaves})",) * 2
@@ -21,25 +21,25 @@ def pair_of(op):
 
 
 def by_pair(ops):
-    """The fixed operators by their pair, that of the most last."""
+    """Groups the operators with a fixed arity by it. The largest group is last."""
     return grouped([op for op in ops if not op.is_by_rule], pair_of)
 
 
 def argument_pattern(op, alias):
-    """A pattern of antt that names the memory argument alone."""
+    """Returns a pattern that binds only the memory argument, in antt."""
     names = " ".join(name if name == argument_of(op) else "_" for name, _ in op.fields)
     return f"({alias}.{op.name} {names})" if op.fields else f"{alias}.{op.name}"
 
 
 def enum_pairs(enum, ops):
-    """The pairs of an inner enum, as a definition; where some go by rule, each may be none."""
+    """Returns the arities of an inner enum, as a definition. The type is an option if an arity depends on the module."""
     ruled = [op for op in ops if op.is_by_rule]
     low, ty = enum.module, "ℕ × ℕ"
     made = lambda pair: pair
-    title = f"-- Of {enum.title}."
+    title = f"-- The numbers of operands and results of {enum.title}."
     if ruled:
         ty, made = f"Option ({ty})", lambda pair: f"Some {pair}"
-        title = f"-- Of {enum.title}; none where it depends on the module."
+        title = f"-- The numbers of operands and results of {enum.title}; `None` if they depend on the module."
     body = [title, f"abbrev pub {low}_pair : {enum.type} → {ty}"]
     *others, ((most, _), _) = by_pair(ops)
     for (pair, _), those in others:
@@ -49,16 +49,16 @@ def enum_pairs(enum, ops):
 
 
 def is_ruled(enum, ops):
-    """Whether an operator of an inner enum goes by rule."""
+    """Returns whether the arity of an operator of an inner enum depends on the module."""
     return any(op.is_by_rule for op in ops if op.group == enum.group)
 
 
 def fixed_arity_specs(ops):
-    """The pairs that are fixed, as definitions."""
+    """Returns the file of the fixed arities, as definitions."""
     body = []
     for enum in held():
         body += enum_pairs(enum, [op for op in ops if op.group == enum.group])
-    body += ["-- Of all operators; none where it depends on the module.", "abbrev pub fixed_arity : Operator → Option (ℕ × ℕ)"]
+    body += ["-- The numbers of operands and results of an operator; `None` if they depend on the module.", "abbrev pub fixed_arity : Operator → Option (ℕ × ℕ)"]
     for (pair, _), those in by_pair([op for op in ops if op.group == "Own"]):
         body += [f"fixed_arity {argument_pattern(op, 'operator')} = Some {pair}" for op in those]
     for enum in held():
@@ -68,8 +68,8 @@ def fixed_arity_specs(ops):
     body.append("fixed_arity _ = None")
     head = [
         f"-- {HEAD}",
-        "-- How many operands an operator takes and how many values it leaves, where that is fixed.",
-        "-- WebAssembly Core Specification 3.0: Appendix, Index of Instructions. An access that may reach an array takes that array too: proposal multibyte array access.",
+        "-- The numbers of operands and results of the operators for which they are fixed.",
+        "-- WebAssembly Core Specification 3.0: Appendix, Index of Instructions. An access to an array also takes the array: proposal multibyte array access.",
         "use Rattle.std.specs.Prelude.{ℕ, ◌+◌, Option, Some, None}",
         "use Rattle.wasm_imm.specs.declared.memory_argument.MemArg.{MemArg}",
         "use Rattle.wasm_imm.specs.declared.memory_argument.MemArgTarget.{MemArgTarget}",
@@ -81,11 +81,12 @@ def fixed_arity_specs(ops):
         "use Rattle.wasm_instr.specs.declared.operator.Operator.{Operator}",
         "use Rattle.wasm_instr.specs.declared.operator.Operator.TheVariants as operator",
         "",
-        "-- How many operands name what is reached beside the address: an array is one, a memory none.",
+        "-- The number of operands besides the address that identify the target: one for an array, none for a memory.",
         "abbrev pub arrays_in : MemArgTarget → ℕ",
         "arrays_in (target.Array _) = 1",
         "arrays_in (target.Memory _) = 0",
         "",
+        "-- The number of operands of an access: one more if the target is an array.",
         "abbrev pub reaching : MemArg → ℕ → ℕ",
         "reaching m takes = takes + arrays_in m.target",
         "",
@@ -94,7 +95,7 @@ def fixed_arity_specs(ops):
 
 
 def argument_binding(op, ty):
-    """A pattern of Rust that names the memory argument alone, where the pair depends on it."""
+    """Returns a pattern of Rust. It binds only the memory argument, if the arity depends on it."""
     if not op.fields:
         return f"{ty}::{op.name}"
     if op.takes.endswith(REACHING):
@@ -104,20 +105,20 @@ def argument_binding(op, ty):
 
 
 def pair_arm(ty, ops, value):
-    """An arm for operators of one pair."""
+    """Returns an arm for operators of one arity."""
     return joined_arm([argument_binding(op, ty) for op in ops], value)
 
 
 def enum_arity(enum, ops):
-    """The pairs of an inner enum, in code."""
+    """Returns the arities of an inner enum, in code."""
     ruled = [op for op in ops if op.is_by_rule]
     low, ty, title = enum.module, "(u32, u32)", enum.title
-    title = f"{title} takes and leaves"
+    title = f"Returns the numbers of operands and results of {singular(title)}"
     made = lambda pair: pair
     if ruled:
         ty, made = f"Option<{ty}>", lambda pair: f"Some({pair})"
-        title = f"{title}, where that is fixed"
-    out = ["", f"/// What one of {title}.", f"pub fn {low}_fixed_arity(op: &{enum.type}) -> {ty}"]
+        title = f"{title}.\n/// `None` if they depend on the module"
+    out = ["", f"/// {title}.", f"pub fn {low}_fixed_arity(op: &{enum.type}) -> {ty}"]
     out += [f"ensures {{ result ≡ {low}_pair op.now }}", "{", "match op {"]
     *others, ((_, most), _) = by_pair(ops)
     out += [pair_arm(enum.type, those, made(pair)) for (_, pair), those in others]
@@ -127,11 +128,11 @@ def enum_arity(enum, ops):
 
 
 def fixed_arity_source(ops):
-    """The pairs that are fixed, in code."""
+    """Returns the file of the fixed arities, in code."""
     inner = sorted(enum.type for enum in ENUMS if enum.group != "Simd")
     words = ["reaching as reaching_of", *[f"{enum.module}_pair" for enum in held()], "fixed_arity as pair_of"]
     out = [
-        f"//! Arities that are fixed. {HEAD}",
+        f"//! Fixed arities. {HEAD}",
         "ghost use Rattle.std.specs.Prelude.{◌≡◌, ◌<◌};",
         f"ghost use Rattle.wasm_instr.specs.FixedArity.{{{', '.join(words)}}};",
         "",
@@ -140,7 +141,7 @@ def fixed_arity_source(ops):
         f"use wasm_instr_ops::{{{', '.join(inner)}}};",
         "use wasm_instr_simd::SimdOperator;",
         "",
-        "/// How many operands an access takes that takes so many of a memory: an array is one more.",
+        "/// Returns the number of operands of an access: `takes`, and one more for an array.",
         "fn reaching(memarg: &MemArg, takes: u32) -> u32",
         "requires { takes < 8 }",
         "ensures { result ≡ reaching_of memarg.now takes }",
@@ -157,11 +158,11 @@ def fixed_arity_source(ops):
 
 
 def operator_arity(ops):
-    """The pairs of all operators, in code."""
+    """Returns the arities of all operators, in code."""
     own = [op for op in ops if op.group == "Own"]
     out = [
         "impl<'a> Operator<'a> {",
-        "/// What the operator takes and leaves, where that is fixed.",
+        "/// Returns the numbers of operands and results, or `None` if they depend on the module.",
         "pub(crate) fn fixed_arity(&self) -> Option<(u32, u32)>",
         "ensures { result ≡ pair_of self.now }",
         "{",

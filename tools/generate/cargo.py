@@ -1,11 +1,11 @@
-"""The operators of the cargo crate and their visits (bindings/rust/src/operator.rs, visit.rs)."""
+"""Writes the operators of the cargo crate and their visits (bindings/rust/src/operator.rs, visit.rs)."""
 
 from plain import kinds, number
 from table import HEAD, SHARED
 
-# The types of fields, as the crate has them.
+# The types of fields that the crate spells in its own way.
 TYPES = {"[u8; 16]": "[u8; 16]", "SelectTypes": "Vec<ValType>"}
-# The values of the fields of a shape, from its plain data `op` and the `bytes` of the body from the operator on.
+# The values of the fields, by the kinds of immediates: from the C struct `op` and the `bytes` of the body from the operator on.
 VALUES = {
     (): [],
     ("unsigned",): ["op.first"],
@@ -37,19 +37,19 @@ VALUES = {
 
 
 def variant(op):
-    """A variant of the enum."""
+    """Returns a variant of the enum."""
     fields = ", ".join(f"{name}: {TYPES.get(ty, ty)}" for name, ty in op.fields)
     return f"    {op.name}{f' {{ {fields} }}' if fields else ''},"
 
 
 def made(op):
-    """The operator, made of its plain data."""
+    """Returns the expression that makes the operator from its C struct."""
     fields = ", ".join(f"{name}: {value}" for (name, _), value in zip(op.fields, VALUES[kinds(op)]))
     return f"Operator::{op.name}{f' {{ {fields} }}' if fields else ''}"
 
 
 def operator_source(ops):
-    """The file of the enum."""
+    """Returns the file of the enum."""
     lines = [
         f"//! The operators. {HEAD}",
         "",
@@ -65,7 +65,7 @@ def operator_source(ops):
         *[variant(op) for op in ops],
         "}",
         "",
-        "/// The operator of this plain data, whose first byte is the first of these.",
+        "/// Converts the C struct of an operator. `bytes` starts with the operator's first byte.",
         "#[inline]",
         "#[rustfmt::skip]",
         "pub(crate) fn operator_of<'a>(op: &PlainOperator, bytes: &'a [u8], features: u32) -> Operator<'a> {",
@@ -76,7 +76,7 @@ def operator_source(ops):
         "}",
         "",
         "impl Operator<'_> {",
-        "    /// The name of the operator.",
+        "    /// Returns the name of the variant.",
         "    #[rustfmt::skip]",
         "    pub fn name(&self) -> &'static str {",
         "        match self {",
@@ -89,7 +89,7 @@ def operator_source(ops):
 
 
 def visit_source(ops):
-    """The file of the visits."""
+    """Returns the file of the visits."""
     lines = [
         f"//! Visits of operators. {HEAD}",
         "",
@@ -97,13 +97,13 @@ def visit_source(ops):
         "use crate::operator::Operator;",
         "use crate::types::{BlockType, HeapType, Ieee32, Ieee64, MemArg, Ordering, RefType, V128, ValType};",
         "",
-        "/// Visits operators. A visit that a visitor has not of its own goes to `visit_any`.",
+        "/// A visitor of operators. A visit that is not overridden calls `visit_any`.",
         "#[rustfmt::skip]",
         "pub trait VisitOperator<'a> {",
-        "    /// What a visit answers.",
+        "    /// The type that a visit returns.",
         "    type Output;",
         "",
-        "    /// Visits an operator that has no visit of its own.",
+        "    /// Visits an operator whose visit is not overridden.",
         "    fn visit_any(&mut self, op: Operator<'a>) -> Self::Output;",
     ]
     for op in ops:
@@ -114,7 +114,7 @@ def visit_source(ops):
     lines += [
         "}",
         "",
-        "/// Calls the visitor's method for an operator.",
+        "/// Calls the visitor's visit of an operator.",
         "#[rustfmt::skip]",
         "pub fn visit_operator<'a, V: VisitOperator<'a> + ?Sized>(visitor: &mut V, op: Operator<'a>) -> V::Output {",
         "    match op {",
@@ -127,6 +127,6 @@ def visit_source(ops):
 
 
 def cargo_files(ops):
-    """The files of the crate that are lists over the operators which have a shape."""
+    """Returns the crate's generated files, over the operators whose immediates have values here."""
     ops = [op for op in ops if kinds(op) in VALUES]
     return {"bindings/rust/src/operator.rs": operator_source(ops), "bindings/rust/src/visit.rs": visit_source(ops)}

@@ -1,8 +1,8 @@
-"""Breaks clauses that are too long for a line, which `rt fmt` leaves as they are.
+"""Breaks clauses that are too long for a line. `rt fmt` leaves them as they are.
 
     tools/generate/clauses.py FILE..      lays out the clauses of these source files
 
-The writers of lists lay out theirs by `clauses_broken`.
+The generators call `clauses_broken`.
 """
 
 import sys
@@ -13,7 +13,7 @@ WIDTH = 120
 
 
 def places(line):
-    """Where a clause may be broken: before an arrow or a product, or before what stands in parentheses, with how deep."""
+    """Returns the places where a clause may be broken, each with its depth in parentheses: before an operator or a parenthesis."""
     depth, found = 0, []
     for at, char in enumerate(line):
         if char in "({":
@@ -33,7 +33,7 @@ def places(line):
 
 
 def broken(line):
-    """The line of a clause, broken into lines of at most the width where that can be had."""
+    """Breaks a line of a clause into lines of at most the width, if possible."""
     out, margin = [], len(line) - len(line.lstrip()) + 4
     while len(line) > WIDTH:
         start = len(line) - len(line.lstrip()) + 8
@@ -49,7 +49,7 @@ def broken(line):
 
 
 def is_clause(line):
-    """Whether the line is one of a clause or a ghost member, and too long."""
+    """Returns whether the line belongs to a clause or a ghost member and is too long."""
     words = line.split()
     if len(line) <= WIDTH or words[0].startswith("//"):
         return False
@@ -58,7 +58,7 @@ def is_clause(line):
 
 
 def clauses_broken(text):
-    """The text of a source file, its long clauses broken."""
+    """Breaks the long clauses of the text of a source file."""
     return "\n".join(broken(line) if is_clause(line) else line for line in text.split("\n"))
 
 

@@ -1,4 +1,4 @@
-"""The decoding of each group of visits: from the opcode or the subopcode over its immediates to the visit."""
+"""Writes the decoders of the groups of visits: from an opcode or subopcode through its immediates to a visit."""
 
 from decode_proofs import (
     answer_file, codes_file, common_file, group_file, last_alignment_file, last_numeric_file, last_visit_file,
@@ -8,26 +8,26 @@ from entries import KIND_WORDS
 from parts import (
     ALL, APART, COMMON, COMMON_CALL, OTHERS_CALL, alone, by_alignment, exponent, is_without_immediates, parts, run_pattern, runs,
 )
-from table import HEAD, ROW_WORDS, imported
+from table import HEAD, ROW_WORDS, imported, singular
 from visits import GROUPS
 
-# Of what stands in a file of its own, what is told the frame and what is handed an allocator.
+# Of the operators in separate files, those whose function takes the frame, and those whose function takes an allocator.
 WITH_FRAME = ("Else", "Try", "Catch", "CatchAll", "Delegate")
 WITH_MEMORY = ("TypedSelect", "TryTable", "Resume", "ResumeThrow", "ResumeThrowRef")
 
 
 def decodes():
-    """What a call that decodes says, in any frame."""
+    """Returns the contract of a decoding function, for any frame."""
     return "(frame : FrameKind) → DecodesAt V.visits frame start result reader.old reader.new v.old v.new"
 
 
 def closed(answers):
-    """The arms of a match on codes, each with its answer. The last is the arm of all other codes, of which there is none: one that is never reached would be compiled as the others are."""
+    """Returns the arms of a match on codes. The last code has the arm `_`: an unreachable arm would be compiled like the others."""
     return [*[f"        {code} => {answer}," for code, answer in answers[:-1]], f"        _ => {answers[-1][1]},"]
 
 
 def arms(part):
-    """The visits of a part's operators, by their codes."""
+    """Returns the function from code to visit, for a part."""
     value = "it"
     form = part.form
     params = "" if form is None else f", {value}: {form.answer}"
@@ -44,11 +44,11 @@ def arms(part):
         "}",
         "",
     ]
-    return ["/// Their visits, by their codes.", "#[inline(always)]", *out]
+    return ["/// Calls the visit of the operator with this code.", "#[inline(always)]", *out]
 
 
 def function(part):
-    """The call that reads the immediates of a part, and visits the operator."""
+    """Returns the function that reads the immediates of a part and visits the operator."""
     code = part.code()
     params = "" if part.is_one else f", code: {part.code_type}"
     form = part.form
@@ -72,18 +72,18 @@ def function(part):
             "    }",
         ]
     if part.is_one:
-        doc = f"/// `{part.ops[0].name}`."
+        doc = f"/// Reads the immediates of `{part.ops[0].name}` and visits it." if form else f"/// Visits `{part.ops[0].name}`."
     elif form is None:
-        doc = "/// The operators without immediates."
+        doc = "/// Visits an operator without immediates."
     else:
-        doc = f"/// The operators whose immediates `{form.name}` reads."
+        doc = f"/// Reads immediates by `{form.name}` and visits the operator."
     return [doc, "#[inline(always)]", *out, "}", ""]
 
 
 def alignment(part):
-    """The exponents of the alignments of a part's operators, by their codes."""
+    """Returns the function from code to the exponent of the natural alignment, for a part."""
     return [
-        "/// The exponent of an operator's own alignment.",
+        "/// Returns the exponent of the operator's natural alignment.",
         "#[inline(always)]",
         f"fn align_of_{part.title}(code: {part.code_type}) -> u8",
         f"    requires {{ entry_at {part.place} code ≡ free ({part.kinds('code')}) }}",
@@ -98,7 +98,7 @@ def alignment(part):
 
 
 def calls(ops, group):
-    """The arms of a group that stand in a file of their own, by their calls."""
+    """Returns the operators of a group that are in separate files, with their codes."""
     found = {}
     for op in group.of(ops):
         if op.name in APART:
@@ -107,17 +107,17 @@ def calls(ops, group):
 
 
 def apart(name):
-    """The call of an operator that stands in a file of its own."""
+    """Returns the call of the function of an operator in a separate file."""
     given = ["v", *(["alloc"] if name in WITH_MEMORY else []), "reader", "start", *(["frame"] if name in WITH_FRAME else [])]
     return f"{APART[name]}({', '.join(given)})"
 
 
 def group_call(ops, group, those):
-    """The calls that decode an operator of a group. Of one byte there are three: for each operator, of which the common ones stand where the call does; for the common ones; and for any."""
+    """Returns the functions that decode a group. For operators of one byte there are three: for all operators with the common ones inline, for the common ones, and for all."""
     if group.module not in ALL:
         return whole_group(ops, group, those, group.module)
     whole = [
-        *group_head(group, those, group.module, " Common ones inline, the others out of line."),
+        *group_head(group, those, group.module, " Common operators are inlined."),
         f"    match {COMMON_CALL}(v, reader, start, code) {{",
         "        Some(answer) => answer,",
         f"        None => {OTHERS_CALL}(v, alloc, reader, start, frame, code),",
@@ -129,11 +129,13 @@ def group_call(ops, group, those):
 
 
 def common_call(ops, group, those):
-    """The call that decodes the common operators of a group, and answers `None` of the others."""
+    """Returns the function that decodes the common operators of a group."""
     answers = [arm.partition(" => ") for arm in group_arms(those, lambda code: code in COMMON)]
     answers += [(f"        {part.code()}", "", f"{part.function}(v, reader, start),") for part in alone(ops, group)]
     return [
-        f"/// Reads what stands behind the opcode of a common one of {group.short}, and visits the operator. `None` of another opcode, and nothing changes.",
+        f"/// Reads the immediates of {singular(group.short)} and visits it, if its opcode is a common one.",
+        "///",
+        "/// Returns `None` for other opcodes. Then nothing changes.",
         "#[inline(always)]",
         f"pub fn {COMMON_CALL}<V: {group.trait}>(v: &mut V, reader: &mut BinaryReader<'_>, start: usize, code: u8) -> Option<Result<V::Output>>",
         f"    requires {{ StandsBehind start {those[0].place} code reader.old }}",
@@ -151,11 +153,11 @@ def common_call(ops, group, those):
 
 
 def group_head(group, those, name, more=""):
-    """The head of a call that decodes an operator of a group, up to its body."""
+    """Returns the head of a function that decodes a group, up to its body."""
     is_own = group.enum == "Own"
     ty = "u8" if is_own else "u32"
     given = "v: &mut V, alloc: Global, reader: &mut BinaryReader<'_>, start: usize, frame: FrameKind, code: u8" if is_own else f"v: &mut V, reader: &mut BinaryReader<'_>, start: usize, code: {ty}"
-    doc = f"/// Reads what stands behind the {'opcode' if is_own else 'subopcode'} of one of {group.short}, and visits the operator.{more}"
+    doc = f"/// Reads the immediates of {singular(group.short)} and visits it.{more}"
     out = [
         doc,
         "#[inline(always)]",
@@ -171,7 +173,7 @@ def group_head(group, those, name, more=""):
 
 
 def group_arms(those, takes):
-    """The arms of the parts, for the codes that are taken."""
+    """Returns the arms of the parts, for the codes that `takes` accepts."""
     out = []
     for part in those:
         call = f"{part.function}(v, reader, start{'' if part.is_one else ', code'})"
@@ -181,8 +183,8 @@ def group_arms(those, takes):
 
 
 def whole_group(ops, group, those, name):
-    """The call that decodes each operator of a group."""
-    more = " Each of them is an arm here." if name in ALL.values() else ""
+    """Returns the function that decodes all operators of a group."""
+    more = " Every operator has an arm here." if name in ALL.values() else ""
     out = group_head(group, those, name, more)
     is_own = group.enum == "Own"
     unknown = "unknown_opcode(reader, start, code)" if is_own else f"unknown_subopcode(reader, start, 0x{those[0].prefix}, code)"
@@ -202,11 +204,11 @@ def whole_group(ops, group, those, name):
 
 
 def operators_without_immediates(part):
-    """The call that makes a vector operator of a group that has no immediates."""
+    """Returns the function that makes a SIMD operator without immediates."""
     low = part.group.module == "simd_low"
     return [
         "",
-        f"/// The vector operator without immediates of this subopcode {'below 0x80' if low else 'from 0x80 on'}.",
+        f"/// Returns the SIMD operator without immediates that has this subopcode, which is {'below 0x80' if low else 'at least 0x80'}.",
         "#[inline(always)]",
         f"pub fn {part.group.module}_without_immediates(code: u32) -> SimdOperator",
         "    requires without { entry_at (Some 0xfd) code ≡ free [] }",
@@ -221,19 +223,19 @@ def operators_without_immediates(part):
 
 
 def marks(ops, those):
-    """Of each vector subopcode, whether it is that of an operator of these parts."""
+    """Returns for each SIMD subopcode whether an operator of these parts has it."""
     codes = {op.code for part in those for op in part.ops}
     return ["true" if code in codes else "false" for code in range(max(op.code for op in ops if op.prefix == "fd") + 1)]
 
 
 def vectors_without_immediates(ops):
-    """The file that tells which vector operators have no immediates."""
+    """Returns the file of the SIMD operators without immediates."""
     those = [part for group in GROUPS for part in parts(ops, group) if is_without_immediates(part)]
     table = marks(ops, those)
     count = len(table)
     return "\n".join(
         [
-            f"//! Which vector operators have no immediates, and these by their subopcodes. {HEAD}",
+            f"//! The SIMD operators without immediates, by subopcode. {HEAD}",
             "ghost use Rattle.std.specs.Prelude.{◌≡◌, ◌<◌, ◌≤◌, [], true, Some, map};",
             "ghost use Rattle.wasm_decode_opcodes.specs.Entries.{entry_at, simd_entries};",
             "ghost use Rattle.wasm_decode_opcodes.specs.Entry.{free};",
@@ -241,10 +243,10 @@ def vectors_without_immediates(ops):
             "",
             "use wasm_visit_groups::instr::SimdOperator;",
             "",
-            "/// Of each subopcode behind the byte 0xfd, whether it is that of an operator without immediates.",
+            "/// For each subopcode after the prefix byte 0xfd, whether an operator without immediates has it.",
             f"static WITHOUT_IMMEDIATES: [bool; {count}] = [{', '.join(table)}];",
             "",
-            "/// What a table of them says of a subopcode.",
+            "/// Returns the element of the table for a subopcode, and `false` after its end.",
             "#[inline(always)]",
             f"fn is_marked(marks: &[bool; {count}], code: u32) -> bool",
             "    requires { marks.now ≡ map is_without_immediates simd_entries }",
@@ -257,7 +259,7 @@ def vectors_without_immediates(ops):
             "    marks[place]",
             "}",
             "",
-            "/// Whether an operator without immediates has this subopcode behind the byte 0xfd.",
+            "/// Returns whether an operator without immediates has this subopcode after the prefix byte 0xfd.",
             "#[inline(always)]",
             "pub fn has_no_immediates(code: u32) -> bool",
             "    ensures exact { result ≡ is_without_immediates (entry_at (Some 0xfd) code) }",
@@ -272,12 +274,15 @@ def vectors_without_immediates(ops):
 
 
 def decode_head(group, text):
-    """The names that the file of a group uses."""
+    """Returns the head of the file of a group."""
     prelude = ["◌≡◌"] + [it for it in ("◌≤◌", "◌<◌") if it.strip("◌") in text] + ["[]", "◌∷◌", "Some", "None"]
     prelude += [it for it in ("IfSome", "IfNone") if f"{it} " in text]
     entries = ["entry_at"] + (["align_at"] if "align_at" in text else [])
+    # (the import of `vector` in the files of SIMD operators is not needed and stays for now)
     words = imported(text, ROW_WORDS + KIND_WORDS)
     words = [it for it in words if f"{it} " in text]
+    if group.enum == "Simd" and "vector" not in words:
+        words.insert(0, "vector")
     types = [it for it in ("BlockType", "Cast", "Ieee32", "Ieee64", "MemArg", "MemArgKind", "Ordering", "V128") if it in text.replace("MemArgKind", "") or (it == "MemArgKind" and it in text)]
     is_own = group.enum == "Own"
     below = ["BinaryReader", *(["HeapType"] if "HeapType" in text else []), "Result"]
@@ -305,7 +310,7 @@ def decode_head(group, text):
 
 
 def group_decode(ops, group):
-    """The file that decodes a group."""
+    """Returns the file that decodes a group."""
     those = parts(ops, group)
     body = group_call(ops, group, those)
     for part in those:
@@ -321,7 +326,7 @@ def group_decode(ops, group):
 
 
 def numeric_decode(ops, group):
-    """The file that decodes the numeric operators, which have no immediates."""
+    """Returns the file that decodes the numeric operators, which have no immediates."""
     those = group.of(ops)
     return "\n".join([
         f"//! Decoding of {group.short}. {HEAD}",
@@ -330,7 +335,7 @@ def numeric_decode(ops, group):
         "",
         f"use wasm_visit_groups::{group.trait};",
         "",
-        "/// Visits the numeric operator of this opcode.",
+        "/// Visits the numeric operator with this opcode.",
         "#[inline(always)]",
         f"pub fn numeric<V: {group.trait}>(v: &mut V, code: u8) -> V::Output",
         "    requires from { 0x45 ≤ code }",
@@ -346,7 +351,7 @@ def numeric_decode(ops, group):
 
 
 def decode_files(ops):
-    """Each file over the decoding with its text."""
+    """Returns the generated files of the decoders, by path."""
     out = {}
     for group in GROUPS:
         at = f"crates/wasm_decode_groups/src/{group.module}_operators.rt"

@@ -1,26 +1,26 @@
-"""The proofs of the calls that decode a group: that each arm has the kinds of its codes, and what each call answers."""
+"""Writes the proofs of the decoders of groups: that each arm has the kinds of its codes, and the contract of each function."""
 
 from entries import KIND_WORDS
 from parts import ALL, COMMON, COMMON_CALL, by_alignment, exponent, is_without_immediates, parts, runs
 from table import HEAD, PREFIXES, ROW_WORDS, imported
 from visits import GROUPS
 
-# The widths of the numbers that are handed on by their bits.
+# The widths of the numbers that a visit receives as bits.
 SIGNED = {"signed_32": "w32", "signed_64": "w64"}
 
 
 def operands(part, value):
-    """The operands of an operator of a part, as the logic has them."""
+    """Returns the operands of an operator of a part, in antt."""
     return " ".join(f"({value}{it.removeprefix('{0}')})" if it != "{0}" else value for it in (part.form.values if part.form else []))
 
 
 def made(op, names):
-    """An operator of these operands, as the logic has it."""
+    """Returns an operator with these operands, in antt."""
     return f"operator.{op.name} {names}" if op.group == "Own" else f"operator.{op.group} ({op.group.lower()}.{op.name} {names})"
 
 
 class Said:
-    """What the proofs of a part's call are made of: the opcode with its entry and kinds, and its visit with what that says."""
+    """The pieces of the proofs of a part's function: the opcode with its entry and kinds, and the visit with its contract."""
 
     def __init__(self, part):
         self.code = part.code("c.args.code")
@@ -31,7 +31,7 @@ class Said:
         self.visit = f"c.{part.ops[0].visit}" if part.is_one else f"c.visit_{part.title}"
         self.visited = f"c.args.v.now {self.visit}.new.{'self' if part.is_one else 'v'} {self.visit}.result"
         self.row = f"{self.visit}.ensures"
-        # what is named before the answer: in both exits, and where the immediates were read
+        # the `let` lines before the result: in both exits, and in the exit after reading the immediates
         self.before = []
         self.read = []
         if part.is_one:
@@ -40,10 +40,10 @@ class Said:
             self.of_alignment(part)
 
     def of_one(self, part):
-        """Of one operator: the visit says the relation at it, with its operands."""
+        """Returns the pieces for one operator: the contract of its visit, with its operands."""
         names, same = operands(part, "c.in-Ok.it"), "refl"
         if part.key and part.key[0] in SIGNED:
-            # the visit is handed the number of its bits
+            # the visit receives the bits of the number
             width = SIGNED[part.key[0]]
             names = f"(to_z {width} (of_z {width} c.in-Ok.it))"
             same = f"ap (λ z. {part.key[0]} z ∷ []) (to_z-of_z {width} c.in-Ok.it fits)"
@@ -51,7 +51,7 @@ class Said:
         self.row = f"({made(part.ops[0], names)}, refl, refl, {same}, {self.visit}.ensures)"
 
     def of_alignment(self, part):
-        """With a memory argument: the call says of its own alignment what the operators' rows say of theirs."""
+        """Returns the pieces for a memory argument: the alignment of the function is that of the operator's row."""
         align = f"c.align_of_{part.title}"
         term = part.term("c.in-Ok.it", self.code, "kind", "z")
         relation = f"VisitsRow g.V.Visitor.visits {part.place} {self.code} ({term}) c.args.v.now {self.visit}.result {self.visit}.new.v"
@@ -63,7 +63,7 @@ class Said:
 
 
 def answers(part):
-    """The proofs of a part's call: what was read is refused, or is the operator's."""
+    """Returns the proofs of a part's function: reading failed, or read the operator's immediates."""
     it = Said(part)
     reader = "    let r = c.args.reader.now in"
     fault = "g.V.Visitor.visits (OperatorFault r.features k) k"
@@ -92,12 +92,12 @@ def answers(part):
 
 
 def answer_file(part):
-    """The proofs of a part's call, as a file."""
+    """Returns the file of the proofs of a part's function."""
     return proof_file(part, f"{part.group.module}_operators.{part.function}", answers(part))
 
 
 def proof_file(part, function, body):
-    """Proofs of a function of a part, and the names that they use."""
+    """Returns a file of proofs, with the names that they use."""
     text = "\n".join(body)
     path = f"Rattle.wasm_decode_groups.proofs.{function}.Goals"
     common = [it for it in ("[]", "Some", "None", "refl", "sym", "subst", "ap", "arith") if it in imported(text, [it]) or it in text and it == "[]"] + [f"◌{it}◌" for it in ("≡", "∷", "∙") if it in text]
@@ -135,27 +135,27 @@ def proof_file(part, function, body):
 
 
 def entries_name(part):
-    """The list in which the entries of a part stand."""
+    """Returns the name of the list that has the entries of a part."""
     return f"{PREFIXES[part.prefix].lower()}_entries" if part.prefix else "opcode_entries"
 
 
 def ranges(codes):
-    """Runs of codes, in antt."""
+    """Returns runs of codes, in antt."""
     return " ∷ ".join([f"(0x{first:02x}, 0x{last:02x})" for first, last in runs(codes)] + ["[]"])
 
 
 def test_name(part):
-    """The test for entries of a part's kinds."""
+    """Returns the name of the test for entries with a part's kinds."""
     return f"has_{part.title}"
 
 
 def part_lemma(part):
-    """The stem of the lemmas of a part."""
+    """Returns the common start of the names of a part's lemmas."""
     return f"{part.group.module}_{part.title}"
 
 
 def kinds_lemma(part):
-    """Where the entries of a part stand, and that they stand there."""
+    """Returns the lemmas that the entries of a part are at its codes."""
     place = part.place
     codes = [op.code for op in part.alike]
     align = "(align : ℕ) " if part.has_align else ""
@@ -190,7 +190,7 @@ def kinds_lemma(part):
 
 
 def simd_lemmas(ops):
-    """Where the entries of the vector operators with immediates stand, and that each code below 0x80 is an operator's."""
+    """Returns the lemmas on the codes of SIMD operators with immediates, and that each code below 0x80 has an operator."""
     those = [part for group in GROUPS if group.enum == "Simd" for part in parts(ops, group)]
     others = ranges([op.code for part in those if not is_without_immediates(part) for op in part.ops])
     each = "tt"
@@ -210,7 +210,7 @@ def simd_lemmas(ops):
 
 
 def kinds_tests(those):
-    """The tests for entries of the kinds of these parts."""
+    """Returns the tests for entries with the kinds of these parts."""
     tests = {}
     for part in those:
         tests.setdefault(test_name(part), part.kinds("code", "kind", "align"))
@@ -220,7 +220,7 @@ def kinds_tests(those):
 
 
 def unknown_lemma(ops, group):
-    """That a code outside those of the operators is that of none."""
+    """Returns the lemma that no operator has a code outside the runs."""
     part = parts(ops, group)[0]
     known = ranges([op.code for op in ops if op.prefix == part.prefix])
     if group.enum == "Own":
@@ -237,7 +237,7 @@ def unknown_lemma(ops, group):
 
 
 def codes_file(ops):
-    """Where the entries of each part stand."""
+    """Returns the file of the codes of each part."""
     several = {group: [part for part in parts(ops, group) if not part.is_one] for group in GROUPS if group.module != "numeric"}
     body = kinds_tests([part for those in several.values() for part in those])
     for group, those in several.items():
@@ -249,7 +249,7 @@ def codes_file(ops):
     lists = imported(text, ["opcode_entries", *[f"{it.lower()}_entries" for it in PREFIXES.values()]])
     uses = [
         f"-- {HEAD}",
-        "-- Where the entries of some kinds stand, by the groups of visits.",
+        "-- The codes of the entries of some kinds, by groups of visits.",
         "use Rattle.std.proofs.Common.{◌≡◌, ℕ, ◌<◌, ◌≤◌, Bool, true, false, List, [], ◌∷◌, Some, None, refl, ap, arith}",
         "use Rattle.wasm_imm.specs.declared.memory_argument.MemArgKind.TheVariants as kind",
         f"use Rattle.wasm_instr.specs.Immediate.{{{', '.join(imported(text, KIND_WORDS))}}}",
@@ -261,7 +261,7 @@ def codes_file(ops):
 
 
 def last_arm_file(part, function, parameters, given, answer, last=None):
-    """The proof of the last arm of a match on a part's codes: the code is that of the last operator, or of the one that is given, where it is none of the others."""
+    """Returns the proof of the last arm of a match on a part's codes: a code that no other arm has is that of the last operator, or of `last`."""
     align = f"(align_at {part.place} c.args.code) " if part.has_align else ""
     body = [
         "pub returns-in_default : goal.returns-in_default",
@@ -274,7 +274,7 @@ def last_arm_file(part, function, parameters, given, answer, last=None):
 
 
 def last_visit_file(part):
-    """The proof that the visit of the last arm is that of the last operator."""
+    """Returns the proof that the last arm visits the last operator."""
     last = part.ops[-1]
     visit = f"c.{last.visit}"
     row = f"({made(last, operands(part, 'c.args.it'))}, refl, refl, refl, {visit}.ensures)"
@@ -284,19 +284,19 @@ def last_visit_file(part):
 
 
 def last_alignment_file(part):
-    """The proof that the alignment of the last arm is that of its operator."""
+    """Returns the proof that the last arm returns its operator's alignment."""
     last = by_alignment(part)[-1]
     relation = f"{exponent(last)} ≡ align_at {part.place} k"
     return last_arm_file(part, f"{part.group.module}_operators.align_of_{part.title}", "c", "c.requires", f"subst (λ k. {relation}) same refl", last)
 
 
 def last_without_immediates_file(part):
-    """The proof that the operator of the last arm has the subopcode."""
+    """Returns the proof that the operator of the last arm has the subopcode."""
     return last_arm_file(part, f"vectors_without_immediates.{part.group.module}_without_immediates", "c", "c.requires.without", "(same, refl)")
 
 
 def last_numeric_file(last):
-    """The proof that the visit of the last arm is that of the last numeric operator."""
+    """Returns the proof that the last arm visits the last numeric operator."""
     visit = f"c.{last.visit}"
     return "\n".join(
         [
@@ -317,18 +317,18 @@ def last_numeric_file(last):
 
 
 def run_name(run):
-    """A run as the goals of a proof name it."""
+    """Returns the name of a run in the goals of a proof."""
     first, last = run
     return f"in-{first}" if first == last else f"in-{first}-to-{last}"
 
 
 def kinds_proofs(those, takes):
-    """The proofs that the arms of a call have their kinds, and the lemmas that they use."""
+    """Returns the proofs that the arms of a function have their kinds, and the lemmas that they use."""
     body = []
     lemmas = []
     for part in those:
         found = runs([op.code for op in part.ops if takes(op.code)])
-        # the first goal of a call bears no place: that of a code by itself, where there is one
+        # the name of a function's first goal has no place in it: the goal of a single code, if there is one
         in_order = [run for run in found if run[0] == run[1]] + found
         for run in found:
             first, last = run
@@ -347,7 +347,7 @@ def kinds_proofs(those, takes):
 
 
 def proof_head(group, name, words, lemmas):
-    """What a file of proofs of a group's call begins with."""
+    """Returns the head of a file of proofs of a group's function."""
     return [
         f"-- {HEAD}",
         f"use Rattle.std.proofs.Common.{{{words}}}",
@@ -358,13 +358,13 @@ def proof_head(group, name, words, lemmas):
 
 
 def common_file(ops, group):
-    """The proofs of the call that has the common operators: each arm has its kinds."""
+    """Returns the proofs of the function for the common operators: each arm has its kinds."""
     body, lemmas = kinds_proofs(parts(ops, group), lambda code: code in COMMON)
     return "\n".join([*proof_head(group, COMMON_CALL, "arith", lemmas), *body])
 
 
 def group_file(ops, group):
-    """The proofs of the call that has all of a group: each arm has its kinds, and the last no operator."""
+    """Returns the proofs of the function for a whole group: each arm has its kinds, and the last arm has no operator."""
     is_own = group.enum == "Own"
     if group.enum == "Simd":
         return simd_file(ops, group)
@@ -383,13 +383,13 @@ def group_file(ops, group):
 
 
 def simd_file(ops, group):
-    """The same of vector operators: those without immediates are told by a table, and the others by their codes."""
+    """Returns the same proofs for SIMD operators. A table identifies those without immediates, and the codes the others."""
     those = [it for it in parts(ops, group) if not is_without_immediates(it)]
     body, lemmas = kinds_proofs(those, lambda code: True)
     kinds = "without_immediates-requires-clause-kinds"
     told = "c.has_no_immediates.ensures.exact"
     if those:
-        # the last arm is that of all codes which are left; its part has more operators than one, so that it has a proof here
+        # the last arm has all other codes; its part has several operators, so that it needs a proof here
         goal = body[-3].split()[1]
         left = f"others c.args.code (omega (arith, c.requires.half)) (sym {told} ∙ c.if-has_no_immediates.false)"
         body[-2] = f"{goal} g c = let h = {left} in {lemmas[-1]} c.args.code (grind (arith, h)) (grind (arith, h))"

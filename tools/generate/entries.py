@@ -1,8 +1,8 @@
-"""What stands behind each opcode and subopcode, and that it is what the operators' rows say."""
+"""Writes the entry of each opcode and subopcode, and lemmas that the entries agree with the rows."""
 
 from table import HEAD, PREFIXES, by_cases, held, imported, pattern
 
-# The operators whose features and frame are looked at before their immediates.
+# The operators whose feature and frame are checked before their immediates.
 GUARDS = {
     "Else": "guard.Else",
     "Try": "guard.Try",
@@ -10,7 +10,7 @@ GUARDS = {
     "CatchAll": "guard.CatchAll",
     "Delegate": "guard.Delegate",
 }
-# The kind of an immediate, without its value, by the table's word.
+# The definition of the kind of an immediate, by the table's word.
 KIND_NAMES = {
     "unsigned": "is_unsigned_32", "signed_32": "is_signed_32", "signed_64": "is_signed_64",
     "float_32": "is_float_32", "float_64": "is_float_64", "lane_index": "is_one_lane",
@@ -27,7 +27,7 @@ OPERATOR = "Rattle.wasm_instr.specs.declared.operator.Operator"
 
 
 def kind(immediate):
-    """The kind of an immediate, in antt."""
+    """Returns the kind of an immediate, in antt."""
     word, *more = immediate.split()
     if word == "memory":
         return f"is_memory_argument kind.{more[0]} {more[1]}"
@@ -35,12 +35,12 @@ def kind(immediate):
 
 
 def kinds(op):
-    """The kinds of the immediates of an operator, in antt."""
+    """Returns the kinds of the immediates of an operator, in antt."""
     return " ∷ ".join([kind(it) for it in op.immediates] + ["[]"])
 
 
 def entry(op):
-    """What stands behind the opcode of an operator, in antt."""
+    """Returns the entry of an operator's opcode, in antt."""
     inner = f"({kinds(op)})" if op.immediates else "[]"
     if op.prefix == "" and op.name in GUARDS:
         return f"guarded {GUARDS[op.name]} {inner}"
@@ -48,7 +48,7 @@ def entry(op):
 
 
 def entries(name, those, prefixes=()):
-    """A list of entries, by their codes from 0 on."""
+    """Returns a list of entries by code, from 0 on."""
     found = {op.code: entry(op) for op in those} | {code: "prefixes" for code in prefixes}
     each = [found.get(code, "unknown") for code in range(max(found) + 1)]
     lines = [f"    {it} ∷" if " " not in it else f"    ({it}) ∷" for it in each]
@@ -56,37 +56,37 @@ def entries(name, those, prefixes=()):
 
 
 def names():
-    """The list of each prefix byte."""
+    """Returns the name of the list of each prefix byte."""
     return {prefix: f"{group.lower()}_entries" for prefix, group in PREFIXES.items()}
 
 
 def entry_lists(ops):
-    """The lists of entries, and the entry of an opcode or a subopcode."""
-    body = ["-- Behind an opcode."]
+    """Returns the file of the lists of entries, and the entry of an opcode or a subopcode."""
+    body = ["-- The entries of the opcodes, by code."]
     body += entries("opcode_entries", [op for op in ops if not op.prefix], [int(it, 16) for it in PREFIXES])
     for prefix, name in names().items():
-        body.append(f"-- Behind the byte 0x{prefix} and a subopcode.")
+        body.append(f"-- The entries of the subopcodes after the prefix byte 0x{prefix}, by code.")
         body += entries(name, [op for op in ops if op.prefix == prefix])
     body += [
-        "-- The entries behind a prefix byte.",
+        "-- The entries of the subopcodes after a prefix byte.",
         "abbrev pub entries_behind : ℕ → List Entry",
         "entries_behind prefix =",
         *[f"    if prefix == 0x{prefix} then {name} else (" for prefix, name in names().items()],
         "    []" + ")" * len(names()),
         "",
-        "-- What stands behind an opcode, or behind a prefix byte and a subopcode.",
+        "-- The entry of an opcode, or of a subopcode after a prefix byte: the kinds of the immediates, if an operator has it.",
         "abbrev pub entry_at : Option ℕ → ℕ → Entry",
         "entry_at None code = slice_index_or opcode_entries code unknown",
         "entry_at (Some prefix) code = slice_index_or (entries_behind prefix) code unknown",
         "",
-        "-- The exponent of the alignment of the operator that has it, where that has a memory argument.",
+        "-- The exponent of the natural alignment of the operator with this code, if it has a memory argument.",
         "abbrev pub align_at : Option ℕ → ℕ → ℕ",
         "align_at prefix code = align_in (entry_at prefix code)",
     ]
     text = "\n".join(body)
     head = [
         f"-- {HEAD}",
-        "-- What stands behind each opcode and each subopcode.",
+        "-- The kinds of the immediates after each opcode and each subopcode.",
         "-- WebAssembly Core Specification 3.0: Binary Format, Instructions; Appendix, Index of Instructions.",
         "use Rattle.std.specs.Prelude.{ℕ, ◌==◌, if◌then◌else◌, List, [], ◌∷◌, slice_index_or, Option, Some, None}",
         "use Rattle.wasm_imm.specs.declared.memory_argument.MemArgKind.TheVariants as kind",
@@ -98,7 +98,7 @@ def entry_lists(ops):
 
 
 def entries_told(ops):
-    """The entry of an operator's opcode is what its row says, and prefix bytes are no opcodes."""
+    """Returns the lemmas that the entry of an operator's opcode agrees with its row, and that prefix bytes are not opcodes."""
     body = []
     for enum in held():
         those = [op for op in ops if op.group == enum.group]
@@ -107,11 +107,11 @@ def entries_told(ops):
         body.append(f"{low}_told : (op : {enum.type}) → entry_at {prefix} ({enum.opcode} op) ≡ free (map kind_of ({low}_immediates op))")
         body += [*by_cases(f"{low}_told", those[0], low, "refl"), ""]
     own = [op for op in ops if op.group == "Own"]
-    body += ["-- the entry of an operator's opcode is the operator's"]
+    body += ["-- the entry of an operator's opcode has the kinds of the operator's immediates"]
     body.append("pub told : (op : Operator) → entry_at (prefix_of op) (opcode_of op) ≡ entry_of op")
     body += [f"told (operator.{enum.group} op) = {enum.module}_told op" for enum in held()]
     body += ["told op = refl", ""]
-    body += ["-- a byte before a subopcode is a prefix byte"]
+    body += ["-- the entry of a prefix byte is `prefixes`"]
     body.append("pub prefix_told : (op : Operator) (p : ℕ) → prefix_of op ≡ Some p → entry_at None p ≡ prefixes")
     for enum in held():
         if enum.group != "Numeric":
@@ -122,7 +122,7 @@ def entries_told(ops):
     text = "\n".join(body)
     uses = [
         f"-- {HEAD}",
-        "-- The entries are those of the operators' rows.",
+        "-- The entries agree with the rows of the operators.",
         "use Rattle.std.proofs.Common.{◌≡◌, ℕ, Option, Some, None, map, refl, sym, ap}",
     ]
     uses += [f"use {OPERATOR}.{{Operator}}", f"use {OPERATOR}.TheVariants as operator"]
@@ -139,7 +139,7 @@ def entries_told(ops):
 
 
 def entry_files(ops):
-    """Each file over the entries with its text."""
+    """Returns the generated files of the entries, by path."""
     return {
         "crates/wasm_decode_opcodes/specs/Entries.antt": entry_lists(ops),
         "crates/wasm_decode_opcodes/proofs/Told.antt": entries_told(ops),

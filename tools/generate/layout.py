@@ -1,4 +1,4 @@
-"""Lays out generated files as `rt fmt` wants them, which the gate holds every file to."""
+"""Lays out generated files as `rt fmt` does, which the gate checks for every file."""
 
 import shutil
 import subprocess
@@ -10,12 +10,12 @@ from clauses import clauses_broken
 
 
 def is_here():
-    """Whether the kit, whose `rt fmt` lays files out, is on this machine."""
+    """Returns whether the kit's command `rt` is on this machine."""
     return shutil.which("rt") is not None
 
 
 def laid_out(files):
-    """The files with their texts as `rt fmt` lays these out; the writers need not break a line."""
+    """Lays out the texts of the files by `rt fmt`, so that the generators need not break lines."""
     if not is_here():
         sys.exit("rt, the command of the Rattle kit, is not on this machine: it lays out the files")
     with tempfile.TemporaryDirectory() as folder:
@@ -36,7 +36,7 @@ def laid_out(files):
             wrong = ran.stdout + ran.stderr
             for name, path in paths.items():
                 wrong = wrong.replace(f"{path.parent.name}/{path.name}", name)
-            sys.exit(f"rt fmt cannot read what was written:\n{wrong}")
+            sys.exit(f"rt fmt cannot read the generated files:\n{wrong}")
         laid = {name: path.read_text(encoding="utf-8") for name, path in paths.items()}
         laid = {name: clauses_broken(text) if name.endswith(".rt") else text for name, text in laid.items()}
     return {name: laid.get(name, text) for name, text in files.items()}

@@ -1,11 +1,11 @@
-"""The operators of the original, read from tools/original and from nothing else."""
+"""Reads the operators of wasmparser from tools/original, and from nothing else."""
 
 import csv
 from pathlib import Path
 
 FOLDER = Path(__file__).resolve().parent.parent / "original"
 
-# The words of the original's list for immediates, and those of the table. `types` goes by the field.
+# The words for immediates in wasmparser's list, and in the table. The field decides about `types`.
 KINDS = {
     "none": "",
     "bt": "block_type",
@@ -27,18 +27,18 @@ KINDS = {
     "try table": "try_table",
     "rt": "resume_table",
 }
-# The enum that holds the operators behind a prefix byte.
+# The enum of the operators with each prefix byte.
 GROUPS = {"fb": "Gc", "fc": "Misc", "fd": "Simd", "fe": "Atomic"}
 
 
 def lines_of(name):
-    """The rows of one of the files, each by the names of the columns."""
+    """Returns the rows of a file, each by the names of the columns."""
     with open(FOLDER / name, encoding="utf-8", newline="") as lines:
         return list(csv.DictReader(lines, delimiter="\t"))
 
 
 def kind_of(word, fields):
-    """An immediate of an operator with these fields, in the table's words."""
+    """Returns an immediate of an operator with these fields, in the table's words."""
     if word == "types":
         return "types" if "SelectTypes" in fields else "one_type"
     if word.startswith("mem "):
@@ -47,7 +47,7 @@ def kind_of(word, fields):
 
 
 class Original:
-    """An operator of the original, in the words of this repository."""
+    """An operator of wasmparser, in the words of the table."""
 
     def __init__(self, row, arity):
         self.proposal = row["proposal"]
@@ -67,29 +67,29 @@ class Original:
 
     @property
     def group(self):
-        """The enum that has the operator."""
+        """Returns the group whose enum has the operator."""
         if self.prefix:
             return GROUPS[self.prefix]
         return "Numeric" if 0x45 <= self.code <= 0xC4 else "Own"
 
     @property
     def is_simd(self):
-        """Whether its proposal is one of the two of vector operators."""
+        """Returns whether its proposal is `simd` or `relaxed_simd`."""
         return self.proposal in ("simd", "relaxed_simd")
 
 
 def originals():
-    """The operators in the order of the original's list."""
+    """Returns the operators in the order of wasmparser's list."""
     arities = {row["name"]: row for row in lines_of("arity.tsv")}
     return [Original(row, arities[row["name"]]) for row in lines_of("operators.tsv")]
 
 
 def proposals():
-    """How many operators each proposal brought, in order."""
+    """Returns the number of operators that each proposal added, in order."""
     return {row["proposal"]: int(row["operators"]) for row in lines_of("proposals.tsv")}
 
 
-# What of a row is compared, with the words for it in an error.
+# The columns that are compared, with their names in errors.
 COMPARED = {
     "proposal": "proposal",
     "visit": "visit",
@@ -103,7 +103,7 @@ COMPARED = {
 
 
 def differences(ops):
-    """What the table has otherwise than the original: a text for each."""
+    """Returns an error for each difference between the table and wasmparser's list."""
     found = {op.name: op for op in ops}
     listed = originals()
     out = []
@@ -118,12 +118,12 @@ def differences(ops):
                 out.append(f"{op.place}: {word} {shown(has)}, and in the original {shown(wants)}")
     out += [f"{op.place}: no operator of the original" for op in found.values()]
     if not out and [op.name for op in ops] != [old.name for old in listed]:
-        out.append("the operators do not stand in the order of the original")
+        out.append("the operators are not in the order of the original")
     return out
 
 
 def shown(value):
-    """A value of a row as the table writes it."""
+    """Returns a value of a row as the table writes it."""
     if isinstance(value, int):
         return f"{value:02x}"
     if isinstance(value, list):

@@ -1,4 +1,4 @@
-"""The visits of a visitor that has its own for each operator behind 0xfc, for the program that compares visitors."""
+"""Writes overridden visits of each operator with prefix 0xfc, for the program that compares visitors."""
 
 from source import inner, rust_binding
 from table import HEAD
@@ -8,17 +8,17 @@ FILE = "crates/wasm_tests_operators/src/own_misc.rt"
 
 
 def own_visit(group, op):
-    """A visit that hands its operator on as its own."""
+    """Returns an overridden visit, which passes its operator to `own`."""
     given = ", ".join(["&mut self", *([inner(op)] if op.fields else [])])
     return ["", f"fn {op.visit}({given}) {{", f"self.own({rust_binding(op, type_name(group))})", "}"]
 
 
 def own_visit_files(ops):
-    """The impl of the group with all its visits."""
+    """Returns the file with the impl of the group, which overrides all visits."""
     group = next(it for it in GROUPS if it.module == "misc")
     lines = [line for op in group.of(ops) for line in own_visit(group, op)]
     text = [
-        f"//! Visits of {group.title}, each of a visitor's own. {HEAD}",
+        f"//! Overridden visits of {group.title}. {HEAD}",
         "use crate::prints::OwnPrints;",
         f"use wasm_operators::{{{type_name(group)}, {group.trait}}};",
         "",

@@ -1,25 +1,25 @@
-"""The operators of a group by the kinds of their immediates, and how immediates of some kinds are read."""
+"""Splits the operators of a group by the kinds of their immediates, and lists how immediates are read."""
 
 from entries import KIND_NAMES
 
-# What stands in a file of its own: the operators that are guarded, that may take memory, or that borrow.
+# The operators with functions in separate files: those that are guarded, may allocate, or borrow.
 APART = {
     "Else": "else_in_if", "Try": "legacy_try", "Catch": "legacy_catch", "CatchAll": "legacy_catch_all",
     "Delegate": "legacy_delegate", "TypedSelect": "typed_select", "TypedSelectMulti": "typed_select",
     "TryTable": "try_table", "Resume": "resume", "ResumeThrow": "resume_throw", "ResumeThrowRef": "resume_throw_ref",
 }
-# The opcodes that most of a body has. They are decoded where the call stands, all others behind a call.
+# The most frequent opcodes. They are decoded inline, all others by a call.
 COMMON = (
     *range(0x02, 0x05), *range(0x20, 0x27), *range(0x28, 0x3F), 0x41, 0x42,
 )
-# Those that each have a call of their own besides, since the call of their part would stand inline once a run.
+# The opcodes with a separate function, since the function of their part would be inlined once for each run of codes.
 ALONE = (0x00, 0x01, 0x0B, 0x0C, 0x0D, 0x0F, 0x10, 0x1A, 0x1B)
-# The call that decodes them, and the one that decodes the others.
+# The functions that decode the common opcodes and the others.
 COMMON_CALL = "common_one_byte"
 OTHERS_CALL = "other_one_byte"
-# The call of a group that decodes all of it, where that of the group's name has the common ones alone.
+# The function that decodes all of a group, if the function with the group's name inlines only the common opcodes.
 ALL = {"one_byte": "any_one_byte"}
-# The codes of a group among those of its list of entries, where there are others without immediates.
+# The codes of a group, if other groups of the same list of entries also have operators without immediates.
 BOUNDS = {
     "one_byte": "0x45 ≤ code → code ≤ 0xc4 → ⊥",
     "simd_low": "code < 0x80",
@@ -28,7 +28,7 @@ BOUNDS = {
 
 
 class Form:
-    """How immediates of some kinds are read: the call, its answer, the values that a visit is handed, and the list of them."""
+    """How immediates of some kinds are read: the function, its result type, the arguments of the visit, and the list of immediates."""
 
     def __init__(self, name, answer, values, term, arguments=""):
         self.name = name
@@ -69,12 +69,12 @@ FORMS["memory Plain", "lane_index"] = Form(
 
 
 def form_key(op):
-    """The kinds of an operator's immediates, without alignments."""
+    """Returns the kinds of an operator's immediates, without alignments."""
     return tuple(it.rsplit(" ", 1)[0] if it.startswith("memory ") else it for it in op.immediates)
 
 
 def title(key):
-    """What a function for these kinds is called within its group."""
+    """Returns the name of the function for these kinds within its group."""
     if not key:
         return "without_immediates"
     sort = key[0].removeprefix("memory ") if key[0].startswith("memory ") else ""
@@ -83,15 +83,15 @@ def title(key):
 
 
 def is_read(op):
-    """Whether there is a call that reads such immediates."""
+    """Returns whether a function reads the immediates of the operator."""
     return not op.immediates or form_key(op) in FORMS
 
 
 def unread(ops):
-    """The operators that the decoder would leave out."""
+    """Returns an error for each operator that the decoder would omit."""
     wanting = [op for op in ops if op.name not in APART and op.name != "BrTable" and not is_read(op)]
     return [
-        f"{op.place}: no call of wasm_decode_opcodes reads the immediates {', '.join(op.immediates)}: add it, and its form to tools/generate/parts.py"
+        f"{op.place}: no function of wasm_decode_opcodes reads the immediates {', '.join(op.immediates)}: add it, and its form to tools/generate/parts.py"
         for op in wanting
     ]
 
@@ -108,12 +108,12 @@ class Part:
         self.is_one = len(self.ops) == 1
         self.function = self.title if not self.is_one else self.ops[0].visit.removeprefix("visit_")
         self.prefix = self.ops[0].prefix
-        # the operators of all groups with such entries
+        # the operators of all groups with the same kinds of immediates
         self.alike = [op for op in every if op.prefix == self.prefix and form_key(op) == key and op.name not in APART]
 
     @property
     def bound(self):
-        """What else is asked of the code, where operators of other groups have such entries too."""
+        """Returns a further precondition on the code, if operators of other groups have the same kinds of immediates."""
         if self.key or self.group.module not in BOUNDS:
             return []
         return [f"    requires bound {{ {BOUNDS[self.group.module]} }}"]
@@ -131,11 +131,11 @@ class Part:
         return f"(Some 0x{self.prefix})" if self.prefix else "None"
 
     def code(self, name="code"):
-        """The opcode in clauses: a literal where there is one operator."""
+        """Returns the opcode in clauses: a literal if there is one operator."""
         return self.ops[0].hex() if self.is_one else name
 
     def kinds(self, code, kind="MemArgKind", align=None):
-        """The kinds of the immediates in clauses."""
+        """Returns the kinds of the immediates, in clauses."""
         out = []
         for it in self.key:
             if it.startswith("memory "):
@@ -145,7 +145,7 @@ class Part:
         return " ∷ ".join(out + ["[]"])
 
     def term(self, value, code, kind="MemArgKind", align=None):
-        """The immediates in clauses, with their values."""
+        """Returns the immediates with their values, in clauses."""
         if not self.key:
             return "[]"
         align = align or f"(align_at {self.place} {code})"
@@ -153,7 +153,7 @@ class Part:
 
 
 def parts(ops, group):
-    """The parts of a group, in the order of their first operators."""
+    """Returns the parts of a group, in the order of their first operators."""
     found = {}
     for op in group.of(ops):
         if op.name not in APART and is_read(op):
@@ -162,7 +162,7 @@ def parts(ops, group):
 
 
 def alone(ops, group):
-    """The common operators of a group that have a call of their own, a part each."""
+    """Returns a part for each common operator with a separate function."""
     found = []
     for op in group.of(ops):
         if group.module in ALL and op.code in ALONE:
@@ -173,7 +173,7 @@ def alone(ops, group):
 
 
 def runs(codes):
-    """The runs of some codes: the first and the last of each."""
+    """Returns the first and the last code of each run of consecutive codes."""
     out = []
     for code in sorted(codes):
         if out and out[-1][1] == code - 1:
@@ -184,23 +184,27 @@ def runs(codes):
 
 
 def run_pattern(run):
-    """A run of codes as a pattern."""
+    """Returns a pattern for a run of codes."""
     first, last = run
     return f"0x{first:02x}" if first == last else f"0x{first:02x}..=0x{last:02x}"
 
 
 def exponent(op):
-    """The exponent of the alignment of an operator with a memory argument."""
+    """Returns the exponent of the natural alignment of an operator with a memory argument."""
     return op.immediates[0].split()[2]
 
 
 def by_alignment(part):
-    """A part's operators, the last of them one with another alignment than the first and the last code have, where there is one. Of a match in which the arm of all other codes answers as the codes at an end do, the compiler keeps a jump for these, which the first of them takes: `i32.load`."""
+    """Returns a part's operators. The last one, if possible, differs in alignment from the first and the last code.
+
+    Otherwise the arm `_` returns the same as the codes at an end of the range. The compiler then keeps a jump for
+    these codes, and the first of them, `i32.load`, takes it.
+    """
     ends = {exponent(part.ops[0]), exponent(part.ops[-1])}
     last = next((op for op in reversed(part.ops) if exponent(op) not in ends), part.ops[-1])
     return [*[op for op in part.ops if op is not last], last]
 
 
 def is_without_immediates(part):
-    """Whether it is the part of a group of vector operators that have no immediates: they are told by a table."""
+    """Returns whether the part has the SIMD operators without immediates, which a table identifies."""
     return part.group.enum == "Simd" and part.form is None

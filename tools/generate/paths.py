@@ -1,10 +1,9 @@
-"""Paths by the crates that a file's crate lists.
+"""Rewrites paths to go through the crates that a file's crate lists.
 
-A crate lists what it stands on and nothing that this stands on: names of lower layers are reached
-through the crate that is listed, which has them under a short name (`pub use wasm_below as below` in
-its src/lib.rt, and lines of the same sort in specs/Lib.antt and proofs/Lib.antt). The writers of
-lists name each thing by the crate that has it; `listed` rewrites that for the crate that a file
-stands in, by crates.txt.
+A crate lists its direct dependencies only. Names of lower layers are reached through a listed crate,
+which re-exports them under a short name (`pub use wasm_below as below` in its src/lib.rt, and similar
+lines in specs/Lib.antt and proofs/Lib.antt). The generators name each item by the crate that defines
+it; `by_listed` rewrites these paths for the crate of each file, by crates.txt.
 """
 
 import re
@@ -12,7 +11,7 @@ from pathlib import Path
 
 TOP = Path(__file__).resolve().parent.parent.parent
 
-# The short name of a crate, under which those above re-export it.
+# The short name under which higher crates re-export a crate.
 SHORT = {
     "wasm_below": "below",
     "wasm_imm": "imm",
@@ -27,11 +26,12 @@ SHORT = {
     "wasm_decode": "decoder",
     "wasm_operators_readers": "readers",
     "wasm_operators": "operators",
+    "wasm_view": "view",
 }
 
 
 def crates():
-    """The crates, each with those that it lists."""
+    """Returns the crates, each with the crates that it lists."""
     listed = {}
     for line in (TOP / "crates.txt").read_text(encoding="utf-8").splitlines():
         found = re.match(r"(\w+)(?: \w+)?:(.*)$", line)
@@ -41,7 +41,7 @@ def crates():
 
 
 def below(listed, name):
-    """All crates that a crate stands on."""
+    """Returns all crates that a crate depends on, directly or not."""
     found, left = set(), list(listed.get(name, []))
     while left:
         one = left.pop()
@@ -52,17 +52,17 @@ def below(listed, name):
 
 
 def way(listed, crate, name):
-    """The listed crate through which another is reached; nothing where it is listed itself."""
+    """Returns the listed crate through which another is reached, or `None` if that one is listed itself."""
     if name == crate or name in listed.get(crate, []):
         return None
     for one in listed.get(crate, []):
         if name in below(listed, one):
             return one
-    raise ValueError(f"{crate} does not stand on {name}")
+    raise ValueError(f"{crate} does not depend on {name}")
 
 
 def rewritten(listed, crate, text):
-    """The text of a file of a crate, with paths by what the crate lists."""
+    """Rewrites the paths in the text of a file of a crate."""
 
     def of_code(found):
         if found[1] == crate:
@@ -84,6 +84,6 @@ def rewritten(listed, crate, text):
 
 
 def by_listed(files):
-    """The files of crates, each with paths by what its crate lists."""
+    """Rewrites the paths in the files of crates, each for its crate."""
     listed = crates()
     return {name: rewritten(listed, name.split("/")[1], text) for name, text in files.items()}

@@ -1,8 +1,8 @@
-"""The plain data of operators (crates/wasm_view): the number of each, and the fields of each shape."""
+"""Writes the conversion of operators to a C struct (crates/wasm_view): the number of each operator, and the fields of each shape."""
 
-from table import ENUMS, HEAD, PREFIXES, SHARED, held
+from table import ENUMS, HEAD, PREFIXES, SHARED, held, singular
 
-# The function of src/shapes.rt that makes the plain data of operators with these immediates.
+# The function of src/shapes.rt that makes the C struct of operators with these immediates.
 SHAPES = {
     (): "nothing",
     ("unsigned",): "index",
@@ -35,39 +35,39 @@ SHAPES = {
 ONE_TYPE = 19
 # The types that are passed by reference.
 BORROWED = ("BlockType", "ValType", "BrTable<'a>", "SelectTypes", "TryTable", "ResumeTable")
-# The operators that bodies are full of: their plain data is made where they are visited, without a call.
+# The most frequent operators: their C struct is made inline.
 COMMON = (
     "Else", "End", "Br", "BrIf", "Return", "Call", "Drop", "Select", "LocalGet", "LocalSet", "LocalTee", "GlobalGet",
     "GlobalSet", "I32Load", "I64Load", "I32Load8S", "I32Load8U", "I32Load16U", "I32Store", "I64Store", "I32Store8",
     "I32Store16", "I32Const", "I64Const",
 )
-# The names that the fields of a shape are bound to, one after another.
+# The names that the fields of a shape are bound to, in order.
 BOUND = ["a", "b", "c"]
 
 
 def kinds(op):
-    """The kinds of an operator's immediates."""
+    """Returns the kinds of an operator's immediates, without alignments."""
     return tuple(immediate.split()[0] for immediate in op.immediates)
 
 
 def unshaped(ops):
-    """What is to be told of operators whose immediates have no shape yet."""
+    """Returns an error for each operator whose immediates have no shape."""
     told = "its immediates have no shape: give them one in tools/generate/plain.py, crates/wasm_view/src/shapes.rt and specs/View.antt"
     return [f"{op.place}: {told}" for op in ops if kinds(op) not in SHAPES]
 
 
 def number(op):
-    """The opcode; behind a prefix byte the subopcode, and 65536 times that byte."""
+    """Returns the opcode, or the subopcode plus 65536 times the prefix byte."""
     return op.code + (int(op.prefix, 16) << 16 if op.prefix else 0)
 
 
 def opcode_arms(ops, ty):
-    """An arm for each operator."""
+    """Returns an arm for each operator."""
     return [f"{ty}::{op.name}{' { .. }' if op.fields else ''} => 0x{number(op):x}," for op in ops]
 
 
 def opcodes_source(ops):
-    """The file of the numbers."""
+    """Returns the file of the numbers."""
     own = [op for op in ops if op.group == "Own"]
     names = ", ".join(enum.type for enum in sorted(ENUMS, key=lambda it: it.type))
     words = ", ".join(enum.opcode for enum in ENUMS)
@@ -80,7 +80,7 @@ def opcodes_source(ops):
         "",
         f"use wasm_instr::{{{names}, Operator}};",
         "",
-        "/// The opcode of an operator; behind a prefix byte its subopcode, and 65536 times that byte.",
+        "/// Returns the opcode of an operator, or its subopcode plus 65536 times the prefix byte.",
         "#[inline(always)]",
         "pub fn opcode_of(op: &Operator<'_>) -> u32",
         "    ensures { result ≡ opcode_number (prefix_of op.now) (opcode_of op.now) }",
@@ -97,7 +97,7 @@ def opcodes_source(ops):
         wanted = f"opcode_number (Some 0x{prefix}) ({enum.opcode} op)" if prefix else f"{enum.opcode} op"
         lines += [
             "",
-            f"/// The number of one of {enum.title}.",
+            f"/// Returns the number of {singular(enum.title)}.",
             f"fn {enum.opcode}(op: {enum.type}) -> u32",
             f"    ensures {{ result ≡ {wanted} }}",
             "{",
@@ -110,13 +110,13 @@ def opcodes_source(ops):
 
 
 def bound(op):
-    """Its fields, and the names that they are bound to."""
+    """Returns the operator's fields, and the names that they are bound to."""
     names = BOUND[: len(op.fields)]
     return [(name, ty, to) for (name, ty), to in zip(op.fields, names)]
 
 
 def shape_arms(ops, ty, by_reference):
-    """An arm for the operators of each shape."""
+    """Returns an arm for the operators of each shape."""
     groups = {}
     for op in ops:
         groups.setdefault(kinds(op), []).append(op)
@@ -134,10 +134,10 @@ def shape_arms(ops, ty, by_reference):
 
 
 def common_source(ops):
-    """The file of the fields of the common operators."""
+    """Returns the file of the fields of the frequent operators."""
     common = [op for op in ops if op.name in COMMON]
     lines = [
-        f"//! The plain data of an operator, that of the common ones inline. {HEAD}",
+        f"//! The C struct of an operator, made inline for frequent operators. {HEAD}",
         "ghost use Rattle.std.specs.Prelude.{◌≡◌};",
         "ghost use Rattle.wasm_instr.specs.Row.{immediates_of};",
         "ghost use Rattle.wasm_view.specs.View.{view, view_of};",
@@ -148,7 +148,7 @@ def common_source(ops):
         "use crate::views::own;",
         "use wasm_instr::Operator;",
         "",
-        "/// The plain data of an operator that begins at this offset. It takes no memory.",
+        "/// Converts an operator to a C struct, without allocating. `offset` is the offset of its first byte.",
         "#[inline(always)]",
         "pub fn view_of(op: &Operator<'_>, offset: u64) -> WasmOperator",
         "    ensures { result ≡ view_of (op.now, offset) }",
@@ -156,7 +156,7 @@ def common_source(ops):
         "common(offset, opcode_of(op), op)",
         "}",
         "",
-        "/// The fields of an operator of this number. Those of the operators that bodies are full of are made here.",
+        "/// Converts an operator with this number. Frequent operators are handled here, the others by a call.",
         "#[inline(always)]",
         "fn common(offset: u64, opcode: u32, op: &Operator<'_>) -> WasmOperator",
         "    ensures { result ≡ view offset opcode (immediates_of op.now) }",
@@ -172,12 +172,12 @@ def common_source(ops):
 
 
 def views_source(ops):
-    """The file of the fields."""
+    """Returns the file of the fields."""
     own = [op for op in ops if op.group == "Own"]
     enums = [enum for enum in held() if enum.group != "Numeric"]
     names = ", ".join(sorted(enum.type for enum in enums))
     lines = [
-        f"//! The fields of the plain data of each operator. {HEAD}",
+        f"//! The fields of the C struct of each operator. {HEAD}",
         "ghost use Rattle.std.specs.Prelude.{◌≡◌};",
         *[f"ghost use Rattle.wasm_instr.specs.{enum.group}.{{{enum.module}_immediates}};" for enum in enums],
         "ghost use Rattle.wasm_instr.specs.Row.{immediates_of};",
@@ -187,7 +187,7 @@ def views_source(ops):
         "use crate::view::WasmOperator;",
         f"use wasm_instr::{{{names}, Operator}};",
         "",
-        "/// The fields of an operator of this number.",
+        "/// Converts an operator with this number.",
         "pub fn own(offset: u64, opcode: u32, op: &Operator<'_>) -> WasmOperator",
         "    ensures { result ≡ view offset opcode (immediates_of op.now) }",
         "{",
@@ -202,7 +202,7 @@ def views_source(ops):
         those = [op for op in ops if op.group == enum.group]
         lines += [
             "",
-            f"/// The fields of one of {enum.title}.",
+            f"/// Converts {singular(enum.title)}.",
             f"fn {enum.module}(offset: u64, opcode: u32, op: {enum.type}) -> WasmOperator",
             f"    ensures {{ result ≡ view offset opcode ({enum.module}_immediates op) }}",
             "{",
@@ -214,12 +214,12 @@ def views_source(ops):
     return "\n".join(lines) + "\n"
 
 
-# How many names a function tells.
+# How many names each function has.
 NAMES_EACH = 48
 
 
 def names_in_parts(ops):
-    """The names by their numbers, in parts, each with a name of its own. Of the two that share a number the first stands there."""
+    """Splits the names by number into named parts. Of the two operators that share a number, a part has the first."""
     parts = []
     for group in ["Own", *[enum.group for enum in held()]]:
         those = [op for op in ops if op.group == group and op.name != SHARED[1]]
@@ -229,7 +229,7 @@ def names_in_parts(ops):
 
 
 def names_spec(ops):
-    """The definitions of the names."""
+    """Returns the definitions of the names."""
     parts = names_in_parts(ops)
     lines = [
         f"-- {HEAD}",
@@ -237,7 +237,7 @@ def names_spec(ops):
         "-- WebAssembly Core Specification 3.0: Appendix, Index of Instructions.",
         "use Rattle.std.specs.Prelude.{◌==◌, ℕ, List, [], codes, if◌then◌else◌}",
         "",
-        "-- The name of the operator of this number, or nothing.",
+        "-- The name of the operator with this number, or an empty text if no operator has it.",
     ]
     for at in range(len(parts) - 1, -1, -1):
         name, those = parts[at]
@@ -248,7 +248,7 @@ def names_spec(ops):
         lines.append("")
     first, second = [next(op for op in ops if op.name == name) for name in SHARED]
     lines += [
-        "-- The same of an operator's plain data. Two operators have one number, and the first of them has a shape of its own.",
+        "-- The name by number and shape: two operators share a number, and the shape 19 selects the first of them.",
         "abbrev pub name_at : ℕ → ℕ → List ℕ",
         "name_at number shape =",
         f'    if number == 0x{number(first):x} then (if shape == {ONE_TYPE} then codes "{first.name}" else codes "{second.name}") else {parts[0][0]} number',
@@ -257,7 +257,7 @@ def names_spec(ops):
 
 
 def names_source(ops):
-    """The file of the names."""
+    """Returns the file of the names."""
     parts = names_in_parts(ops)
     first, second = [next(op for op in ops if op.name == name) for name in SHARED]
     words = ", ".join(sorted(name for name, _ in parts))
@@ -266,8 +266,8 @@ def names_source(ops):
         "ghost use Rattle.std.specs.Prelude.{◌≡◌};",
         f"ghost use Rattle.wasm_view.specs.Names.{{{words}, name_at}};",
         "",
-        "/// The name of the operator of this number, which is the subopcode and 65536 times the prefix byte",
-        "/// where it has one, and of this shape; nothing where the number is that of none.",
+        "/// Returns the name of the operator with this number and shape, or an empty name if no operator has them.",
+        "/// The number is the opcode, or the subopcode plus 65536 times the prefix byte.",
         "pub fn name_at(number: u32, shape: u8) -> &'static str",
         "    ensures { result.now ≡ name_at number shape }",
         "{",
@@ -281,7 +281,7 @@ def names_source(ops):
         behind = f"{parts[at + 1][0]}(number)" if at + 1 < len(parts) else '""'
         lines += [
             "",
-            "/// The name of one of these, or of those behind them.",
+            "/// Returns the name of an operator of this part or of a later one.",
             f"fn {name}(number: u32) -> &'static str",
             f"    ensures {{ result.now ≡ {name} number }}",
             "{",
@@ -295,7 +295,7 @@ def names_source(ops):
 
 
 def plain_files(ops):
-    """The files of the crate that are lists over the operators which have a shape."""
+    """Returns the generated files of the crate, over the operators that have a shape."""
     ops = [op for op in ops if kinds(op) in SHAPES]
     return {
         "crates/wasm_view/src/names.rt": names_source(ops),

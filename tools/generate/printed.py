@@ -1,9 +1,9 @@
-"""A value of each operator, in code, for the program that prints them all. What it must print comes from elsewhere."""
+"""Writes a value of each operator for the program that prints all operators. The expected output has another source."""
 
 from source import uses
 from table import ENUMS, HEAD, held
 
-# The values of fields of these names, and else of these types, that a constant has.
+# The values of fields in constants: by the name of the field, or else by its type.
 BY_NAME = {
     "array_size": "5",
     "struct_type_index": "1",
@@ -30,7 +30,7 @@ BY_TYPE = {
     "ValType": "ValType::I64",
     "BlockType": "BlockType::FuncType(0)",
 }
-# Those that the program makes as it runs, by its file src/parts.rt: `alloc` where that takes memory.
+# The values that the program makes at run time, by its file src/parts.rt. Those with `alloc` allocate.
 CALLS = {
     "Ieee32": "float_32()",
     "Ieee64": "float_64()",
@@ -41,20 +41,20 @@ CALLS = {
     "ResumeTable": "resume_table(alloc)?",
 }
 CALLS_BY_NAME = {"from_ref_type": "nullable()?", "to_ref_type": "not_nullable()?"}
-# The types that an operator of a list of constants can't have.
+# The types of fields that constants cannot have.
 MADE = (*CALLS, "RefType")
-# The lists of Operator's own variants, each of so many at least.
+# The names of the lists of the operators of one byte, and the least length of each.
 OWN_PARTS = ["first", "second", "third", "fourth", "fifth", "sixth"]
 LEAST = 12
 
 
 def is_made(op):
-    """Whether the program makes the operator as it runs."""
+    """Returns whether the program makes the operator at run time."""
     return any(ty in MADE for _, ty in op.fields)
 
 
 def value_of(name, ty):
-    """The value of a field."""
+    """Returns the value of a field."""
     if ty in ("u32", "u8") and name in BY_NAME:
         return BY_NAME[name]
     if ty == "RefType":
@@ -63,7 +63,7 @@ def value_of(name, ty):
 
 
 def made(op, ty):
-    """The operator as an expression."""
+    """Returns the operator as an expression."""
     if not op.fields:
         return f"{ty}::{op.name}"
     values = [f"{name}: {value_of(name, kind)}" for name, kind in op.fields]
@@ -71,7 +71,7 @@ def made(op, ty):
 
 
 def list_of(doc, name, ty, enum, ops):
-    """A function that answers a list of operators."""
+    """Returns a function that returns a list of operators."""
     return [
         "",
         f"/// {doc}",
@@ -84,11 +84,11 @@ def list_of(doc, name, ty, enum, ops):
 
 
 def values_source(ops):
-    """The operators that constants make."""
+    """Returns the file of the operators made by constants."""
     constant = [op for op in ops if not is_made(op)]
     more = [("wasm_instr", enum.type) for enum in ENUMS] + [("wasm_instr", "Operator"), ("wasm_imm", "MemArgTarget")]
     out = [
-        f"//! The operators that constants make. {HEAD}",
+        f"//! The operators made by constants. {HEAD}",
         *uses(constant, more),
         "",
         "/// The memory argument of all operators that have one.",
@@ -101,17 +101,17 @@ def values_source(ops):
     ]
     for enum in held():
         those = [op for op in constant if op.group == enum.group]
-        out += list_of(f"{enum.title[0].upper()}{enum.title[1:]}.", enum.module, enum.type, enum.type, those)
+        out += list_of(f"Returns {enum.title}.", enum.module, enum.type, enum.type, those)
     own = [op for op in constant if op.group == "Own"]
     size = max(LEAST, -(-len(own) // len(OWN_PARTS)))
     for number, word in enumerate(OWN_PARTS):
         part = own[size * number : size * (number + 1)]
-        out += list_of("The other operators of one byte, in part.", f"{word}_own", "Operator<'static>", "Operator", part)
+        out += list_of("Returns a part of the other operators of one byte.", f"{word}_own", "Operator<'static>", "Operator", part)
     return "\n".join([*out, ""])
 
 
 def made_source(ops):
-    """The operators that the program makes as it runs, by number."""
+    """Returns the file of the operators made at run time."""
     those = [op for op in ops if is_made(op)]
     values = {value_of(name, ty) for op in those for name, ty in op.fields}
     calls = sorted({value.split("(")[0] for value in values if value.endswith(("()", ")?"))})
@@ -121,15 +121,15 @@ def made_source(ops):
         arms.append(f"{number} => {inner if op.group == 'Own' else f'Operator::from({inner})'},")
     enums = [("wasm_instr", f"{op.group}Operator") for op in those if op.group != "Own"]
     return "\n".join([
-        f"//! The operators that calls make. {HEAD}",
+        f"//! The operators made by calls. {HEAD}",
         f"use crate::parts::{{{', '.join(calls)}}};",
         "use std::alloc::Global;",
         *uses([], [("wasm_instr", "Operator"), *enums]),
         "",
-        "/// How many operators are made here.",
+        "/// The number of operators made here.",
         f"pub const COUNT: u32 = {len(those)};",
         "",
-        "/// The operators with fields that no constant makes, by number. `None` where memory was refused.",
+        "/// Returns the operator with this number, one that no constant can make. `None` after an allocation failure.",
         "pub fn made(alloc: Global, number: u32) -> Option<Operator<'static>> {",
         "Some(match number {",
         *arms,

@@ -1,10 +1,10 @@
-"""The printing of each operator's fields in the words of tools/original/samples.tsv, for the program that reads them."""
+"""Writes functions that print the fields of operators in the format of tools/original/samples.tsv."""
 
 from source import LAYERS, rust_binding
 from table import HEAD, held
 
 CRATE = "crates/wasm_tests_texts/src/fields"
-# The function of src/values.rt that prints a field of a type.
+# The function of src/values.rt that prints a field of each type.
 PRINTERS = {
     "u32": "number",
     "u8": "lane",
@@ -28,24 +28,24 @@ PRINTERS = {
 
 
 def shape_name(fields):
-    """The function that prints fields of these names."""
+    """Returns the name of the function that prints fields of these names."""
     return f"write_{'_and_'.join(name for name, _ in fields)}"
 
 
 def printed(name, ty):
-    """The call that prints a field."""
+    """Returns the call that prints a field."""
     return f'values::{PRINTERS[ty]}(out, "{name}", {name})'
 
 
 def call_of(fields):
-    """The call that prints these fields."""
+    """Returns the call that prints these fields."""
     if len(fields) == 1:
         return printed(*fields[0])
     return f"shapes::{shape_name(fields)}(out, {', '.join(name for name, _ in fields)})"
 
 
 def shapes(ops):
-    """The operators by their fields, with types."""
+    """Groups the operators by their fields and types."""
     found = {}
     for op in ops:
         if op.fields:
@@ -54,7 +54,7 @@ def shapes(ops):
 
 
 def shape_source(fields):
-    """The function that prints these fields."""
+    """Returns the function that prints these fields."""
     given = ", ".join(f"{name}: &{ty}" for name, ty in fields).replace("'a", "'_")
     calls = [printed(name, ty) for name, ty in fields]
     return [
@@ -67,7 +67,7 @@ def shape_source(fields):
 
 
 def shapes_source(ops):
-    """A function for each list of several fields that operators have."""
+    """Returns the file with a function for each list of several fields."""
     those = [fields for fields in shapes(ops) if len(fields) > 1]
     types = {ty for fields in those for _, ty in fields}
     layers = {}
@@ -76,7 +76,7 @@ def shapes_source(ops):
         if name in LAYERS:
             layers.setdefault(LAYERS[name], set()).add(name)
     out = [
-        f"//! The lists of several fields that operators have, each by its names. {HEAD}",
+        f"//! Functions that print several fields of an operator, by the names of the fields. {HEAD}",
         "use crate::values::{self, Written};",
         *[f"use {layer}::{{{', '.join(sorted(layers[layer]))}}};" for layer in sorted(layers)],
     ]
@@ -86,7 +86,7 @@ def shapes_source(ops):
 
 
 def match_arms(ops, ty):
-    """The arms over operators with fields, those of the same fields together."""
+    """Returns the arms over operators with fields. Operators with the same fields share an arm."""
     out = []
     for fields, those in shapes(ops).items():
         patterns = " | ".join(rust_binding(op, ty) for op in those)
@@ -95,7 +95,7 @@ def match_arms(ops, ty):
 
 
 def enum_source(title, name, ty, ops, held_enums=()):
-    """The function that prints the fields of an enum's operators."""
+    """Returns the file with the function that prints the fields of an enum's operators."""
     given = "Operator<'_>" if ty == "Operator" else ty
     uses = [f"use wasm_instr::{ty};", "use crate::values::{self, Written};", "use crate::fields::shapes;"]
     inner = []
@@ -105,10 +105,10 @@ def enum_source(title, name, ty, ops, held_enums=()):
         uses.append(f"use crate::fields::{enum.module}::{enum.module};")
         inner.append(f"Operator::{enum.group}(op) => {enum.module}(out, op),")
     return "\n".join([
-        f"//! The fields of {title}, printed. {HEAD}",
+        f"//! Prints the fields of {title}. {HEAD}",
         *sorted(uses),
         "",
-        f"/// Prints the fields of {title}, none where an operator has none.",
+        f"/// Prints the fields of {title}, and nothing for an operator without fields.",
         f"pub fn {name}(out: &mut String, op: &{given}) -> Written {{",
         "match op {",
         *match_arms(ops, ty),
@@ -121,7 +121,7 @@ def enum_source(title, name, ty, ops, held_enums=()):
 
 
 def printed_field_files(ops):
-    """Each file of the program that is made of the table."""
+    """Returns the generated files of the program, by path."""
     out = {f"{CRATE}/shapes.rt": shapes_source(ops)}
     enums = [enum for enum in held() if enum.group != "Numeric"]
     for enum in enums:

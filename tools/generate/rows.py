@@ -1,4 +1,4 @@
-"""The rows of the operators as definitions, and that an operator is that of its row."""
+"""Writes the rows of the operators as definitions, and lemmas that a row determines its operator."""
 
 from table import (
     HEAD,
@@ -16,9 +16,11 @@ from table import (
     pattern,
 )
 
-IMMEDIATE = "Rattle.wasm_instr_ops.specs.Immediate"
-VALUES = "Rattle.wasm_instr_ops.proofs.Values"
-# What a file brings in where its text has the alias.
+from source import Shape, fields_name, names_of, shapes
+
+IMMEDIATE = "Rattle.wasm_imm.specs.Immediate"
+VALUES = "Rattle.wasm_imm.proofs.Values"
+# The `use` line of each alias that a text may have.
 ALIASES = {
     "kind": "use Rattle.wasm_imm.specs.declared.memory_argument.MemArgKind.TheVariants as kind",
     "select": "use Rattle.wasm_imm.specs.control.select.Select.TheVariants as select",
@@ -30,7 +32,7 @@ OPERATOR_USES = [
 
 
 def file_of(titles, uses, body, words, lemmas=()):
-    """A file of definitions: its comment, what it brings in, and its text."""
+    """Returns a file of definitions: its comment, its `use` lines and its text."""
     text = "\n".join(body)
     head = [f"-- {line}" for line in [HEAD, *titles]] + list(uses)
     head.append(f"use {IMMEDIATE}.{{{', '.join([*words, *imported(text, ROW_WORDS)])}}}")
@@ -41,31 +43,38 @@ def file_of(titles, uses, body, words, lemmas=()):
 
 
 def aliases(body, *names):
-    """The lines that bring in the aliases that the text has."""
+    """Returns the `use` lines of the aliases that the text has."""
     text = "\n".join(body)
     return [ALIASES[name] for name in names if f"{name}." in text]
 
 
 def enum_rows(enum, ops):
-    """The columns of the rows of an inner enum, as definitions."""
+    """Returns the columns of the rows of an inner enum, as definitions."""
     low = enum.module
     *others, (most, _) = grouped(ops, lambda op: op.proposal)
-    body = [f"abbrev pub {low}_proposal : {enum.type} → List ℕ"]
+    body = ["-- The name of the proposal that added the operator.", f"abbrev pub {low}_proposal : {enum.type} → List ℕ"]
     for proposal, those in others:
         body += [f'{low}_proposal {pattern(op, low, False)} = codes "{proposal}"' for op in those]
     body += [f'{low}_proposal _ = codes "{most}"', ""]
-    body.append(f"abbrev pub {low}_name : {enum.type} → List ℕ")
+    body += ["-- The name of the variant.", f"abbrev pub {low}_name : {enum.type} → List ℕ"]
     body += [f'{low}_name {pattern(op, low, False)} = codes "{op.name}"' for op in ops]
     body += ["", "-- The opcode." if not ops[0].prefix else "-- The subopcode."]
     body.append(f"abbrev pub {enum.opcode} : {enum.type} → ℕ")
     body += [f"{enum.opcode} {pattern(op, low, False)} = {op.hex()}" for op in ops]
-    body += ["", "-- The immediates in order, each with its value."]
+    body += ["", "-- The immediates in the order of the binary format, with their values."]
     body.append(f"abbrev pub {low}_immediates : {enum.type} → List Immediate")
     body += [f"{low}_immediates {pattern(op, low)} = {immediates_of(op)}" for op in ops if op.fields]
     if any(not op.fields for op in ops):
         body.append(f"{low}_immediates _ = []")
+    if Shape(ops).by_fields:
+        body += ["", "-- The fields.", f"abbrev pub {low}_fields : {enum.type} → {enum.group}Fields"]
+        for op in ops:
+            if op.fields:
+                names = names_of(op)
+                body.append(f"{low}_fields {pattern(op, low)} = fields.{fields_name(names)} {names.replace(',', '')}")
+        body.append(f"{low}_fields _ = fields.Bare")
     if any(op.holds_list for op in ops):
-        body += ["", "-- One that owns a list.", f"abbrev pub {low}_holds_list : {enum.type} → Type 0"]
+        body += ["", "-- The operator owns a list.", f"abbrev pub {low}_holds_list : {enum.type} → Type 0"]
         body += [f"{low}_holds_list {pattern(op, low, False)} = Unit {{0}}" for op in ops if op.holds_list]
         body.append(f"{low}_holds_list _ = ⊥")
     cons = ["◌∷◌"] if any("∷" in line for line in body) else []
@@ -75,11 +84,13 @@ def enum_rows(enum, ops):
         f"WebAssembly Core Specification 3.0, Binary Format, {enum.section}.",
     ]
     uses = [f"use Rattle.std.specs.Prelude.{{{', '.join(prelude)}}}", *aliases(body, "kind", "select")]
+    if Shape(ops).by_fields:
+        uses += fields_uses(enum)
     return file_of(titles, uses + enum_uses(enum), body, ["Immediate"])
 
 
 def makers(enum, ops):
-    """The operator of a subopcode and of immediates, by a list over all subopcodes."""
+    """Returns the function from a subopcode and immediates to the operator, by a list over all subopcodes."""
     low = enum.module
     is_plain = not any(op.fields for op in ops)
     found = {op.code: op for op in ops}
@@ -100,7 +111,7 @@ def makers(enum, ops):
 
 
 def enum_by_opcode(enum, ops):
-    """An operator is that of its opcode and its immediates, and its opcode gives the kinds of these."""
+    """Returns the lemmas that opcode and immediates determine an operator, and that the opcode determines their kinds."""
     low = enum.module
     body, none = makers(enum, ops)
     bare = f"({low}_at ({enum.opcode} op) [])"
@@ -113,23 +124,72 @@ def enum_by_opcode(enum, ops):
         body += ["", f"pub {lemma} : (op : {enum.type}) → {claim}", *by_cases(lemma, none, low, "refl")]
     if enum.group == "Numeric":
         body += numeric_range(none)
+    by_fields = Shape(ops).by_fields
+    if by_fields:
+        body += from_fields(enum, ops, none)
     minus = ["◌-◌"] if any(" - " in line for line in body) else []
     prelude = ["◌≡◌", "ℕ", *minus, "List", "[]", "◌∷◌", "map", "get_or", "refl"]
     if enum.group == "Numeric":
         prelude += ["Bool", "true", "ltb", "◌&&◌"]
+    if by_fields:
+        prelude += ["sym", "ap", "◌∙◌"]
     word = enum.opcode.removeprefix(f"{low}_")
-    titles = [f"Of {enum.title}: each is that of its {word} and its immediates, and its {word} gives the kinds of these."]
+    titles = [f"For {enum.title}: {word} and immediates determine the operator.", f"The {word} determines the kinds of the immediates, and the name."]
     uses = [
         f"use Rattle.std.proofs.Common.{{{', '.join(prelude)}}}",
+        *aliases(body, "kind", "select"),
         *enum_uses(enum),
-        f"use Rattle.{enum.crate}.specs.{enum.group}.{{{low}_name, {enum.opcode}, {low}_immediates}}",
+        *(fields_uses(enum) if by_fields else []),
+        f"use Rattle.{enum.crate}.specs.{enum.group}.{{{low}_name, {enum.opcode}, {low}_immediates{f', {low}_fields' if by_fields else ''}}}",
     ]
     return file_of(titles, uses, body, ["Immediate", "kind_of"], VALUE_WORDS)
 
 
+def fields_uses(enum):
+    """Returns the `use` lines of the enum of the fields."""
+    path = f"Rattle.{enum.crate}.specs.declared.{enum.module}.{enum.group}Fields"
+    return [f"use {path}.{{{enum.group}Fields}}", f"use {path}.TheVariants as fields"]
+
+
+def from_fields(enum, ops, none):
+    """Returns the lemma that opcode and fields determine an operator."""
+    low = enum.module
+    body = ["", "-- The immediates with the values of these fields.", f"abbrev of_fields : {enum.group}Fields → List Immediate"]
+    for names, those in shapes(ops).items():
+        body.append(f"of_fields (fields.{fields_name(names)} {names.replace(',', '')}) = {immediates_of(those[0])}")
+    body += ["of_fields fields.Bare = []", ""]
+    lemma = f"{low}_by_fields"
+    body.append(f"{lemma} : (op : {enum.type}) → {low}_at ({enum.opcode} op) (of_fields ({low}_fields op)) ≡ op")
+    body += by_cases(lemma, none, low, "refl")
+    body += ["", f"pub {low}_same : (x y : {enum.type}) → {enum.opcode} x ≡ {enum.opcode} y → {low}_fields x ≡ {low}_fields y → x ≡ y"]
+    body.append(f"{low}_same x y c f = sym ({lemma} x) ∙ ap (λ z. {low}_at z (of_fields ({low}_fields x))) c ∙ ap (λ z. {low}_at ({enum.opcode} y) (of_fields z)) f ∙ {lemma} y")
+    return body
+
+
+def equality_answer(enum):
+    """Returns the proof of `eq`: operators with equal opcodes and fields are equal."""
+    low = enum.module
+    return "\n".join([
+        f"-- {HEAD}",
+        "use Rattle.std.proofs.Common.{sym, ap, ◌∙◌}",
+        f"use Rattle.{enum.crate}.specs.{enum.group}.{{{low}_fields}}",
+        f"use Rattle.{enum.crate}.proofs.{enum.group}ByOpcode.{{{low}_same}}",
+        f"use Rattle.{enum.crate}.proofs.{low}.{enum.type}PartialEq.eq.Goals as goal",
+        "",
+        "pub returns-then-code-clause-same : goal.returns-then-code-clause-same",
+        "returns-then-code-clause-same c =",
+        "    let codes = sym c.code.ensures ∙ c.if-code.true ∙ c.code-2.ensures in",
+        "    let one = c.fields.ensures in",
+        "    let two = c.fields-then-code.ensures in",
+        "    let same = c.is.ensures.same in",
+        f"    (λ t. {low}_same c.args.self.now c.args.other.now codes (sym one ∙ same.0 t ∙ two), λ e. same.1 (one ∙ ap {low}_fields e ∙ sym two))",
+        "",
+    ])
+
+
 def numeric_range(none):
-    """The opcodes of the numeric operators."""
-    out = ["", "-- The codes of the numeric operators.", "abbrev pub is_numeric : ℕ → Bool"]
+    """Returns the range of the opcodes of the numeric operators, with its lemmas."""
+    out = ["", "-- Whether a numeric operator has the opcode: it is in 0x45 to 0xc4.", "abbrev pub is_numeric : ℕ → Bool"]
     out.append("is_numeric code = ltb 0x44 code && ltb code 0xc5")
     for lemma, claim in {
         "numeric_range": "is_numeric (numeric_opcode op)",
@@ -141,24 +201,24 @@ def numeric_range(none):
 
 
 def operator_rows(ops):
-    """The columns of the rows of all operators, as definitions."""
+    """Returns the columns of the rows of all operators, as definitions."""
     low = "operator"
     inner = [(enum, f"(operator.{enum.group} op)") for enum in held()]
     *others, (most, _) = grouped(ops, lambda op: op.proposal)
-    body = ["abbrev pub proposal_of : Operator → List ℕ"]
+    body = ["-- The name of the proposal that added the operator.", "abbrev pub proposal_of : Operator → List ℕ"]
     for proposal, those in others:
         body += [f'proposal_of {pattern(op, low, False)} = codes "{proposal}"' for op in those]
     body += [f"proposal_of {pat} = {enum.module}_proposal op" for enum, pat in inner]
-    body += [f'proposal_of _ = codes "{most}"', "", "abbrev pub name_of : Operator → List ℕ"]
+    body += [f'proposal_of _ = codes "{most}"', "", "-- The name of the variant.", "abbrev pub name_of : Operator → List ℕ"]
     body += [f'name_of {pattern(op, low, False)} = codes "{op.name}"' for op in ops]
     body += [f"name_of {pat} = {enum.module}_name op" for enum, pat in inner]
-    body += ["", "-- The prefix byte, where there is one.", "abbrev pub prefix_of : Operator → Option ℕ"]
+    body += ["", "-- The prefix byte, if the operator has one.", "abbrev pub prefix_of : Operator → Option ℕ"]
     body += [f"prefix_of (operator.{group} _) = Some 0x{prefix}" for prefix, group in PREFIXES.items()]
     body.append("prefix_of _ = None")
-    body += ["", "-- The opcode, or the subopcode behind the prefix byte.", "abbrev pub opcode_of : Operator → ℕ"]
+    body += ["", "-- The opcode, or the subopcode after a prefix byte.", "abbrev pub opcode_of : Operator → ℕ"]
     body += [f"opcode_of {pattern(op, low, False)} = {op.hex()}" for op in ops]
     body += [f"opcode_of {pat} = {enum.opcode} op" for enum, pat in inner]
-    body += ["", "-- The immediates in order, each with its value.", "abbrev pub immediates_of : Operator → List Immediate"]
+    body += ["", "-- The immediates in the order of the binary format, with their values.", "abbrev pub immediates_of : Operator → List Immediate"]
     body += [f"immediates_of {pattern(op, low)} = {immediates_of(op)}" for op in ops if op.fields]
     body += [f"immediates_of {pat} = {enum.module}_immediates op" for enum, pat in inner]
     body.append("immediates_of _ = []")
@@ -176,7 +236,7 @@ def operator_rows(ops):
 
 
 def operators_by_opcode(ops):
-    """An operator of one byte is that of its opcode and its immediates; two share one, and go by these."""
+    """Returns the function from opcode and immediates to the operator of one byte. Two operators share an opcode and differ in their immediates."""
     one, many = SHARED
     found = {op.code: op for op in ops if op.name != many}
     body = [
@@ -193,10 +253,10 @@ def operators_by_opcode(ops):
         if op is not None and op.name == one:
             made = "select_at (select_in is)"
         body.append(f"    (λ is. {made}) ∷")
-    body += ["    []", "", "-- The operator of an opcode that is not numeric."]
+    body += ["    []", "", "-- The operator with this opcode, which is not numeric, and these immediates."]
     body += ["abbrev pub own_at : ℕ → List Immediate → Operator"]
     body.append("own_at code is = get_or makers code (λ is. operator.Nop) is")
-    titles = ["The operators of one byte by their opcode, but for the numeric ones."]
+    titles = ["The operators of one byte by opcode, except the numeric ones."]
     uses = [
         "use Rattle.std.proofs.Common.{ℕ, List, [], ◌∷◌, get_or}",
         "use Rattle.wasm_imm.specs.control.select.Select.{Select}",

@@ -1,4 +1,4 @@
-"""What the rows of the table have to be. Each fault names the file, the line and the operator."""
+"""Checks the rows of the table. Each fault has the file, the line and the operator."""
 
 import re
 
@@ -21,25 +21,25 @@ from table import (
     rows_of,
 )
 
-# Words that a field can't have: Rust's own, and those that the generated definitions use.
+# Names that a field cannot have: keywords of Rust, and names in the generated definitions.
 TAKEN = set(
     "as box break const continue crate dyn else enum extern false fn for if impl in let loop match mod move mut"
     " pub ref return self static struct super trait true type unsafe use where while async await ghost result"
     " op code is alloc result kind select operator numeric gc misc simd atomic".split()
 ) | set(ROW_WORDS) | set(VALUE_WORDS)
 TYPES = {ty for kind in KINDS.values() for ty in kind.types}
-# The toolchain's limits: variants of an enum, and those at which a value that owns or borrows can be made.
+# Limits of the toolchain: variants of an enum, and of an enum whose values may own or borrow.
 MOST_VARIANTS = 256
 MOST_OWNING = 128
-# The lists over subopcodes are as long as the largest is.
+# The generated lists over subopcodes are as long as the largest subopcode.
 LARGEST_SUBOPCODE = 0x3FF
-# Adding one for an array has to stay within what is proved.
+# The generated contract of `reaching` requires fewer than 8 operands.
 MOST_TAKEN = 7
 VECTOR_PROPOSALS = ("simd", "relaxed_simd")
 
 
 def faults(path=TABLE):
-    """All that is wrong with the table."""
+    """Returns all faults of the table."""
     rows = rows_of(path)
     place = named(path)
     if rows.get(1) != COLUMNS:
@@ -59,7 +59,7 @@ def faults(path=TABLE):
 
 
 def cell_faults(cells):
-    """What is wrong with the cells by themselves, so that no operator can be made of them."""
+    """Returns the faults of the cells of a row that prevent making an `Operator`."""
     if len(cells) != len(COLUMNS):
         return [f"{len(cells)} columns, and not {len(COLUMNS)}"]
     row = dict(zip(COLUMNS, cells))
@@ -69,7 +69,7 @@ def cell_faults(cells):
     if not re.fullmatch(r"[0-9a-f]{2,3}", row["code"]):
         out.append(f"the code {row['code']!r} is not of two or three hexadecimal digits in small letters")
     if row["prefix"] not in ("", *PREFIXES):
-        out.append(f"the prefix byte {row['prefix']!r} is none of {', '.join(PREFIXES)}")
+        out.append(f"the prefix byte {row['prefix']!r} is not one of {', '.join(PREFIXES)}")
     for field in filter(None, row["fields"].split(", ")):
         if not re.fullmatch(r"[a-z][a-z0-9_]*: \S.*", field):
             out.append(f"the field {field!r} is not a name and a type")
@@ -77,7 +77,7 @@ def cell_faults(cells):
 
 
 def row_faults(op):
-    """What is wrong with an operator by itself."""
+    """Returns the faults of a row."""
     out = []
     if not re.fullmatch(r"[A-Z][A-Za-z0-9]*", op.name):
         out.append("the name is not a variant's: letters and digits, the first a capital")
@@ -88,7 +88,7 @@ def row_faults(op):
     if op.proposal not in PROPOSALS:
         out.append(f"the proposal {op.proposal!r} is not known")
     if (op.prefix == "fd") != (op.proposal in VECTOR_PROPOSALS):
-        out.append("the vector operators are those behind 0xfd, and those of simd and relaxed_simd")
+        out.append("an operator has the prefix byte fd if and only if its proposal is simd or relaxed_simd")
     if not op.prefix and (op.code > 0xFF or f"{op.code:02x}" in PREFIXES):
         out.append(f"{op.code:02x} is a prefix byte, or more than a byte")
     if op.code > LARGEST_SUBOPCODE:
@@ -97,7 +97,7 @@ def row_faults(op):
 
 
 def field_faults(op):
-    """What is wrong with the fields."""
+    """Returns the faults of the fields."""
     names = [name for name, _ in op.fields]
     out = [f"two fields are named {name}" for name in sorted({it for it in names if names.count(it) > 1})]
     for name, ty in op.fields:
@@ -109,7 +109,7 @@ def field_faults(op):
 
 
 def immediate_faults(op):
-    """What is wrong with the immediates, or with how the fields fit them."""
+    """Returns the faults of the immediates, and of fields that do not fit them."""
     out, wanted = [], []
     for immediate in op.immediates:
         word, *more = immediate.split(" ")
@@ -117,23 +117,23 @@ def immediate_faults(op):
             out.append(f"the immediate {immediate!r} is of no known kind")
             continue
         if (word == "memory") != bool(more) or (more and not is_memory(more)):
-            out.append(f"{immediate!r}: memory stands with {', '.join(MEMORY_SORTS)} and 0 to {LARGEST_ALIGN}, others alone")
+            out.append(f"{immediate!r}: memory is followed by one of {', '.join(MEMORY_SORTS)} and a number from 0 to {LARGEST_ALIGN}, other words by nothing")
         wanted += KINDS[word].types
     types = [ty for _, ty in op.fields]
     if not out and types != wanted:
         out.append(f"the immediates need fields of {', '.join(wanted) or 'no type'}, and the fields are of {', '.join(types) or 'none'}")
     if "branch_table" in op.immediates and op.name != "BrTable":
-        out.append("only BrTable has a branch table: it borrows, and visitors have a visit of its own for it")
+        out.append("only BrTable may have a branch table: it borrows, and `VisitOperator` has its visit")
     return out
 
 
 def is_memory(words):
-    """Whether these are the sort of a memory argument, and the alignment of its operator."""
+    """Returns whether these words are the kind of a memory argument and the exponent of a natural alignment."""
     return len(words) == 2 and words[0] in MEMORY_SORTS and words[1] in map(str, range(LARGEST_ALIGN + 1))
 
 
 def arity_faults(op):
-    """What is wrong with what the operator takes and leaves."""
+    """Returns the faults of the arity."""
     if "by rule" in (op.takes, op.leaves):
         return [] if op.takes == op.leaves else ["it takes and leaves by rule, or neither"]
     out = []
@@ -142,14 +142,14 @@ def arity_faults(op):
         if not re.fullmatch(r"[0-9]", number):
             out.append(f"{word} {number!r}, and not a digit")
     if op.takes != takes and [ty for _, ty in op.fields].count("MemArg") != 1:
-        out.append("it takes an array more, and has not one memory argument")
+        out.append("it takes an array, and does not have exactly one memory argument")
     if not out and op.takes != takes and int(takes) > MOST_TAKEN:
-        out.append(f"it takes more than {MOST_TAKEN} beside the array")
+        out.append(f"it takes more than {MOST_TAKEN} operands besides the array")
     return out
 
 
 def shared_faults(ops):
-    """Names, visits and codes that stand twice."""
+    """Returns the names, visits and codes that occur twice."""
     out = []
     for what, key in {
         "the name": lambda op: op.name.lower(),
@@ -161,12 +161,12 @@ def shared_faults(ops):
             other = first.setdefault(key(op), op)
             is_pair = what == "the code" and (other.name, op.name) == SHARED
             if other is not op and not is_pair:
-                out.append(f"{op.place}: {what} is that of {other.name}, line {other.place.split(':')[-2]}")
+                out.append(f"{op.place}: {what} is already used by {other.name}, line {other.place.split(':')[-2]}")
     return out
 
 
 def enum_faults(ops):
-    """Enums that the toolchain refuses."""
+    """Returns the enums that exceed the limits of the toolchain."""
     out = []
     inner = [enum.group for enum in held()]
     for group in [*inner, "Own"]:
@@ -176,7 +176,7 @@ def enum_faults(ops):
         if count > MOST_VARIANTS:
             out.append(f"{those[-1].place}: the enum of its group has {count} variants, and at most {MOST_VARIANTS} are possible")
         elif owning and count > MOST_OWNING:
-            out.append(f"{owning[-1].place}: an enum with a list has at most {MOST_OWNING} variants, and that of its group has {count}")
+            out.append(f"{owning[-1].place}: an enum with a list has at most {MOST_OWNING} variants, and the enum of its group has {count}")
         elif not those:
             out.append(f"no operator is of the group {group}")
     return out

@@ -1,8 +1,10 @@
-"""The enums in code, each with what it answers. `rt fmt` lays the text out."""
+"""Writes the enums in code, each with its functions. `rt fmt` lays out the text."""
+
+import re
 
 from table import ENUMS, HEAD, Enum, Operator, grouped, held
 
-# The layers in which the types of fields stand; the other types are Rust's own.
+# The crates of the types of fields. All other types are primitive.
 LAYERS = {
     "BlockType": "wasm_imm",
     "BrTable": "wasm_imm",
@@ -18,13 +20,18 @@ LAYERS = {
     "V128": "wasm_imm",
     "ValType": "wasm_below",
 }
-# Up to so many variants an enum derives `Debug`, and a column is one function. Larger ones are cut.
+# A column of an enum with more variants than LARGE is split into functions of PART variants.
 LARGE = 128
 PART = 64
+# An enum derives `PartialEq` and `Debug` if at most this many variants have fields: the proofs of the derived code
+# grow with the square of that number. Other enums implement both by the opcode and the fields.
+MANY = 64
+# How many operators each function of the `Debug` impl of `Operator` prints.
+DEBUG_PART = 24
 
 
 def uses(ops, more=()):
-    """The lines that bring in the types of the fields."""
+    """Returns the `use` lines for the types of the fields."""
     found = {}
     for op in ops:
         for _, ty in op.fields:
@@ -37,51 +44,51 @@ def uses(ops, more=()):
 
 
 def inner(op):
-    """The fields of a variant, with their types."""
+    """Returns the fields of a variant, with their types."""
     return ", ".join(f"{name}: {ty}" for name, ty in op.fields)
 
 
 def names_of(op):
-    """The names of the fields."""
+    """Returns the names of the fields."""
     return ", ".join(name for name, _ in op.fields)
 
 
 def variant(op, with_opcode=False):
-    """A variant in an enum."""
+    """Returns the declaration of a variant."""
     if op.fields:
         return f"{op.name} {{ {inner(op)} }},"
     return f"{op.name} = {op.hex()}," if with_opcode else f"{op.name},"
 
 
 def rust_pattern(op, ty):
-    """A pattern at an operator, whatever its fields."""
+    """Returns a pattern that matches an operator with any fields."""
     return f"{ty}::{op.name}" + (" { .. }" if op.fields else "")
 
 
 def rust_binding(op, ty):
-    """A pattern at an operator that names its fields; and the operator made of them."""
+    """Returns a pattern that binds the fields of an operator. As an expression it makes the operator from them."""
     return f"{ty}::{op.name}" + (f" {{ {names_of(op)} }}" if op.fields else "")
 
 
 def arms(ops, ty, value):
-    """The arms of a match over operators with one value for each."""
+    """Returns the arms of a match over operators, with one value for each."""
     return [f"{rust_pattern(op, ty)} => {value(op)}," for op in ops]
 
 
 def joined_arm(patterns, value):
-    """One arm for several patterns."""
+    """Returns one arm for several patterns."""
     return f"{' | '.join(patterns)} => {value},"
 
 
 def proposal_arms(ops, ty, inner_arms=()):
-    """The arms of a match that answers the proposal, that of the most operators by `_`."""
+    """Returns the arms of a match to the proposal. The arm `_` returns the proposal of most operators."""
     *others, (most, _) = grouped(ops, lambda op: op.proposal)
     out = [joined_arm([rust_pattern(op, ty) for op in those], f'"{it}"') for it, those in others]
     return [*out, *inner_arms, f'_ => "{most}",']
 
 
 def shapes(ops):
-    """Operators with fields, by the names of these."""
+    """Groups the operators with fields by the names of the fields."""
     found = {}
     for op in ops:
         if op.fields:
@@ -90,22 +97,28 @@ def shapes(ops):
 
 
 class Shape:
-    """What the form of an enum depends on."""
+    """The properties that determine the form of an enum."""
 
     def __init__(self, ops):
         self.is_plain = not any(op.fields for op in ops)
         self.is_large = len(ops) > LARGE
         self.holds_list = any(op.holds_list for op in ops)
-        self.derives_debug = not self.is_plain and not self.is_large
+        self.by_fields = sum(bool(op.fields) for op in ops) > MANY and not self.holds_list
+        self.derives_debug = not (self.is_plain or self.is_large or self.by_fields)
 
     @property
     def derived(self):
         copied = ["Drop"] if self.holds_list else ["Clone", "Copy"]
-        return ", ".join([*copied, *(["Debug"] if self.derives_debug else []), "PartialEq", "Eq"])
+        return ", ".join([*copied, *(["Debug"] if self.derives_debug else []), *([] if self.by_fields else ["PartialEq", "Eq"])])
+
+
+def fields_name(names):
+    """Returns the variant of the enum of fields for these names."""
+    return "".join(word.capitalize() for word in re.split(r"[, _]+", names))
 
 
 def enum_head(enum, ops, shape):
-    """What an enum's file brings in."""
+    """Returns the head of an enum's file."""
     prelude = ["◌≡◌"]
     words = [f"{enum.module}_proposal", f"{enum.module}_name", f"{enum.opcode}"]
     out = [f"//! {enum.title.capitalize()}. {HEAD}"]
@@ -114,7 +127,12 @@ def enum_head(enum, ops, shape):
     if shape.holds_list:
         prelude += ["IfOk", "IfErr"]
         words.append(f"{enum.module}_holds_list")
+    if shape.by_fields:
+        prelude += ["◌↔◌", "IsTrue", "nat_eq"]
+        words.append(f"{enum.module}_fields")
     out.append(f"ghost use Rattle.std.specs.Prelude.{{{', '.join(prelude)}}};")
+    if shape.by_fields:
+        out.append("ghost use Rattle.std.specs.Ordering.{on, eq_of_both};")
     if shape.holds_list:
         out.append("ghost use Rattle.wasm_imm.specs.OutOfMemory.{IsOutOfMemoryAt};")
     out += [f"ghost use Rattle.{enum.crate}.specs.{enum.group}.{{{', '.join(words)}}};", ""]
@@ -122,16 +140,16 @@ def enum_head(enum, ops, shape):
         out.append("use std::alloc::Global;")
     if not shape.derives_debug:
         out.append("use std::fmt::{self, Debug, Formatter};")
-    more = [("wasm_instr_ops", "OperatorInfo")] + ([("wasm_below", "Result")] if shape.holds_list else [])
+    more = [("wasm_imm", "OperatorInfo")] + ([("wasm_below", "Result")] if shape.holds_list else [])
     return out + uses(ops, more) + [""]
 
 
 def info_of(enum, ops):
-    """The functions that answer the row of an operator of an inner enum."""
+    """Returns the functions for the row of an operator of an inner enum."""
     low = enum.module
     prefix = ops[0].prefix
     return [
-        "/// The row of the operator.",
+        "/// Returns the row of the operator.",
         "pub fn info(&self) -> OperatorInfo",
         f"ensures proposal {{ result.proposal.now ≡ {low}_proposal self.now }}",
         f"ensures name {{ result.name.now ≡ {low}_name self.now }}",
@@ -146,7 +164,7 @@ def info_of(enum, ops):
         "}",
         "}",
         "",
-        "/// The proposal that brought the operator.",
+        "/// Returns the name of the proposal that added the operator.",
         "fn proposal(&self) -> &'static str",
         f"ensures {{ result.now ≡ {low}_proposal self.now }}",
         "{",
@@ -155,18 +173,18 @@ def info_of(enum, ops):
         "}",
         "}",
         "",
-        *column(enum, ops, "name", "The name of the variant.", "&'static str", lambda op: f'"{op.name}"'),
+        *column(enum, ops, "name", "Returns the name of the variant.", "&'static str", lambda op: f'"{op.name}"'),
         "",
         *opcode_column(enum, ops),
     ]
 
 
 def opcode_column(enum, ops):
-    """The function that answers the opcode or subopcode."""
+    """Returns the function for the opcode or subopcode."""
     if any(op.fields for op in ops):
-        return column(enum, ops, "code", "The subopcode.", "u32", Operator.hex)
+        return column(enum, ops, "code", "Returns the subopcode.", "u32", Operator.hex)
     return [
-        f"/// The {'subopcode' if ops[0].prefix else 'opcode'}.",
+        f"/// Returns the {'subopcode' if ops[0].prefix else 'opcode'}.",
         "fn code(&self) -> u32",
         f"ensures {{ result ≡ {enum.opcode} self.now }}",
         "{",
@@ -176,7 +194,7 @@ def opcode_column(enum, ops):
 
 
 def enum_source(enum, ops):
-    """An inner enum with what it answers."""
+    """Returns the file of an inner enum, with its functions."""
     shape = Shape(ops)
     out = enum_head(enum, ops, shape)
     out += [f"/// {line}" for line in enum.doc]
@@ -185,34 +203,124 @@ def enum_source(enum, ops):
     out += ["}", "", f"impl {enum.type} {{", *info_of(enum, ops)]
     if shape.holds_list:
         out += ["", *clone_of(enum.type, f"{enum.module}_holds_list", ops)]
+    if shape.by_fields:
+        ty = f"{enum.group}Fields"
+        out += ["", *in_parts(enum, ops, "fields", "Returns the fields of the operator.", ty, lambda part, wrap: field_arms(enum, part, wrap))]
     out += ["}", ""]
+    if shape.by_fields:
+        out += [*fields_enum(enum, ops), *equality_of(enum)]
     if not shape.derives_debug:
         out += debug_of(enum, ops, shape)
     return "\n".join(out)
 
 
+def fields_enum(enum, ops):
+    """Returns the enum of the fields of an operator, without the opcode."""
+    out = [
+        "/// The fields of an operator, by their names.",
+        "#[derive(Clone, Copy, PartialEq, Eq)]",
+        f"pub enum {enum.group}Fields {{",
+    ]
+    for names, those in shapes(ops).items():
+        out.append(f"{fields_name(names)} {{ {inner(those[0])} }},")
+    return [
+        *out,
+        "Bare,",
+        "}",
+        "",
+        f"impl {enum.group}Fields {{",
+        "/// Returns whether the fields are equal.",
+        f"fn is(&self, other: &{enum.group}Fields) -> bool",
+        f"ensures member {{ result ≡ ⟦<{enum.group}Fields as PartialEq>⟧.eq self.now other.now }}",
+        "ensures same { IsTrue result ↔ (self.now ≡ other.now) }",
+        "{",
+        "self == other",
+        "}",
+        "}",
+        "",
+    ]
+
+
+def field_arms(enum, ops, wrap):
+    """Returns the arms of a match that copies the fields of an operator. One arm has all operators without fields."""
+    fields = f"{enum.group}Fields"
+    out = []
+    for names, those in shapes(ops).items():
+        copied = ", ".join(f"{name}: *{name}" for name in names.split(", "))
+        out.append(joined_arm([rust_binding(op, enum.type) for op in those], wrap(f"{fields}::{fields_name(names)} {{ {copied} }}")))
+    bare = [rust_pattern(op, enum.type) for op in ops if not op.fields]
+    return [*out, joined_arm(bare, wrap(f"{fields}::Bare"))] if bare else out
+
+
+def equality_of(enum):
+    """Returns the impls of equality. Two operators are equal if and only if their opcodes and fields are."""
+    low = enum.module
+    fields = f"{enum.group}Fields"
+    laws = f"(and_equiv (on_equiv {enum.opcode} nat_eq_equiv) (on_equiv {low}_fields laws-law))"
+    member = f"eq_of_both (on {enum.opcode} nat_eq) (on {low}_fields ⟦<{fields} as PartialEq>⟧.eq)"
+    from_fields = f"ghost use Rattle.{enum.crate}.specs.contracts.{low}.{fields}Eq.TheImpl.Laws.{{laws-law}};"
+    return [
+        f"impl PartialEq for {enum.type} {{",
+        "ghost use Rattle.std.specs.Cmp.{partial_equiv_from_equiv, and_equiv, on_equiv, nat_eq_equiv};",
+        from_fields,
+        "",
+        f"ghost eq = {{ {member} }};",
+        "",
+        f"ghost laws = {{ partial_equiv_from_equiv {laws} }};",
+        "",
+        f"fn eq(&self, other: &{enum.type}) -> bool",
+        f"ensures member {{ result ≡ {member} self.now other.now }}",
+        "ensures same { IsTrue result ↔ (self.now ≡ other.now) }",
+        "{",
+        "self.code() == other.code() && self.fields().is(&other.fields())",
+        "}",
+        "}",
+        "",
+        f"impl Eq for {enum.type} {{",
+        "ghost use Rattle.std.specs.Cmp.{and_equiv, on_equiv, nat_eq_equiv};",
+        from_fields,
+        "",
+        f"ghost laws = {{ {laws[1:-1]} }};",
+        "}",
+        "",
+    ]
+
+
 def debug_of(enum, ops, shape):
-    """The impl that prints an operator, where it is not derived."""
+    """Returns the impl of `Debug`, for enums that do not derive it."""
     out = [f"impl Debug for {enum.type} {{", "fn fmt<W: fmt::Write>(&self, f: &mut Formatter<W>) -> fmt::Result {"]
     if shape.is_plain:
         return [*out, "f.write_str(self.name())", "}", "}", ""]
-    out.append("match self {")
+    out.append("match self.fields() {" if shape.by_fields else "match self {")
     for names, those in shapes(ops).items():
-        patterns = [f"{enum.type}::{op.name} {{ {names} }}" for op in those]
-        fields = "".join(f'.field("{name}", {name})' for name in names.split(", "))
+        if shape.by_fields:
+            patterns = [f"{enum.group}Fields::{fields_name(names)} {{ {names} }}"]
+        else:
+            patterns = [rust_binding(op, enum.type) for op in those]
+        refer = "&" if shape.by_fields else ""
+        fields = "".join(f'.field("{name}", {refer}{name})' for name in names.split(", "))
         out.append(joined_arm(patterns, f"f.debug_struct(self.name()){fields}.finish()"))
     if any(not op.fields for op in ops):
-        out.append("_ => f.write_str(self.name()),")
+        out.append(f"{enum.group}Fields::Bare => f.write_str(self.name())," if shape.by_fields else "_ => f.write_str(self.name()),")
     return [*out, "}", "}", "}", ""]
 
 
 def column(enum, ops, name, doc, ty, value):
-    """A private function for a column, in parts where the enum is large."""
+    """Returns a private function for a column, split into parts if the enum is large."""
+
+    def arms_of(part, wrap):
+        return [f"{rust_pattern(op, enum.type)} => {wrap(value(op))}," for op in part]
+
+    return in_parts(enum, ops, name, doc, ty, arms_of)
+
+
+def in_parts(enum, ops, name, doc, ty, arms_of):
+    """Returns a private function over all operators, split into parts if the enum is large. `arms_of` makes the arms of a part."""
     word = enum.opcode if name == "code" else f"{enum.module}_{name}"
     now = ".now" if ty.startswith("&") else ""
     head = [f"/// {doc}", f"fn {name}(&self) -> {ty}", f"ensures {{ result{now} ≡ {word} self.now }}", "{"]
     if len(ops) <= LARGE:
-        return [*head, "match self {", *arms(ops, enum.type, value), "}", "}"]
+        return [*head, "match self {", *arms_of(ops, str), "}", "}"]
     ordered = sorted(ops, key=lambda op: op.code)
     parts = [ordered[i : i + PART] for i in range(0, len(ordered), PART)]
     places = ["first", "second", "third", "fourth"][: len(parts)]
@@ -224,12 +332,12 @@ def column(enum, ops, name, doc, ty, value):
         none = outside(enum, part, number == 0, number == len(parts) - 1)
         out += [
             "",
-            f"/// The same, for subopcodes from 0x{part[0].code:02x} to 0x{part[-1].code:02x}.",
+            f"/// Handles the subopcodes from 0x{part[0].code:02x} to 0x{part[-1].code:02x}, and returns `None` for others.",
             f"fn {place}_{name}(&self) -> Option<{ty}>",
             f"ensures {{ MatchOption result {none} (λ x. x{now} ≡ {word} self.now) }}",
             "{",
             "match self {",
-            *[f"{rust_pattern(op, enum.type)} => Some({value(op)})," for op in part],
+            *arms_of(part, "Some({})".format),
             "_ => None,",
             "}",
             "}",
@@ -238,7 +346,7 @@ def column(enum, ops, name, doc, ty, value):
 
 
 def outside(enum, part, is_first, is_last):
-    """That the subopcode of an operator is not among those of a part."""
+    """Returns the condition that the subopcode of an operator is not in a part."""
     below = f"({enum.opcode} self.now < 0x{part[0].code:02x})"
     above = f"(0x{part[-1].code + 1:02x} ≤ {enum.opcode} self.now)"
     if is_first or is_last:
@@ -250,9 +358,9 @@ OWN = Enum("Own", "wasm_instr", "operator", "the other operators of one byte", [
 
 
 def operator_head(ops):
-    """What the file of all operators brings in."""
+    """Returns the head of the file of all operators."""
     more = [(enum.crate, enum.type) for enum in ENUMS]
-    more += [("wasm_instr_ops", "OperatorInfo"), ("wasm_below", "Result")]
+    more += [("wasm_imm", "OperatorInfo"), ("wasm_below", "Result")]
     return [
         f"//! All operators as one type. {HEAD}",
         "ghost use Rattle.std.specs.Prelude.{◌≡◌, ◌↔◌, IsTrue, IfOk, IfErr};",
@@ -261,19 +369,20 @@ def operator_head(ops):
         "ghost use Rattle.wasm_instr.specs.Kinds.{IsSimd, IsVector, HoldsList};",
         "",
         "use std::alloc::Global;",
+        "use std::fmt::{self, Debug, Formatter};",
         *uses(ops, more),
         "",
     ]
 
 
 def operator_enum(ops):
-    """The enum of all operators, and how the inner enums become one of them."""
+    """Returns the enum of all operators, and the conversions from the inner enums."""
     out = [
         "/// An operator with its immediates. Instructions.",
         "///",
-        "/// The variants are those of one byte but for the numeric ones, and at the end the enums of the",
-        "/// others, each of which is also made by `From`.",
-        "#[derive(Debug, Drop, PartialEq, Eq)]",
+        "/// The variants are the operators of one byte except the numeric ones, followed by one variant for",
+        "/// each inner enum. `From` converts from an inner enum.",
+        "#[derive(Drop, PartialEq, Eq)]",
         "pub enum Operator<'a> {",
         *[variant(op) for op in ops],
         *[f"{enum.group}({enum.type})," for enum in held()],
@@ -297,11 +406,47 @@ def operator_enum(ops):
     return out
 
 
+def debug_parts(ops):
+    """Groups the operators with fields by the names and types of the fields, and splits the groups into parts."""
+    found = {}
+    for op in ops:
+        if op.fields:
+            found.setdefault(inner(op), []).append(op)
+    parts = [[]]
+    for those in found.values():
+        if parts[-1] and sum(map(len, parts[-1])) + len(those) > DEBUG_PART:
+            parts.append([])
+        parts[-1].append(those)
+    return parts
+
+
+def operator_debug(ops):
+    """Returns the impl of `Debug`, in parts. Each part prints operators that the part before does not print."""
+    parts = debug_parts(ops)
+    places = ["fmt", *(f"fmt_{place}" for place in ("second", "third", "fourth", "fifth")[: len(parts) - 1])]
+    head = "<W: fmt::Write>(&self, f: &mut Formatter<W>) -> fmt::Result {"
+    out = ["impl<'a> Debug for Operator<'a> {"]
+    for number, (place, part) in enumerate(zip(places, parts)):
+        if number == 1:
+            out += ["}", "", "impl<'a> Operator<'a> {"]
+        if number > 0:
+            out += ["" if number > 1 else None, f"/// Prints an operator that `{places[number - 1]}` does not print."]
+        out += [f"fn {place}{head}", "match self {"]
+        if number == 0:
+            out += [f'Operator::{enum.group}(op) => f.debug_tuple("{enum.group}").field(op).finish(),' for enum in held()]
+        for those in part:
+            fields = "".join(f'.field("{name}", {name})' for name, _ in those[0].fields)
+            out.append(joined_arm([rust_binding(op, "Operator") for op in those], f"f.debug_struct(self.name()){fields}.finish()"))
+        rest = f"self.{places[number + 1]}(f)" if number + 1 < len(parts) else "f.write_str(self.name())"
+        out += [f"_ => {rest},", "}", "}"]
+    return [line for line in [*out, "}", ""] if line is not None]
+
+
 def operator_info(ops):
-    """The functions that answer the row of an operator."""
+    """Returns the functions for the row of an operator."""
     inner_arms = [f"Operator::{enum.group}(op) => op.info().proposal," for enum in held()]
     return [
-        "/// The row of the operator.",
+        "/// Returns the row of the operator.",
         "pub fn info(&self) -> OperatorInfo",
         "ensures proposal { result.proposal.now ≡ proposal_of self.now }",
         "ensures name { result.name.now ≡ name_of self.now }",
@@ -319,7 +464,7 @@ def operator_info(ops):
         "}",
         "}",
         "",
-        "/// The proposal that brought the operator.",
+        "/// Returns the name of the proposal that added the operator.",
         "fn proposal(&self) -> &'static str",
         "ensures { result.now ≡ proposal_of self.now }",
         "{",
@@ -328,14 +473,14 @@ def operator_info(ops):
         "}",
         "}",
         "",
-        *operator_column(ops, "name", "name_of", "The name of the variant.", "&'static str", lambda op: f'"{op.name}"'),
+        *operator_column(ops, "name", "name_of", "Returns the name of the variant.", "&'static str", lambda op: f'"{op.name}"'),
         "",
-        *operator_column(ops, "code", "opcode_of", "The opcode, or the subopcode behind the prefix byte.", "u32", Operator.hex),
+        *operator_column(ops, "code", "opcode_of", "Returns the opcode, or the subopcode after a prefix byte.", "u32", Operator.hex),
     ]
 
 
 def operator_column(ops, name, word, doc, ty, value):
-    """A private function for a column of all operators."""
+    """Returns a private function for a column of all operators."""
     now = ".now" if ty.startswith("&") else ""
     return [
         f"/// {doc}",
@@ -351,14 +496,14 @@ def operator_column(ops, name, word, doc, ty, value):
 
 
 def operator_source(ops, owning=()):
-    """The operators of one byte, and the enums of the others; of these some may own lists."""
+    """Returns the file of `Operator`. `owning` lists the inner enums that own lists."""
     return "\n".join([
         *operator_head(ops),
         *operator_enum(ops),
         "impl<'a> Operator<'a> {",
         *operator_info(ops),
         "",
-        "/// Whether it is a vector operator: its proposal is `simd` or `relaxed_simd`.",
+        "/// Returns whether this is a SIMD operator: its proposal is `simd` or `relaxed_simd`.",
         "pub fn is_simd(&self) -> bool",
         "ensures simd { IsTrue result ↔ IsSimd self.now }",
         "ensures vector { IsTrue result ↔ IsVector self.now }",
@@ -369,7 +514,8 @@ def operator_source(ops, owning=()):
         *clone_of("Operator", "HoldsList", ops, owning),
         "}",
         "",
-        "/// The same table, which takes no memory.",
+        *operator_debug(ops),
+        "/// Copies the table without allocating.",
         "fn same_table<'a>(table: &BrTable<'a>) -> BrTable<'a>",
         "ensures { result ≡ table.now }",
         "{",
@@ -383,11 +529,11 @@ def operator_source(ops, owning=()):
 
 
 def clone_of(ty, holds_list, ops, owning=()):
-    """The call that copies an operator with the lists that it owns."""
+    """Returns the function that copies an operator with the lists that it owns."""
     out = [
-        "/// The same operator, with lists in memory of its own.",
+        "/// Copies the operator with the list that it owns.",
         "///",
-        "/// `OutOfMemory` at offset 0, and only where it holds a list.",
+        "/// Fails only with `OutOfMemory` at offset 0, and only if the operator owns a list.",
         f"pub fn clone(&self, alloc: Global) -> Result<{ty}{lifetime(ty)}>",
         "ensures ok { IfOk result (λ copy. copy ≡ self.now) }",
         f"ensures err {{ IfErr result (λ e. {holds_list} self.now × IsOutOfMemoryAt 0 e) }}",
@@ -403,12 +549,12 @@ def clone_of(ty, holds_list, ops, owning=()):
 
 
 def lifetime(ty):
-    """The lifetime of the enum that borrows: it alone has a branch table."""
+    """Returns the lifetime of an enum. Only `Operator` borrows, since it has the branch table."""
     return "<'a>" if ty == "Operator" else ""
 
 
 def clone_arm(op, ty):
-    """The arm of `clone` for an operator."""
+    """Returns the arm of `clone` for an operator."""
     copied = []
     for name, field in op.fields:
         if field in ("SelectTypes", "TryTable", "ResumeTable"):

@@ -1,4 +1,4 @@
-"""The one table of the operators, and the enums that they are variants of."""
+"""Reads the table of operators, and lists the enums that they are variants of."""
 
 import re
 from pathlib import Path
@@ -8,12 +8,12 @@ TABLE = TOP / "tools" / "operators.tsv"
 HEAD = "Written by tools/lists.py from tools/operators.tsv."
 WIDTH = 100
 COLUMNS = ["proposal", "name", "text", "visit", "prefix", "code", "fields", "immediates", "takes", "leaves"]
-# The enum of the operators behind each prefix byte.
+# The enum of the operators with each prefix byte.
 PREFIXES = {"fb": "Gc", "fc": "Misc", "fd": "Simd", "fe": "Atomic"}
 
 
 class Operator:
-    """A row of the table, and the line that it stands in."""
+    """A row of the table, and its line."""
 
     def __init__(self, cells, place="tools/operators.tsv"):
         row = dict(zip(COLUMNS, cells))
@@ -31,19 +31,19 @@ class Operator:
 
     @property
     def group(self):
-        """The enum of the operator."""
+        """Returns the group whose enum has the operator."""
         if self.prefix:
             return PREFIXES[self.prefix]
         return "Numeric" if 0x45 <= self.code <= 0xC4 else "Own"
 
     @property
     def is_by_rule(self):
-        """Whether what it takes and leaves depends on the module or the open frames."""
+        """Returns whether its arity depends on the module or the open frames."""
         return self.takes == "by rule"
 
     @property
     def holds_list(self):
-        """Whether it owns a list."""
+        """Returns whether it owns a list."""
         return any(ty in OWNING for _, ty in self.fields)
 
     def hex(self):
@@ -51,24 +51,24 @@ class Operator:
 
 
 def rows_of(path=TABLE):
-    """The cells of each row, by the number of its line. The first line names the columns."""
+    """Returns the cells of each row by line number, from 1. The first line names the columns."""
     text = path.read_text(encoding="utf-8")
     lines = text.removesuffix("\n").split("\n")
     return {number: line.split("\t") for number, line in enumerate(lines, 1)}
 
 
 def table(path=TABLE):
-    """The operators, in the order of the table, whose rows have been found good."""
+    """Returns the operators in the order of the table. The rows must be free of faults (`rules.faults`)."""
     return [Operator(cells, f"{named(path)}:{n}") for n, cells in rows_of(path).items() if n > 1]
 
 
 def named(path):
-    """The path as an error names it."""
+    """Returns the path as errors write it."""
     return path.relative_to(TOP) if path.is_relative_to(TOP) else path
 
 
 class Enum:
-    """An enum of operators: where it stands, and what is said of it."""
+    """An enum of operators: its crate and module, and the texts that describe it."""
 
     def __init__(self, group, crate, module, title, doc, section):
         self.group = group
@@ -78,7 +78,7 @@ class Enum:
         self.doc = doc
         self.section = section
         self.type = "Operator" if group == "Own" else f"{group}Operator"
-        # The words for the column of opcodes: behind a prefix byte stand subopcodes.
+        # The definition of the column of opcodes. After a prefix byte they are subopcodes.
         self.opcode = f"{module}_opcode" if group == "Numeric" else f"{module}_subopcode"
 
 
@@ -95,32 +95,32 @@ ENUMS = [
         "Gc",
         "wasm_instr_ops",
         "gc",
-        "the operators behind the byte 0xfb",
-        ["The operators behind the byte 0xfb: structures, arrays and casts. Aggregate Instructions, and the", "proposal custom descriptors."],
+        "the operators with the prefix byte 0xfb",
+        ["The operators with the prefix byte 0xfb: structures, arrays and casts. Aggregate Instructions, and", "the proposal custom descriptors."],
         "Aggregate Instructions; proposal custom descriptors",
     ),
     Enum(
         "Misc",
         "wasm_instr_ops",
         "misc",
-        "the operators behind the byte 0xfc",
-        ["The operators behind the byte 0xfc: saturating truncations, bulk memory and tables, and wide", "arithmetic. Numeric, Memory and Table Instructions, and the proposals memory control and wide", "arithmetic."],
+        "the operators with the prefix byte 0xfc",
+        ["The operators with the prefix byte 0xfc: saturating truncations, bulk memory, tables and wide", "arithmetic. Numeric, Memory and Table Instructions, and the proposals memory control and wide", "arithmetic."],
         "Numeric, Memory and Table Instructions; proposals memory control and wide arithmetic",
     ),
     Enum(
         "Atomic",
         "wasm_instr_ops",
         "atomic",
-        "the operators behind the byte 0xfe",
-        ["The operators behind the byte 0xfe. Proposals threads, shared-everything threads and", "acquire-release atomics."],
+        "the operators with the prefix byte 0xfe",
+        ["The operators with the prefix byte 0xfe. Proposals threads, shared-everything threads and", "acquire-release atomics."],
         "proposals threads, shared-everything threads and acquire-release atomics",
     ),
     Enum(
         "Simd",
         "wasm_instr_simd",
         "simd",
-        "the operators behind the byte 0xfd",
-        ["The operators behind the byte 0xfd. Vector Instructions, relaxed ones too."],
+        "the operators with the prefix byte 0xfd",
+        ["The SIMD operators, with the prefix byte 0xfd. Vector Instructions, including the relaxed ones."],
         "Vector Instructions",
     ),
 ]
@@ -128,13 +128,20 @@ ENUMS = [
 HELD = ["Numeric", "Gc", "Misc", "Simd", "Atomic"]
 
 
+def singular(title):
+    """Returns the title of some operators for one of them, such as "an operator of one byte"."""
+    for word, article in (("", "an"), ("numeric ", "a"), ("SIMD ", "a")):
+        title = title.replace(f"the {word}operators", f"{article} {word}operator", 1)
+    return title
+
+
 def held():
-    """Those enums."""
+    """Returns the enums that `Operator` holds, in order."""
     return sorted(ENUMS, key=lambda enum: HELD.index(enum.group))
 
 
 class Kind:
-    """A kind of immediates: the types of its fields, the term over them, and their values in a list."""
+    """A kind of immediates: the types of its fields, the term over them, and the functions that take its values from a list."""
 
     def __init__(self, types, term, values):
         self.types = types
@@ -166,12 +173,12 @@ KINDS = {
     "try_table": Kind(["TryTable"], "try_clauses {0}", ["try_table_in"]),
     "resume_table": Kind(["ResumeTable"], "resume_clauses {0}", ["resume_table_in"]),
 }
-# The kinds of memory arguments, and the largest alignment that an operator may have as its own.
+# The kinds of memory arguments, and the largest exponent of a natural alignment.
 MEMORY_SORTS = ("Plain", "Op", "Rmw")
 LARGEST_ALIGN = 4
-# The types that own a list.
+# The types of fields that own a list.
 OWNING = ("SelectTypes", "TryTable", "ResumeTable")
-# The two that share an opcode.
+# The two operators that share an opcode.
 SHARED = ("TypedSelect", "TypedSelectMulti")
 PROPOSALS = (
     "mvp", "sign_extension", "gc", "custom_descriptors", "saturating_float_to_int", "bulk_memory",
@@ -182,7 +189,7 @@ PROPOSALS = (
 
 
 def immediates_of(op):
-    """The list of the immediates of an operator, in antt."""
+    """Returns the list of the immediates of an operator, in antt."""
     names = [name for name, _ in op.fields]
     out = []
     for immediate in op.immediates:
@@ -195,7 +202,7 @@ def immediates_of(op):
 
 
 def made_of(op, alias):
-    """The operator, made of the values in a list of immediates named `is`."""
+    """Returns the operator made from the values in a list of immediates named `is`, in antt."""
     values = []
     rest = "is"
     for immediate in op.immediates:
@@ -205,20 +212,20 @@ def made_of(op, alias):
 
 
 def imported(text, names):
-    """Those of the names that the text has, its comments aside."""
+    """Returns the names that occur in the text outside its comments."""
     words = set(re.findall(r"[\w'-]+", re.sub("--.*", "", text)))
     return [name for name in names if name in words]
 
 
 def pattern(op, alias, named=True):
-    """A pattern of antt at an operator."""
+    """Returns a pattern that matches an operator, in antt."""
     if not op.fields:
         return f"{alias}.{op.name}"
     names = " ".join(name if named else "_" for name, _ in op.fields)
     return f"({alias}.{op.name} {names})"
 
 
-# The words of the definitions of immediates, and of their values in a list, that a file may import.
+# The definitions of immediates, and of their values in a list, that a file may import.
 ROW_WORDS = [
     "unsigned_32", "signed_32", "signed_64", "float_32", "float_64", "vector", "one_lane",
     "sixteen_lanes", "memory_argument", "memory_index", "table_index_32", "order", "fence_order",
@@ -235,12 +242,12 @@ def enum_uses(enum):
 
 
 def by_cases(lemma, first, alias, proof):
-    """A lemma whose proof is the same at each variant."""
+    """Returns the equations of a lemma with the same proof for each variant."""
     return [f"{lemma} {pattern(first, alias)} = {proof}", f"{lemma} op = {proof}"]
 
 
 def grouped(ops, value):
-    """The operators by a value of each, in the order of the first, and the value that most have last."""
+    """Groups the operators by a value, in the order of their first operator. The largest group is last."""
     found = {}
     for op in ops:
         found.setdefault(value(op), []).append(op)

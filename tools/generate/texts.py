@@ -1,4 +1,4 @@
-"""The names of the operators in the text format, and the calls that write their operands."""
+"""Writes the names of the operators in the text format, and the functions that write their operands."""
 
 from source import arms, rust_binding
 from table import ENUMS, HEAD, KINDS, held, pattern
@@ -35,7 +35,7 @@ WRITERS = {
     ("unsigned", "resume_table"): "number_and_clauses",
     ("unsigned", "unsigned", "resume_table"): "numbers_and_clauses",
 }
-# The operators whose operands are not their immediates in order, as `operands_of` says.
+# The operators whose operands differ from their immediates in order, as `operands_of` defines.
 OTHERS = {
     "ReturnCallIndirect": "indirect",
     "RefTestNonNull": "reference_without_null",
@@ -48,18 +48,18 @@ OTHERS = {
 
 
 def inner_uses(enum):
-    """The lines that bring in an inner enum, as the layer of all operators has it."""
+    """Returns the `use` lines of an inner enum, through `wasm_instr`."""
     path = f"Rattle.wasm_instr.specs.{'simd' if enum.group == 'Simd' else 'ops'}.{enum.module}.{enum.type}"
     return [f"use {path}.{{{enum.type}}}", f"use {path}.TheVariants as {enum.module}"]
 
 
 def kinds_of(op):
-    """The kinds of the immediates of an operator, without what some say of it besides."""
+    """Returns the kinds of the immediates of an operator, without alignments."""
     return tuple(it.split()[0] for it in op.immediates)
 
 
 def call_of(op):
-    """What writes the operands of an operator: one call, or one for each immediate."""
+    """Returns the expression that writes the operands of an operator: one call, or one for each immediate."""
     names = [name for name, _ in op.fields]
     if not names:
         return "Ok(())"
@@ -75,7 +75,7 @@ def call_of(op):
 
 
 def name_specs(ops):
-    """The names as definitions."""
+    """Returns the names as definitions."""
     out = [
         f"-- {HEAD}",
         "-- The names of the operators in the text format.",
@@ -97,11 +97,11 @@ def name_specs(ops):
 
 
 def name_function(name, given, ty, those, more=()):
-    """The function that answers the name of an operator of an enum."""
+    """Returns the function for the name of an operator of an enum."""
     shown = "pub fn" if ty == "Operator" else "fn"
     return [
         "",
-        "/// The operator's name in the text format." if ty == "Operator" else "/// The name of such an operator.",
+        "/// Returns the operator's name in the text format." if ty == "Operator" else f"/// Returns the name of the `{ty}` in the text format.",
         f"{shown} {name}(op: &{given}) -> &'static str",
         f"ensures {{ result.now ≡ {name} op.now }}",
         "{",
@@ -114,7 +114,7 @@ def name_function(name, given, ty, those, more=()):
 
 
 def name_source(ops):
-    """The names in code."""
+    """Returns the names in code."""
     words = ", ".join(["text_name", *(f"{enum.module}_text_name" for enum in held())])
     types = ", ".join(sorted(["Operator", *(enum.type for enum in ENUMS)]))
     out = [
@@ -134,7 +134,7 @@ def name_source(ops):
 
 
 def operand_arms(ops, ty):
-    """The arms over operators, those of the same function and fields together."""
+    """Returns the arms of a match. Operators with the same function and fields share an arm."""
     found = {}
     for op in ops:
         found.setdefault(call_of(op), []).append(op)
@@ -142,10 +142,10 @@ def operand_arms(ops, ty):
 
 
 def operand_function(name, ty, those, meaning, more=()):
-    """The function that writes the operands of an operator of an enum."""
+    """Returns the function that writes the operands of an operator of an enum."""
     given = "Operator<'_>" if ty == "Operator" else ty
     return [
-        f"/// Writes the operands of {meaning}, each behind a space.",
+        f"/// Writes the operands of {meaning}, with a space before each.",
         f"pub fn {name}(out: &mut String, op: &{given}) -> Written",
         "{",
         "match op {",
@@ -158,7 +158,7 @@ def operand_function(name, ty, those, meaning, more=()):
 
 
 def operand_files(ops):
-    """A file for each enum, with the function that writes its operators' operands."""
+    """Returns a file for each enum, with the function that writes its operators' operands."""
     out = {}
     for enum in held():
         if enum.group == "Numeric":
@@ -201,7 +201,7 @@ def operand_files(ops):
 
 
 def text_files(ops):
-    """Each file of the text that is made of the table."""
+    """Returns the generated files of wasm_text, by path."""
     return {
         f"{CRATE}/specs/Names.antt": name_specs(ops),
         f"{CRATE}/src/names.rt": name_source(ops),

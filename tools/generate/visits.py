@@ -1,11 +1,11 @@
-"""The visitors' groups of visits, the dispatch of each group, and the factory, over the operators."""
+"""Writes the groups of visits, the dispatch of each group, and the visits of the factory."""
 
 from source import uses
-from table import HEAD, WIDTH, held
+from table import HEAD, WIDTH, held, singular
 
 
 class Group:
-    """A group of visits: a trait, whose operators are variants of one enum."""
+    """A group of visits: a trait whose operators are variants of one enum."""
 
     def __init__(self, module, trait, enum, short, title, section):
         self.module = module
@@ -17,7 +17,7 @@ class Group:
 
     @property
     def bound(self):
-        """The trait of the call by which the group is reached."""
+        """Returns the trait whose methods name the group."""
         return "VisitSimdOperator" if self.enum == "Simd" else "VisitGroups"
 
     def has(self, op):
@@ -32,35 +32,35 @@ class Group:
 
 
 GROUPS = [
-    Group("one_byte", "VisitOneByte", "Own", "the operators of one byte", "the operators of one byte that are not numeric, but for the branch table", "Instructions."),
+    Group("one_byte", "VisitOneByte", "Own", "the operators of one byte", "the operators of one byte, except the numeric ones and the branch table", "Instructions."),
     Group("numeric", "VisitNumeric", "Numeric", "the numeric operators", "the numeric operators of one byte, 0x45 to 0xc4", "Numeric Instructions."),
-    Group("gc", "VisitGc", "Gc", "the operators behind 0xfb", "the operators behind the byte 0xfb", "Aggregate Instructions."),
-    Group("misc", "VisitMisc", "Misc", "the operators behind 0xfc", "the operators behind the byte 0xfc", "Numeric, Memory and Table Instructions."),
-    Group("atomic", "VisitAtomic", "Atomic", "the operators behind 0xfe", "the operators behind the byte 0xfe", "Proposal threads."),
-    Group("simd_low", "VisitSimdLow", "Simd", "the vector operators below 0x80", "the vector operators of a subopcode below 0x80", "Vector Instructions."),
-    Group("simd_high", "VisitSimdHigh", "Simd", "the vector operators from 0x80 on", "the vector operators of a subopcode from 0x80 on", "Vector Instructions."),
+    Group("gc", "VisitGc", "Gc", "the operators with prefix 0xfb", "the operators with the prefix byte 0xfb", "Aggregate Instructions."),
+    Group("misc", "VisitMisc", "Misc", "the operators with prefix 0xfc", "the operators with the prefix byte 0xfc", "Numeric, Memory and Table Instructions."),
+    Group("atomic", "VisitAtomic", "Atomic", "the operators with prefix 0xfe", "the operators with the prefix byte 0xfe", "Proposal threads."),
+    Group("simd_low", "VisitSimdLow", "Simd", "the SIMD operators below 0x80", "the SIMD operators with a subopcode below 0x80", "Vector Instructions."),
+    Group("simd_high", "VisitSimdHigh", "Simd", "the SIMD operators from 0x80 on", "the SIMD operators with a subopcode of at least 0x80", "Vector Instructions."),
 ]
-# The operators whose visits stand in groups of `VisitGroups`, and in those of `VisitSimdOperator`.
+# The groups that methods of `VisitGroups` name, and those that methods of `VisitSimdOperator` name.
 FIXED = [group for group in GROUPS if group.enum != "Simd"]
 VECTORS = [group for group in GROUPS if group.enum == "Simd"]
 
-# The variants of `Operator` that are of no group of one byte, as a pattern.
+# The variants of `Operator` outside `VisitOneByte`, as a pattern.
 ONE_BYTE_OTHERS = " | ".join(["Operator::BrTable { targets: _ }"] + [f"Operator::{enum.group}(_)" for enum in held()])
 
 
 def signature(op, answer):
-    """The head of a visit."""
+    """Returns the head of a visit."""
     fields = [f"{name}: {ty}" for name, ty in op.fields]
     return f"    fn {op.visit}({', '.join(['&mut self'] + fields)}) -> {answer}"
 
 
 def type_name(group):
-    """The enum of which the operators are variants."""
+    """Returns the enum whose variants the operators are."""
     return "Operator" if group.enum == "Own" else f"{group.enum}Operator"
 
 
 def term(op):
-    """The operator as a term over its fields."""
+    """Returns the operator as a term over its fields, in clauses."""
     inner = " ".join([f"{op.group}Operator.{op.name}" if op.group != "Own" else f"Operator.{op.name}"] + [name for name, _ in op.fields])
     if op.group == "Own":
         return f"({inner})" if op.fields else inner
@@ -68,7 +68,7 @@ def term(op):
 
 
 def made(op):
-    """The operator made of its fields."""
+    """Returns the expression that makes the operator from its fields."""
     ty = "Operator" if op.group == "Own" else f"{op.group}Operator"
     names = ", ".join(name for name, _ in op.fields)
     inner = f"{ty}::{op.name} {{ {names} }}" if names else f"{ty}::{op.name}"
@@ -76,7 +76,7 @@ def made(op):
 
 
 def ghost_uses(group):
-    """The lines that bring in the operators for clauses."""
+    """Returns the `ghost use` lines of the operators."""
     lines = ["ghost use Rattle.wasm_instr.specs.declared.operator.Operator.{Operator};"]
     for enum in held():
         if enum.group == group.enum:
@@ -86,12 +86,20 @@ def ghost_uses(group):
 
 
 def braced(names):
-    """Names of a `use`, as many as there are."""
+    """Returns the names of a `use`, in braces if there are several."""
     return names[0] if len(names) == 1 else f"{{{', '.join(sorted(names))}}}"
 
 
+def naming(group):
+    """Returns the methods that name a group, each with the call that it makes."""
+    code = {"one_byte": "alloc, reader, start, frame, code", "numeric": "code"}.get(group.module, "reader, start, code")
+    low = group.module
+    methods = [(f"dispatch_{low}", f"dispatch::{low}(self, op)"), (f"decode_{low}", f"decode::{low}(self, {code})")]
+    return methods + ([("decode_below_0x20", methods[1][1])] if low == "one_byte" else [])
+
+
 def group_trait(ops, group):
-    """The trait of a group's visits, each of which hands its operator to `visit_any`."""
+    """Returns the trait of a group's visits, whose default bodies call `visit_any`."""
     those = group.of(ops)
     out = [
         f"//! Visits of {group.short}. {HEAD}",
@@ -103,8 +111,10 @@ def group_trait(ops, group):
         "",
         f"/// Visits of {group.title}. {group.section}",
         "///",
-        "/// Each hands its operator to `visit_any` unless a visitor has its own. They are called only where",
-        f"/// the visitor's `{group.bound}` names them, by the line `dispatch::{group.module}(self, op)`.",
+        "/// A visit passes its operator to `visit_any` unless it is overridden. Overridden visits are called",
+        f"/// only by methods of the visitor's `{group.bound}` that name the group:",
+        "///",
+        *[f"/// - `{method}`, by `{call}`" for method, call in naming(group)],
         f"pub trait {group.trait}: Visitor {{",
     ]
     for number, op in enumerate(those):
@@ -122,25 +132,25 @@ def group_trait(ops, group):
 
 
 def arm(op):
-    """The arm of a dispatch that visits an operator."""
+    """Returns the arm of a dispatch that visits an operator."""
     ty = "Operator" if op.group == "Own" else f"{op.group}Operator"
     names = ", ".join(name for name, _ in op.fields)
     pattern = f"{ty}::{op.name} {{ {names} }}" if names else f"{ty}::{op.name}"
     call = f"v.{op.visit}({names})"
-    # a call that has no room behind its pattern stands in a block, as long as the pattern keeps to one line
+    # rt fmt puts a call that does not fit after its pattern into a block, if the pattern fits on one line
     has_room = len(names) > 18 or len(f"        {pattern} => {call},") <= WIDTH
     return f"        {pattern} => {call}," if has_room else f"        {pattern} => {{ {call} }}"
 
 
 def group_dispatch(ops, group):
-    """The call that finds the visit of an operator of a group."""
+    """Returns the function that calls the visit of an operator of a group."""
     param = "Operator<'_>" if group.enum == "Own" else type_name(group)
     told = "op.entry" if group.enum == "Own" else f"(Operator.{group.enum} op)"
     wanted = {"one_byte": "IsOneByte", "simd_low": "IsSimdLow", "simd_high": "IsSimdHigh"}.get(group.module)
     others = ONE_BYTE_OTHERS if group.enum == "Own" else "_"
     return [
         "",
-        f"/// Visits one of {group.short}. It takes no memory.",
+        f"/// Calls the visit of {singular(group.short)}. The dispatch does not allocate.",
         f"pub fn {group.module}<V: {group.trait}>(v: &mut V, op: {param}) -> V::Output",
         *([f"    requires {{ {wanted} op }}"] if wanted else []),
         f"    ensures {{ V.visits v.old {told} result v.new }}",
@@ -154,10 +164,10 @@ def group_dispatch(ops, group):
 
 
 def dispatch(ops, groups):
-    """The calls that find the visit of an operator, for some of the groups."""
+    """Returns the file of the dispatch of some groups."""
     wanted = ["IsOneByte"] if groups is FIXED else ["IsSimdHigh", "IsSimdLow"]
     types = sorted({"Operator"} | {type_name(group) for group in groups}) if groups is FIXED else ["SimdOperator"]
-    what = "a vector operator" if groups is VECTORS else "an operator that is no vector operator"
+    what = "a SIMD operator" if groups is VECTORS else "an operator that is not a SIMD operator"
     out = [
         f"//! From {what} to its visit. {HEAD}",
         "ghost use Rattle.wasm_instr.specs.declared.operator.Operator.{Operator};",
@@ -172,7 +182,7 @@ def dispatch(ops, groups):
 
 
 def group_factory(ops, group):
-    """The factory's visits of a group, each of which makes its operator in place."""
+    """Returns the factory's visits of a group. Each visit makes its operator in place."""
     those = group.of(ops)
     out = [
         f"//! Makes {group.short}. {HEAD}",
@@ -190,7 +200,7 @@ def group_factory(ops, group):
 
 
 def visit_files(ops):
-    """Each file over the visits with its text."""
+    """Returns the generated files of the visits, by path."""
     out = {}
     for group in GROUPS:
         out[f"crates/wasm_visit_groups/src/{group.module}.rt"] = group_trait(ops, group)

@@ -1,4 +1,4 @@
--- What a flags number announces, and what it is the sum of.
+-- What a flags number announces, and the parts that it is the sum of.
 use Rattle.std.proofs.Common.{◌≡◌, ◌≢◌, ℕ, ◌+◌, ◌*◌, ◌/◌, ◌%◌, ◌<◌, ◌≤◌, ◌⊎◌, inl, inr, List, [], ◌∷◌, ◌++◌, Option, Some, None, Ok, refl, sym, subst, ap, ◌∙◌, arith}
 use Rattle.wasm_imm_control.specs.below.bytes.features.WasmFeatures.{WasmFeatures}
 use Rattle.wasm_imm_control.specs.below.bytes.error.Error.{Error}
@@ -64,11 +64,11 @@ sixteens part (inr e) = (1, omega arith)
 low : (flags align po j : ℕ) → flags ≡ align + po + 32 * j → align ≤ 15 → (i : ℕ) × (po ≡ 16 * i) → align ≡ flags % 16
 low flags align po j sum al (i, e) = omega arith
 
--- the memory argument of these parts
+-- the memory argument with these parts
 abbrev pub argument_of : ℕ → ℕ → ℕ → MemArgTarget → Option MemArgOrdering → MemArg
 argument_of align max offset t o = record { align = align; max_align = max; offset = offset; target = t; ordering = o }
 
--- what stands behind the flags number, in the order in which it is read
+-- what follows the flags number, in the order in which it is read
 abbrev pub Last : WasmFeatures → ℕ → ℕ → MemArgTarget → Option MemArgOrdering → List ℕ → MemArg → Type 0
 Last f max flags t o text m = EncodesOffset f text m.offset × (m ≡ argument_of (flags % 16) max m.offset t o)
 
@@ -152,7 +152,7 @@ last_prefix_code f max flags t o a b x y m n p q e =
     let h = offset_prefix_code f a b x y m.offset n.offset p.0 q.0 e in
     (h.0, p.1 ∙ ap (λ z. argument_of (flags % 16) max z t o) h.1 ∙ sym q.1)
 
--- an encoding of a memory argument begins no other, and is that of one
+-- the encodings of memory arguments are a prefix code
 pub memarg_prefix_code : (f : WasmFeatures) (k : MemArgKind) (max : ℕ) → PrefixCode (EncodesMemArg f k max)
 memarg_prefix_code f k max =
     then_prefix_code (EncodesUnsigned 32) (EncodesBehindFlags f k max) (number_prefix_code 32)
@@ -162,7 +162,7 @@ memarg_prefix_code f k max =
     stages flags = then_prefix_code (IsTarget f flags) (λ t. Then (IsOrdering f k flags) (Last f max flags t)) (target_prefix_code f flags)
         (λ t. then_prefix_code (IsOrdering f k flags) (Last f max flags t) (ordering_prefix_code f k flags) (last_prefix_code f max flags t))
 
--- ---- flags numbers that begin no memory argument
+---- flags numbers that cannot start a memory argument
 
 abbrev pub NotBehind : WasmFeatures → MemArgKind → ℕ → ℕ → Type 0
 NotBehind f k max flags = (text : List ℕ) (m : MemArg) → ¬ EncodesBehindFlags f k max flags text m
@@ -212,7 +212,7 @@ reserved_ruled_out f k max flags h text m b =
     by_case pt po align j sum al pl is jl hm ha ho (inr (inr (inl r))) = r.1 (ha (omega (arith, r.0)))
     by_case pt po align j sum al pl is jl hm ha ho (inr (inr (inr r))) = r.1 (ho (λ e. absurd (omega (arith, r.0))))
 
--- ---- flags numbers that begin one
+---- flags numbers that can start one
 
 no_bit : (f feature : WasmFeatures) (bit : Type 0) → ¬ (bit × ¬ HasFeature feature f) → ¬ (HasFeature feature f × bit) → ¬ bit
 no_bit f feature bit meant unset h = meant (h, λ has. unset (has, h))
@@ -270,7 +270,7 @@ behind_ok f k max flags index byte behind t o offset ht ho hb nr nb =
       offset = hb;
     }
 
--- ---- the answers of a reading
+---- the results of a read
 
 module _ (f : WasmFeatures) (k : MemArgKind) (max flags : ℕ) (old mid : Reader) (flagged : Reads (EncodesUnsigned 32) (Ok flags) old mid) where
   pub ruled_out : (e : Error) (now new : Reader) (text : List ℕ) (position : ℕ) → Takes old now text → position ≡ old.position →

@@ -10,9 +10,11 @@ pub use Rattle.wasm_imm_control.proofs.DeterminedRefusals as DeterminedControlRe
 pub mod DeterminedMemoryArgumentRefusals
 pub mod DeterminedRefusals
 pub mod FlagsNumber
+pub mod ImmediatePrefixCodes
 pub mod MemoryArgumentFaults
 pub mod ShortPrefixCodes
 pub mod ConstantDeterminedRefusals
 pub mod Sixteen
+pub mod Values
 pub mod VectorPrefixCodes
 pub use Rattle.wasm_imm_control.proofs.of_below as of_below

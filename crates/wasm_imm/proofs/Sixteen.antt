@@ -1,4 +1,4 @@
--- Sixteen bytes, the lowest first, and the number below 2 ^ 128 that they are.
+-- Sixteen bytes, the lowest first, and the number below 2 ^ 128 with these bytes.
 use Rattle.std.proofs.Common.{◌≡◌, ℕ, ◌+◌, ◌*◌, ◌/◌, ◌%◌, ◌<◌, ◌^◌, List, [], ◌∷◌, length, get_or, refl, ap, ◌∙◌, arith}
 use Rattle.std.proofs.lemmas.Nat.{div-mul-add, mod-mul-add}
 use Rattle.std.specs.Prelude.{All}

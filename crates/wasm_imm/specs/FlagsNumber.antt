@@ -1,4 +1,4 @@
--- The flags number of a memory argument, as it is taken apart.
+-- The parts of the flags number of a memory argument.
 use Rattle.std.specs.Prelude.{◌≡◌, ℕ, ◌/◌, ◌%◌, ◌≤◌, ◌⊎◌, List, [], ◌∷◌, Option, Some, None}
 use Rattle.wasm_imm_control.specs.below.bytes.features.WasmFeatures.{WasmFeatures}
 use Rattle.wasm_imm_control.specs.below.Features.{HasFeature, multi_memory, acquire_release_atomics, multibyte_array_access}
@@ -14,24 +14,25 @@ use Rattle.wasm_imm.specs.MemoryArgument.{IsOrderingByte}
 abbrev pub Announces : WasmFeatures → WasmFeatures → ℕ → ℕ → Type 0
 Announces f feature flags bit = HasFeature feature f × (flags / bit % 2 ≡ 1)
 
--- A bit that has no meaning is set.
+-- A bit that has no meaning with these features is set.
 abbrev pub IsReserved : WasmFeatures → ℕ → Type 0
 IsReserved f flags = (128 ≤ flags) ⊎ ((flags / 64 % 2 ≡ 1) × ¬ HasFeature multi_memory f) ⊎ ((flags / 32 % 2 ≡ 1) × ¬ HasFeature multibyte_array_access f) ⊎ ((flags / 16 % 2 ≡ 1) × ¬ HasFeature acquire_release_atomics f)
 
--- A memory and an array are named at once.
+-- The number announces an array index, and has the bit of a memory index.
 abbrev pub NamesBoth : WasmFeatures → ℕ → Type 0
 NamesBoth f flags = Announces f multibyte_array_access flags 32 × (flags / 64 % 2 ≡ 1)
 
--- An ordering is announced where none may stand.
+-- The number announces an ordering, but the operator is not atomic.
 abbrev pub OrdersPlain : WasmFeatures → MemArgKind → ℕ → Type 0
 OrdersPlain f k flags = (k ≡ kind.Plain) × Announces f acquire_release_atomics flags 16
 
--- The index, as the code looks for it: a memory's first, then an array's.
+-- The announced index, as the code looks for it: first of a memory, then of an array type. If none
+-- is announced, the target is memory 0.
 abbrev pub IsTarget : WasmFeatures → ℕ → List ℕ → MemArgTarget → Type 0
 IsTarget f flags text (target.Array i) = ¬ Announces f multi_memory flags 64 × Announces f multibyte_array_access flags 32 × EncodesUnsigned 32 text i
 IsTarget f flags text (target.Memory i) = (Announces f multi_memory flags 64 × EncodesUnsigned 32 text i) ⊎ (¬ Announces f multi_memory flags 64 × ¬ Announces f multibyte_array_access flags 32 × (text ≡ []) × (i ≡ 0))
 
--- The ordering behind these flags.
+-- The ordering, if the flags number announces one.
 abbrev pub IsOrdering : WasmFeatures → MemArgKind → ℕ → List ℕ → Option MemArgOrdering → Type 0
 IsOrdering f k flags text None = ¬ Announces f acquire_release_atomics flags 16 × (text ≡ [])
 IsOrdering f k flags text (Some o) = Announces f acquire_release_atomics flags 16 × (byte : ℕ) × (text ≡ byte ∷ []) × IsOrderingByte k byte o

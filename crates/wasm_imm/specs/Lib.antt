@@ -13,6 +13,7 @@ pub use Rattle.wasm_imm_control.specs.OutOfMemory
 pub use Rattle.wasm_imm_control.specs.BranchTableEquality
 pub use Rattle.wasm_imm_control.specs.declared as control
 pub mod FlagsNumber
+pub mod Immediate
 pub mod Indices
 pub mod MemoryArgument
 pub mod MemoryArgumentFaults

@@ -1,4 +1,5 @@
--- Which refusal a memory argument has: its parts and the checks of its flags number, in the order in which they are made. A check that fails is refused where the flags number begins.
+-- Errors of memory arguments: errors of the parts and of the checks of the flags number, in the
+-- order of the checks. A check that fails has the offset of the flags number.
 -- WebAssembly Core Specification 3.0, Binary Format, Instructions, Memory Instructions.
 use Rattle.std.specs.Prelude.{◌≡◌, ℕ, ◌⊎◌, true}
 use Rattle.wasm_imm_control.specs.below.bytes.features.WasmFeatures.{WasmFeatures}
@@ -14,42 +15,49 @@ use Rattle.wasm_imm.specs.MemoryArgument.{IsOrderingByte}
 use Rattle.wasm_imm.specs.FlagsNumber.{Announces, NamesBoth, OrdersPlain, IsReserved, IsTarget, IsOrdering}
 use Rattle.wasm_imm_control.specs.below.PartFaults.{CheckedByteFault}
 
--- A check before more is read: where it finds this wrong, the refusal is this one, at this place; where it does not, it is one of what is read then.
+-- The error of a check before more is read. If `IsWrong` holds, the error is `refusal` at the
+-- offset `place`; otherwise it is an error of what is read later.
 abbrev pub CheckFault : Type 0 → Message → ℕ → (Message → Reader → ℕ → Type 0) → Message → Reader → ℕ → Type 0
 CheckFault IsWrong refusal place Later m r offset = (IsWrong × (m ≡ refusal) × (offset ≡ place)) ⊎ (¬ IsWrong × Later m r offset)
 
--- The flags number announces an index, of a memory or of an array's type.
+-- The flags number announces an index, of a memory or of an array type.
 abbrev pub AnnouncesIndex : WasmFeatures → ℕ → Type 0
 AnnouncesIndex f flags = Announces f multi_memory flags 64 ⊎ Announces f multibyte_array_access flags 32
 
--- An announced index is refused as its number is.
+-- The error of an announced index is the error of its number.
 abbrev pub TargetFault : WasmFeatures → ℕ → Message → Reader → ℕ → Type 0
 TargetFault f flags m r offset = AnnouncesIndex f flags × U32Fault m r offset
 
--- No ordering in an argument of this kind has this byte.
+-- The byte is not an ordering in an argument of this kind.
 abbrev pub IsNoOrdering : MemArgKind → ℕ → Type 0
 IsNoOrdering k byte = (o : MemArgOrdering) → ¬ IsOrderingByte k byte o
 
--- An announced ordering: a byte of none is refused where it stands.
+-- The error of an announced ordering, at the offset of its byte: the data ends, or the byte is not
+-- an ordering.
 abbrev pub OrderingFault : WasmFeatures → MemArgKind → ℕ → Message → Reader → ℕ → Type 0
 OrderingFault f k flags m r offset = Announces f acquire_release_atomics flags 16 × CheckedByteFault (IsNoOrdering k) (λ byte. message.InvalidOrdering byte true) (offset_of r) m r offset
 
--- An offset is refused as its number is, of 64 bits with memory64, else of 32.
+-- The error of an offset is the error of its number, of 64 bits with memory64 and of 32 bits
+-- without it.
 abbrev pub OffsetFault : WasmFeatures → Message → Reader → ℕ → Type 0
 OffsetFault f m r offset = (HasFeature memory64 f × U64Fault m r offset) ⊎ (¬ HasFeature memory64 f × U32Fault m r offset)
 
--- Behind the ordering: no bit of the flags number may be without meaning; then the offset.
+-- The error after the ordering: `ReservedFlags` if a bit of the flags number has no meaning, and
+-- otherwise the error of the offset.
 abbrev pub BehindOrderingFault : WasmFeatures → ℕ → ℕ → Message → Reader → ℕ → Type 0
 BehindOrderingFault f flags start = CheckFault (IsReserved f flags) message.ReservedFlags start (OffsetFault f)
 
--- Behind the index: no ordering may be announced in a plain argument; then the ordering, and what stands behind it.
+-- The error after the index: `OrderingOnPlain` if an argument of kind `Plain` announces an
+-- ordering, and otherwise the error of the ordering or of what follows it.
 abbrev pub BehindTargetFault : WasmFeatures → MemArgKind → ℕ → ℕ → Message → Reader → ℕ → Type 0
 BehindTargetFault f k flags start = CheckFault (OrdersPlain f k flags) message.OrderingOnPlain start (ThenFault (IsOrdering f k flags) (OrderingFault f k flags) (λ o. BehindOrderingFault f flags start))
 
--- Behind a flags number that began at `start`: a memory and an array may not be named at once; then the index, and what stands behind it.
+-- The error after a flags number that starts at the offset `start`: `MemoryAndArray` if it has both
+-- bits, and otherwise the error of the index or of what follows it.
 abbrev pub FlagsFault : WasmFeatures → MemArgKind → ℕ → ℕ → Message → Reader → ℕ → Type 0
 FlagsFault f k flags start = CheckFault (NamesBoth f flags) message.MemoryAndArray start (ThenFault (IsTarget f flags) (TargetFault f flags) (λ t. BehindTargetFault f k flags start))
 
--- Of a memory argument of an operator of this kind: that of the flags number, and then of what stands behind it.
+-- The error of a memory argument of an operator of this kind: the error of the flags number, or of
+-- what follows it.
 abbrev pub MemArgFault : WasmFeatures → MemArgKind → Message → Reader → ℕ → Type 0
 MemArgFault f k m r offset = ThenFault (EncodesUnsigned 32) U32Fault (λ flags. FlagsFault f k flags (offset_of r)) m r offset

@@ -1,4 +1,4 @@
--- The byte of an ordering by itself and that of a fence, and which refusal they have.
+-- The byte of an ordering alone and of a fence, and their errors.
 -- Proposals threads, shared-everything threads and acquire-release atomics.
 use Rattle.std.specs.Prelude.{◌≡◌, ℕ, ◌⊎◌, List, [], ◌∷◌, ◌≢◌, false}
 use Rattle.wasm_imm_control.specs.below.bytes.features.WasmFeatures.{WasmFeatures}
@@ -12,18 +12,22 @@ use Rattle.wasm_imm_control.specs.below.bytes.message.Message.TheVariants as mes
 use Rattle.wasm_imm_control.specs.below.PartFaults.{CheckedByteFault}
 use Rattle.wasm_imm_control.specs.below.PartFaults.{ZeroFault}
 
--- An ordering by itself. Proposal shared-everything threads.
+-- An ordering alone. Proposal shared-everything threads.
 abbrev pub EncodesOrderingByte : List ℕ → Ordering → Type 0
 EncodesOrderingByte text o = text ≡ ordering_byte o ∷ []
 
--- The byte of `atomic.fence`: an ordering with acquire_release_atomics; without it, 0. Proposals threads and acquire-release atomics.
+-- The byte of `atomic.fence`: an ordering with acquire_release_atomics, and 0 without it. Proposals
+-- threads and acquire-release atomics.
 abbrev pub EncodesFence : WasmFeatures → List ℕ → Ordering → Type 0
 EncodesFence f text o = (HasFeature acquire_release_atomics f × EncodesOrderingByte text o) ⊎ (¬ HasFeature acquire_release_atomics f × (text ≡ 0x00 ∷ []) × (o ≡ SeqCst))
 
--- Of an ordering by itself: a byte of no ordering is refused where it stands.
+-- The error of an ordering alone, at the offset of its byte: the data ends, or the byte is not an
+-- ordering.
 abbrev pub OrderingByteFault : Message → Reader → ℕ → Type 0
 OrderingByteFault m r offset = CheckedByteFault (λ byte. (o : Ordering) → byte ≢ ordering_byte o) (λ byte. message.InvalidOrdering byte false) (offset_of r) m r offset
 
--- Of the byte of an `atomic.fence` that began at `start`: with acquire_release_atomics that of an ordering; without it, another byte than 0 is refused where the operator began.
+-- The error of the byte of an `atomic.fence` that starts at the offset `start`. With
+-- acquire_release_atomics it is the error of an ordering. Without it, a byte other than 0 is
+-- `NonzeroAfterFence` at `start`.
 abbrev pub FenceFault : WasmFeatures → ℕ → Message → Reader → ℕ → Type 0
 FenceFault f start m r offset = (HasFeature acquire_release_atomics f × OrderingByteFault m r offset) ⊎ (¬ HasFeature acquire_release_atomics f × ZeroFault message.NonzeroAfterFence start m r offset)

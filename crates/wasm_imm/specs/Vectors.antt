@@ -1,4 +1,4 @@
--- Vectors and the lanes of a shuffle, and which refusal lanes have.
+-- Vectors and the lanes of a shuffle, and the error of lanes.
 -- WebAssembly Core Specification 3.0, Binary Format, Instructions, Vector Instructions.
 use Rattle.std.specs.Prelude.{◌≡◌, ℕ, List, length, ◌+◌, ◌<◌}
 use Rattle.wasm_imm_control.specs.below.Source.{Reader, end_of, offset_of}
@@ -6,7 +6,7 @@ use Rattle.wasm_imm.specs.declared.constants.V128.{V128}
 use Rattle.wasm_imm_control.specs.below.bytes.message.Message.{Message}
 use Rattle.wasm_imm_control.specs.below.bytes.message.Message.TheVariants as message
 
--- Sixteen bytes, as they stand: the lanes of a shuffle. Vector Instructions.
+-- Sixteen bytes in order: the lanes of a shuffle. Vector Instructions.
 abbrev pub EncodesSixteen : List ℕ → List ℕ → Type 0
 EncodesSixteen text bytes = (text ≡ bytes) × (length bytes ≡ 16)
 
@@ -14,6 +14,7 @@ EncodesSixteen text bytes = (text ≡ bytes) × (length bytes ≡ 16)
 abbrev pub EncodesVector : List ℕ → V128 → Type 0
 EncodesVector text v = EncodesSixteen text v.0
 
--- Of the lanes of a shuffle: fewer than sixteen bytes are left, and the refusal stands behind them.
+-- The error of the lanes of a shuffle: fewer than sixteen bytes are left, and the offset is the end
+-- of the data.
 abbrev pub LanesFault : Message → Reader → ℕ → Type 0
 LanesFault m r offset = (m ≡ message.EndOfData) × (offset ≡ end_of r) × (end_of r < offset_of r + 16)

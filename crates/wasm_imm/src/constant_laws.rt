@@ -1,7 +1,7 @@
-//! Laws on these immediates, each the contract of a function that does nothing.
+//! Laws of constants and lanes, each the contract of a function that does nothing.
 //!
-//! `PrefixCode` says that no encoding is a proper prefix of another, and that each is that of one
-//! value; `DeterminesRefusal`, that what a fault says determines the message and the offset.
+//! `PrefixCode` says that no encoding is a proper prefix of another, and that each encoding has one
+//! value. `DeterminesRefusal` says that a fault determines the message and the offset of an error.
 ghost use Rattle.std.specs.Prelude.{◌≡◌, ◌<◌, ℕ, List, length, All};
 ghost use Rattle.std.specs.Int.{w128, to_le_bytes, from_le_bytes, cast_signed, cast_unsigned};
 ghost use Rattle.wasm_imm_control.specs.below.Fault.{DeterminesRefusal};
@@ -9,29 +9,29 @@ ghost use Rattle.wasm_imm_control.specs.below.Sequence.{PrefixCode};
 ghost use Rattle.wasm_imm_control.specs.below.Source.{IsByte};
 ghost use Rattle.wasm_imm.specs.Vectors.{EncodesSixteen, LanesFault};
 
-/// Lanes, and sixteen bytes.
+/// States that the encodings of a lane, and of sixteen bytes, are prefix codes.
 pub fn lanes()
     ensures one { PrefixCode IsByte }
     ensures sixteen { PrefixCode EncodesSixteen }
 {}
 
-/// What the fault of the lanes of a shuffle says determines its refusal.
+/// States that the fault of the lanes of a shuffle determines its error.
 pub fn lane_refusals()
     ensures { DeterminesRefusal LanesFault }
 {}
 
-/// A vector made of a number gives that number back.
+/// States that converting a number to a vector and back gives the same number.
 pub fn number_restored(value: u128)
     ensures { from_le_bytes w128 (to_le_bytes w128 value) ≡ value }
 {}
 
-/// A vector made of a number with a sign gives that number back.
+/// States that converting a signed number to a vector and back gives the same number.
 pub fn signed_number_restored(value: i128)
     ensures { cast_signed w128 (from_le_bytes w128 (to_le_bytes w128 (cast_unsigned w128 value)))
         ≡ value }
 {}
 
-/// A vector made of the number of a vector is that vector.
+/// States that converting a vector to a number and back gives the same vector.
 pub fn vector_restored()
     ensures { (bytes : List ℕ)
         → length bytes ≡ 16
@@ -39,7 +39,7 @@ pub fn vector_restored()
         → to_le_bytes w128 (from_le_bytes w128 bytes) ≡ bytes }
 {}
 
-/// A vector made of the number with a sign of a vector is that vector.
+/// States that converting a vector to a signed number and back gives the same vector.
 pub fn vector_restored_signed()
     ensures { (bytes : List ℕ)
         → length bytes ≡ 16

@@ -21,14 +21,14 @@ impl Model for Ieee32 {
 }
 
 impl Ieee32 {
-    /// The number of these bits.
+    /// Creates the number from its bits.
     pub fn from_bits(bits: u32) -> Ieee32
         ensures { result ≡ bits }
     {
         Ieee32(bits)
     }
 
-    /// The bits.
+    /// Returns the bits.
     pub fn bits(self) -> u32
         ensures { result ≡ self }
     {
@@ -50,14 +50,14 @@ impl Model for Ieee64 {
 }
 
 impl Ieee64 {
-    /// The number of these bits.
+    /// Creates the number from its bits.
     pub fn from_bits(bits: u64) -> Ieee64
         ensures { result ≡ bits }
     {
         Ieee64(bits)
     }
 
-    /// The bits.
+    /// Returns the bits.
     pub fn bits(self) -> u64
         ensures { result ≡ self }
     {
@@ -71,9 +71,9 @@ impl Ieee64 {
 pub struct V128(pub [u8; 16]);
 
 impl V128 {
-    /// The constant of `v128.const`: sixteen bytes, the lowest first. Vector Instructions.
+    /// Reads the constant of `v128.const`: sixteen bytes, the lowest first. Vector Instructions.
     ///
-    /// `EndOfData` where they begin.
+    /// Fails with `EndOfData` at the offset of the first byte.
     #[inline(always)]
     pub fn read(reader: &mut BinaryReader<'_>) -> Result<V128>
         ensures reads { Reads EncodesVector result reader.old reader.new }
@@ -85,14 +85,14 @@ impl V128 {
         }
     }
 
-    /// The bytes, the lowest first.
+    /// Returns the bytes, the lowest first.
     pub fn bytes(&self) -> &[u8; 16]
         ensures { result.now ≡ self.now.0 }
     {
         &self.0
     }
 
-    /// The bytes as a number with a sign.
+    /// Returns the bytes as a signed number.
     pub fn i128(&self) -> i128
         ensures { result ≡ cast_signed w128 (from_le_bytes w128 self.now.0) }
     {

@@ -1,4 +1,4 @@
-//! Indices of memories and tables, which a feature announces.
+//! Indices of memories and tables, which depend on a feature.
 ghost use Rattle.std.specs.Prelude.{IfErr};
 ghost use Rattle.wasm_imm_control.specs.below.Source.{Reads};
 ghost use Rattle.wasm_imm.specs.Indices.{EncodesIndex, EncodesMemoryIndex, EncodesTableIndex};
@@ -6,10 +6,10 @@ ghost use Rattle.wasm_imm.specs.Indices.{IndexFault, MemoryIndexFault, TableInde
 
 use wasm_imm_control::below::{BinaryReader, Message, Result, WasmFeatures};
 
-/// The memory of `memory.size` or `memory.grow`. Memory Instructions.
+/// Reads the memory index of `memory.size` or `memory.grow`. Memory Instructions.
 ///
-/// With multi_memory refused as `read_var_u32` is; without it, `EndOfData` at the end of the data,
-/// and `ZeroByteExpected` at a byte that is not 0.
+/// With multi_memory, fails like `read_var_u32`. Without it, fails with `EndOfData` at the end of
+/// the data, or with `ZeroByteExpected` at a byte that is not 0.
 #[inline(never)]
 pub fn read_memory_index(reader: &mut BinaryReader<'_>) -> Result<u32>
     ensures reads { Reads (EncodesMemoryIndex reader.old.features) result reader.old reader.new }
@@ -19,10 +19,10 @@ pub fn read_memory_index(reader: &mut BinaryReader<'_>) -> Result<u32>
     read_index(reader, WasmFeatures::MULTI_MEMORY)
 }
 
-/// The table of `call_indirect`. Control Instructions.
+/// Reads the table index of `call_indirect`. Control Instructions.
 ///
-/// With call_indirect_overlong refused as `read_var_u32` is; without it, `EndOfData` at the end of
-/// the data, and `ZeroByteExpected` at a byte that is not 0.
+/// With call_indirect_overlong, fails like `read_var_u32`. Without it, fails with `EndOfData` at
+/// the end of the data, or with `ZeroByteExpected` at a byte that is not 0.
 #[inline(never)]
 pub fn read_table_index(reader: &mut BinaryReader<'_>) -> Result<u32>
     ensures reads { Reads (EncodesTableIndex reader.old.features) result reader.old reader.new }
@@ -32,7 +32,7 @@ pub fn read_table_index(reader: &mut BinaryReader<'_>) -> Result<u32>
     read_index(reader, WasmFeatures::CALL_INDIRECT_OVERLONG)
 }
 
-/// A number with this feature; without it, the byte 0.
+/// Reads a number of 32 bits with this feature, and the byte 0 without it.
 #[inline(always)]
 fn read_index(reader: &mut BinaryReader<'_>, feature: WasmFeatures) -> Result<u32>
     ensures reads { Reads (EncodesIndex feature reader.old.features) result reader.old reader.new }

@@ -6,9 +6,9 @@ ghost use Rattle.wasm_imm.specs.Vectors.{LanesFault};
 
 use wasm_imm_control::below::{BinaryReader, Error, Message, Result};
 
-/// The number of a lane, of any value. Vector Instructions.
+/// Reads the number of a lane, of any value. Vector Instructions.
 ///
-/// `EndOfData` at the end of the data.
+/// Fails with `EndOfData` at the end of the data.
 #[inline(always)]
 pub fn read_lane(reader: &mut BinaryReader<'_>) -> Result<u8>
     ensures reads { Reads IsByte result reader.old reader.new }
@@ -17,9 +17,9 @@ pub fn read_lane(reader: &mut BinaryReader<'_>) -> Result<u8>
     reader.read_u8()
 }
 
-/// The sixteen lanes of a shuffle. Vector Instructions.
+/// Reads the sixteen lanes of a shuffle. Vector Instructions.
 ///
-/// `EndOfData` at the end of the data, where fewer bytes are left.
+/// Fails with `EndOfData` at the end of the data if fewer than sixteen bytes are left.
 #[inline(never)]
 pub fn read_lanes(reader: &mut BinaryReader<'_>) -> Result<[u8; 16]>
     ensures reads { Reads EncodesSixteen result reader.old reader.new }
@@ -31,9 +31,9 @@ pub fn read_lanes(reader: &mut BinaryReader<'_>) -> Result<[u8; 16]>
     }
 }
 
-/// Sixteen bytes.
+/// Reads sixteen bytes.
 ///
-/// `EndOfData` where they begin.
+/// Fails with `EndOfData` at the offset of the first byte.
 #[inline(always)]
 pub fn read_sixteen(reader: &mut BinaryReader<'_>) -> Result<[u8; 16]>
     ensures reads { Reads EncodesSixteen result reader.old reader.new }

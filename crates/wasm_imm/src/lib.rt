@@ -1,18 +1,20 @@
-//! The immediates of WebAssembly's operators: what stands behind the opcode of an operator.
+//! The immediates of WebAssembly's operators: the values after the opcode of an operator.
 //!
-//! Each reading call answers `Ok` exactly where a prefix of the rest encodes a value (`specs/`), takes
-//! that prefix and answers that value. A refused call leaves the reader where it was.
+//! A read call returns `Ok` if and only if a prefix of the rest encodes a value (`specs/`). It then
+//! returns the value and advances past that prefix. On `Err`, the reader is unchanged.
 //!
-//! The immediates of control instructions stand in `wasm_imm_control`, whose names this crate has too;
-//! callers list this crate alone.
+//! The immediates of control operators are in `wasm_imm_control`, whose names this crate
+//! re-exports. Only calls of that crate allocate. Callers list only this crate.
 #![tactic(auto)]
 
 pub mod constant_laws;
 mod constants;
+pub mod immediate_laws;
 mod index;
 mod lanes;
 mod memory_argument;
 pub mod memory_laws;
+mod operator_info;
 mod ordering;
 mod read_immediates;
 
@@ -20,6 +22,7 @@ pub use constants::{Ieee32, Ieee64, V128};
 pub use index::{read_memory_index, read_table_index};
 pub use lanes::{read_lane, read_lanes};
 pub use memory_argument::{MemArg, MemArgKind, MemArgOrdering, MemArgTarget};
+pub use operator_info::OperatorInfo;
 pub use ordering::Ordering;
 pub use read_immediates::ReadImmediates;
 pub use wasm_imm_control::{

@@ -10,21 +10,22 @@ use crate::ordering::Ordering;
 use std::fmt::{self, Debug, Formatter};
 use wasm_imm_control::below::{BinaryReader, Error, Message, Result, WasmFeatures};
 
-/// The memory argument of a load, a store or an atomic access: its alignment, its static offset, and
-/// what it accesses. Memory Instructions.
+/// The memory argument of a load, a store or an atomic access: its alignment, its static offset,
+/// and what it accesses. Memory Instructions.
 ///
-/// Wide fields stand first, so that it takes 24 bytes.
+/// Wide fields come first, so that the size is 24 bytes.
 #[derive(Clone, Copy, PartialEq, Eq)]
 pub struct MemArg {
     /// The static offset in bytes, added to the address.
     pub offset: u64,
     /// The memory or the array that is accessed.
     pub target: MemArgTarget,
-    /// The alignment that the argument gives, as the exponent of a power of two, at most 15.
+    /// The alignment of the argument, as the exponent of a power of two, at most 15.
     pub align: u8,
-    /// The operator's natural alignment, as the exponent of a power of two; not read from the format.
+    /// The operator's natural alignment, as the exponent of a power of two. It is not read from the
+    /// bytes.
     pub max_align: u8,
-    /// The memory ordering, where the argument announces one.
+    /// The memory ordering, if the argument announces one.
     pub ordering: Option<MemArgOrdering>,
 }
 
@@ -44,7 +45,7 @@ impl Debug for MemArg {
 /// What a memory operator accesses.
 #[derive(Clone, Copy, Debug, PartialEq, Eq, Hash)]
 pub enum MemArgTarget {
-    /// The memory of this index.
+    /// The memory with this index.
     Memory(u32),
     /// An array whose type has this index.
     Array(u32),
@@ -58,19 +59,20 @@ impl Default for MemArgTarget {
     }
 }
 
-/// The ordering that a memory argument gives.
+/// The ordering of a memory argument.
 #[derive(Clone, Copy, Debug, PartialEq, Eq, Hash)]
 pub enum MemArgOrdering {
-    /// Of an atomic load or store.
+    /// The ordering of an atomic load or store.
     Op(Ordering),
-    /// Of an atomic read-modify-write.
+    /// The ordering of an atomic read-modify-write.
     Rmw(Ordering),
 }
 
-/// What sort of operator a memory argument is of: it decides which orderings may stand there.
+/// The kind of operator that a memory argument belongs to. It decides which orderings the argument
+/// may have.
 #[derive(Clone, Copy, Debug, PartialEq, Eq)]
 pub enum MemArgKind {
-    /// Not atomic: none.
+    /// Not atomic: no ordering.
     Plain,
     /// An atomic load or store.
     Op,
@@ -86,14 +88,18 @@ const ARRAY_INDEX: u32 = 32;
 const MEMORY_INDEX: u32 = 64;
 
 impl MemArg {
-    /// A memory argument of an operator of this kind, whose natural alignment is `max_align`. Binary
-    /// Format, Memory Instructions.
+    /// Reads the memory argument of an operator of this kind. `max_align` is the operator's natural
+    /// alignment, as the exponent of a power of two. Binary Format, Memory Instructions.
     ///
-    /// The first that applies of: what `read_var_u32` refuses in the flags number; `MemoryAndArray` at
-    /// the flags number; what `read_var_u32` refuses in the index that is announced; `OrderingOnPlain`
-    /// at the flags number; `EndOfData` or `InvalidOrdering` at the ordering's byte; `ReservedFlags` at
-    /// the flags number; and what the offset's number is refused for, by `read_var_u64` with memory64
-    /// and else by `read_var_u32`.
+    /// Fails with the first of these errors that applies:
+    ///
+    /// - as `read_var_u32` at the flags number
+    /// - `MemoryAndArray` at the flags number
+    /// - as `read_var_u32` at the announced index
+    /// - `OrderingOnPlain` at the flags number
+    /// - `EndOfData` or `InvalidOrdering` at the byte of the ordering
+    /// - `ReservedFlags` at the flags number
+    /// - at the offset field, as `read_var_u64` with memory64 and as `read_var_u32` without it
     #[inline(always)]
     pub fn read(reader: &mut BinaryReader<'_>, max_align: u8, kind: MemArgKind) -> Result<MemArg>
         ensures reads { Reads (EncodesMemArg reader.old.features kind max_align)
@@ -128,8 +134,8 @@ impl MemArg {
     }
 }
 
-/// The rest of a memory argument that began at `start`, whose flags number announces something: read by
-/// a copy of the reader, which is lent out of line.
+/// Reads the rest of a memory argument that starts at `start` and whose flags number announces
+/// something. The call that is not inlined borrows a copy of the reader.
 #[inline(always)]
 fn read_announced(
     reader: &mut BinaryReader<'_>,
@@ -152,10 +158,11 @@ fn read_announced(
     answer
 }
 
-/// The rest of a memory argument that began at `start`, whose flags number announces something.
+/// Reads the rest of a memory argument that starts at `start` and whose flags number announces
+/// something.
 ///
-/// What reads it stands twice in the built code: where a memory's index alone is announced, the
-/// compiler drops the checks of all else.
+/// The code of `read_rest` occurs twice in the built code. In the copy for a memory index alone,
+/// the compiler drops the checks of everything else.
 fn read_announced_out_of_line(
     reader: &mut BinaryReader<'_>,
     start: usize,
@@ -180,7 +187,7 @@ fn read_announced_out_of_line(
     }
 }
 
-/// The rest of one that announces anything else.
+/// Reads the rest of a memory argument that announces anything else.
 #[inline(never)]
 fn read_other(
     reader: &mut BinaryReader<'_>,
@@ -200,7 +207,8 @@ fn read_other(
     read_rest(reader, start, flags, max_align, kind)
 }
 
-/// The rest of a memory argument behind its flags number: the index, the ordering and the offset.
+/// Reads the rest of a memory argument after its flags number: the index, the ordering and the
+/// offset.
 #[inline(always)]
 fn read_rest(
     reader: &mut BinaryReader<'_>,
@@ -256,7 +264,7 @@ fn read_rest(
     }
 }
 
-/// Whether the flags number has this bit, and the feature that gives it a meaning is on.
+/// Returns whether the flags number has this bit, and the feature that gives it a meaning is on.
 #[inline(always)]
 fn announces(features: WasmFeatures, feature: WasmFeatures, flags: u32, bit: u32) -> bool
     requires { 0 < bit }
@@ -265,13 +273,13 @@ fn announces(features: WasmFeatures, feature: WasmFeatures, flags: u32, bit: u32
     features.contains(feature) && flags / bit % 2 == 1
 }
 
-/// Whether the flags number announces a memory's index and nothing else.
+/// Returns whether the flags number announces a memory index and nothing else.
 #[inline(always)]
 fn names_memory_alone(features: WasmFeatures, flags: u32) -> bool {
     flags / ORDERING == MEMORY_INDEX / ORDERING && features.contains(WasmFeatures::MULTI_MEMORY)
 }
 
-/// Whether a memory and an array are named at once.
+/// Returns whether the flags number has the bits of both an array index and a memory index.
 #[inline(always)]
 fn names_both(features: WasmFeatures, flags: u32) -> bool
     ensures { IsTrue result ↔ NamesBoth features flags }
@@ -284,7 +292,7 @@ fn names_both(features: WasmFeatures, flags: u32) -> bool
     ) && flags / MEMORY_INDEX % 2 == 1
 }
 
-/// Whether an ordering is announced where none may stand.
+/// Returns whether a memory argument that may have no ordering announces one.
 #[inline(always)]
 fn orders_plain(features: WasmFeatures, kind: MemArgKind, flags: u32) -> bool
     ensures { IsTrue result ↔ OrdersPlain features kind flags }
@@ -298,7 +306,7 @@ fn orders_plain(features: WasmFeatures, kind: MemArgKind, flags: u32) -> bool
         )
 }
 
-/// Whether a bit is set that has no meaning under these features.
+/// Returns whether a bit is set that has no meaning with these features.
 #[inline(always)]
 fn is_reserved(features: WasmFeatures, flags: u32) -> bool
     ensures { IsTrue result ↔ IsReserved features flags }
@@ -309,7 +317,7 @@ fn is_reserved(features: WasmFeatures, flags: u32) -> bool
         || flags / ORDERING % 2 == 1 && !features.contains(WasmFeatures::ACQUIRE_RELEASE_ATOMICS)
 }
 
-/// What is reached, by the index that the flags number announces.
+/// Reads the index that the flags number announces, and returns what is accessed.
 #[inline(always)]
 fn read_target(
     reader: &mut BinaryReader<'_>,
@@ -340,9 +348,9 @@ fn read_target(
     Ok(MemArgTarget::Memory(0))
 }
 
-/// The ordering, where the flags number announces one.
+/// Reads the ordering, if the flags number announces one.
 ///
-/// `EndOfData` or `InvalidOrdering` at its byte.
+/// Fails with `EndOfData` or `InvalidOrdering` at its byte.
 #[inline(always)]
 fn read_ordering(
     reader: &mut BinaryReader<'_>,
@@ -374,7 +382,7 @@ fn read_ordering(
     }
 }
 
-/// The ordering of this byte in an argument of this kind, if it is one.
+/// Returns the ordering with this byte in an argument of this kind, if there is one.
 fn ordering_of(kind: MemArgKind, byte: u8) -> Option<MemArgOrdering>
     ensures some { IfSome result (IsOrderingByte kind byte) }
     ensures none { IfNone result ((o : _) → ¬ IsOrderingByte kind byte o) }
@@ -388,7 +396,7 @@ fn ordering_of(kind: MemArgKind, byte: u8) -> Option<MemArgOrdering>
     }
 }
 
-/// An offset: 64 bits with memory64, else 32.
+/// Reads an offset: a number of 64 bits with memory64, and of 32 bits without it.
 #[inline(always)]
 fn read_offset(reader: &mut BinaryReader<'_>) -> Result<u64>
     ensures reads { Reads (EncodesOffset reader.old.features) result reader.old reader.new }

@@ -1,7 +1,8 @@
-//! Laws on these immediates, each the contract of a function that does nothing.
+//! Laws of memory arguments, indices and orderings, each the contract of a function that does
+//! nothing.
 //!
-//! `PrefixCode` says that no encoding is a proper prefix of another, and that each is that of one
-//! value; `DeterminesRefusal`, that what a fault says determines the message and the offset.
+//! `PrefixCode` says that no encoding is a proper prefix of another, and that each encoding has one
+//! value. `DeterminesRefusal` says that a fault determines the message and the offset of an error.
 ghost use Rattle.std.specs.Prelude.{ℕ};
 ghost use Rattle.wasm_imm_control.specs.below.bytes.features.WasmFeatures.{WasmFeatures};
 ghost use Rattle.wasm_imm_control.specs.below.Fault.{DeterminesRefusal};
@@ -14,25 +15,25 @@ ghost use Rattle.wasm_imm.specs.MemoryArgument.{EncodesMemArg};
 use crate::memory_argument::MemArgKind;
 use wasm_imm_control::below::WasmFeatures;
 
-/// Memory arguments.
+/// States that the encodings of memory arguments are a prefix code.
 pub fn memory_arguments(features: WasmFeatures, kind: MemArgKind, max_align: u8)
     ensures { PrefixCode (EncodesMemArg features kind max_align) }
 {}
 
-/// Indices of memories and tables.
+/// States that the encodings of memory indices, and of table indices, are prefix codes.
 pub fn indices(features: WasmFeatures)
     ensures memory { PrefixCode (EncodesMemoryIndex features) }
     ensures table { PrefixCode (EncodesTableIndex features) }
 {}
 
-/// Orderings, alone and of a fence.
+/// States that the encodings of orderings, alone and of a fence, are prefix codes.
 pub fn orderings(features: WasmFeatures)
     ensures alone { PrefixCode EncodesOrderingByte }
     ensures fence { PrefixCode (EncodesFence features) }
 {}
 
-/// What the fault of a short immediate says determines its refusal: of an index, of an ordering,
-/// and of the byte of a fence that began anywhere.
+/// States that the fault determines the error: of an index, an ordering, and the byte of a fence
+/// that starts at any offset.
 pub fn short_refusals(features: WasmFeatures)
     ensures memory { DeterminesRefusal (MemoryIndexFault features) }
     ensures table { DeterminesRefusal (TableIndexFault features) }
@@ -40,7 +41,7 @@ pub fn short_refusals(features: WasmFeatures)
     ensures fence { (start : ℕ) → DeterminesRefusal (FenceFault features start) }
 {}
 
-/// What the fault of a memory argument says determines its refusal, of any kind of operator.
+/// States that the fault of a memory argument determines its error, for any kind of operator.
 pub fn memory_argument_refusals(features: WasmFeatures, kind: MemArgKind)
     ensures { DeterminesRefusal (MemArgFault features kind) }
 {}

@@ -7,7 +7,7 @@ ghost use Rattle.wasm_imm.specs.Orderings.{OrderingByteFault, FenceFault};
 
 use wasm_imm_control::below::{BinaryReader, Error, Message, Result, WasmFeatures};
 
-/// In which order an atomic operation is seen.
+/// The order in which threads see an atomic operation.
 #[derive(Clone, Copy, Debug, PartialEq, Eq, Hash)]
 pub enum Ordering {
     /// A load acquires, a store releases.
@@ -17,9 +17,9 @@ pub enum Ordering {
 }
 
 impl Ordering {
-    /// An ordering byte. Proposal shared-everything threads.
+    /// Reads an ordering byte. Proposal shared-everything threads.
     ///
-    /// `EndOfData` at the end of the data, `InvalidOrdering` at the byte.
+    /// Fails with `EndOfData` at the end of the data, or with `InvalidOrdering` at the byte.
     #[inline(never)]
     pub fn read(reader: &mut BinaryReader<'_>) -> Result<Ordering>
         ensures reads { Reads EncodesOrderingByte result reader.old reader.new }
@@ -34,10 +34,11 @@ impl Ordering {
         }
     }
 
-    /// The byte of an `atomic.fence` that began at the offset `start`. Proposal threads.
+    /// Reads the byte of an `atomic.fence` that starts at the offset `start`. Proposal threads.
     ///
-    /// With acquire-release atomics an ordering byte, refused as in `read`; without them 0, and
-    /// else `NonzeroAfterFence` at `start`. `EndOfData` at the end of the data.
+    /// With acquire-release atomics, reads an ordering byte and fails like `read`. Without them,
+    /// reads the byte 0, and fails with `NonzeroAfterFence` at `start` if the byte is not 0. Fails
+    /// with `EndOfData` at the end of the data.
     #[inline(never)]
     pub fn read_fence(reader: &mut BinaryReader<'_>, start: u64) -> Result<Ordering>
         requires { start ≤ offset_of reader.old }

@@ -1,12 +1,12 @@
 -- Written by tools/lists.py from tools/operators.tsv.
--- The operators of one byte by their opcode, but for the numeric ones.
+-- The operators of one byte by opcode, except the numeric ones.
 use Rattle.std.proofs.Common.{ℕ, List, [], ◌∷◌, get_or}
-use Rattle.wasm_instr_simd.specs.imm.control.select.Select.{Select}
-use Rattle.wasm_instr_simd.specs.imm.control.select.Select.TheVariants as select
+use Rattle.wasm_instr_ops.specs.imm.control.select.Select.{Select}
+use Rattle.wasm_instr_ops.specs.imm.control.select.Select.TheVariants as select
 use Rattle.wasm_instr.specs.declared.operator.Operator.{Operator}
 use Rattle.wasm_instr.specs.declared.operator.Operator.TheVariants as operator
-use Rattle.wasm_instr_simd.specs.instr_ops.Immediate.{Immediate}
-use Rattle.wasm_instr_simd.proofs.of_instr_ops.Values.{behind, number_in, integer_in, argument_in, heap_type_in, block_type_in, branch_table_in, select_in, try_table_in, resume_table_in}
+use Rattle.wasm_instr_ops.specs.imm.Immediate.{Immediate}
+use Rattle.wasm_instr_ops.proofs.of_imm.Values.{behind, number_in, integer_in, argument_in, heap_type_in, block_type_in, branch_table_in, select_in, try_table_in, resume_table_in}
 
 abbrev select_at : Select → Operator
 select_at (select.One ty) = operator.TypedSelect ty
@@ -247,6 +247,6 @@ makers =
     (λ is. operator.Switch (number_in is) (number_in (behind is))) ∷
     []
 
--- The operator of an opcode that is not numeric.
+-- The operator with this opcode, which is not numeric, and these immediates.
 abbrev pub own_at : ℕ → List Immediate → Operator
 own_at code is = get_or makers code (λ is. operator.Nop) is

@@ -1,16 +1,16 @@
--- Under one set of features no encoding of an operator begins another, and an encoding is that of one operator.
+-- Under one set of features no encoding of an operator is a proper prefix of another, and an encoding has one operator.
 use Rattle.std.proofs.Common.{◌≡◌, ℕ, Bool, true, false, cond, eqb, ltb, List, [], ◌∷◌, ◌++◌, Option, Some, None, map, refl, sym, ap, subst, ◌∙◌, append_assoc}
-use Rattle.wasm_instr_simd.specs.below.bytes.features.WasmFeatures.{WasmFeatures}
-use Rattle.wasm_instr_simd.specs.below.Number.{EncodesUnsigned}
-use Rattle.wasm_instr_simd.proofs.of_below.PrefixCode.{unsigned_prefix_code}
-use Rattle.wasm_instr_simd.proofs.of_below.TakesLemmas.{same_rest}
-use Rattle.wasm_instr_simd.specs.instr_ops.Immediate.{Immediate, Kind, kind_of}
-use Rattle.wasm_instr_simd.proofs.of_instr_ops.ImmediatePrefixCodes.{immediates_prefix_code}
-use Rattle.wasm_instr_simd.specs.instr_ops.Numeric.{numeric_opcode, numeric_immediates}
-use Rattle.wasm_instr_simd.proofs.of_instr_ops.NumericByOpcode.{numeric_at, numeric_by_opcode, numeric_kinds, numeric_range, numeric_short, is_numeric}
-use Rattle.wasm_instr_simd.proofs.of_instr_ops.GcByOpcode.{gc_at, gc_by_opcode, gc_kinds}
-use Rattle.wasm_instr_simd.proofs.of_instr_ops.MiscByOpcode.{misc_at, misc_by_opcode, misc_kinds}
-use Rattle.wasm_instr_simd.proofs.of_instr_ops.AtomicByOpcode.{atomic_at, atomic_by_opcode, atomic_kinds}
+use Rattle.wasm_instr_ops.specs.below.bytes.features.WasmFeatures.{WasmFeatures}
+use Rattle.wasm_instr_ops.specs.below.Number.{EncodesUnsigned}
+use Rattle.wasm_instr_ops.proofs.of_below.PrefixCode.{unsigned_prefix_code}
+use Rattle.wasm_instr_ops.proofs.of_below.TakesLemmas.{same_rest}
+use Rattle.wasm_instr_ops.specs.imm.Immediate.{Immediate, Kind, kind_of}
+use Rattle.wasm_instr_ops.proofs.of_imm.ImmediatePrefixCodes.{immediates_prefix_code}
+use Rattle.wasm_instr_ops.specs.Numeric.{numeric_opcode, numeric_immediates}
+use Rattle.wasm_instr_ops.proofs.NumericByOpcode.{numeric_at, numeric_by_opcode, numeric_kinds, numeric_range, numeric_short, is_numeric}
+use Rattle.wasm_instr_ops.proofs.GcByOpcode.{gc_at, gc_by_opcode, gc_kinds}
+use Rattle.wasm_instr_ops.proofs.MiscByOpcode.{misc_at, misc_by_opcode, misc_kinds}
+use Rattle.wasm_instr_ops.proofs.AtomicByOpcode.{atomic_at, atomic_by_opcode, atomic_kinds}
 use Rattle.wasm_instr_simd.proofs.SimdByOpcode.{simd_at, simd_by_opcode, simd_kinds}
 use Rattle.wasm_instr.specs.declared.operator.Operator.{Operator}
 use Rattle.wasm_instr.specs.declared.operator.Operator.TheVariants as operator
@@ -18,7 +18,7 @@ use Rattle.wasm_instr.specs.Row.{prefix_of, opcode_of, immediates_of}
 use Rattle.wasm_instr.specs.Encoding.{EncodesOpcode, EncodesOperator}
 use Rattle.wasm_instr.proofs.ByOpcode.{own_at}
 
--- The operator of a prefix byte, an opcode or subopcode, and immediates.
+-- The operator with a prefix byte, an opcode or subopcode, and immediates.
 abbrev pub operator_at : Option ℕ → ℕ → List Immediate → Operator
 operator_at None code is = cond (is_numeric code) (operator.Numeric (numeric_at code is)) (own_at code is)
 operator_at (Some prefix) code is =
@@ -36,7 +36,7 @@ again (operator.Simd op) = ap operator.Simd (simd_by_opcode op)
 again (operator.Atomic op) = ap operator.Atomic (atomic_by_opcode op)
 again op = refl
 
--- The kinds of the immediates behind an opcode or a subopcode.
+-- The kinds of the immediates after an opcode or a subopcode.
 abbrev kinds_at : Option ℕ → ℕ → List Kind
 kinds_at prefix code = map kind_of (immediates_of (operator_at prefix code []))
 
@@ -50,7 +50,7 @@ kinds_by_opcode (operator.Simd op) = simd_kinds op
 kinds_by_opcode (operator.Atomic op) = atomic_kinds op
 kinds_by_opcode op = refl
 
--- No opcode is a prefix.
+-- No opcode of an operator of one byte is a prefix byte.
 abbrev IsTold : Option ℕ → ℕ → Type 0
 IsTold None code = ltb code 0xfb ≡ true
 IsTold (Some prefix) code = ltb prefix 0xfb ≡ false

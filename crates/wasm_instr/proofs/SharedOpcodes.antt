@@ -1,10 +1,10 @@
--- Which operators share an opcode.
+-- Only TypedSelect and TypedSelectMulti share an opcode.
 use Rattle.std.proofs.Common.{◌≡◌, ◌⊎◌, inl, inr, ℕ, Bool, true, false, cond, List, [], Option, refl, sym, ap, ◌∙◌}
-use Rattle.wasm_instr_simd.specs.instr_ops.Numeric.{numeric_opcode}
-use Rattle.wasm_instr_simd.proofs.of_instr_ops.NumericByOpcode.{numeric_at, numeric_named, numeric_range}
-use Rattle.wasm_instr_simd.proofs.of_instr_ops.GcByOpcode.{gc_named}
-use Rattle.wasm_instr_simd.proofs.of_instr_ops.MiscByOpcode.{misc_named}
-use Rattle.wasm_instr_simd.proofs.of_instr_ops.AtomicByOpcode.{atomic_named}
+use Rattle.wasm_instr_ops.specs.Numeric.{numeric_opcode}
+use Rattle.wasm_instr_ops.proofs.NumericByOpcode.{numeric_at, numeric_named, numeric_range}
+use Rattle.wasm_instr_ops.proofs.GcByOpcode.{gc_named}
+use Rattle.wasm_instr_ops.proofs.MiscByOpcode.{misc_named}
+use Rattle.wasm_instr_ops.proofs.AtomicByOpcode.{atomic_named}
 use Rattle.wasm_instr_simd.proofs.SimdByOpcode.{simd_named}
 use Rattle.wasm_instr.specs.declared.operator.Operator.{Operator}
 use Rattle.wasm_instr.specs.declared.operator.Operator.TheVariants as operator

@@ -1,9 +1,9 @@
--- What a module answers to the questions on which arities depend.
+-- The data of a module on which arities depend.
 use Rattle.std.specs.Prelude.{ℕ, Option}
 use Rattle.wasm_grammar.specs.declared.frame_kind.FrameKind.{FrameKind}
-use Rattle.wasm_instr_simd.specs.imm.control.block_type.BlockType.{BlockType}
+use Rattle.wasm_instr_ops.specs.imm.control.block_type.BlockType.{BlockType}
 
--- The answer of each call: a number, or a pair of numbers of which the first counts parameters and the second results.
+-- The results of the methods of `ModuleArity`. A pair is the numbers of parameters and results.
 pub record Answers : Type 0 where
   pub func_type_arity : ℕ → Option (ℕ × ℕ)
   pub struct_type_fields : ℕ → Option ℕ

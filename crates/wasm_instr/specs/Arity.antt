@@ -1,135 +1,150 @@
--- How many operands an operator takes and how many values it leaves.
+-- The arity of an operator: its numbers of operands and results.
 -- WebAssembly Core Specification 3.0: Validation, Instructions; Appendix, Validation Algorithm. Proposals legacy exception handling, stack switching and custom descriptors.
--- An operator that opens a construct takes its parameters and leaves them to its body, an `end` takes the results and leaves them, and what does not go on leaves nothing.
+-- An operator that opens a construct takes its parameters and passes them to its body. An `end` takes and returns the results. An operator that does not fall through has no results.
 use Rattle.std.specs.Prelude.{ℕ, ◌+◌, ◌-◌, ◌*◌, ◌^◌, ◌==◌, nat_lt, if◌then◌else◌, Option, Some, None, length}
 use Rattle.std.specs.Option.{option_map, option_and_then}
 use Rattle.wasm_grammar.specs.declared.frame_kind.FrameKind.{FrameKind}
 use Rattle.wasm_grammar.specs.declared.frame_kind.FrameKind.TheVariants as frame
-use Rattle.wasm_instr_simd.specs.imm.control.block_type.BlockType.{BlockType}
-use Rattle.wasm_instr_simd.specs.imm.control.block_type.BlockType.TheVariants as block
-use Rattle.wasm_instr_simd.specs.instr_ops.declared.gc.GcOperator.{GcOperator}
-use Rattle.wasm_instr_simd.specs.instr_ops.declared.gc.GcOperator.TheVariants as gc
+use Rattle.wasm_instr_ops.specs.imm.control.block_type.BlockType.{BlockType}
+use Rattle.wasm_instr_ops.specs.imm.control.block_type.BlockType.TheVariants as block
+use Rattle.wasm_instr_ops.specs.declared.gc.GcOperator.{GcOperator}
+use Rattle.wasm_instr_ops.specs.declared.gc.GcOperator.TheVariants as gc
 use Rattle.wasm_instr.specs.declared.operator.Operator.{Operator}
 use Rattle.wasm_instr.specs.declared.operator.Operator.TheVariants as operator
 use Rattle.wasm_instr.specs.Answers.{Answers}
 use Rattle.wasm_instr.specs.FixedArity.{fixed_arity, gc_pair}
 
--- What is taken and what is left.
+-- The numbers of operands and results, if they are defined.
 abbrev pub Arity : Type 0
 Arity = Option (ℕ × ℕ)
 
--- The sum, where 32 bits hold it.
+-- The sum, if it is less than 2^32.
 abbrev pub sum_within : ℕ → ℕ → Option ℕ
 sum_within n by = if nat_lt (n + by) (2 ^ 32) then Some (n + by) else None
 
--- So many more are taken.
+-- The arity with this many more operands.
 abbrev pub taking_more : ℕ → ℕ × ℕ → Arity
 taking_more by a = option_map (λ takes. (takes, a.1)) (sum_within a.0 by)
 
--- Parameters and results of a block type.
+-- The numbers of parameters and results of a block type.
 abbrev pub arity_of_block : Answers → BlockType → Arity
 arity_of_block m block.Empty = Some (0, 0)
 arity_of_block m (block.Value _) = Some (0, 1)
 arity_of_block m (block.FuncType i) = m.func_type_arity i
 
--- Of the block of the frame at a depth, the innermost being 0.
+-- The numbers of parameters and results of the block of the frame at a depth. The innermost frame has depth 0.
 abbrev pub arity_of_frame : Answers → ℕ → Arity
 arity_of_frame m depth = option_and_then (λ b. arity_of_block m b.0) (m.label_block depth)
 
--- What a branch to a frame carries: the parameters of a loop, and the results of another construct.
+-- The number of values that a branch to a frame carries: the parameters of a loop, or the results of another construct.
 abbrev pub carried : FrameKind → ℕ × ℕ → ℕ
 carried frame.Loop a = a.0
 carried _ a = a.1
 
+-- The number of values that a branch to the frame at a depth carries.
 abbrev pub arity_of_label : Answers → ℕ → Option ℕ
 arity_of_label m depth = option_and_then (λ b. option_map (carried b.1) (arity_of_block m b.0)) (m.label_block depth)
 
--- Parameters and results of a function, and of the function type of a continuation.
+-- The numbers of parameters and results of a function, and of the function type of a continuation type.
 abbrev pub arity_of_function : Answers → ℕ → Arity
 arity_of_function m i = option_and_then m.func_type_arity (m.type_index_of_function i)
 
 abbrev pub arity_of_continuation : Answers → ℕ → Arity
 arity_of_continuation m i = option_and_then m.func_type_arity (m.cont_type_func i)
 
--- Block, loop, try and try_table.
+-- The arity of block, loop, try and try_table.
 abbrev pub arity_of_entry : Answers → BlockType → Arity
 arity_of_entry m ty = option_map (λ a. (a.0, a.0)) (arity_of_block m ty)
 
+-- The arity of if: it takes the parameters of its block and the condition, and passes the parameters to its body.
 abbrev pub arity_of_if : Answers → BlockType → Arity
 arity_of_if m ty = option_and_then (taking_more 1) (arity_of_entry m ty)
 
+-- The arity of else: it takes the results of the first list, and passes the parameters to the second list.
 abbrev pub arity_of_else : Answers → Arity
 arity_of_else m = option_map (λ a. (a.1, a.0)) (arity_of_frame m 0)
 
+-- The arity of the legacy catch: it takes the results of the list before it, and passes on the parameters of its tag.
 abbrev pub arity_of_catch : Answers → ℕ → Arity
 arity_of_catch m tag = option_and_then (λ a. option_map (λ t. (a.1, t.0)) (m.tag_type_arity tag)) (arity_of_frame m 0)
 
+-- The arity of the legacy catch_all: it takes the results of the list before it, and passes nothing.
 abbrev pub arity_of_catch_all : Answers → Arity
 arity_of_catch_all m = option_map (λ a. (a.1, 0)) (arity_of_frame m 0)
 
--- End and delegate.
+-- The arity of end and delegate.
 abbrev pub arity_of_end : Answers → Arity
 arity_of_end m = option_map (λ a. (a.1, a.1)) (arity_of_frame m 0)
 
--- The results of the outermost frame, where one is open.
+-- The arity of return: it takes the results of the outermost frame, if one is open.
 abbrev pub arity_of_return : Answers → Arity
 arity_of_return m = if m.control_stack_height == 0 then None else option_map (λ a. (a.1, 0)) (arity_of_frame m (m.control_stack_height - 1))
 
--- What leaves the operator's own block, and takes what is given.
+-- The arity without results, of an operator that does not fall through.
 abbrev pub leaving : Arity → Arity
 leaving a = option_map (λ p. (p.0, 0)) a
 
--- A branch that is taken or not: what it carries stays.
+-- The arity of a branch that may fall through: the values that it carries stay on the stack.
 abbrev pub arity_of_branch : Answers → ℕ → Arity
 arity_of_branch m depth = option_map (λ n. (n, n)) (arity_of_label m depth)
 
+-- The arity of a branch with a condition: it takes one more operand.
 abbrev pub arity_of_branch_if : Answers → ℕ → Arity
 arity_of_branch_if m depth = option_and_then (taking_more 1) (arity_of_branch m depth)
 
+-- The arity of br_on_null: the values that the branch carries and the reference, all of which stay if it falls through.
 abbrev pub arity_of_branch_on_null : Answers → ℕ → Arity
 arity_of_branch_on_null m depth = option_and_then (λ n. option_map (λ one_more. (one_more, one_more)) (sum_within n 1)) (arity_of_label m depth)
 
+-- The arity (n, n - 1), unless n is 0.
 abbrev pub less_one : ℕ → Arity
 less_one n = if n == 0 then None else Some (n, n - 1)
 
+-- The arity of br_on_non_null: the values that the branch carries, of which the reference is dropped if it falls through.
 abbrev pub arity_of_branch_on_non_null : Answers → ℕ → Arity
 arity_of_branch_on_non_null m depth = option_and_then less_one (arity_of_label m depth)
 
--- A call through a table or a reference.
+-- The arity of a call through a table or a reference.
 abbrev pub arity_of_type_call : Answers → ℕ → Arity
 arity_of_type_call m i = option_and_then (taking_more 1) (m.func_type_arity i)
 
--- Two of each of so many types, and the condition.
+-- The arity of a select with this many types: it takes two values of each type and the condition.
 abbrev pub arity_of_select : ℕ → Arity
 arity_of_select n = if nat_lt (2 * n + 1) (2 ^ 32) then Some (2 * n + 1, n) else None
 
--- The parameters that the first type of a continuation has before those of the second, and the continuation.
+-- The arity of cont.bind, for continuation types with p and q parameters: it takes p - q parameters and the continuation.
 abbrev pub bound_within : ℕ → ℕ → Arity
 bound_within p q = if nat_lt p q then None else option_map (λ takes. (takes, 1)) (sum_within (p - q) 1)
 
+-- The arity of cont.bind from one continuation type to another.
 abbrev pub arity_of_bind : Answers → ℕ → ℕ → Arity
 arity_of_bind m from to = option_and_then (λ a. option_and_then (λ b. bound_within a.0 b.0) (arity_of_continuation m to)) (arity_of_continuation m from)
 
+-- The arity of resume: it takes the parameters of the continuation type and the continuation, and returns the results.
 abbrev pub arity_of_resume : Answers → ℕ → Arity
 arity_of_resume m i = option_and_then (taking_more 1) (arity_of_continuation m i)
 
+-- The arity of resume_throw: it takes the parameters of the tag and the continuation, and returns the results of the continuation type.
 abbrev pub arity_of_resume_throw : Answers → ℕ → ℕ → Arity
 arity_of_resume_throw m i tag = option_and_then (λ t. option_and_then (λ a. taking_more 1 (t.0, a.1)) (arity_of_continuation m i)) (m.tag_type_arity tag)
 
+-- The arity of resume_throw_ref: it takes the exception and the continuation, and returns the results of the continuation type.
 abbrev pub arity_of_resume_throw_ref : Answers → ℕ → Arity
 arity_of_resume_throw_ref m i = option_map (λ a. (2, a.1)) (arity_of_continuation m i)
 
--- The continuation to which a switch goes is that of the last parameter of its type.
+-- The numbers of parameters and results of the continuation that a switch resumes: the last parameter of its type refers to it.
 abbrev pub arity_of_switched : Answers → ℕ → Arity
 arity_of_switched m i = option_and_then (arity_of_continuation m) (option_and_then m.cont_type_of_last_param (m.cont_type_func i))
 
+-- The arity of switch: the number of parameters of the continuation type, and of the continuation type that its last parameter refers to.
 abbrev pub arity_of_switch : Answers → ℕ → Arity
 arity_of_switch m i = option_and_then (λ a. option_map (λ b. (a.0, b.0)) (arity_of_switched m i)) (arity_of_continuation m i)
 
+-- The arity of struct.new: it takes a value for each field, and returns the structure.
 abbrev pub arity_of_struct : Answers → ℕ → Arity
 arity_of_struct m i = option_map (λ n. (n, 1)) (m.struct_type_fields i)
 
--- The operators behind the byte 0xfb.
+-- The arity of an operator with the prefix byte 0xfb.
 abbrev pub gc_arity_of : Answers → GcOperator → Arity
 gc_arity_of m (gc.StructNew i) = arity_of_struct m i
 gc_arity_of m (gc.StructNewDesc i) = option_and_then (taking_more 1) (arity_of_struct m i)
@@ -140,7 +155,7 @@ gc_arity_of m (gc.BrOnCastDescEq depth _ _) = arity_of_branch_if m depth
 gc_arity_of m (gc.BrOnCastDescEqFail depth _ _) = arity_of_branch_if m depth
 gc_arity_of m op = gc_pair op
 
--- What an operator takes and leaves in a module; none where a call of the module that is needed answers none, or 32 bits do not hold a number.
+-- The numbers of operands and results of an operator in a module. `None` if the module has no answer that is needed, or if a number does not fit in 32 bits.
 abbrev pub arity_of : Answers → Operator → Arity
 arity_of m (operator.Block ty) = arity_of_entry m ty
 arity_of m (operator.Loop ty) = arity_of_entry m ty

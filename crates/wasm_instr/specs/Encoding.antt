@@ -1,27 +1,27 @@
 -- The encodings of operators.
 -- WebAssembly Core Specification 3.0, Binary Format, Instructions; proposal legacy exception handling.
 use Rattle.std.specs.Prelude.{◌≡◌, ℕ, List, [], ◌∷◌, ◌++◌, Option, Some, None}
-use Rattle.wasm_instr_simd.specs.below.bytes.features.WasmFeatures.{WasmFeatures}
-use Rattle.wasm_instr_simd.specs.below.Features.{HasFeature, legacy_exceptions}
-use Rattle.wasm_instr_simd.specs.below.Number.{EncodesUnsigned}
+use Rattle.wasm_instr_ops.specs.below.bytes.features.WasmFeatures.{WasmFeatures}
+use Rattle.wasm_instr_ops.specs.below.Features.{HasFeature, legacy_exceptions}
+use Rattle.wasm_instr_ops.specs.below.Number.{EncodesUnsigned}
 use Rattle.wasm_instr.specs.declared.operator.Operator.{Operator}
 use Rattle.wasm_instr.specs.declared.operator.Operator.TheVariants as operator
 use Rattle.wasm_instr.specs.Row.{prefix_of, opcode_of, immediates_of}
-use Rattle.wasm_instr_simd.specs.instr_ops.Immediate.{EncodesImmediates}
+use Rattle.wasm_instr_ops.specs.imm.Immediate.{EncodesImmediates}
 
--- The opcode; or the prefix byte, and the subopcode as a u32.
+-- The bytes encode the opcode, or the prefix byte and the subopcode as a u32.
 abbrev pub EncodesOpcode : Option ℕ → ℕ → List ℕ → Type 0
 EncodesOpcode None code bytes = bytes ≡ code ∷ []
 EncodesOpcode (Some prefix) code bytes = (number : List ℕ) × (bytes ≡ prefix ∷ number) × EncodesUnsigned 32 number code
 
--- The features without which the operator has no encoding.
+-- The features enable the operator: try, catch and catch_all need legacy_exceptions.
 abbrev pub IsEnabled : WasmFeatures → Operator → Type 0
 IsEnabled f (operator.Try _) = HasFeature legacy_exceptions f
 IsEnabled f (operator.Catch _) = HasFeature legacy_exceptions f
 IsEnabled f operator.CatchAll = HasFeature legacy_exceptions f
 IsEnabled f _ = Unit {0}
 
--- Under these features the bytes encode the operator: its code, and its immediates in order.
+-- Under these features the bytes encode the operator: its opcode, followed by its immediates in order.
 pub record EncodesOperator (f : WasmFeatures) (op : Operator) (bytes : List ℕ) : Type 0 where
   pub head : List ℕ
   pub behind : List ℕ

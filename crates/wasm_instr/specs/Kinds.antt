@@ -1,19 +1,19 @@
--- What sorts of operators there are, by their rows.
+-- Classes of operators.
 use Rattle.std.specs.Prelude.{◌≡◌, ◌⊎◌, codes}
 use Rattle.wasm_instr.specs.declared.operator.Operator.{Operator}
 use Rattle.wasm_instr.specs.declared.operator.Operator.TheVariants as operator
 use Rattle.wasm_instr.specs.Row.{proposal_of}
 
--- A vector operator, relaxed or not.
+-- The operator is a SIMD operator: its proposal is simd or relaxed_simd.
 abbrev pub IsSimd : Operator → Type 0
 IsSimd op = (proposal_of op ≡ codes "simd") ⊎ (proposal_of op ≡ codes "relaxed_simd")
 
--- The same by its variant.
+-- The operator is a SIMD operator: its variant is Simd.
 abbrev pub IsVector : Operator → Type 0
 IsVector (operator.Simd _) = Unit {0}
 IsVector _ = ⊥
 
--- One that owns a list.
+-- The operator owns a list.
 abbrev pub HoldsList : Operator → Type 0
 HoldsList (operator.TypedSelectMulti _) = Unit {0}
 HoldsList (operator.TryTable _) = Unit {0}
@@ -22,7 +22,7 @@ HoldsList (operator.ResumeThrow _ _ _) = Unit {0}
 HoldsList (operator.ResumeThrowRef _ _) = Unit {0}
 HoldsList _ = ⊥
 
--- The two variants that share an opcode.
+-- The operator is one of the two variants that share an opcode.
 abbrev pub IsTypedSelect : Operator → Type 0
 IsTypedSelect (operator.TypedSelect _) = Unit {0}
 IsTypedSelect (operator.TypedSelectMulti _) = Unit {0}

@@ -1,10 +1,11 @@
--- The parts that the operators play in the structure of an expression.
+-- The roles of the operators in the structure of an expression.
 -- WebAssembly Core Specification 3.0: Structure, Instructions, Control Instructions. Proposal legacy exception handling: try, catch, catch_all and delegate.
 use Rattle.std.specs.Prelude.{List, [], ◌∷◌}
 use Rattle.wasm_grammar.specs.Role.{Role, block, loop, try_table, plain, opens, opens_if, opens_try, turns_else, turns_catch, turns_catch_all, delegates, ends}
 use Rattle.wasm_instr.specs.declared.operator.Operator.{Operator}
 use Rattle.wasm_instr.specs.declared.operator.Operator.TheVariants as operator
 
+-- The role of an operator.
 abbrev pub role_of : Operator → Role Operator
 role_of (operator.Block ty) = opens block (operator.Block ty)
 role_of (operator.Loop ty) = opens loop (operator.Loop ty)
@@ -18,6 +19,7 @@ role_of (operator.Delegate depth) = delegates depth
 role_of operator.End = ends
 role_of op = plain op
 
+-- The roles of a list of operators.
 abbrev pub roles_of : List Operator → List (Role Operator)
 roles_of [] = []
 roles_of (op ∷ ops) = role_of op ∷ roles_of ops

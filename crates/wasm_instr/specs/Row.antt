@@ -2,17 +2,18 @@
 -- The rows of all operators, by columns.
 -- WebAssembly Core Specification 3.0: Binary Format, Instructions; Appendix, Index of Instructions.
 use Rattle.std.specs.Prelude.{ℕ, List, [], ◌∷◌, Option, Some, None, codes}
-use Rattle.wasm_instr_simd.specs.imm.declared.memory_argument.MemArgKind.TheVariants as kind
-use Rattle.wasm_instr_simd.specs.imm.control.select.Select.TheVariants as select
+use Rattle.wasm_instr_ops.specs.imm.declared.memory_argument.MemArgKind.TheVariants as kind
+use Rattle.wasm_instr_ops.specs.imm.control.select.Select.TheVariants as select
 use Rattle.wasm_instr.specs.declared.operator.Operator.{Operator}
 use Rattle.wasm_instr.specs.declared.operator.Operator.TheVariants as operator
-use Rattle.wasm_instr_simd.specs.instr_ops.Numeric.{numeric_proposal, numeric_name, numeric_opcode, numeric_immediates}
-use Rattle.wasm_instr_simd.specs.instr_ops.Gc.{gc_proposal, gc_name, gc_subopcode, gc_immediates}
-use Rattle.wasm_instr_simd.specs.instr_ops.Misc.{misc_proposal, misc_name, misc_subopcode, misc_immediates}
+use Rattle.wasm_instr_ops.specs.Numeric.{numeric_proposal, numeric_name, numeric_opcode, numeric_immediates}
+use Rattle.wasm_instr_ops.specs.Gc.{gc_proposal, gc_name, gc_subopcode, gc_immediates}
+use Rattle.wasm_instr_ops.specs.Misc.{misc_proposal, misc_name, misc_subopcode, misc_immediates}
 use Rattle.wasm_instr_simd.specs.Simd.{simd_proposal, simd_name, simd_subopcode, simd_immediates}
-use Rattle.wasm_instr_simd.specs.instr_ops.Atomic.{atomic_proposal, atomic_name, atomic_subopcode, atomic_immediates}
-use Rattle.wasm_instr_simd.specs.instr_ops.Immediate.{Immediate, unsigned_32, signed_32, signed_64, float_32, float_64, memory_argument, memory_index, table_index_32, heap_type, block_type, branch_table, select_types, try_clauses, resume_clauses}
+use Rattle.wasm_instr_ops.specs.Atomic.{atomic_proposal, atomic_name, atomic_subopcode, atomic_immediates}
+use Rattle.wasm_instr_ops.specs.imm.Immediate.{Immediate, unsigned_32, signed_32, signed_64, float_32, float_64, memory_argument, memory_index, table_index_32, heap_type, block_type, branch_table, select_types, try_clauses, resume_clauses}
 
+-- The name of the proposal that added the operator.
 abbrev pub proposal_of : Operator → List ℕ
 proposal_of operator.RefEq = codes "gc"
 proposal_of (operator.TypedSelect _) = codes "reference_types"
@@ -51,6 +52,7 @@ proposal_of (operator.Simd op) = simd_proposal op
 proposal_of (operator.Atomic op) = atomic_proposal op
 proposal_of _ = codes "mvp"
 
+-- The name of the variant.
 abbrev pub name_of : Operator → List ℕ
 name_of operator.Unreachable = codes "Unreachable"
 name_of operator.Nop = codes "Nop"
@@ -137,7 +139,7 @@ name_of (operator.Misc op) = misc_name op
 name_of (operator.Simd op) = simd_name op
 name_of (operator.Atomic op) = atomic_name op
 
--- The prefix byte, where there is one.
+-- The prefix byte, if the operator has one.
 abbrev pub prefix_of : Operator → Option ℕ
 prefix_of (operator.Gc _) = Some 0xfb
 prefix_of (operator.Misc _) = Some 0xfc
@@ -145,7 +147,7 @@ prefix_of (operator.Simd _) = Some 0xfd
 prefix_of (operator.Atomic _) = Some 0xfe
 prefix_of _ = None
 
--- The opcode, or the subopcode behind the prefix byte.
+-- The opcode, or the subopcode after a prefix byte.
 abbrev pub opcode_of : Operator → ℕ
 opcode_of operator.Unreachable = 0x00
 opcode_of operator.Nop = 0x01
@@ -232,7 +234,7 @@ opcode_of (operator.Misc op) = misc_subopcode op
 opcode_of (operator.Simd op) = simd_subopcode op
 opcode_of (operator.Atomic op) = atomic_subopcode op
 
--- The immediates in order, each with its value.
+-- The immediates in the order of the binary format, with their values.
 abbrev pub immediates_of : Operator → List Immediate
 immediates_of (operator.Block blockty) = block_type blockty ∷ []
 immediates_of (operator.Loop blockty) = block_type blockty ∷ []

@@ -1,4 +1,4 @@
-//! How many operands an operator takes and how many values it leaves.
+//! The arity of an operator: its numbers of operands and results.
 ghost use Rattle.std.specs.Prelude.{◌≡◌};
 ghost use Rattle.std.specs.Option.{option_and_then};
 ghost use Rattle.wasm_instr.specs.Arity.{arity_of, sum_within, taking_more, arity_of_block, arity_of_frame, arity_of_label, arity_of_function, arity_of_continuation, arity_of_entry, arity_of_if, arity_of_else, arity_of_catch, arity_of_catch_all, arity_of_end, arity_of_return, leaving, arity_of_branch, arity_of_branch_if, arity_of_branch_on_null, arity_of_branch_on_non_null, arity_of_type_call, arity_of_select, bound_within, arity_of_bind, arity_of_resume, arity_of_resume_throw, arity_of_resume_throw_ref, arity_of_switched, arity_of_switch, arity_of_struct, gc_arity_of};
@@ -6,58 +6,59 @@ ghost use Rattle.wasm_instr.specs.Arity.{arity_of, sum_within, taking_more, arit
 use crate::fixed_arity::gc_fixed_arity;
 use crate::operator::Operator;
 use wasm_grammar::FrameKind;
-use wasm_instr_simd::imm::BlockType;
-use wasm_instr_simd::instr_ops::GcOperator;
+use wasm_instr_ops::GcOperator;
+use wasm_instr_ops::imm::BlockType;
 
-/// What a module answers to the questions on which arities depend.
+/// A module, as far as arities depend on it.
 ///
-/// A pair counts parameters and results.
+/// A pair is the numbers of parameters and results.
 pub trait ModuleArity {
     ghost use Rattle.std.specs.Prelude.{◌≡◌};
     ghost use Rattle.wasm_instr.specs.Answers.{Answers};
 
-    /// The answer of each call.
+    /// The results of all methods.
     ghost answers: { Self → Answers };
 
-    /// Of the function type of this index.
+    /// Returns the numbers of parameters and results of the function type with this index.
     fn func_type_arity(&self, type_index: u32) -> Option<(u32, u32)>
         ensures { result ≡ (answers self.now).func_type_arity type_index };
 
-    /// How many fields the structure type of this index has.
+    /// Returns the number of fields of the structure type with this index.
     fn struct_type_fields(&self, type_index: u32) -> Option<u32>
         ensures { result ≡ (answers self.now).struct_type_fields type_index };
 
-    /// The index of the function type of the continuation type of this index.
+    /// Returns the index of the function type of the continuation type with this index.
     fn cont_type_func(&self, type_index: u32) -> Option<u32>
         ensures { result ≡ (answers self.now).cont_type_func type_index };
 
-    /// The index of the continuation type to which the last parameter of the function type of this
-    /// index refers.
+    /// Returns the index of the continuation type that is the last parameter of the function type
+    /// with this index.
     fn cont_type_of_last_param(&self, type_index: u32) -> Option<u32>
         ensures { result ≡ (answers self.now).cont_type_of_last_param type_index };
 
-    /// Of the tag of this index.
+    /// Returns the numbers of parameters and results of the tag with this index.
     fn tag_type_arity(&self, tag_index: u32) -> Option<(u32, u32)>
         ensures { result ≡ (answers self.now).tag_type_arity tag_index };
 
-    /// The index of the type of the function of this index.
+    /// Returns the type index of the function with this index.
     fn type_index_of_function(&self, function_index: u32) -> Option<u32>
         ensures { result ≡ (answers self.now).type_index_of_function function_index };
 
-    /// How many frames are open.
+    /// Returns the number of open frames.
     fn control_stack_height(&self) -> u32
         ensures { result ≡ (answers self.now).control_stack_height };
 
-    /// The block type and the kind of the frame at this depth, 0 being the innermost.
+    /// Returns the block type and the kind of the frame at this depth. The innermost frame has
+    /// depth 0.
     fn label_block(&self, depth: u32) -> Option<(BlockType, FrameKind)>
         ensures { result ≡ (answers self.now).label_block depth };
 }
 
 impl<'a> Operator<'a> {
-    /// How many operands the operator takes and how many values it leaves. Validation, Instructions.
+    /// Returns the numbers of operands and results of the operator. Validation, Instructions.
     ///
-    /// `None` where the module has no answer that is needed, and where a number is above 4294967295
-    /// or would be below 0.
+    /// Returns `None` if a method of the module that is needed returns `None`. Returns `None` if a
+    /// number is above 4294967295 or would be below 0.
     pub fn operator_arity<M: ModuleArity>(&self, context: &M) -> Option<(u32, u32)>
         ensures { result ≡ arity_of (M.answers context.now) self.now }
     {
@@ -121,14 +122,14 @@ impl<'a> Operator<'a> {
     }
 }
 
-/// The sum, if 32 bits hold it.
+/// Returns the sum, if it fits in 32 bits.
 fn sum(n: u32, by: u32) -> Option<u32>
     ensures { result ≡ sum_within n by }
 {
     n.checked_add(by)
 }
 
-/// One more is taken.
+/// Adds one operand.
 fn one_more(arity: Option<(u32, u32)>) -> Option<(u32, u32)>
     ensures { result ≡ option_and_then (taking_more 1) arity }
 {
@@ -141,7 +142,7 @@ fn one_more(arity: Option<(u32, u32)>) -> Option<(u32, u32)>
     }
 }
 
-/// As much is taken, and nothing left.
+/// Removes the results.
 fn going(arity: Option<(u32, u32)>) -> Option<(u32, u32)>
     ensures { result ≡ leaving arity }
 {
@@ -151,7 +152,7 @@ fn going(arity: Option<(u32, u32)>) -> Option<(u32, u32)>
     }
 }
 
-/// Parameters and results of a block type.
+/// Returns the numbers of parameters and results of a block type.
 fn block_arity<M: ModuleArity>(context: &M, ty: BlockType) -> Option<(u32, u32)>
     ensures { result ≡ arity_of_block (M.answers context.now) ty }
 {
@@ -162,7 +163,7 @@ fn block_arity<M: ModuleArity>(context: &M, ty: BlockType) -> Option<(u32, u32)>
     }
 }
 
-/// Parameters and results of the block of a frame.
+/// Returns the numbers of parameters and results of the block of a frame.
 fn frame_arity<M: ModuleArity>(context: &M, depth: u32) -> Option<(u32, u32)>
     ensures { result ≡ arity_of_frame (M.answers context.now) depth }
 {
@@ -172,7 +173,7 @@ fn frame_arity<M: ModuleArity>(context: &M, depth: u32) -> Option<(u32, u32)>
     }
 }
 
-/// How many values a branch carries.
+/// Returns the number of values that a branch to this depth carries.
 fn label_arity<M: ModuleArity>(context: &M, depth: u32) -> Option<u32>
     ensures { result ≡ arity_of_label (M.answers context.now) depth }
 {
@@ -189,7 +190,7 @@ fn label_arity<M: ModuleArity>(context: &M, depth: u32) -> Option<u32>
     }
 }
 
-/// Parameters and results of a function.
+/// Returns the numbers of parameters and results of a function.
 fn function_arity<M: ModuleArity>(context: &M, index: u32) -> Option<(u32, u32)>
     ensures { result ≡ arity_of_function (M.answers context.now) index }
 {
@@ -199,7 +200,7 @@ fn function_arity<M: ModuleArity>(context: &M, index: u32) -> Option<(u32, u32)>
     }
 }
 
-/// Parameters and results of the function type of a continuation type.
+/// Returns the numbers of parameters and results of the function type of a continuation type.
 fn continuation_arity<M: ModuleArity>(context: &M, index: u32) -> Option<(u32, u32)>
     ensures { result ≡ arity_of_continuation (M.answers context.now) index }
 {
@@ -209,7 +210,7 @@ fn continuation_arity<M: ModuleArity>(context: &M, index: u32) -> Option<(u32, u
     }
 }
 
-/// Of `block`, `loop`, `try` and `try_table`.
+/// Returns the arity of `block`, `loop`, `try` and `try_table`.
 fn entry_arity<M: ModuleArity>(context: &M, ty: BlockType) -> Option<(u32, u32)>
     ensures { result ≡ arity_of_entry (M.answers context.now) ty }
 {
@@ -255,7 +256,7 @@ fn catch_all_arity<M: ModuleArity>(context: &M) -> Option<(u32, u32)>
     }
 }
 
-/// Of `end` and `delegate`.
+/// Returns the arity of `end` and `delegate`.
 fn end_arity<M: ModuleArity>(context: &M) -> Option<(u32, u32)>
     ensures { result ≡ arity_of_end (M.answers context.now) }
 {
@@ -278,7 +279,7 @@ fn return_arity<M: ModuleArity>(context: &M) -> Option<(u32, u32)>
     }
 }
 
-/// Of a branch that is taken or not.
+/// Returns the arity of a branch that may fall through.
 fn branch_arity<M: ModuleArity>(context: &M, depth: u32) -> Option<(u32, u32)>
     ensures { result ≡ arity_of_branch (M.answers context.now) depth }
 {
@@ -288,7 +289,7 @@ fn branch_arity<M: ModuleArity>(context: &M, depth: u32) -> Option<(u32, u32)>
     }
 }
 
-/// Of a branch that takes a condition too.
+/// Returns the arity of a branch with a condition.
 fn branch_if_arity<M: ModuleArity>(context: &M, depth: u32) -> Option<(u32, u32)>
     ensures { result ≡ arity_of_branch_if (M.answers context.now) depth }
 {
@@ -317,14 +318,14 @@ fn branch_on_non_null_arity<M: ModuleArity>(context: &M, depth: u32) -> Option<(
     }
 }
 
-/// Of a call through a table or a reference.
+/// Returns the arity of a call through a table or a reference.
 fn type_call_arity<M: ModuleArity>(context: &M, index: u32) -> Option<(u32, u32)>
     ensures { result ≡ arity_of_type_call (M.answers context.now) index }
 {
     one_more(context.func_type_arity(index))
 }
 
-/// Of a `select` of so many types.
+/// Returns the arity of a `select` with `count` types.
 fn select_arity(count: usize) -> Option<(u32, u32)>
     ensures { result ≡ arity_of_select count }
 {
@@ -336,7 +337,8 @@ fn select_arity(count: usize) -> Option<(u32, u32)>
     }
 }
 
-/// What is taken of so many parameters, where so many are left for later.
+/// Returns the arity of `cont.bind`: it takes the parameters except the last `later`, and the
+/// continuation.
 fn bound(parameters: u32, later: u32) -> Option<(u32, u32)>
     ensures { result ≡ bound_within parameters later }
 {
@@ -388,7 +390,7 @@ fn resume_throw_ref_arity<M: ModuleArity>(context: &M, index: u32) -> Option<(u3
     }
 }
 
-/// Parameters and results of the continuation to which a `switch` goes.
+/// Returns the numbers of parameters and results of the continuation that a `switch` resumes.
 fn switched_arity<M: ModuleArity>(context: &M, index: u32) -> Option<(u32, u32)>
     ensures { result ≡ arity_of_switched (M.answers context.now) index }
 {
@@ -422,7 +424,7 @@ fn struct_arity<M: ModuleArity>(context: &M, index: u32) -> Option<(u32, u32)>
     }
 }
 
-/// Of an operator behind the byte 0xfb.
+/// Returns the arity of an operator with the prefix byte 0xfb.
 fn gc_arity<M: ModuleArity>(context: &M, op: &GcOperator) -> Option<(u32, u32)>
     ensures { result ≡ gc_arity_of (M.answers context.now) op.now }
 {

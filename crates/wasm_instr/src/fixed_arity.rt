@@ -1,13 +1,13 @@
-//! Arities that are fixed. Written by tools/lists.py from tools/operators.tsv.
+//! Fixed arities. Written by tools/lists.py from tools/operators.tsv.
 ghost use Rattle.std.specs.Prelude.{◌≡◌, ◌<◌};
 ghost use Rattle.wasm_instr.specs.FixedArity.{reaching as reaching_of, numeric_pair, gc_pair, misc_pair, simd_pair, atomic_pair, fixed_arity as pair_of};
 
 use crate::operator::Operator;
+use wasm_instr_ops::imm::{MemArg, MemArgTarget};
+use wasm_instr_ops::{AtomicOperator, GcOperator, MiscOperator, NumericOperator};
 use wasm_instr_simd::SimdOperator;
-use wasm_instr_simd::imm::{MemArg, MemArgTarget};
-use wasm_instr_simd::instr_ops::{AtomicOperator, GcOperator, MiscOperator, NumericOperator};
 
-/// How many operands an access takes that takes so many of a memory: an array is one more.
+/// Returns the number of operands of an access: `takes`, and one more for an array.
 fn reaching(memarg: &MemArg, takes: u32) -> u32
     requires { takes < 8 }
     ensures { result ≡ reaching_of memarg.now takes }
@@ -18,7 +18,7 @@ fn reaching(memarg: &MemArg, takes: u32) -> u32
     }
 }
 
-/// What one of the numeric operators of one byte takes and leaves.
+/// Returns the numbers of operands and results of a numeric operator of one byte.
 pub fn numeric_fixed_arity(op: &NumericOperator) -> (u32, u32)
     ensures { result ≡ numeric_pair op.now }
 {
@@ -79,7 +79,8 @@ pub fn numeric_fixed_arity(op: &NumericOperator) -> (u32, u32)
     }
 }
 
-/// What one of the operators behind the byte 0xfb takes and leaves, where that is fixed.
+/// Returns the numbers of operands and results of an operator with the prefix byte 0xfb.
+/// `None` if they depend on the module.
 pub fn gc_fixed_arity(op: &GcOperator) -> Option<(u32, u32)>
     ensures { result ≡ gc_pair op.now }
 {
@@ -110,7 +111,7 @@ pub fn gc_fixed_arity(op: &GcOperator) -> Option<(u32, u32)>
     }
 }
 
-/// What one of the operators behind the byte 0xfc takes and leaves.
+/// Returns the numbers of operands and results of an operator with the prefix byte 0xfc.
 pub fn misc_fixed_arity(op: &MiscOperator) -> (u32, u32)
     ensures { result ≡ misc_pair op.now }
 {
@@ -131,7 +132,7 @@ pub fn misc_fixed_arity(op: &MiscOperator) -> (u32, u32)
     }
 }
 
-/// What one of the operators behind the byte 0xfd takes and leaves.
+/// Returns the numbers of operands and results of an operator with the prefix byte 0xfd.
 pub fn simd_fixed_arity(op: &SimdOperator) -> (u32, u32)
     ensures { result ≡ simd_pair op.now }
 {
@@ -250,7 +251,7 @@ pub fn simd_fixed_arity(op: &SimdOperator) -> (u32, u32)
     }
 }
 
-/// What one of the operators behind the byte 0xfe takes and leaves.
+/// Returns the numbers of operands and results of an operator with the prefix byte 0xfe.
 pub fn atomic_fixed_arity(op: &AtomicOperator) -> (u32, u32)
     ensures { result ≡ atomic_pair op.now }
 {
@@ -309,7 +310,7 @@ pub fn atomic_fixed_arity(op: &AtomicOperator) -> (u32, u32)
 }
 
 impl<'a> Operator<'a> {
-    /// What the operator takes and leaves, where that is fixed.
+    /// Returns the numbers of operands and results, or `None` if they depend on the module.
     pub(crate) fn fixed_arity(&self) -> Option<(u32, u32)>
         ensures { result ≡ pair_of self.now }
     {

@@ -1,7 +1,7 @@
-//! The frames that are open where an operator stands.
+//! The frames that are open when an operator is read.
 use wasm_grammar::FrameKind;
 
-/// What holds the frames that are open.
+/// A stack of open frames.
 pub trait FrameStack {
     ghost use Rattle.std.specs.Prelude.{◌≡◌, Option};
     ghost use Rattle.wasm_grammar.specs.declared.frame_kind.FrameKind.{FrameKind};
@@ -9,7 +9,7 @@ pub trait FrameStack {
     /// The kind of the innermost frame, if one is open.
     ghost frame: { Self → Option FrameKind };
 
-    /// The kind of the innermost frame, if one is open.
+    /// Returns the kind of the innermost frame, if one is open.
     fn current_frame(&self) -> Option<FrameKind>
         ensures { result ≡ frame self.now };
 }

@@ -1,14 +1,14 @@
-//! Laws on the operators' codes and encodings, each the contract of a function that does nothing.
+//! Laws about opcodes and encodings. Each law is the contract of a function with an empty body.
 ghost use Rattle.std.specs.Prelude.{◌≡◌, ◌⊎◌, ℕ, List, ◌++◌};
 ghost use Rattle.wasm_instr.specs.declared.operator.Operator.{Operator};
 ghost use Rattle.wasm_instr.specs.Kinds.{IsTypedSelect};
 ghost use Rattle.wasm_instr.specs.Row.{prefix_of, opcode_of, name_of};
 ghost use Rattle.wasm_instr.specs.Encoding.{EncodesOperator};
 
-use wasm_instr_simd::below::WasmFeatures;
+use wasm_instr_ops::below::WasmFeatures;
 
-/// Under one set of features no encoding of an operator is a proper prefix of another's, and one
-/// encoding belongs to one operator.
+/// States that no encoding of an operator is a proper prefix of another one, and that an encoding
+/// has one operator. Both hold under one set of features.
 pub fn operators(features: WasmFeatures)
     ensures { (op other : Operator) (a b x y : List ℕ)
         → EncodesOperator features op a
@@ -17,7 +17,7 @@ pub fn operators(features: WasmFeatures)
         → (op ≡ other) × (a ≡ b) }
 {}
 
-/// Two variants share an opcode only if they are `TypedSelect` and `TypedSelectMulti`.
+/// States that two variants share an opcode only if they are `TypedSelect` and `TypedSelectMulti`.
 pub fn shared_opcodes()
     ensures { (op other : Operator)
         → prefix_of op ≡ prefix_of other

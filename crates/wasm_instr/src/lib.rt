@@ -1,6 +1,6 @@
-//! The operators of WebAssembly, each with its row in the one table of all operators.
+//! The operators of WebAssembly as one type, with their rows, encodings, roles and arities.
 //!
-//! The rows, the encodings and the parts that operators play in the structure stand in `specs/`.
+//! `specs/` defines the row, the encoding and the role of each operator.
 #![tactic(auto)]
 
 mod arity;
@@ -13,18 +13,16 @@ pub use arity::ModuleArity;
 pub use frame_stack::FrameStack;
 pub use operator::Operator;
 pub use wasm_grammar::FrameKind;
-pub use wasm_instr_simd::imm::{
+pub use wasm_instr_ops::imm::{
     BlockType, BrTable, BrTableTargets, Cast, Catch, Catches, Handle, Handles, Ieee32, Ieee64,
-    MemArg, MemArgKind, MemArgOrdering, MemArgTarget, Members, Ordering, ReadImmediates,
-    ResumeTable, Select, SelectTypes, TryTable, V128, read_lane, read_lanes, read_memory_index,
-    read_table_index,
+    MemArg, MemArgKind, MemArgOrdering, MemArgTarget, Members, OperatorInfo, Ordering,
+    ReadImmediates, ResumeTable, Select, SelectTypes, TryTable, V128, read_lane, read_lanes,
+    read_memory_index, read_table_index,
 };
-pub use wasm_instr_simd::instr_ops::{
-    AtomicOperator, GcOperator, MiscOperator, NumericOperator, OperatorInfo,
-};
-pub use wasm_instr_simd::{SimdOperator, below, imm};
+pub use wasm_instr_ops::{AtomicOperator, GcOperator, MiscOperator, NumericOperator, below, imm};
+pub use wasm_instr_simd::SimdOperator;
 
-/// Trees of operators, and their frames.
+/// Instruction trees and their frames.
 pub mod grammar {
     pub use wasm_grammar::{FrameKind, laws};
 }

@@ -1,24 +1,23 @@
 //! All operators as one type. Written by tools/lists.py from tools/operators.tsv.
 ghost use Rattle.std.specs.Prelude.{◌≡◌, ◌↔◌, IsTrue, IfOk, IfErr};
-ghost use Rattle.wasm_instr_simd.specs.imm.OutOfMemory.{IsOutOfMemoryAt};
+ghost use Rattle.wasm_instr_ops.specs.imm.OutOfMemory.{IsOutOfMemoryAt};
 ghost use Rattle.wasm_instr.specs.Row.{proposal_of, name_of, prefix_of, opcode_of};
 ghost use Rattle.wasm_instr.specs.Kinds.{IsSimd, IsVector, HoldsList};
 
 use std::alloc::Global;
+use std::fmt::{self, Debug, Formatter};
+use wasm_instr_ops::below::{HeapType, Result, ValType};
+use wasm_instr_ops::imm::{
+    BlockType, BrTable, Ieee32, Ieee64, MemArg, OperatorInfo, ResumeTable, SelectTypes, TryTable,
+};
+use wasm_instr_ops::{AtomicOperator, GcOperator, MiscOperator, NumericOperator};
 use wasm_instr_simd::SimdOperator;
-use wasm_instr_simd::below::{HeapType, Result, ValType};
-use wasm_instr_simd::imm::{
-    BlockType, BrTable, Ieee32, Ieee64, MemArg, ResumeTable, SelectTypes, TryTable,
-};
-use wasm_instr_simd::instr_ops::{
-    AtomicOperator, GcOperator, MiscOperator, NumericOperator, OperatorInfo,
-};
 
 /// An operator with its immediates. Instructions.
 ///
-/// The variants are those of one byte but for the numeric ones, and at the end the enums of the
-/// others, each of which is also made by `From`.
-#[derive(Debug, Drop, PartialEq, Eq)]
+/// The variants are the operators of one byte except the numeric ones, followed by one variant for
+/// each inner enum. `From` converts from an inner enum.
+#[derive(Drop, PartialEq, Eq)]
 pub enum Operator<'a> {
     Unreachable,
     Nop,
@@ -304,7 +303,7 @@ impl<'a> From<AtomicOperator> for Operator<'a> {
 }
 
 impl<'a> Operator<'a> {
-    /// The row of the operator.
+    /// Returns the row of the operator.
     pub fn info(&self) -> OperatorInfo
         ensures proposal { result.proposal.now ≡ proposal_of self.now }
         ensures name { result.name.now ≡ name_of self.now }
@@ -326,7 +325,7 @@ impl<'a> Operator<'a> {
         }
     }
 
-    /// The proposal that brought the operator.
+    /// Returns the name of the proposal that added the operator.
     fn proposal(&self) -> &'static str
         ensures { result.now ≡ proposal_of self.now }
     {
@@ -367,7 +366,7 @@ impl<'a> Operator<'a> {
         }
     }
 
-    /// The name of the variant.
+    /// Returns the name of the variant.
     fn name(&self) -> &'static str
         ensures { result.now ≡ name_of self.now }
     {
@@ -459,7 +458,7 @@ impl<'a> Operator<'a> {
         }
     }
 
-    /// The opcode, or the subopcode behind the prefix byte.
+    /// Returns the opcode, or the subopcode after a prefix byte.
     fn code(&self) -> u32
         ensures { result ≡ opcode_of self.now }
     {
@@ -551,7 +550,7 @@ impl<'a> Operator<'a> {
         }
     }
 
-    /// Whether it is a vector operator: its proposal is `simd` or `relaxed_simd`.
+    /// Returns whether this is a SIMD operator: its proposal is `simd` or `relaxed_simd`.
     pub fn is_simd(&self) -> bool
         ensures simd { IsTrue result ↔ IsSimd self.now }
         ensures vector { IsTrue result ↔ IsVector self.now }
@@ -559,9 +558,9 @@ impl<'a> Operator<'a> {
         matches!(self, Operator::Simd(_))
     }
 
-    /// The same operator, with lists in memory of its own.
+    /// Copies the operator with the list that it owns.
     ///
-    /// `OutOfMemory` at offset 0, and only where it holds a list.
+    /// Fails only with `OutOfMemory` at offset 0, and only if the operator owns a list.
     pub fn clone(&self, alloc: Global) -> Result<Operator<'a>>
         ensures ok { IfOk result (λ copy. copy ≡ self.now) }
         ensures err { IfErr result (λ e. HoldsList self.now × IsOutOfMemoryAt 0 e) }
@@ -745,7 +744,196 @@ impl<'a> Operator<'a> {
     }
 }
 
-/// The same table, which takes no memory.
+impl<'a> Debug for Operator<'a> {
+    fn fmt<W: fmt::Write>(&self, f: &mut Formatter<W>) -> fmt::Result {
+        match self {
+            Operator::Numeric(op) => f.debug_tuple("Numeric").field(op).finish(),
+            Operator::Gc(op) => f.debug_tuple("Gc").field(op).finish(),
+            Operator::Misc(op) => f.debug_tuple("Misc").field(op).finish(),
+            Operator::Simd(op) => f.debug_tuple("Simd").field(op).finish(),
+            Operator::Atomic(op) => f.debug_tuple("Atomic").field(op).finish(),
+            Operator::Block { blockty }
+            | Operator::Loop { blockty }
+            | Operator::If { blockty }
+            | Operator::Try { blockty } => f
+                .debug_struct(self.name())
+                .field("blockty", blockty)
+                .finish(),
+            Operator::Br { relative_depth }
+            | Operator::BrIf { relative_depth }
+            | Operator::Rethrow { relative_depth }
+            | Operator::Delegate { relative_depth }
+            | Operator::BrOnNull { relative_depth }
+            | Operator::BrOnNonNull { relative_depth } => f
+                .debug_struct(self.name())
+                .field("relative_depth", relative_depth)
+                .finish(),
+            Operator::BrTable { targets } => f
+                .debug_struct(self.name())
+                .field("targets", targets)
+                .finish(),
+            Operator::Call { function_index }
+            | Operator::RefFunc { function_index }
+            | Operator::ReturnCall { function_index } => f
+                .debug_struct(self.name())
+                .field("function_index", function_index)
+                .finish(),
+            Operator::CallIndirect {
+                type_index,
+                table_index,
+            }
+            | Operator::ReturnCallIndirect {
+                type_index,
+                table_index,
+            } => f
+                .debug_struct(self.name())
+                .field("type_index", type_index)
+                .field("table_index", table_index)
+                .finish(),
+            Operator::LocalGet { local_index }
+            | Operator::LocalSet { local_index }
+            | Operator::LocalTee { local_index } => f
+                .debug_struct(self.name())
+                .field("local_index", local_index)
+                .finish(),
+            Operator::GlobalGet { global_index } | Operator::GlobalSet { global_index } => f
+                .debug_struct(self.name())
+                .field("global_index", global_index)
+                .finish(),
+            _ => self.fmt_second(f),
+        }
+    }
+}
+
+impl<'a> Operator<'a> {
+    /// Prints an operator that `fmt` does not print.
+    fn fmt_second<W: fmt::Write>(&self, f: &mut Formatter<W>) -> fmt::Result {
+        match self {
+            Operator::I32Load { memarg }
+            | Operator::I64Load { memarg }
+            | Operator::F32Load { memarg }
+            | Operator::F64Load { memarg }
+            | Operator::I32Load8S { memarg }
+            | Operator::I32Load8U { memarg }
+            | Operator::I32Load16S { memarg }
+            | Operator::I32Load16U { memarg }
+            | Operator::I64Load8S { memarg }
+            | Operator::I64Load8U { memarg }
+            | Operator::I64Load16S { memarg }
+            | Operator::I64Load16U { memarg }
+            | Operator::I64Load32S { memarg }
+            | Operator::I64Load32U { memarg }
+            | Operator::I32Store { memarg }
+            | Operator::I64Store { memarg }
+            | Operator::F32Store { memarg }
+            | Operator::F64Store { memarg }
+            | Operator::I32Store8 { memarg }
+            | Operator::I32Store16 { memarg }
+            | Operator::I64Store8 { memarg }
+            | Operator::I64Store16 { memarg }
+            | Operator::I64Store32 { memarg } => f
+                .debug_struct(self.name())
+                .field("memarg", memarg)
+                .finish(),
+            _ => self.fmt_third(f),
+        }
+    }
+
+    /// Prints an operator that `fmt_second` does not print.
+    fn fmt_third<W: fmt::Write>(&self, f: &mut Formatter<W>) -> fmt::Result {
+        match self {
+            Operator::MemorySize { mem } | Operator::MemoryGrow { mem } => f
+                .debug_struct(self.name())
+                .field("mem", mem)
+                .finish(),
+            Operator::I32Const { value } => f
+                .debug_struct(self.name())
+                .field("value", value)
+                .finish(),
+            Operator::I64Const { value } => f
+                .debug_struct(self.name())
+                .field("value", value)
+                .finish(),
+            Operator::F32Const { value } => f
+                .debug_struct(self.name())
+                .field("value", value)
+                .finish(),
+            Operator::F64Const { value } => f
+                .debug_struct(self.name())
+                .field("value", value)
+                .finish(),
+            Operator::TypedSelect { ty } => f.debug_struct(self.name()).field("ty", ty).finish(),
+            Operator::TypedSelectMulti { tys } => f
+                .debug_struct(self.name())
+                .field("tys", tys)
+                .finish(),
+            Operator::RefNull { hty } => f.debug_struct(self.name()).field("hty", hty).finish(),
+            Operator::TableGet { table } | Operator::TableSet { table } => f
+                .debug_struct(self.name())
+                .field("table", table)
+                .finish(),
+            Operator::TryTable { try_table } => f
+                .debug_struct(self.name())
+                .field("try_table", try_table)
+                .finish(),
+            Operator::Throw { tag_index }
+            | Operator::Catch { tag_index }
+            | Operator::Suspend { tag_index } => f
+                .debug_struct(self.name())
+                .field("tag_index", tag_index)
+                .finish(),
+            Operator::CallRef { type_index } | Operator::ReturnCallRef { type_index } => f
+                .debug_struct(self.name())
+                .field("type_index", type_index)
+                .finish(),
+            Operator::ContNew { cont_type_index } => f
+                .debug_struct(self.name())
+                .field("cont_type_index", cont_type_index)
+                .finish(),
+            Operator::ContBind {
+                argument_index,
+                result_index,
+            } => f
+                .debug_struct(self.name())
+                .field("argument_index", argument_index)
+                .field("result_index", result_index)
+                .finish(),
+            Operator::Resume {
+                cont_type_index,
+                resume_table,
+            }
+            | Operator::ResumeThrowRef {
+                cont_type_index,
+                resume_table,
+            } => f
+                .debug_struct(self.name())
+                .field("cont_type_index", cont_type_index)
+                .field("resume_table", resume_table)
+                .finish(),
+            Operator::ResumeThrow {
+                cont_type_index,
+                tag_index,
+                resume_table,
+            } => f
+                .debug_struct(self.name())
+                .field("cont_type_index", cont_type_index)
+                .field("tag_index", tag_index)
+                .field("resume_table", resume_table)
+                .finish(),
+            Operator::Switch {
+                cont_type_index,
+                tag_index,
+            } => f
+                .debug_struct(self.name())
+                .field("cont_type_index", cont_type_index)
+                .field("tag_index", tag_index)
+                .finish(),
+            _ => f.write_str(self.name()),
+        }
+    }
+}
+
+/// Copies the table without allocating.
 fn same_table<'a>(table: &BrTable<'a>) -> BrTable<'a>
     ensures { result ≡ table.now }
 {

@@ -1,11 +1,15 @@
 -- Written by tools/lists.py from tools/operators.tsv.
--- Of the operators behind the byte 0xfe: each is that of its subopcode and its immediates, and its subopcode gives the kinds of these.
-use Rattle.std.proofs.Common.{◌≡◌, ℕ, List, [], ◌∷◌, map, get_or, refl}
+-- For the operators with the prefix byte 0xfe: subopcode and immediates determine the operator.
+-- The subopcode determines the kinds of the immediates, and the name.
+use Rattle.std.proofs.Common.{◌≡◌, ℕ, List, [], ◌∷◌, map, get_or, refl, sym, ap, ◌∙◌}
+use Rattle.wasm_imm.specs.declared.memory_argument.MemArgKind.TheVariants as kind
 use Rattle.wasm_instr_ops.specs.declared.atomic.AtomicOperator.{AtomicOperator}
 use Rattle.wasm_instr_ops.specs.declared.atomic.AtomicOperator.TheVariants as atomic
-use Rattle.wasm_instr_ops.specs.Atomic.{atomic_name, atomic_subopcode, atomic_immediates}
-use Rattle.wasm_instr_ops.specs.Immediate.{Immediate, kind_of}
-use Rattle.wasm_instr_ops.proofs.Values.{behind, number_in, argument_in, order_in}
+use Rattle.wasm_instr_ops.specs.declared.atomic.AtomicFields.{AtomicFields}
+use Rattle.wasm_instr_ops.specs.declared.atomic.AtomicFields.TheVariants as fields
+use Rattle.wasm_instr_ops.specs.Atomic.{atomic_name, atomic_subopcode, atomic_immediates, atomic_fields}
+use Rattle.wasm_imm.specs.Immediate.{Immediate, kind_of, unsigned_32, memory_argument, order, fence_order}
+use Rattle.wasm_imm.proofs.Values.{behind, number_in, argument_in, order_in}
 
 abbrev makers : List (List Immediate → AtomicOperator)
 makers =
@@ -140,3 +144,20 @@ atomic_kinds op = refl
 pub atomic_named : (op : AtomicOperator) → atomic_name op ≡ atomic_name (atomic_at (atomic_subopcode op) [])
 atomic_named (atomic.MemoryAtomicNotify memarg) = refl
 atomic_named op = refl
+
+-- The immediates with the values of these fields.
+abbrev of_fields : AtomicFields → List Immediate
+of_fields (fields.Memarg memarg) = memory_argument kind.Plain 2 memarg ∷ []
+of_fields (fields.Ordering ordering) = fence_order ordering ∷ []
+of_fields (fields.OrderingGlobalIndex ordering global_index) = order ordering ∷ unsigned_32 global_index ∷ []
+of_fields (fields.OrderingTableIndex ordering table_index) = order ordering ∷ unsigned_32 table_index ∷ []
+of_fields (fields.OrderingStructTypeIndexFieldIndex ordering struct_type_index field_index) = order ordering ∷ unsigned_32 struct_type_index ∷ unsigned_32 field_index ∷ []
+of_fields (fields.OrderingArrayTypeIndex ordering array_type_index) = order ordering ∷ unsigned_32 array_type_index ∷ []
+of_fields fields.Bare = []
+
+atomic_by_fields : (op : AtomicOperator) → atomic_at (atomic_subopcode op) (of_fields (atomic_fields op)) ≡ op
+atomic_by_fields (atomic.MemoryAtomicNotify memarg) = refl
+atomic_by_fields op = refl
+
+pub atomic_same : (x y : AtomicOperator) → atomic_subopcode x ≡ atomic_subopcode y → atomic_fields x ≡ atomic_fields y → x ≡ y
+atomic_same x y c f = sym (atomic_by_fields x) ∙ ap (λ z. atomic_at z (of_fields (atomic_fields x))) c ∙ ap (λ z. atomic_at (atomic_subopcode y) (of_fields z)) f ∙ atomic_by_fields y

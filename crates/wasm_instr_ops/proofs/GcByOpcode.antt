@@ -1,11 +1,12 @@
 -- Written by tools/lists.py from tools/operators.tsv.
--- Of the operators behind the byte 0xfb: each is that of its subopcode and its immediates, and its subopcode gives the kinds of these.
+-- For the operators with the prefix byte 0xfb: subopcode and immediates determine the operator.
+-- The subopcode determines the kinds of the immediates, and the name.
 use Rattle.std.proofs.Common.{◌≡◌, ℕ, List, [], ◌∷◌, map, get_or, refl}
 use Rattle.wasm_instr_ops.specs.declared.gc.GcOperator.{GcOperator}
 use Rattle.wasm_instr_ops.specs.declared.gc.GcOperator.TheVariants as gc
 use Rattle.wasm_instr_ops.specs.Gc.{gc_name, gc_subopcode, gc_immediates}
-use Rattle.wasm_instr_ops.specs.Immediate.{Immediate, kind_of}
-use Rattle.wasm_instr_ops.proofs.Values.{behind, number_in, heap_type_in, depth_in, from_in, to_in}
+use Rattle.wasm_imm.specs.Immediate.{Immediate, kind_of}
+use Rattle.wasm_imm.proofs.Values.{behind, number_in, heap_type_in, depth_in, from_in, to_in}
 
 abbrev makers : List (List Immediate → GcOperator)
 makers =

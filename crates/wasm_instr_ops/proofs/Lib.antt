@@ -2,7 +2,5 @@ pub mod NumericByOpcode
 pub mod GcByOpcode
 pub mod MiscByOpcode
 pub mod AtomicByOpcode
-pub mod ImmediatePrefixCodes
-pub mod Values
 pub use Rattle.wasm_imm.proofs.of_below as of_below
 pub use Rattle.wasm_imm.proofs as of_imm

@@ -1,11 +1,12 @@
 -- Written by tools/lists.py from tools/operators.tsv.
--- Of the operators behind the byte 0xfc: each is that of its subopcode and its immediates, and its subopcode gives the kinds of these.
+-- For the operators with the prefix byte 0xfc: subopcode and immediates determine the operator.
+-- The subopcode determines the kinds of the immediates, and the name.
 use Rattle.std.proofs.Common.{◌≡◌, ℕ, List, [], ◌∷◌, map, get_or, refl}
 use Rattle.wasm_instr_ops.specs.declared.misc.MiscOperator.{MiscOperator}
 use Rattle.wasm_instr_ops.specs.declared.misc.MiscOperator.TheVariants as misc
 use Rattle.wasm_instr_ops.specs.Misc.{misc_name, misc_subopcode, misc_immediates}
-use Rattle.wasm_instr_ops.specs.Immediate.{Immediate, kind_of}
-use Rattle.wasm_instr_ops.proofs.Values.{behind, number_in}
+use Rattle.wasm_imm.specs.Immediate.{Immediate, kind_of}
+use Rattle.wasm_imm.proofs.Values.{behind, number_in}
 
 abbrev makers : List (List Immediate → MiscOperator)
 makers =

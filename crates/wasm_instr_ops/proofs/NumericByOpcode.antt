@@ -1,10 +1,11 @@
 -- Written by tools/lists.py from tools/operators.tsv.
--- Of the numeric operators of one byte: each is that of its opcode and its immediates, and its opcode gives the kinds of these.
+-- For the numeric operators of one byte: opcode and immediates determine the operator.
+-- The opcode determines the kinds of the immediates, and the name.
 use Rattle.std.proofs.Common.{◌≡◌, ℕ, ◌-◌, List, [], ◌∷◌, map, get_or, refl, Bool, true, ltb, ◌&&◌}
 use Rattle.wasm_instr_ops.specs.declared.numeric.NumericOperator.{NumericOperator}
 use Rattle.wasm_instr_ops.specs.declared.numeric.NumericOperator.TheVariants as numeric
 use Rattle.wasm_instr_ops.specs.Numeric.{numeric_name, numeric_opcode, numeric_immediates}
-use Rattle.wasm_instr_ops.specs.Immediate.{Immediate, kind_of}
+use Rattle.wasm_imm.specs.Immediate.{Immediate, kind_of}
 
 abbrev operators : List NumericOperator
 operators =
@@ -153,7 +154,7 @@ pub numeric_named : (op : NumericOperator) → numeric_name op ≡ numeric_name 
 numeric_named numeric.I32Eqz = refl
 numeric_named op = refl
 
--- The codes of the numeric operators.
+-- Whether a numeric operator has the opcode: it is in 0x45 to 0xc4.
 abbrev pub is_numeric : ℕ → Bool
 is_numeric code = ltb 0x44 code && ltb code 0xc5
 

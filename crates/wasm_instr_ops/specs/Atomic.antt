@@ -1,12 +1,15 @@
 -- Written by tools/lists.py from tools/operators.tsv.
--- The rows of the operators behind the byte 0xfe, by columns.
+-- The rows of the operators with the prefix byte 0xfe, by columns.
 -- WebAssembly Core Specification 3.0, Binary Format, proposals threads, shared-everything threads and acquire-release atomics.
 use Rattle.std.specs.Prelude.{ℕ, List, [], ◌∷◌, codes}
 use Rattle.wasm_imm.specs.declared.memory_argument.MemArgKind.TheVariants as kind
+use Rattle.wasm_instr_ops.specs.declared.atomic.AtomicFields.{AtomicFields}
+use Rattle.wasm_instr_ops.specs.declared.atomic.AtomicFields.TheVariants as fields
 use Rattle.wasm_instr_ops.specs.declared.atomic.AtomicOperator.{AtomicOperator}
 use Rattle.wasm_instr_ops.specs.declared.atomic.AtomicOperator.TheVariants as atomic
-use Rattle.wasm_instr_ops.specs.Immediate.{Immediate, unsigned_32, memory_argument, order, fence_order}
+use Rattle.wasm_imm.specs.Immediate.{Immediate, unsigned_32, memory_argument, order, fence_order}
 
+-- The name of the proposal that added the operator.
 abbrev pub atomic_proposal : AtomicOperator → List ℕ
 atomic_proposal (atomic.GlobalAtomicGet _ _) = codes "shared_everything_threads"
 atomic_proposal (atomic.GlobalAtomicSet _ _) = codes "shared_everything_threads"
@@ -47,6 +50,7 @@ atomic_proposal atomic.RefI31Shared = codes "shared_everything_threads"
 atomic_proposal atomic.Pause = codes "acquire_release_atomics"
 atomic_proposal _ = codes "threads"
 
+-- The name of the variant.
 abbrev pub atomic_name : AtomicOperator → List ℕ
 atomic_name (atomic.MemoryAtomicNotify _) = codes "MemoryAtomicNotify"
 atomic_name (atomic.MemoryAtomicWait32 _) = codes "MemoryAtomicWait32"
@@ -260,7 +264,7 @@ atomic_subopcode (atomic.ArrayAtomicRmwCmpxchg _ _) = 0x71
 atomic_subopcode atomic.RefI31Shared = 0x72
 atomic_subopcode atomic.Pause = 0x04
 
--- The immediates in order, each with its value.
+-- The immediates in the order of the binary format, with their values.
 abbrev pub atomic_immediates : AtomicOperator → List Immediate
 atomic_immediates (atomic.MemoryAtomicNotify memarg) = memory_argument kind.Plain 2 memarg ∷ []
 atomic_immediates (atomic.MemoryAtomicWait32 memarg) = memory_argument kind.Plain 2 memarg ∷ []
@@ -365,3 +369,109 @@ atomic_immediates (atomic.ArrayAtomicRmwXor ordering array_type_index) = order o
 atomic_immediates (atomic.ArrayAtomicRmwXchg ordering array_type_index) = order ordering ∷ unsigned_32 array_type_index ∷ []
 atomic_immediates (atomic.ArrayAtomicRmwCmpxchg ordering array_type_index) = order ordering ∷ unsigned_32 array_type_index ∷ []
 atomic_immediates _ = []
+
+-- The fields.
+abbrev pub atomic_fields : AtomicOperator → AtomicFields
+atomic_fields (atomic.MemoryAtomicNotify memarg) = fields.Memarg memarg
+atomic_fields (atomic.MemoryAtomicWait32 memarg) = fields.Memarg memarg
+atomic_fields (atomic.MemoryAtomicWait64 memarg) = fields.Memarg memarg
+atomic_fields (atomic.AtomicFence ordering) = fields.Ordering ordering
+atomic_fields (atomic.I32AtomicLoad memarg) = fields.Memarg memarg
+atomic_fields (atomic.I64AtomicLoad memarg) = fields.Memarg memarg
+atomic_fields (atomic.I32AtomicLoad8U memarg) = fields.Memarg memarg
+atomic_fields (atomic.I32AtomicLoad16U memarg) = fields.Memarg memarg
+atomic_fields (atomic.I64AtomicLoad8U memarg) = fields.Memarg memarg
+atomic_fields (atomic.I64AtomicLoad16U memarg) = fields.Memarg memarg
+atomic_fields (atomic.I64AtomicLoad32U memarg) = fields.Memarg memarg
+atomic_fields (atomic.I32AtomicStore memarg) = fields.Memarg memarg
+atomic_fields (atomic.I64AtomicStore memarg) = fields.Memarg memarg
+atomic_fields (atomic.I32AtomicStore8 memarg) = fields.Memarg memarg
+atomic_fields (atomic.I32AtomicStore16 memarg) = fields.Memarg memarg
+atomic_fields (atomic.I64AtomicStore8 memarg) = fields.Memarg memarg
+atomic_fields (atomic.I64AtomicStore16 memarg) = fields.Memarg memarg
+atomic_fields (atomic.I64AtomicStore32 memarg) = fields.Memarg memarg
+atomic_fields (atomic.I32AtomicRmwAdd memarg) = fields.Memarg memarg
+atomic_fields (atomic.I64AtomicRmwAdd memarg) = fields.Memarg memarg
+atomic_fields (atomic.I32AtomicRmw8AddU memarg) = fields.Memarg memarg
+atomic_fields (atomic.I32AtomicRmw16AddU memarg) = fields.Memarg memarg
+atomic_fields (atomic.I64AtomicRmw8AddU memarg) = fields.Memarg memarg
+atomic_fields (atomic.I64AtomicRmw16AddU memarg) = fields.Memarg memarg
+atomic_fields (atomic.I64AtomicRmw32AddU memarg) = fields.Memarg memarg
+atomic_fields (atomic.I32AtomicRmwSub memarg) = fields.Memarg memarg
+atomic_fields (atomic.I64AtomicRmwSub memarg) = fields.Memarg memarg
+atomic_fields (atomic.I32AtomicRmw8SubU memarg) = fields.Memarg memarg
+atomic_fields (atomic.I32AtomicRmw16SubU memarg) = fields.Memarg memarg
+atomic_fields (atomic.I64AtomicRmw8SubU memarg) = fields.Memarg memarg
+atomic_fields (atomic.I64AtomicRmw16SubU memarg) = fields.Memarg memarg
+atomic_fields (atomic.I64AtomicRmw32SubU memarg) = fields.Memarg memarg
+atomic_fields (atomic.I32AtomicRmwAnd memarg) = fields.Memarg memarg
+atomic_fields (atomic.I64AtomicRmwAnd memarg) = fields.Memarg memarg
+atomic_fields (atomic.I32AtomicRmw8AndU memarg) = fields.Memarg memarg
+atomic_fields (atomic.I32AtomicRmw16AndU memarg) = fields.Memarg memarg
+atomic_fields (atomic.I64AtomicRmw8AndU memarg) = fields.Memarg memarg
+atomic_fields (atomic.I64AtomicRmw16AndU memarg) = fields.Memarg memarg
+atomic_fields (atomic.I64AtomicRmw32AndU memarg) = fields.Memarg memarg
+atomic_fields (atomic.I32AtomicRmwOr memarg) = fields.Memarg memarg
+atomic_fields (atomic.I64AtomicRmwOr memarg) = fields.Memarg memarg
+atomic_fields (atomic.I32AtomicRmw8OrU memarg) = fields.Memarg memarg
+atomic_fields (atomic.I32AtomicRmw16OrU memarg) = fields.Memarg memarg
+atomic_fields (atomic.I64AtomicRmw8OrU memarg) = fields.Memarg memarg
+atomic_fields (atomic.I64AtomicRmw16OrU memarg) = fields.Memarg memarg
+atomic_fields (atomic.I64AtomicRmw32OrU memarg) = fields.Memarg memarg
+atomic_fields (atomic.I32AtomicRmwXor memarg) = fields.Memarg memarg
+atomic_fields (atomic.I64AtomicRmwXor memarg) = fields.Memarg memarg
+atomic_fields (atomic.I32AtomicRmw8XorU memarg) = fields.Memarg memarg
+atomic_fields (atomic.I32AtomicRmw16XorU memarg) = fields.Memarg memarg
+atomic_fields (atomic.I64AtomicRmw8XorU memarg) = fields.Memarg memarg
+atomic_fields (atomic.I64AtomicRmw16XorU memarg) = fields.Memarg memarg
+atomic_fields (atomic.I64AtomicRmw32XorU memarg) = fields.Memarg memarg
+atomic_fields (atomic.I32AtomicRmwXchg memarg) = fields.Memarg memarg
+atomic_fields (atomic.I64AtomicRmwXchg memarg) = fields.Memarg memarg
+atomic_fields (atomic.I32AtomicRmw8XchgU memarg) = fields.Memarg memarg
+atomic_fields (atomic.I32AtomicRmw16XchgU memarg) = fields.Memarg memarg
+atomic_fields (atomic.I64AtomicRmw8XchgU memarg) = fields.Memarg memarg
+atomic_fields (atomic.I64AtomicRmw16XchgU memarg) = fields.Memarg memarg
+atomic_fields (atomic.I64AtomicRmw32XchgU memarg) = fields.Memarg memarg
+atomic_fields (atomic.I32AtomicRmwCmpxchg memarg) = fields.Memarg memarg
+atomic_fields (atomic.I64AtomicRmwCmpxchg memarg) = fields.Memarg memarg
+atomic_fields (atomic.I32AtomicRmw8CmpxchgU memarg) = fields.Memarg memarg
+atomic_fields (atomic.I32AtomicRmw16CmpxchgU memarg) = fields.Memarg memarg
+atomic_fields (atomic.I64AtomicRmw8CmpxchgU memarg) = fields.Memarg memarg
+atomic_fields (atomic.I64AtomicRmw16CmpxchgU memarg) = fields.Memarg memarg
+atomic_fields (atomic.I64AtomicRmw32CmpxchgU memarg) = fields.Memarg memarg
+atomic_fields (atomic.GlobalAtomicGet ordering global_index) = fields.OrderingGlobalIndex ordering global_index
+atomic_fields (atomic.GlobalAtomicSet ordering global_index) = fields.OrderingGlobalIndex ordering global_index
+atomic_fields (atomic.GlobalAtomicRmwAdd ordering global_index) = fields.OrderingGlobalIndex ordering global_index
+atomic_fields (atomic.GlobalAtomicRmwSub ordering global_index) = fields.OrderingGlobalIndex ordering global_index
+atomic_fields (atomic.GlobalAtomicRmwAnd ordering global_index) = fields.OrderingGlobalIndex ordering global_index
+atomic_fields (atomic.GlobalAtomicRmwOr ordering global_index) = fields.OrderingGlobalIndex ordering global_index
+atomic_fields (atomic.GlobalAtomicRmwXor ordering global_index) = fields.OrderingGlobalIndex ordering global_index
+atomic_fields (atomic.GlobalAtomicRmwXchg ordering global_index) = fields.OrderingGlobalIndex ordering global_index
+atomic_fields (atomic.GlobalAtomicRmwCmpxchg ordering global_index) = fields.OrderingGlobalIndex ordering global_index
+atomic_fields (atomic.TableAtomicGet ordering table_index) = fields.OrderingTableIndex ordering table_index
+atomic_fields (atomic.TableAtomicSet ordering table_index) = fields.OrderingTableIndex ordering table_index
+atomic_fields (atomic.TableAtomicRmwXchg ordering table_index) = fields.OrderingTableIndex ordering table_index
+atomic_fields (atomic.TableAtomicRmwCmpxchg ordering table_index) = fields.OrderingTableIndex ordering table_index
+atomic_fields (atomic.StructAtomicGet ordering struct_type_index field_index) = fields.OrderingStructTypeIndexFieldIndex ordering struct_type_index field_index
+atomic_fields (atomic.StructAtomicGetS ordering struct_type_index field_index) = fields.OrderingStructTypeIndexFieldIndex ordering struct_type_index field_index
+atomic_fields (atomic.StructAtomicGetU ordering struct_type_index field_index) = fields.OrderingStructTypeIndexFieldIndex ordering struct_type_index field_index
+atomic_fields (atomic.StructAtomicSet ordering struct_type_index field_index) = fields.OrderingStructTypeIndexFieldIndex ordering struct_type_index field_index
+atomic_fields (atomic.StructAtomicRmwAdd ordering struct_type_index field_index) = fields.OrderingStructTypeIndexFieldIndex ordering struct_type_index field_index
+atomic_fields (atomic.StructAtomicRmwSub ordering struct_type_index field_index) = fields.OrderingStructTypeIndexFieldIndex ordering struct_type_index field_index
+atomic_fields (atomic.StructAtomicRmwAnd ordering struct_type_index field_index) = fields.OrderingStructTypeIndexFieldIndex ordering struct_type_index field_index
+atomic_fields (atomic.StructAtomicRmwOr ordering struct_type_index field_index) = fields.OrderingStructTypeIndexFieldIndex ordering struct_type_index field_index
+atomic_fields (atomic.StructAtomicRmwXor ordering struct_type_index field_index) = fields.OrderingStructTypeIndexFieldIndex ordering struct_type_index field_index
+atomic_fields (atomic.StructAtomicRmwXchg ordering struct_type_index field_index) = fields.OrderingStructTypeIndexFieldIndex ordering struct_type_index field_index
+atomic_fields (atomic.StructAtomicRmwCmpxchg ordering struct_type_index field_index) = fields.OrderingStructTypeIndexFieldIndex ordering struct_type_index field_index
+atomic_fields (atomic.ArrayAtomicGet ordering array_type_index) = fields.OrderingArrayTypeIndex ordering array_type_index
+atomic_fields (atomic.ArrayAtomicGetS ordering array_type_index) = fields.OrderingArrayTypeIndex ordering array_type_index
+atomic_fields (atomic.ArrayAtomicGetU ordering array_type_index) = fields.OrderingArrayTypeIndex ordering array_type_index
+atomic_fields (atomic.ArrayAtomicSet ordering array_type_index) = fields.OrderingArrayTypeIndex ordering array_type_index
+atomic_fields (atomic.ArrayAtomicRmwAdd ordering array_type_index) = fields.OrderingArrayTypeIndex ordering array_type_index
+atomic_fields (atomic.ArrayAtomicRmwSub ordering array_type_index) = fields.OrderingArrayTypeIndex ordering array_type_index
+atomic_fields (atomic.ArrayAtomicRmwAnd ordering array_type_index) = fields.OrderingArrayTypeIndex ordering array_type_index
+atomic_fields (atomic.ArrayAtomicRmwOr ordering array_type_index) = fields.OrderingArrayTypeIndex ordering array_type_index
+atomic_fields (atomic.ArrayAtomicRmwXor ordering array_type_index) = fields.OrderingArrayTypeIndex ordering array_type_index
+atomic_fields (atomic.ArrayAtomicRmwXchg ordering array_type_index) = fields.OrderingArrayTypeIndex ordering array_type_index
+atomic_fields (atomic.ArrayAtomicRmwCmpxchg ordering array_type_index) = fields.OrderingArrayTypeIndex ordering array_type_index
+atomic_fields _ = fields.Bare

@@ -4,8 +4,9 @@
 use Rattle.std.specs.Prelude.{ℕ, List, [], codes}
 use Rattle.wasm_instr_ops.specs.declared.numeric.NumericOperator.{NumericOperator}
 use Rattle.wasm_instr_ops.specs.declared.numeric.NumericOperator.TheVariants as numeric
-use Rattle.wasm_instr_ops.specs.Immediate.{Immediate}
+use Rattle.wasm_imm.specs.Immediate.{Immediate}
 
+-- The name of the proposal that added the operator.
 abbrev pub numeric_proposal : NumericOperator → List ℕ
 numeric_proposal numeric.I32Extend8S = codes "sign_extension"
 numeric_proposal numeric.I32Extend16S = codes "sign_extension"
@@ -14,6 +15,7 @@ numeric_proposal numeric.I64Extend16S = codes "sign_extension"
 numeric_proposal numeric.I64Extend32S = codes "sign_extension"
 numeric_proposal _ = codes "mvp"
 
+-- The name of the variant.
 abbrev pub numeric_name : NumericOperator → List ℕ
 numeric_name numeric.I32Eqz = codes "I32Eqz"
 numeric_name numeric.I32Eq = codes "I32Eq"
@@ -275,6 +277,6 @@ numeric_opcode numeric.I64Extend8S = 0xc2
 numeric_opcode numeric.I64Extend16S = 0xc3
 numeric_opcode numeric.I64Extend32S = 0xc4
 
--- The immediates in order, each with its value.
+-- The immediates in the order of the binary format, with their values.
 abbrev pub numeric_immediates : NumericOperator → List Immediate
 numeric_immediates _ = []

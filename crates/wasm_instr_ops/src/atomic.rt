@@ -1,13 +1,14 @@
-//! The operators behind the byte 0xfe. Written by tools/lists.py from tools/operators.tsv.
-ghost use Rattle.std.specs.Prelude.{◌≡◌};
-ghost use Rattle.wasm_instr_ops.specs.Atomic.{atomic_proposal, atomic_name, atomic_subopcode};
+//! The operators with the prefix byte 0xfe. Written by tools/lists.py from tools/operators.tsv.
+ghost use Rattle.std.specs.Prelude.{◌≡◌, ◌↔◌, IsTrue, nat_eq};
+ghost use Rattle.std.specs.Ordering.{on, eq_of_both};
+ghost use Rattle.wasm_instr_ops.specs.Atomic.{atomic_proposal, atomic_name, atomic_subopcode, atomic_fields};
 
-use crate::OperatorInfo;
-use wasm_imm::{MemArg, Ordering};
+use std::fmt::{self, Debug, Formatter};
+use wasm_imm::{MemArg, OperatorInfo, Ordering};
 
-/// The operators behind the byte 0xfe. Proposals threads, shared-everything threads and
+/// The operators with the prefix byte 0xfe. Proposals threads, shared-everything threads and
 /// acquire-release atomics.
-#[derive(Clone, Copy, Debug, PartialEq, Eq)]
+#[derive(Clone, Copy)]
 pub enum AtomicOperator {
     MemoryAtomicNotify {
         memarg: MemArg,
@@ -366,7 +367,7 @@ pub enum AtomicOperator {
 }
 
 impl AtomicOperator {
-    /// The row of the operator.
+    /// Returns the row of the operator.
     pub fn info(&self) -> OperatorInfo
         ensures proposal { result.proposal.now ≡ atomic_proposal self.now }
         ensures name { result.name.now ≡ atomic_name self.now }
@@ -381,7 +382,7 @@ impl AtomicOperator {
         }
     }
 
-    /// The proposal that brought the operator.
+    /// Returns the name of the proposal that added the operator.
     fn proposal(&self) -> &'static str
         ensures { result.now ≡ atomic_proposal self.now }
     {
@@ -427,7 +428,7 @@ impl AtomicOperator {
         }
     }
 
-    /// The name of the variant.
+    /// Returns the name of the variant.
     fn name(&self) -> &'static str
         ensures { result.now ≡ atomic_name self.now }
     {
@@ -539,7 +540,7 @@ impl AtomicOperator {
         }
     }
 
-    /// The subopcode.
+    /// Returns the subopcode.
     fn code(&self) -> u32
         ensures { result ≡ atomic_subopcode self.now }
     {
@@ -648,6 +649,364 @@ impl AtomicOperator {
             AtomicOperator::ArrayAtomicRmwCmpxchg { .. } => 0x71,
             AtomicOperator::RefI31Shared => 0x72,
             AtomicOperator::Pause => 0x04,
+        }
+    }
+
+    /// Returns the fields of the operator.
+    fn fields(&self) -> AtomicFields
+        ensures { result ≡ atomic_fields self.now }
+    {
+        match self {
+            AtomicOperator::MemoryAtomicNotify { memarg }
+            | AtomicOperator::MemoryAtomicWait32 { memarg }
+            | AtomicOperator::MemoryAtomicWait64 { memarg }
+            | AtomicOperator::I32AtomicLoad { memarg }
+            | AtomicOperator::I64AtomicLoad { memarg }
+            | AtomicOperator::I32AtomicLoad8U { memarg }
+            | AtomicOperator::I32AtomicLoad16U { memarg }
+            | AtomicOperator::I64AtomicLoad8U { memarg }
+            | AtomicOperator::I64AtomicLoad16U { memarg }
+            | AtomicOperator::I64AtomicLoad32U { memarg }
+            | AtomicOperator::I32AtomicStore { memarg }
+            | AtomicOperator::I64AtomicStore { memarg }
+            | AtomicOperator::I32AtomicStore8 { memarg }
+            | AtomicOperator::I32AtomicStore16 { memarg }
+            | AtomicOperator::I64AtomicStore8 { memarg }
+            | AtomicOperator::I64AtomicStore16 { memarg }
+            | AtomicOperator::I64AtomicStore32 { memarg }
+            | AtomicOperator::I32AtomicRmwAdd { memarg }
+            | AtomicOperator::I64AtomicRmwAdd { memarg }
+            | AtomicOperator::I32AtomicRmw8AddU { memarg }
+            | AtomicOperator::I32AtomicRmw16AddU { memarg }
+            | AtomicOperator::I64AtomicRmw8AddU { memarg }
+            | AtomicOperator::I64AtomicRmw16AddU { memarg }
+            | AtomicOperator::I64AtomicRmw32AddU { memarg }
+            | AtomicOperator::I32AtomicRmwSub { memarg }
+            | AtomicOperator::I64AtomicRmwSub { memarg }
+            | AtomicOperator::I32AtomicRmw8SubU { memarg }
+            | AtomicOperator::I32AtomicRmw16SubU { memarg }
+            | AtomicOperator::I64AtomicRmw8SubU { memarg }
+            | AtomicOperator::I64AtomicRmw16SubU { memarg }
+            | AtomicOperator::I64AtomicRmw32SubU { memarg }
+            | AtomicOperator::I32AtomicRmwAnd { memarg }
+            | AtomicOperator::I64AtomicRmwAnd { memarg }
+            | AtomicOperator::I32AtomicRmw8AndU { memarg }
+            | AtomicOperator::I32AtomicRmw16AndU { memarg }
+            | AtomicOperator::I64AtomicRmw8AndU { memarg }
+            | AtomicOperator::I64AtomicRmw16AndU { memarg }
+            | AtomicOperator::I64AtomicRmw32AndU { memarg }
+            | AtomicOperator::I32AtomicRmwOr { memarg }
+            | AtomicOperator::I64AtomicRmwOr { memarg }
+            | AtomicOperator::I32AtomicRmw8OrU { memarg }
+            | AtomicOperator::I32AtomicRmw16OrU { memarg }
+            | AtomicOperator::I64AtomicRmw8OrU { memarg }
+            | AtomicOperator::I64AtomicRmw16OrU { memarg }
+            | AtomicOperator::I64AtomicRmw32OrU { memarg }
+            | AtomicOperator::I32AtomicRmwXor { memarg }
+            | AtomicOperator::I64AtomicRmwXor { memarg }
+            | AtomicOperator::I32AtomicRmw8XorU { memarg }
+            | AtomicOperator::I32AtomicRmw16XorU { memarg }
+            | AtomicOperator::I64AtomicRmw8XorU { memarg }
+            | AtomicOperator::I64AtomicRmw16XorU { memarg }
+            | AtomicOperator::I64AtomicRmw32XorU { memarg }
+            | AtomicOperator::I32AtomicRmwXchg { memarg }
+            | AtomicOperator::I64AtomicRmwXchg { memarg }
+            | AtomicOperator::I32AtomicRmw8XchgU { memarg }
+            | AtomicOperator::I32AtomicRmw16XchgU { memarg }
+            | AtomicOperator::I64AtomicRmw8XchgU { memarg }
+            | AtomicOperator::I64AtomicRmw16XchgU { memarg }
+            | AtomicOperator::I64AtomicRmw32XchgU { memarg }
+            | AtomicOperator::I32AtomicRmwCmpxchg { memarg }
+            | AtomicOperator::I64AtomicRmwCmpxchg { memarg }
+            | AtomicOperator::I32AtomicRmw8CmpxchgU { memarg }
+            | AtomicOperator::I32AtomicRmw16CmpxchgU { memarg }
+            | AtomicOperator::I64AtomicRmw8CmpxchgU { memarg }
+            | AtomicOperator::I64AtomicRmw16CmpxchgU { memarg }
+            | AtomicOperator::I64AtomicRmw32CmpxchgU { memarg } => AtomicFields::Memarg {
+                memarg: *memarg,
+            },
+            AtomicOperator::AtomicFence { ordering } => AtomicFields::Ordering {
+                ordering: *ordering,
+            },
+            AtomicOperator::GlobalAtomicGet {
+                ordering,
+                global_index,
+            }
+            | AtomicOperator::GlobalAtomicSet {
+                ordering,
+                global_index,
+            }
+            | AtomicOperator::GlobalAtomicRmwAdd {
+                ordering,
+                global_index,
+            }
+            | AtomicOperator::GlobalAtomicRmwSub {
+                ordering,
+                global_index,
+            }
+            | AtomicOperator::GlobalAtomicRmwAnd {
+                ordering,
+                global_index,
+            }
+            | AtomicOperator::GlobalAtomicRmwOr {
+                ordering,
+                global_index,
+            }
+            | AtomicOperator::GlobalAtomicRmwXor {
+                ordering,
+                global_index,
+            }
+            | AtomicOperator::GlobalAtomicRmwXchg {
+                ordering,
+                global_index,
+            }
+            | AtomicOperator::GlobalAtomicRmwCmpxchg {
+                ordering,
+                global_index,
+            } => AtomicFields::OrderingGlobalIndex {
+                ordering: *ordering,
+                global_index: *global_index,
+            },
+            AtomicOperator::TableAtomicGet {
+                ordering,
+                table_index,
+            }
+            | AtomicOperator::TableAtomicSet {
+                ordering,
+                table_index,
+            }
+            | AtomicOperator::TableAtomicRmwXchg {
+                ordering,
+                table_index,
+            }
+            | AtomicOperator::TableAtomicRmwCmpxchg {
+                ordering,
+                table_index,
+            } => AtomicFields::OrderingTableIndex {
+                ordering: *ordering,
+                table_index: *table_index,
+            },
+            AtomicOperator::StructAtomicGet {
+                ordering,
+                struct_type_index,
+                field_index,
+            }
+            | AtomicOperator::StructAtomicGetS {
+                ordering,
+                struct_type_index,
+                field_index,
+            }
+            | AtomicOperator::StructAtomicGetU {
+                ordering,
+                struct_type_index,
+                field_index,
+            }
+            | AtomicOperator::StructAtomicSet {
+                ordering,
+                struct_type_index,
+                field_index,
+            }
+            | AtomicOperator::StructAtomicRmwAdd {
+                ordering,
+                struct_type_index,
+                field_index,
+            }
+            | AtomicOperator::StructAtomicRmwSub {
+                ordering,
+                struct_type_index,
+                field_index,
+            }
+            | AtomicOperator::StructAtomicRmwAnd {
+                ordering,
+                struct_type_index,
+                field_index,
+            }
+            | AtomicOperator::StructAtomicRmwOr {
+                ordering,
+                struct_type_index,
+                field_index,
+            }
+            | AtomicOperator::StructAtomicRmwXor {
+                ordering,
+                struct_type_index,
+                field_index,
+            }
+            | AtomicOperator::StructAtomicRmwXchg {
+                ordering,
+                struct_type_index,
+                field_index,
+            }
+            | AtomicOperator::StructAtomicRmwCmpxchg {
+                ordering,
+                struct_type_index,
+                field_index,
+            } => AtomicFields::OrderingStructTypeIndexFieldIndex {
+                ordering: *ordering,
+                struct_type_index: *struct_type_index,
+                field_index: *field_index,
+            },
+            AtomicOperator::ArrayAtomicGet {
+                ordering,
+                array_type_index,
+            }
+            | AtomicOperator::ArrayAtomicGetS {
+                ordering,
+                array_type_index,
+            }
+            | AtomicOperator::ArrayAtomicGetU {
+                ordering,
+                array_type_index,
+            }
+            | AtomicOperator::ArrayAtomicSet {
+                ordering,
+                array_type_index,
+            }
+            | AtomicOperator::ArrayAtomicRmwAdd {
+                ordering,
+                array_type_index,
+            }
+            | AtomicOperator::ArrayAtomicRmwSub {
+                ordering,
+                array_type_index,
+            }
+            | AtomicOperator::ArrayAtomicRmwAnd {
+                ordering,
+                array_type_index,
+            }
+            | AtomicOperator::ArrayAtomicRmwOr {
+                ordering,
+                array_type_index,
+            }
+            | AtomicOperator::ArrayAtomicRmwXor {
+                ordering,
+                array_type_index,
+            }
+            | AtomicOperator::ArrayAtomicRmwXchg {
+                ordering,
+                array_type_index,
+            }
+            | AtomicOperator::ArrayAtomicRmwCmpxchg {
+                ordering,
+                array_type_index,
+            } => AtomicFields::OrderingArrayTypeIndex {
+                ordering: *ordering,
+                array_type_index: *array_type_index,
+            },
+            AtomicOperator::RefI31Shared | AtomicOperator::Pause => AtomicFields::Bare,
+        }
+    }
+}
+
+/// The fields of an operator, by their names.
+#[derive(Clone, Copy, PartialEq, Eq)]
+pub enum AtomicFields {
+    Memarg {
+        memarg: MemArg,
+    },
+    Ordering {
+        ordering: Ordering,
+    },
+    OrderingGlobalIndex {
+        ordering: Ordering,
+        global_index: u32,
+    },
+    OrderingTableIndex {
+        ordering: Ordering,
+        table_index: u32,
+    },
+    OrderingStructTypeIndexFieldIndex {
+        ordering: Ordering,
+        struct_type_index: u32,
+        field_index: u32,
+    },
+    OrderingArrayTypeIndex {
+        ordering: Ordering,
+        array_type_index: u32,
+    },
+    Bare,
+}
+
+impl AtomicFields {
+    /// Returns whether the fields are equal.
+    fn is(&self, other: &AtomicFields) -> bool
+        ensures member { result ≡ ⟦<AtomicFields as PartialEq>⟧.eq self.now other.now }
+        ensures same { IsTrue result ↔ (self.now ≡ other.now) }
+    {
+        self == other
+    }
+}
+
+impl PartialEq for AtomicOperator {
+    ghost use Rattle.std.specs.Cmp.{partial_equiv_from_equiv, and_equiv, on_equiv, nat_eq_equiv};
+    ghost use Rattle.wasm_instr_ops.specs.contracts.atomic.AtomicFieldsEq.TheImpl.Laws.{laws-law};
+
+    ghost eq = { eq_of_both (on atomic_subopcode nat_eq) (on atomic_fields ⟦<AtomicFields as PartialEq>⟧.eq) };
+
+    ghost laws = { partial_equiv_from_equiv
+        (and_equiv (on_equiv atomic_subopcode nat_eq_equiv) (on_equiv atomic_fields laws-law)) };
+
+    fn eq(&self, other: &AtomicOperator) -> bool
+        ensures member { result ≡ eq_of_both (on atomic_subopcode nat_eq)
+            (on atomic_fields ⟦<AtomicFields as PartialEq>⟧.eq) self.now other.now }
+        ensures same { IsTrue result ↔ (self.now ≡ other.now) }
+    {
+        self.code() == other.code() && self.fields().is(&other.fields())
+    }
+}
+
+impl Eq for AtomicOperator {
+    ghost use Rattle.std.specs.Cmp.{and_equiv, on_equiv, nat_eq_equiv};
+    ghost use Rattle.wasm_instr_ops.specs.contracts.atomic.AtomicFieldsEq.TheImpl.Laws.{laws-law};
+
+    ghost laws = { and_equiv (on_equiv atomic_subopcode nat_eq_equiv) (on_equiv atomic_fields laws-law) };
+}
+
+impl Debug for AtomicOperator {
+    fn fmt<W: fmt::Write>(&self, f: &mut Formatter<W>) -> fmt::Result {
+        match self.fields() {
+            AtomicFields::Memarg { memarg } => f
+                .debug_struct(self.name())
+                .field("memarg", &memarg)
+                .finish(),
+            AtomicFields::Ordering { ordering } => f
+                .debug_struct(self.name())
+                .field("ordering", &ordering)
+                .finish(),
+            AtomicFields::OrderingGlobalIndex {
+                ordering,
+                global_index,
+            } => f
+                .debug_struct(self.name())
+                .field("ordering", &ordering)
+                .field("global_index", &global_index)
+                .finish(),
+            AtomicFields::OrderingTableIndex {
+                ordering,
+                table_index,
+            } => f
+                .debug_struct(self.name())
+                .field("ordering", &ordering)
+                .field("table_index", &table_index)
+                .finish(),
+            AtomicFields::OrderingStructTypeIndexFieldIndex {
+                ordering,
+                struct_type_index,
+                field_index,
+            } => f
+                .debug_struct(self.name())
+                .field("ordering", &ordering)
+                .field("struct_type_index", &struct_type_index)
+                .field("field_index", &field_index)
+                .finish(),
+            AtomicFields::OrderingArrayTypeIndex {
+                ordering,
+                array_type_index,
+            } => f
+                .debug_struct(self.name())
+                .field("ordering", &ordering)
+                .field("array_type_index", &array_type_index)
+                .finish(),
+            AtomicFields::Bare => f.write_str(self.name()),
         }
     }
 }

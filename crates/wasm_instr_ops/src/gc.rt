@@ -1,12 +1,12 @@
-//! The operators behind the byte 0xfb. Written by tools/lists.py from tools/operators.tsv.
+//! The operators with the prefix byte 0xfb. Written by tools/lists.py from tools/operators.tsv.
 ghost use Rattle.std.specs.Prelude.{◌≡◌};
 ghost use Rattle.wasm_instr_ops.specs.Gc.{gc_proposal, gc_name, gc_subopcode};
 
-use crate::OperatorInfo;
+use wasm_imm::OperatorInfo;
 use wasm_imm::below::{HeapType, RefType};
 
-/// The operators behind the byte 0xfb: structures, arrays and casts. Aggregate Instructions, and the
-/// proposal custom descriptors.
+/// The operators with the prefix byte 0xfb: structures, arrays and casts. Aggregate Instructions, and
+/// the proposal custom descriptors.
 #[derive(Clone, Copy, Debug, PartialEq, Eq)]
 pub enum GcOperator {
     StructNew {
@@ -132,7 +132,7 @@ pub enum GcOperator {
 }
 
 impl GcOperator {
-    /// The row of the operator.
+    /// Returns the row of the operator.
     pub fn info(&self) -> OperatorInfo
         ensures proposal { result.proposal.now ≡ gc_proposal self.now }
         ensures name { result.name.now ≡ gc_name self.now }
@@ -147,7 +147,7 @@ impl GcOperator {
         }
     }
 
-    /// The proposal that brought the operator.
+    /// Returns the name of the proposal that added the operator.
     fn proposal(&self) -> &'static str
         ensures { result.now ≡ gc_proposal self.now }
     {
@@ -163,7 +163,7 @@ impl GcOperator {
         }
     }
 
-    /// The name of the variant.
+    /// Returns the name of the variant.
     fn name(&self) -> &'static str
         ensures { result.now ≡ gc_name self.now }
     {
@@ -209,7 +209,7 @@ impl GcOperator {
         }
     }
 
-    /// The subopcode.
+    /// Returns the subopcode.
     fn code(&self) -> u32
         ensures { result ≡ gc_subopcode self.now }
     {

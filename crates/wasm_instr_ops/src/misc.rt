@@ -1,10 +1,10 @@
-//! The operators behind the byte 0xfc. Written by tools/lists.py from tools/operators.tsv.
+//! The operators with the prefix byte 0xfc. Written by tools/lists.py from tools/operators.tsv.
 ghost use Rattle.std.specs.Prelude.{◌≡◌};
 ghost use Rattle.wasm_instr_ops.specs.Misc.{misc_proposal, misc_name, misc_subopcode};
 
-use crate::OperatorInfo;
+use wasm_imm::OperatorInfo;
 
-/// The operators behind the byte 0xfc: saturating truncations, bulk memory and tables, and wide
+/// The operators with the prefix byte 0xfc: saturating truncations, bulk memory, tables and wide
 /// arithmetic. Numeric, Memory and Table Instructions, and the proposals memory control and wide
 /// arithmetic.
 #[derive(Clone, Copy, Debug, PartialEq, Eq)]
@@ -35,7 +35,7 @@ pub enum MiscOperator {
 }
 
 impl MiscOperator {
-    /// The row of the operator.
+    /// Returns the row of the operator.
     pub fn info(&self) -> OperatorInfo
         ensures proposal { result.proposal.now ≡ misc_proposal self.now }
         ensures name { result.name.now ≡ misc_name self.now }
@@ -50,7 +50,7 @@ impl MiscOperator {
         }
     }
 
-    /// The proposal that brought the operator.
+    /// Returns the name of the proposal that added the operator.
     fn proposal(&self) -> &'static str
         ensures { result.now ≡ misc_proposal self.now }
     {
@@ -74,7 +74,7 @@ impl MiscOperator {
         }
     }
 
-    /// The name of the variant.
+    /// Returns the name of the variant.
     fn name(&self) -> &'static str
         ensures { result.now ≡ misc_name self.now }
     {
@@ -105,7 +105,7 @@ impl MiscOperator {
         }
     }
 
-    /// The subopcode.
+    /// Returns the subopcode.
     fn code(&self) -> u32
         ensures { result ≡ misc_subopcode self.now }
     {

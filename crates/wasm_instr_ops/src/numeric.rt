@@ -2,8 +2,8 @@
 ghost use Rattle.std.specs.Prelude.{◌≡◌};
 ghost use Rattle.wasm_instr_ops.specs.Numeric.{numeric_proposal, numeric_name, numeric_opcode};
 
-use crate::OperatorInfo;
 use std::fmt::{self, Debug, Formatter};
+use wasm_imm::OperatorInfo;
 
 /// The numeric operators of one byte, 0x45 to 0xc4, which have no immediates. Numeric Instructions.
 #[derive(Clone, Copy, PartialEq, Eq)]
@@ -139,7 +139,7 @@ pub enum NumericOperator {
 }
 
 impl NumericOperator {
-    /// The row of the operator.
+    /// Returns the row of the operator.
     pub fn info(&self) -> OperatorInfo
         ensures proposal { result.proposal.now ≡ numeric_proposal self.now }
         ensures name { result.name.now ≡ numeric_name self.now }
@@ -154,7 +154,7 @@ impl NumericOperator {
         }
     }
 
-    /// The proposal that brought the operator.
+    /// Returns the name of the proposal that added the operator.
     fn proposal(&self) -> &'static str
         ensures { result.now ≡ numeric_proposal self.now }
     {
@@ -168,7 +168,7 @@ impl NumericOperator {
         }
     }
 
-    /// The name of the variant.
+    /// Returns the name of the variant.
     fn name(&self) -> &'static str
         ensures { result.now ≡ numeric_name self.now }
     {
@@ -304,7 +304,7 @@ impl NumericOperator {
         }
     }
 
-    /// The opcode.
+    /// Returns the opcode.
     fn code(&self) -> u32
         ensures { result ≡ numeric_opcode self.now }
     {

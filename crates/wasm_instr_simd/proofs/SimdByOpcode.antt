@@ -1,11 +1,12 @@
 -- Written by tools/lists.py from tools/operators.tsv.
--- Of the operators behind the byte 0xfd: each is that of its subopcode and its immediates, and its subopcode gives the kinds of these.
+-- For the operators with the prefix byte 0xfd: subopcode and immediates determine the operator.
+-- The subopcode determines the kinds of the immediates, and the name.
 use Rattle.std.proofs.Common.{◌≡◌, ℕ, List, [], ◌∷◌, map, get_or, refl}
 use Rattle.wasm_instr_simd.specs.declared.simd.SimdOperator.{SimdOperator}
 use Rattle.wasm_instr_simd.specs.declared.simd.SimdOperator.TheVariants as simd
 use Rattle.wasm_instr_simd.specs.Simd.{simd_name, simd_subopcode, simd_immediates}
-use Rattle.wasm_instr_ops.specs.Immediate.{Immediate, kind_of}
-use Rattle.wasm_instr_ops.proofs.Values.{behind, number_in, bytes_in, vector_in, argument_in}
+use Rattle.wasm_imm.specs.Immediate.{Immediate, kind_of}
+use Rattle.wasm_imm.proofs.Values.{behind, number_in, bytes_in, vector_in, argument_in}
 
 abbrev makers : List (List Immediate → SimdOperator)
 makers =

@@ -1,15 +1,7 @@
-//! The vector operators of WebAssembly, behind the byte 0xfd, each with its row. The rows stand in
-//! `specs/`, by columns.
+//! The SIMD operators of WebAssembly, with the prefix byte 0xfd. `specs/` has the rows of the table
+//! of operators, by columns.
 #![tactic(auto)]
 
 mod simd;
 
 pub use simd::SimdOperator;
-pub use wasm_instr_ops::{below, imm};
-
-/// The operators that are no vector operators.
-pub mod instr_ops {
-    pub use wasm_instr_ops::{
-        AtomicOperator, GcOperator, MiscOperator, NumericOperator, OperatorInfo,
-    };
-}

@@ -1,12 +1,11 @@
-//! The operators behind the byte 0xfd. Written by tools/lists.py from tools/operators.tsv.
+//! The operators with the prefix byte 0xfd. Written by tools/lists.py from tools/operators.tsv.
 ghost use Rattle.std.specs.Prelude.{◌≡◌, ◌⊎◌, ◌<◌, ◌≤◌, MatchOption};
 ghost use Rattle.wasm_instr_simd.specs.Simd.{simd_proposal, simd_name, simd_subopcode};
 
 use std::fmt::{self, Debug, Formatter};
-use wasm_instr_ops::OperatorInfo;
-use wasm_instr_ops::imm::{MemArg, V128};
+use wasm_imm::{MemArg, OperatorInfo, V128};
 
-/// The operators behind the byte 0xfd. Vector Instructions, relaxed ones too.
+/// The SIMD operators, with the prefix byte 0xfd. Vector Instructions, including the relaxed ones.
 #[derive(Clone, Copy, PartialEq, Eq)]
 pub enum SimdOperator {
     V128Load { memarg: MemArg },
@@ -268,7 +267,7 @@ pub enum SimdOperator {
 }
 
 impl SimdOperator {
-    /// The row of the operator.
+    /// Returns the row of the operator.
     pub fn info(&self) -> OperatorInfo
         ensures proposal { result.proposal.now ≡ simd_proposal self.now }
         ensures name { result.name.now ≡ simd_name self.now }
@@ -283,7 +282,7 @@ impl SimdOperator {
         }
     }
 
-    /// The proposal that brought the operator.
+    /// Returns the name of the proposal that added the operator.
     fn proposal(&self) -> &'static str
         ensures { result.now ≡ simd_proposal self.now }
     {
@@ -312,7 +311,7 @@ impl SimdOperator {
         }
     }
 
-    /// The name of the variant.
+    /// Returns the name of the variant.
     fn name(&self) -> &'static str
         ensures { result.now ≡ simd_name self.now }
     {
@@ -331,7 +330,7 @@ impl SimdOperator {
         unreachable!()
     }
 
-    /// The same, for subopcodes from 0x00 to 0x3f.
+    /// Handles the subopcodes from 0x00 to 0x3f, and returns `None` for others.
     fn first_name(&self) -> Option<&'static str>
         ensures { MatchOption result (0x40 ≤ simd_subopcode self.now) (λ x. x.now ≡ simd_name self.now) }
     {
@@ -404,7 +403,7 @@ impl SimdOperator {
         }
     }
 
-    /// The same, for subopcodes from 0x40 to 0x7f.
+    /// Handles the subopcodes from 0x40 to 0x7f, and returns `None` for others.
     fn second_name(&self) -> Option<&'static str>
         ensures { MatchOption result ((simd_subopcode self.now < 0x40) ⊎ (0x80 ≤ simd_subopcode self.now))
             (λ x. x.now ≡ simd_name self.now) }
@@ -478,7 +477,7 @@ impl SimdOperator {
         }
     }
 
-    /// The same, for subopcodes from 0x80 to 0xcc.
+    /// Handles the subopcodes from 0x80 to 0xcc, and returns `None` for others.
     fn third_name(&self) -> Option<&'static str>
         ensures { MatchOption result ((simd_subopcode self.now < 0x80) ⊎ (0xcd ≤ simd_subopcode self.now))
             (λ x. x.now ≡ simd_name self.now) }
@@ -552,7 +551,7 @@ impl SimdOperator {
         }
     }
 
-    /// The same, for subopcodes from 0xcd to 0x113.
+    /// Handles the subopcodes from 0xcd to 0x113, and returns `None` for others.
     fn fourth_name(&self) -> Option<&'static str>
         ensures { MatchOption result (simd_subopcode self.now < 0xcd) (λ x. x.now ≡ simd_name self.now) }
     {
@@ -625,7 +624,7 @@ impl SimdOperator {
         }
     }
 
-    /// The subopcode.
+    /// Returns the subopcode.
     fn code(&self) -> u32
         ensures { result ≡ simd_subopcode self.now }
     {
@@ -644,7 +643,7 @@ impl SimdOperator {
         unreachable!()
     }
 
-    /// The same, for subopcodes from 0x00 to 0x3f.
+    /// Handles the subopcodes from 0x00 to 0x3f, and returns `None` for others.
     fn first_code(&self) -> Option<u32>
         ensures { MatchOption result (0x40 ≤ simd_subopcode self.now) (λ x. x ≡ simd_subopcode self.now) }
     {
@@ -717,7 +716,7 @@ impl SimdOperator {
         }
     }
 
-    /// The same, for subopcodes from 0x40 to 0x7f.
+    /// Handles the subopcodes from 0x40 to 0x7f, and returns `None` for others.
     fn second_code(&self) -> Option<u32>
         ensures { MatchOption result ((simd_subopcode self.now < 0x40) ⊎ (0x80 ≤ simd_subopcode self.now))
             (λ x. x ≡ simd_subopcode self.now) }
@@ -791,7 +790,7 @@ impl SimdOperator {
         }
     }
 
-    /// The same, for subopcodes from 0x80 to 0xcc.
+    /// Handles the subopcodes from 0x80 to 0xcc, and returns `None` for others.
     fn third_code(&self) -> Option<u32>
         ensures { MatchOption result ((simd_subopcode self.now < 0x80) ⊎ (0xcd ≤ simd_subopcode self.now))
             (λ x. x ≡ simd_subopcode self.now) }
@@ -865,7 +864,7 @@ impl SimdOperator {
         }
     }
 
-    /// The same, for subopcodes from 0xcd to 0x113.
+    /// Handles the subopcodes from 0xcd to 0x113, and returns `None` for others.
     fn fourth_code(&self) -> Option<u32>
         ensures { MatchOption result (simd_subopcode self.now < 0xcd) (λ x. x ≡ simd_subopcode self.now) }
     {

@@ -40,7 +40,7 @@ returns-in-Err-read_announced-clause-reads c =
     IsRefusal (EncodesMemArg z.features c.args.kind c.args.max_align) c.in-Err-read_announced.e z)
     (back old mid (at_position mid start) r.0 start r.2 c.current_position-start.ensures refl) c.in-Err-read_announced.ensures.reads
 
--- ---- which refusal, and where
+---- which error, and at which offset
 
 pub returns-in-Err-clause-fault : goal.returns-in-Err-clause-fault
 returns-in-Err-clause-fault c =

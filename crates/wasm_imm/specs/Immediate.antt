@@ -1,31 +1,32 @@
--- Immediates with their values, and their encodings one behind the other.
+-- Immediates with their values, and their encodings in sequence.
 -- WebAssembly Core Specification 3.0, Binary Format, Instructions.
 use Rattle.std.specs.Prelude.{◌≡◌, ℕ, ℤ, List, [], ◌∷◌, ◌++◌}
 use Rattle.std.specs.Int.{w32, w64}
-use Rattle.wasm_imm.specs.below.bytes.features.WasmFeatures.{WasmFeatures}
-use Rattle.wasm_imm.specs.below.declared.types.HeapType.{HeapType}
-use Rattle.wasm_imm.specs.below.Number.{EncodesUnsigned, EncodesSigned, EncodesFixed}
-use Rattle.wasm_imm.specs.below.Source.{IsByte}
-use Rattle.wasm_imm.specs.below.TypeEncoding.{EncodesHeapType}
-use Rattle.wasm_imm.specs.control.block_type.BlockType.{BlockType}
-use Rattle.wasm_imm.specs.control.cast.Cast.{Cast}
+use Rattle.wasm_imm_control.specs.below.bytes.features.WasmFeatures.{WasmFeatures}
+use Rattle.wasm_imm_control.specs.below.declared.types.HeapType.{HeapType}
+use Rattle.wasm_imm_control.specs.below.Number.{EncodesUnsigned, EncodesSigned, EncodesFixed}
+use Rattle.wasm_imm_control.specs.below.Source.{IsByte}
+use Rattle.wasm_imm_control.specs.below.TypeEncoding.{EncodesHeapType}
+use Rattle.wasm_imm_control.specs.declared.block_type.BlockType.{BlockType}
+use Rattle.wasm_imm_control.specs.declared.cast.Cast.{Cast}
 use Rattle.wasm_imm.specs.declared.constants.V128.{V128}
-use Rattle.wasm_imm.specs.control.handler_tables.ResumeTable.{ResumeTable}
-use Rattle.wasm_imm.specs.control.handler_tables.TryTable.{TryTable}
+use Rattle.wasm_imm_control.specs.declared.handler_tables.ResumeTable.{ResumeTable}
+use Rattle.wasm_imm_control.specs.declared.handler_tables.TryTable.{TryTable}
 use Rattle.wasm_imm.specs.declared.memory_argument.MemArg.{MemArg}
 use Rattle.wasm_imm.specs.declared.memory_argument.MemArgKind.{MemArgKind}
 use Rattle.wasm_imm.specs.declared.ordering.Ordering.{Ordering}
-use Rattle.wasm_imm.specs.control.select.Select.{Select}
-use Rattle.wasm_imm.specs.BlockTypes.{EncodesBlockType}
-use Rattle.wasm_imm.specs.BranchTables.{BranchTable, EncodesBranchTable}
-use Rattle.wasm_imm.specs.Casts.{EncodesCast}
-use Rattle.wasm_imm.specs.HandlerTables.{EncodesSelect, EncodesTryTable, EncodesResumeTable}
+use Rattle.wasm_imm_control.specs.declared.select.Select.{Select}
+use Rattle.wasm_imm_control.specs.BlockTypes.{EncodesBlockType}
+use Rattle.wasm_imm_control.specs.BranchTables.{BranchTable, EncodesBranchTable}
+use Rattle.wasm_imm_control.specs.Casts.{EncodesCast}
+use Rattle.wasm_imm_control.specs.HandlerTables.{EncodesSelect, EncodesTryTable, EncodesResumeTable}
 use Rattle.wasm_imm.specs.Indices.{EncodesMemoryIndex, EncodesTableIndex}
 use Rattle.wasm_imm.specs.Orderings.{EncodesOrderingByte, EncodesFence}
 use Rattle.wasm_imm.specs.Vectors.{EncodesSixteen, EncodesVector}
 use Rattle.wasm_imm.specs.MemoryArgument.{EncodesMemArg}
 
--- An immediate with its value. A memory argument has the kind of its operator and that operator's own alignment before.
+-- An immediate with its value. A memory argument also has the kind of its operator and the
+-- operator's natural alignment.
 pub data Immediate : Type 0 where
   unsigned_32 : ℕ → Immediate
   signed_32 : ℤ → Immediate
@@ -98,7 +99,7 @@ EncodesImmediate f (select_types types) bytes = EncodesSelect bytes types
 EncodesImmediate f (try_clauses t) bytes = EncodesTryTable bytes t
 EncodesImmediate f (resume_clauses t) bytes = EncodesResumeTable bytes t
 
--- The immediates, one behind the other.
+-- The encodings of the immediates, in sequence.
 abbrev pub EncodesImmediates : WasmFeatures → List Immediate → List ℕ → Type 0
 EncodesImmediates f [] bytes = bytes ≡ []
 EncodesImmediates f (i ∷ is) bytes = (first more : List ℕ) × (bytes ≡ first ++ more) × EncodesImmediate f i first × EncodesImmediates f is more

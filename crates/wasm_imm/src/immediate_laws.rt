@@ -1,11 +1,11 @@
-//! Laws on immediates, each the contract of a function that does nothing.
+//! A law of lists of immediates, the contract of a function that does nothing.
 ghost use Rattle.std.specs.Prelude.{◌≡◌, ℕ, List, ◌++◌, map};
-ghost use Rattle.wasm_instr_ops.specs.Immediate.{Immediate, Kind, kind_of, EncodesImmediates};
+ghost use Rattle.wasm_imm.specs.Immediate.{Immediate, Kind, kind_of, EncodesImmediates};
 
-use wasm_imm::below::WasmFeatures;
+use wasm_imm_control::below::WasmFeatures;
 
-/// Of immediates of the same kinds no encoding is a proper prefix of another's, and each is that of
-/// one list of immediates.
+/// States that no encoding of immediates is a proper prefix of another of the same kinds, and that
+/// each encoding has one list of immediates.
 pub fn immediates(features: WasmFeatures)
     ensures { (is js : List Immediate) (a b x y : List ℕ)
         → map kind_of is ≡ map kind_of js
