@@ -1,4 +1,5 @@
 //! Numbers, read slowly from their definitions.
+use crate::extent::Extent;
 use wasm_imm::below::{BinaryReader, Error, Message, NumberName};
 
 /// How many strings were read, and at how many the answers differ.
@@ -141,14 +142,16 @@ fn compare_all(tally: &mut Tally, bytes: &[u8]) {
     }
 }
 
-/// Every string of up to two bytes.
-pub fn short_strings() -> Tally {
+/// Every string of up to two bytes; of up to one byte where the extent is short.
+pub fn short_strings(extent: Extent) -> Tally {
     let mut tally = Tally::new();
     compare_all(&mut tally, &[]);
     for first in 0..=255u8 {
         compare_all(&mut tally, &[first]);
-        for second in 0..=255u8 {
-            compare_all(&mut tally, &[first, second]);
+        if extent.is_full() {
+            for second in 0..=255u8 {
+                compare_all(&mut tally, &[first, second]);
+            }
         }
     }
     tally

@@ -1,4 +1,5 @@
 //! Types, read slowly from their definitions.
+use crate::extent::Extent;
 use crate::numbers::{Tally, slow_signed, slow_unsigned};
 use wasm_imm::below::{AbstractHeapType, BinaryReader, HeapType, RefType, ValType};
 
@@ -104,16 +105,18 @@ fn compare(tally: &mut Tally, bytes: &[u8]) {
     tally.count(value_type.is_some(), value_type == slow_value_type(bytes));
 }
 
-/// Every string of up to three bytes.
-pub fn short_strings() -> Tally {
+/// Every string of up to three bytes; of up to two bytes where the extent is short.
+pub fn short_strings(extent: Extent) -> Tally {
     let mut tally = Tally::new();
     compare(&mut tally, &[]);
     for first in 0..=255u8 {
         compare(&mut tally, &[first]);
         for second in 0..=255u8 {
             compare(&mut tally, &[first, second]);
-            for third in 0..=255u8 {
-                compare(&mut tally, &[first, second, third]);
+            if extent.is_full() {
+                for third in 0..=255u8 {
+                    compare(&mut tally, &[first, second, third]);
+                }
             }
         }
     }

@@ -1,0 +1,47 @@
+//! Why a row gives no text.
+
+use std::alloc::{AllocError, AllocFailed};
+use std::num::ParseIntError;
+use wasm_imm::below::{Error, ErrorKind};
+
+/// Why a row gives no text.
+#[derive(Clone, Copy, Debug)]
+pub enum Failure {
+    /// The row is malformed.
+    Malformed,
+    /// An allocation failed in a call that the row tests.
+    OutOfMemoryInCall,
+    /// An allocation failed elsewhere: while the row was parsed or its text written.
+    OutOfMemory,
+}
+
+/// How writing a text ends.
+pub type Written = Result<(), Failure>;
+
+impl From<AllocError> for Failure {
+    fn from(_: AllocError) -> Failure {
+        Failure::OutOfMemory
+    }
+}
+
+impl<T: Drop> From<AllocFailed<T>> for Failure {
+    fn from(_: AllocFailed<T>) -> Failure {
+        Failure::OutOfMemory
+    }
+}
+
+impl From<ParseIntError> for Failure {
+    fn from(_: ParseIntError) -> Failure {
+        Failure::Malformed
+    }
+}
+
+/// The error of a call that the row expects to succeed.
+impl From<Error> for Failure {
+    fn from(error: Error) -> Failure {
+        match error.kind() {
+            ErrorKind::OutOfMemory => Failure::OutOfMemoryInCall,
+            _ => Failure::Malformed,
+        }
+    }
+}

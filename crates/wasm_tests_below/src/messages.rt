@@ -1,0 +1,73 @@
+//! The messages of errors.
+
+use crate::failure::{Failure, Written};
+use wasm_imm::below::{
+    Error, FrameName, InstructionName, LeadingByteName, Message, NumberName, SizeName, TypeName,
+};
+
+/// The messages that rows name, by how `Debug` prints them.
+const MESSAGES: [Message; 38] = [
+    Message::EndOfData,
+    Message::FeatureRequired(InstructionName::Try),
+    Message::FeatureRequired(InstructionName::CatchAll),
+    Message::OutOfMemory,
+    Message::IntegerTooLong(NumberName::VarU32),
+    Message::IntegerTooLong(NumberName::VarS33),
+    Message::IntegerTooLarge(NumberName::VarU64),
+    Message::IntegerTooLarge(NumberName::VarI32),
+    Message::IntegerTooLarge(NumberName::VarI64),
+    Message::SizeOutOfBounds(SizeName::BrTable),
+    Message::SizeOutOfBounds(SizeName::SelectTypes),
+    Message::SizeOutOfBounds(SizeName::Catches),
+    Message::SizeOutOfBounds(SizeName::ResumeTable),
+    Message::InvalidFunctionType,
+    Message::WrongFrame(InstructionName::Else, FrameName::If),
+    Message::WrongFrame(InstructionName::Delegate, FrameName::LegacyTry),
+    Message::OperatorsRemaining,
+    Message::FramesRemain,
+    Message::FramesRemainConst,
+    Message::UnexpectedData,
+    Message::IllegalOpcode(0x0e),
+    Message::UnknownSubopcode(0xfb, 31),
+    Message::UnexpectedSimd,
+    Message::ZeroByteExpected,
+    Message::NonzeroAfterFence,
+    Message::MemoryAndArray,
+    Message::OrderingOnPlain,
+    Message::InvalidOrdering {
+        byte: 18,
+        hex: true,
+    },
+    Message::InvalidOrdering {
+        byte: 18,
+        hex: false,
+    },
+    Message::ReservedFlags,
+    Message::InvalidCastFlags(5),
+    Message::InvalidLeadingByte(255, LeadingByteName::Catch),
+    Message::InvalidLeadingByte(4, LeadingByteName::OnClause),
+    Message::TooManyLocals,
+    Message::InvalidType(TypeName::ValueType),
+    Message::InvalidType(TypeName::ReferenceType),
+    Message::InvalidType(TypeName::HeapType),
+    Message::DataAfterSection,
+];
+
+/// Writes what an error at offset 7 with the message of this name says of itself: number, offset,
+/// kind and text.
+pub fn write_message(text: &mut String, name: &str) -> Written {
+    for message in MESSAGES {
+        write!(text, "{message:?}")?;
+        let is_named = text.as_str() == name;
+        text.clear();
+        if is_named {
+            let error = Error::new(message, 7);
+            let message = error.message();
+            let number = message.number();
+            let offset = error.offset();
+            write!(text, "{number} at {offset}, {:?}: {message}", error.kind())?;
+            return Ok(());
+        }
+    }
+    Err(Failure::Malformed)
+}

@@ -1,0 +1,101 @@
+//! The rows of the table, whose cells have a tab between them.
+
+use crate::failure::Failure;
+use bitflags::Flags;
+use std::alloc::Global;
+use wasm_imm::below::{BinaryReader, WasmFeatures};
+
+/// A row: what is called, with which input, and the text that it has to give.
+#[derive(Clone, Copy)]
+pub struct Row<'r> {
+    /// Calls with spaces between them, or `message` or `scenario`.
+    pub calls: &'r str,
+    pub input: &'r str,
+    pub expected: &'r str,
+}
+
+impl<'r> Row<'r> {
+    /// Returns the row of a line. `None` if the line has fewer than three cells.
+    pub fn of(line: &'r str) -> Option<Row<'r>> {
+        let (calls, others) = line.split_once('\t')?;
+        let (input, expected) = others.split_once('\t')?;
+        Some(Row {
+            calls,
+            input,
+            expected,
+        })
+    }
+
+    /// Returns whether the row has to give its text whichever allocation fails.
+    pub fn is_of_memory(&self) -> bool {
+        self.calls.starts_with("memory")
+    }
+}
+
+/// What a row's calls read.
+#[derive(Drop)]
+pub struct Input {
+    bytes: Vec<u8>,
+    /// The offset of the first byte.
+    offset: u64,
+    features: WasmFeatures,
+}
+
+impl Input {
+    /// Parses an input: bytes in hexadecimal, `offset=N` and `features=N`, each optional.
+    pub fn parse(alloc: Global, cell: &str) -> Result<Input, Failure> {
+        let mut input = Input {
+            bytes: Vec::new(alloc),
+            offset: 0,
+            features: WasmFeatures::all(),
+        };
+        for word in cell.split(' ') {
+            match word.split_once('=') {
+                Some(("offset", number)) => input.offset = number.parse::<u64>()?,
+                Some(("features", number)) => {
+                    input.features = WasmFeatures::from_bits_retain(number.parse::<u32>()?);
+                }
+                Some(_) => return Err(Failure::Malformed),
+                None => input.bytes = bytes_of(alloc, word)?,
+            }
+        }
+        Ok(input)
+    }
+
+    /// Returns a reader over the bytes.
+    pub fn reader(&self) -> Result<BinaryReader<'_>, Failure> {
+        if self.bytes.len() > BinaryReader::max_data_len(self.offset) {
+            return Err(Failure::Malformed);
+        }
+        Ok(BinaryReader::new_features(self.bytes.as_slice(), self.offset, self.features))
+    }
+}
+
+/// Returns the bytes of a word in hexadecimal.
+fn bytes_of(alloc: Global, word: &str) -> Result<Vec<u8>, Failure> {
+    let mut bytes = Vec::new(alloc);
+    let mut high = None;
+    for letter in word.as_bytes() {
+        let digit = digit_of(*letter)?;
+        high = match high {
+            None => Some(digit),
+            Some(first) => {
+                bytes.push(digit.wrapping_add(16u8.wrapping_mul(first)))?;
+                None
+            }
+        };
+    }
+    match high {
+        None => Ok(bytes),
+        Some(_) => Err(Failure::Malformed),
+    }
+}
+
+/// Returns the value of a hexadecimal digit.
+fn digit_of(letter: u8) -> Result<u8, Failure> {
+    match letter {
+        b'0'..=b'9' => Ok(letter.wrapping_sub(b'0')),
+        b'a'..=b'f' => Ok(letter.wrapping_sub(b'a').wrapping_add(10)),
+        _ => Err(Failure::Malformed),
+    }
+}

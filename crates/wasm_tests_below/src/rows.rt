@@ -1,0 +1,83 @@
+//! Evaluates the rows of the table, and counts those whose text differs.
+
+use crate::calls::write_calls;
+use crate::failure::{Failure, Written};
+use crate::messages::write_message;
+use crate::row::Row;
+use crate::scenarios::write_scenario;
+use std::alloc::Global;
+use std::io::{self, Print};
+
+/// How many rows there were.
+#[derive(Clone, Copy)]
+struct Rows {
+    rows: u32,
+    /// How many rows gave another text than they expect.
+    differ: u32,
+    /// How many rows gave no text because an allocation failed.
+    out_of_memory: u32,
+}
+
+/// Evaluates each row of a table. Prints each that differs, and at the end how many there were.
+pub fn print_rows<R: Print>(rt: &R, alloc: Global, table: &str) -> io::Result<()> {
+    let mut counts = Rows {
+        rows: 0,
+        differ: 0,
+        out_of_memory: 0,
+    };
+    for line in table.lines() {
+        if !line.is_empty() && !line.starts_with('#') {
+            counts.compare(rt, alloc, line)?;
+        }
+    }
+    print!(rt; "{} rows, {} differ", counts.rows, counts.differ)?;
+    if counts.out_of_memory > 0 {
+        print!(rt; ", {} out of memory", counts.out_of_memory)?;
+    }
+    println!(rt;)
+}
+
+impl Rows {
+    /// Evaluates the row of a line and compares its text with the expected one.
+    fn compare<R: Print>(&mut self, rt: &R, alloc: Global, line: &str) -> io::Result<()> {
+        self.rows = self.rows.saturating_add(1);
+        let mut text = String::new(alloc);
+        let ended = match Row::of(line) {
+            None => Err(Failure::Malformed),
+            Some(row) => match evaluate(alloc, &row, &mut text) {
+                Ok(()) if text.as_str() == row.expected => return Ok(()),
+                Err(Failure::OutOfMemory | Failure::OutOfMemoryInCall) if !row.is_of_memory() => {
+                    self.out_of_memory = self.out_of_memory.saturating_add(1);
+                    return Ok(());
+                }
+                ended => ended,
+            },
+        };
+        self.differ = self.differ.saturating_add(1);
+        match ended {
+            Ok(()) => println!(rt; "differs: {line}\n  gives: {text}"),
+            Err(failure) => println!(rt; "differs: {line}\n  gives: {failure:?}"),
+        }
+    }
+}
+
+/// Writes the text that a row gives.
+///
+/// A row of `memory` is evaluated again if an allocation failed outside the calls that it tests.
+fn evaluate(alloc: Global, row: &Row<'_>, text: &mut String) -> Written {
+    match evaluate_once(alloc, row, text) {
+        Err(Failure::OutOfMemory) if row.is_of_memory() => {
+            text.clear();
+            evaluate_once(alloc, row, text)
+        }
+        ended => ended,
+    }
+}
+
+fn evaluate_once(alloc: Global, row: &Row<'_>, text: &mut String) -> Written {
+    match row.calls {
+        "message" => write_message(text, row.input),
+        "scenario" => write_scenario(alloc, text, row.input),
+        _ => write_calls(alloc, text, row),
+    }
+}

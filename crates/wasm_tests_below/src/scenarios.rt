@@ -1,0 +1,142 @@
+//! What takes more than calls on one reader, each under the name that rows give it.
+ghost use Rattle.std.specs.Prelude.{◌≡◌};
+ghost use Rattle.wasm_imm.specs.below.Features.{HasFeature, memory64};
+ghost use Rattle.wasm_imm.specs.below.Source.{Reader};
+
+use crate::failure::{Failure, Written};
+use bitflags::Flags;
+use std::alloc::Global;
+use wasm_imm::below::{BinaryReader, HeapType, RefType, TakesMemory, WasmFeatures};
+use wasm_imm::{BrTable, Cast, Ieee32, Members, ReadImmediates, V128};
+
+/// Writes what happens in the scenario of this name.
+pub fn write_scenario(alloc: Global, text: &mut String, name: &str) -> Written {
+    match name {
+        "features" => write_features(text),
+        "debug" => write_debug(alloc, text),
+        "branch_tables" => write_branch_tables(text),
+        "members" => write_members(alloc, text),
+        "constants" => write_constants(text),
+        "references" => write_references(text),
+        _ => Err(Failure::Malformed),
+    }
+}
+
+/// How the layers above branch on a feature.
+fn index_bits(reader: &BinaryReader<'_>) -> u32
+    ensures wide { HasFeature memory64 reader.now.features → result ≡ 64 }
+    ensures narrow { ¬ (HasFeature memory64 reader.now.features) → result ≡ 32 }
+{
+    if reader.features().contains(WasmFeatures::MEMORY64) {
+        64
+    } else {
+        32
+    }
+}
+
+/// How a type that holds a reader is cloned.
+#[derive(Clone, Drop)]
+struct Held<'a> {
+    reader: BinaryReader<'a>,
+}
+
+/// Features: a branch on one, a copy of a reader inside a struct, other features, their bits.
+fn write_features(text: &mut String) -> Written {
+    let mut reader = BinaryReader::new(&[1, 2], 0);
+    write!(text, "index bits {}", index_bits(&reader))?;
+    let held = Held {
+        reader: reader.clone(),
+    };
+    let copy = held.clone()?;
+    let left = copy.reader.bytes_remaining();
+    write!(text, ", {left} bytes left in a copy")?;
+    reader.set_features(WasmFeatures::MULTI_MEMORY.union(WasmFeatures::LEGACY_EXCEPTIONS));
+    let bits = reader.features().bits();
+    write!(
+        text,
+        "; features {bits}: index bits {}",
+        index_bits(&reader)
+    )?;
+    let named = WasmFeatures::from_name("MEMORY64").ok_or(Failure::Malformed)?;
+    let all = WasmFeatures::all();
+    write!(text, "; MEMORY64 {}, all {}", named.bits(), all.bits())?;
+    Ok(())
+}
+
+/// That `Debug` prints what has private fields, and how many bytes a reader may have.
+fn write_debug(alloc: Global, text: &mut String) -> Written {
+    let mut reader = BinaryReader::new(&[1, 1, 0], 0);
+    let printed = format!(in alloc; "{reader:?} {:?}", WasmFeatures::all())?;
+    write!(text, "reader {}", printed.len() > 20)?;
+    let table = BrTable::read(&mut reader)?;
+    let printed = format!(in alloc; "{table:?} {:?}", table.targets())?;
+    write!(text, ", branch table {}", !printed.is_empty())?;
+    write!(
+        text,
+        ", max_data_len {}",
+        BinaryReader::max_data_len(u64::MAX)
+    )?;
+    Ok(())
+}
+
+/// Equality of branch tables: that of their bytes.
+fn write_branch_tables(text: &mut String) -> Written {
+    let mut reader = BinaryReader::new(&[0x01, 0x01, 0x00], 0);
+    let short = BrTable::read(&mut reader)?;
+    let mut reader = BinaryReader::new(&[0x01, 0x81, 0x00, 0x00], 0);
+    let long = BrTable::read(&mut reader)?;
+    let copy = short.clone()?;
+    write!(text, "copy equal {}", copy == short)?;
+    write!(text, ", longer encoding equal {}", short == long)?;
+    Ok(())
+}
+
+/// Lists that own their memory.
+fn write_members(alloc: Global, text: &mut String) -> Written {
+    let members = Members::from_vec(vec![in alloc; 1u32, 2]?);
+    let copy = members.clone(alloc)?;
+    write!(text, "copy equal {}", copy == members)?;
+    write!(text, ", len {}, is_empty {}", copy.len(), copy.is_empty())?;
+    let items = copy.into_vec();
+    write!(text, ", items {items:?}")?;
+    let none = Members::<u32>::from_vec(Vec::new(alloc));
+    write!(text, "; {none:?}, is_empty {}", none.is_empty())?;
+    Ok(())
+}
+
+/// Constants: their bits, and conversions of vectors.
+fn write_constants(text: &mut String) -> Written {
+    let quiet = BinaryReader::new(&[0x00, 0x00, 0xc0, 0x7f], 0).read_f32()?;
+    write!(text, "f32 equal {}", quiet == Ieee32::from_bits(2143289344))?;
+    let small = BinaryReader::new(&[1, 0, 0, 0, 0, 0, 0, 0x80], 0).read_f64()?;
+    write!(text, ", f64 bits {}", small.bits())?;
+    let mut one = [0; 16];
+    one[0] = 1;
+    let one = V128::read(&mut BinaryReader::new(&one, 0))?;
+    write!(text, ", one {}", one.i128())?;
+    let ones = V128::read(&mut BinaryReader::new(&[0xff; 16], 0))?;
+    write!(text, ", ones {}", i128::from(ones))?;
+    write!(text, ", from u128 equal {}", V128::from(u128::MAX) == ones)?;
+    write!(text, ", from i128 equal {}", V128::from(-1i128) == ones)?;
+    Ok(())
+}
+
+/// Reference types: the greatest index, the parts of one, and that numbers own no memory.
+fn write_references(text: &mut String) -> Written {
+    let last = RefType::new(false, HeapType::Concrete(1048575));
+    let beyond = RefType::new(false, HeapType::Concrete(1048576));
+    let exact = RefType::new(true, HeapType::Exact(1048576));
+    write!(text, "{last:?}, beyond {beyond:?}, exact {exact:?}")?;
+    let cast = Cast::read(&mut BinaryReader::new(&[0x01, 0x00, 0x6e, 0x6d], 0))?;
+    write!(text, "; depth {}", cast.relative_depth)?;
+    let (from, to) = (cast.from, cast.to);
+    write!(
+        text,
+        ", nullable {} {}",
+        from.is_nullable(),
+        to.is_nullable()
+    )?;
+    write!(text, ", from {:?}", from.heap_type())?;
+    write!(text, "; u32 takes memory {}", u32::TAKES_MEMORY)?;
+    Ok(())
+}
