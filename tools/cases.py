@@ -1,11 +1,11 @@
 #!/usr/bin/env python3
-"""Runs programs on the cases that stand beside them, and compares how each run ends.
+"""Runs programs on the cases in `crates/NAME/cases.tsv`, and compares how each run ends.
 
-    tools/cases.py [NAME..]
+    tools/cases.py [NAME..]               runs what is built in crates/NAME/out
+    tools/cases.py --program PATH NAME    runs the program PATH on the cases of NAME
 
-A program with a file `crates/NAME/cases.tsv` is run once for each of its rows, as each compiler built
-it: `rt ci` and `rt run` leave `crates/NAME/out/NAME`, and `rt ci` also `NAME.by-rattle`. A row has
-these columns, parted by tabs:
+Without `--program`, each of the two builds of a program is run: `rt ci` and `rt run` make `crates/NAME/out/NAME`, and
+`rt ci` also makes `NAME.by-rattle`. The program is run once for each row. A row has these columns, separated by tabs:
 
     case       what the case shows
     words      the arguments, parted by spaces; `""` is an argument without a letter, and \\xNN in one a byte,
@@ -22,6 +22,8 @@ import subprocess
 import sys
 import tempfile
 from pathlib import Path
+
+from testing.built import built, missing, program_of
 
 TOP = Path(__file__).resolve().parent.parent
 COLUMNS = ["case", "words", "input", "status", "output", "complaint"]
@@ -70,27 +72,35 @@ def ended(program, case):
     return str(ran.returncode), wrote, complained.removesuffix("\\n")
 
 
+def run_cases(program, path):
+    """Runs a program on the cases of a file. Returns how many there are, and how many end wrongly."""
+    cases, wrong = cases_of(path), 0
+    for case in cases:
+        expected = (case["status"], case["output"], case["complaint"])
+        found = ended(program, case)
+        if found != expected:
+            wrong += 1
+            print(f"{program.name}, {case['case']}:\n  expected {expected}\n  found    {found}")
+    return len(cases), wrong
+
+
 def main():
-    if any(word.startswith("-") for word in sys.argv[1:]):
+    given, words = program_of(sys.argv[1:])
+    if any(word.startswith("-") for word in words) or (given and len(words) != 1):
         print(__doc__)
-        sys.exit(sys.argv[1:] not in (["--help"], ["-h"]))
-    names = sys.argv[1:] or sorted(path.parent.name for path in TOP.glob("crates/*/cases.tsv"))
+        sys.exit(words not in (["--help"], ["-h"]))
+    names = words or sorted(path.parent.name for path in TOP.glob("crates/*/cases.tsv"))
     runs, wrong = 0, 0
     for name in names:
-        crate = TOP / "crates" / name
-        programs = [crate / "out" / name, crate / "out" / f"{name}.by-rattle"]
-        found = [program for program in programs if program.exists()]
-        if not found:
-            print(f"{name}: no program is built: run rt ci, or rt run in its folder")
+        path = TOP / "crates" / name / "cases.tsv"
+        programs = built(name, given)
+        if not programs or not path.exists():
+            print(f"{name}: {path.relative_to(TOP)} is missing" if programs else missing(name, given))
             wrong += 1
-        for program in found:
-            for case in cases_of(crate / "cases.tsv"):
-                wanted = (case["status"], case["output"], case["complaint"])
-                got = ended(program, case)
-                runs += 1
-                if got != wanted:
-                    wrong += 1
-                    print(f"{program.name}, {case['case']}: {got}, and not {wanted}")
+            continue
+        for program in programs:
+            some, bad = run_cases(program, path)
+            runs, wrong = runs + some, wrong + bad
     print(f"cases: {runs} run, {wrong} wrong")
     sys.exit(1 if wrong or not runs else 0)
 

@@ -1,25 +1,27 @@
 #!/usr/bin/env python3
 """Compares the disassembly of modules with that of `wasm-objdump -d` of wabt.
 
-    tools/compare_objdump.py MODULE..
+    tools/compare_objdump.py MODULE..                    runs the program that `rt ci` or `rt run` built
+    tools/compare_objdump.py --program PATH MODULE..     runs the program PATH
 
-It takes the program that `rt ci` or `rt run` built, crates/wasm_objdump/out/wasm_objdump, and `wasm-objdump`
-of wabt (`apt-get install wabt`; tried with 1.0.32). Of each module it prints the lines of both, how many of these
-differ by each kind that docs/OBJDUMP.md explains, and by others; the processor seconds that both took, writing
-into a file, the least of three runs; and the most memory that they held. `tools/clang_modules.py` makes modules.
-It is no step of the gate. It ends with 1 where a line differs by anything else, or one of the two ends otherwise.
+It needs `wasm-objdump` of wabt (`apt-get install wabt`; tried with 1.0.32). For each module it prints how many lines
+there are, and how many differ by each kind that docs/OBJDUMP.md explains, and by others. It also prints the CPU seconds
+of both, writing to a file, the least of three runs, and the most memory that they held. `tools/clang_modules.py` makes
+modules. It is not a step of the gate. The exit status is 1 if a line differs by anything else, or if the two exit
+statuses differ.
 """
 
 import itertools
 import os
 import re
+import shutil
 import subprocess
 import sys
 import tempfile
-from pathlib import Path
 
-TOP = Path(__file__).resolve().parent.parent
-OURS = [str(TOP / "crates" / "wasm_objdump" / "out" / "wasm_objdump")]
+from testing.built import built, missing, program_of
+
+NAME_OF_OURS = "wasm_objdump"
 THEIRS = ["wasm-objdump", "-d"]
 RUNS = 3
 # Runs a program and tells its status, its processor seconds and the most memory that it held. The memory of a child
@@ -107,9 +109,9 @@ def lines_of(path):
             yield line.rstrip("\n")
 
 
-def compared(module, folder):
-    """Compares one module, and answers whether nothing but what is explained differs."""
-    status, seconds, memory = ran([*OURS, module], f"{folder}/ours")
+def compared(program, module, folder):
+    """Compares one module. Returns whether nothing differs except what is explained."""
+    status, seconds, memory = ran([str(program), module], f"{folder}/ours")
     their_status, their_seconds, their_memory = ran([*THEIRS, module], f"{folder}/theirs")
     counts, others = differences(lines_of(f"{folder}/ours"), lines_of(f"{folder}/theirs"))
     said = ", ".join(f"{kind} {count:,}" for kind, count in counts.items())
@@ -122,13 +124,18 @@ def compared(module, folder):
 
 
 def main():
-    modules = sys.argv[1:]
+    given, modules = program_of(sys.argv[1:])
     if not modules or any(word.startswith("-") for word in modules):
         print(__doc__)
         sys.exit(modules not in (["--help"], ["-h"]))
+    programs = built(NAME_OF_OURS, given)
+    if not programs:
+        sys.exit(missing(NAME_OF_OURS, given))
+    if not shutil.which(THEIRS[0]):
+        sys.exit("wasm-objdump: not found: `apt-get install wabt` installs it")
     with tempfile.TemporaryDirectory() as folder:
-        answers = [compared(module, folder) for module in modules]
-    sys.exit(not all(answers))
+        results = [compared(programs[0], module, folder) for module in modules]
+    sys.exit(not all(results))
 
 
 if __name__ == "__main__":

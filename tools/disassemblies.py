@@ -1,18 +1,20 @@
 #!/usr/bin/env python3
 """Compares the disassembly of the small modules of crates/wasm_objdump/data with that of wabt, and spoils them.
 
-    tools/disassemblies.py
+    tools/disassemblies.py                                runs the two programs that `rt ci` built
+    tools/disassemblies.py --program PATH [wasm_objdump]  runs the program PATH
 
-Of each module NAME.wasm there, the program that `rt ci` built (as each of two compilers did) has to write what
-`wasm-objdump -d` of wabt 1.0.32 wrote, NAME.txt, and to end with status 0. Then it is run on the module cut behind
-each of its bytes, and with each of its bytes changed once: each run has to end by itself, in time, with status 0
-and no complaint, or with status 1 and complaints, a line each. It ends with 1 where one does otherwise, and where
-no program is built.
+For each module NAME.wasm, the program must write NAME.txt, which `wasm-objdump -d` of wabt 1.0.32 wrote, and end with
+status 0. Then it is run on each proper prefix of the module, and on the module with each of its bytes changed once.
+Each of these runs must end in time, with status 0 and no message, or with status 1 and messages, a line each. The exit
+status is 1 if a run ends otherwise, or if no program is built.
 """
 
 import subprocess
 import sys
 from pathlib import Path
+
+from testing.built import built, missing, program_of
 
 TOP = Path(__file__).resolve().parent.parent
 CRATE = TOP / "crates" / "wasm_objdump"
@@ -58,10 +60,13 @@ def compared(program, path):
 
 
 def main():
-    if sys.argv[1:]:
+    given, words = program_of(sys.argv[1:])
+    if words not in ([], [CRATE.name]):
         print(__doc__)
-        sys.exit(sys.argv[1:] not in (["--help"], ["-h"]))
-    programs = [path for path in (CRATE / "out" / "wasm_objdump", CRATE / "out" / "wasm_objdump.by-rattle") if path.exists()]
+        sys.exit(words not in (["--help"], ["-h"]))
+    programs = built(CRATE.name, given)
+    if not programs:
+        print(missing(CRATE.name, given))
     wrong, runs = [], 0
     for program in programs:
         for path in sorted((CRATE / "data").glob("*.wasm")):

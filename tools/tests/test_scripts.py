@@ -16,6 +16,7 @@ import edges
 import gate_table
 import paths
 import timed
+from pages import specs
 
 LOG = """\
 == wasm_low: its tests
@@ -38,23 +39,30 @@ class GateTable(unittest.TestCase):
     """The table of docs/GATE.md."""
 
     def test_page(self):
-        page = gate_table.page(LOG)
+        page = gate_table.page([(LOG, "Alone."), (LOG, "")])
         self.assertIn("| `wasm_low` | 7 | 2.0 | 1.5 |  | 0.5 | 1 |", page)
         self.assertIn("| all | 7 | 2.0 | |  | 0.5 | 1 |", page)
-        self.assertIn("took 2.1 minutes on 4 processors, and 3.1 minutes of a processor", page)
-        self.assertIn("`2 passed, 1 failed`", page)
-        self.assertIn("The proofs take 17.1 seconds a function. 0 of their minutes", page)
-        self.assertIn("Of the minutes of edits about 0 are proofs", page)
+        self.assertIn("took 2.1 minutes wall-clock on 4 processors, and 3.1 CPU minutes", page)
+        self.assertIn("`2 passed, 1 failed`. Alone.\n", page)
+        self.assertIn("A proof takes 17.1 seconds per function.", page)
+        self.assertIn("About 0 of the minutes of edits", page)
+        self.assertEqual(page.count("| all |"), 2)
+
+    def test_outside(self):
+        rows = [{"crate": "wasm_low", "edits": "3", "commit": "abc", "date": "2026-01-02"}]
+        section = gate_table.outside_section(rows)
+        self.assertTrue(section.endswith("| `wasm_low` | 3 | `abc` | 2026-01-02 |\n| all | 3 | | |\n"))
+        self.assertEqual(gate_table.outside_section([]), "")
 
     def test_summary(self):
         head, crates = gate_table.summary(LOG).split("\n")
-        self.assertTrue(head.startswith("rt ci took 2.1 minutes on 4 processors, 3.1 of a processor."))
+        self.assertTrue(head.startswith("rt ci took 2.1 minutes wall-clock on 4 processors, 3.1 CPU minutes."))
         self.assertEqual(crates, "wasm_low 7 2.0+0+0.5")
 
     def test_of_two_runs(self):
         behind = "cost wasm_low proof 60 30\ncost all 60 60 4\n3 passed, 0 failed\n"
         other = "rt: must-fail wasm_low/lost.edit: refused, as it must be: src/lib.rt:1:1: error\n"
-        self.assertIn("Of the minutes of edits about 0.5 are proofs", gate_table.page(other + LOG))
+        self.assertIn("About 0.5 of the minutes of edits", gate_table.run_section(other + LOG))
         crates, whole, last = gate_table.read(LOG + LOG + behind)
         once, before, _ = gate_table.read(LOG)
         self.assertEqual(whole, (2 * before[0] + 60, 2 * before[1] + 60, 4))
@@ -71,7 +79,7 @@ class GateTable(unittest.TestCase):
 
     def test_other_logs(self):
         with self.assertRaises(SystemExit):
-            gate_table.page("2 passed, 1 failed\n")
+            gate_table.run_section("2 passed, 1 failed\n")
 
 
 class Timed(unittest.TestCase):
@@ -114,7 +122,7 @@ class Progress(unittest.TestCase):
         # what the command wrote stands as it was, and gives the same table
         kept = "".join(line for line in out.getvalue().splitlines(keepends=True) if not line.startswith("["))
         self.assertEqual(kept, LOG)
-        self.assertEqual(gate_table.page(out.getvalue()), gate_table.page(LOG))
+        self.assertEqual(gate_table.run_section(out.getvalue()), gate_table.run_section(LOG))
 
     def test_crate_that_is_not_proved(self):
         out = io.StringIO()
@@ -125,7 +133,7 @@ class Progress(unittest.TestCase):
                          ["[1/2, 0 min] wasm_high: NOT PROVED"])
 
     def test_expected_minutes(self):
-        page = gate_table.page(LOG)
+        page = gate_table.page([(LOG, "")])
         self.assertAlmostEqual(timed.expected_minutes(page, 4), 2.1)
         self.assertAlmostEqual(timed.expected_minutes(page, 2), 4.2)
         self.assertAlmostEqual(timed.expected_minutes(page, 8), 2.1)
@@ -245,6 +253,19 @@ TAKES_ONE = """\
 """
 
 
+# A program of rows that takes two allocations where its argument is `short`, the first to read its rows.
+COUNTS_ROWS = """\
+#!/bin/sh
+[ "$1" = short ] || exit 2
+case "$REFUSED_ALLOCATION" in 1 | 2) printf ! > "/dev/fd/$REFUSAL_TOLD" ;; esac
+case "$REFUSED_ALLOCATION" in
+1) echo 'the rows could not be read: out of memory' && exit 1 ;;
+2) echo '7 rows, 0 differ, 1 out of memory' ;;
+*) echo '7 rows, 0 differ' ;;
+esac
+"""
+
+
 class Allocations(unittest.TestCase):
     """How a run may end whose allocation is refused."""
 
@@ -259,6 +280,33 @@ class Allocations(unittest.TestCase):
             (Path(folder) / "refused").write_text("first 24\n", encoding="utf-8")
             self.assertIsNone(allocations.refused_shapes(Path(folder), plain))
             self.assertEqual(allocations.first_refused(Path(folder)), 24)
+            (Path(folder) / "refused").write_text("rows\n", encoding="utf-8")
+            self.assertIsNone(allocations.refused_shapes(Path(folder), plain))
+            self.assertIsNone(allocations.first_refused(Path(folder)))
+
+    def test_ends_of_rows(self):
+        plain = (0, b"312 rows, 0 differ\nmore: 0 differ\n", b"")
+        one_less = (0, b"312 rows, 0 differ, 1 out of memory\nmore: 0 differ\n", b"")
+        unread = [(1, b"", b"the rows could not be read: out of memory\n"), (1, b"the rows could not be read\n", b"")]
+        for ended in (plain, one_less, *unread):
+            self.assertTrue(allocations.is_end_of_rows(ended, plain), ended)
+        for wrote in (b"312 rows, 1 differ\n", b"312 rows, 0 differ, 2 out of memory\n", b"311 rows, 0 differ\n", b""):
+            self.assertFalse(allocations.is_end_of_rows((0, wrote + b"more: 0 differ\n", b""), plain), wrote)
+        for ended in ((1, *plain[1:]), (2, *plain[1:]), (-6, b"", b""), (None, b"", b""), (0, *unread[0][1:])):
+            self.assertFalse(allocations.is_end_of_rows(ended, plain), ended)
+        no_rows = (0, b"more: 0 differ\n", b"")
+        self.assertFalse(allocations.is_end_of_rows(no_rows, no_rows))
+
+    def test_program_of_rows(self):
+        for text, is_well in ((COUNTS_ROWS, True), (COUNTS_ROWS.replace("0 differ", "1 differ"), False)):
+            with self.subTest(text), tempfile.TemporaryDirectory() as folder:
+                crate = Path(folder)
+                (crate / "refused").write_text("rows\n", encoding="utf-8")
+                (crate / "stdout.short").write_text("7 rows, 0 differ\n", encoding="utf-8")
+                (crate / "program").write_text(text, encoding="utf-8")
+                (crate / "program").chmod(0o755)
+                count, wrong = allocations.follow_program(crate / "program", crate, "")
+                self.assertEqual((count, not wrong), (2, is_well))
 
     def test_ends(self):
         self.assertEqual([allocations.is_own_end(it) for it in (0, 1, -6, -11, None)], [True, True, True, False, False])
@@ -281,6 +329,7 @@ class Allocations(unittest.TestCase):
 SOURCE = """\
 ghost use Rattle.std.specs.Prelude.{◌≡◌, IfOk};
 ghost use Rattle.wasm_low.specs.Words.{Encodes, Hidden, Long as Brief};
+ghost use Rattle.wasm_low.specs.base.Source.{Reader};
 ghost use Rattle.wasm_low.specs.declared.error.Error.{Error};
 
 impl Reader {
@@ -310,13 +359,18 @@ pub trait Reads {
 """
 
 
+# What the names in `specs` of two crates lead to: files of these crates, and other crates.
+NAMES = {"wasm_low": {"Words": None, "base": ("wasm_base", [])}, "wasm_base": {"Source": None}}
+
+
 class Definitions(unittest.TestCase):
-    """The words that public contracts use."""
+    """The definitions that public contracts use."""
 
     def test_imports(self):
-        words = definitions.imports_of(SOURCE)
-        self.assertEqual(words["Brief"], ("wasm_low: Words", "Long"))
-        self.assertEqual(set(words), {"Encodes", "Hidden", "Brief"})
+        words = definitions.imports_of(SOURCE, NAMES)
+        self.assertEqual(words["Brief"], ("wasm_low", "Words", "Long"))
+        self.assertEqual(words["Reader"], ("wasm_base", "Source", "Reader"))
+        self.assertEqual(set(words), {"Encodes", "Hidden", "Brief", "Reader"})
 
     def test_contracts(self):
         found = {name: clauses for name, clauses in definitions.contracts(SOURCE)}
@@ -325,6 +379,24 @@ class Definitions(unittest.TestCase):
         self.assertIn("Encodes n", found["read"])
         self.assertNotIn("Hidden", found["read"])
         self.assertIn("Encodes", found["of"])
+
+    def test_first_difference(self):
+        self.assertIsNone(definitions.first_difference("one\ntwo\n", "one\ntwo\n"))
+        self.assertEqual(definitions.first_difference("one\ntwo\n", "one\n2\n"), 2)
+        self.assertEqual(definitions.first_difference("one\ntwo\n", "one\n"), 2)
+        self.assertEqual(definitions.first_difference("one\n", "one\ntwo\n"), 2)
+
+    def test_rows_by_file(self):
+        low = specs.File("wasm_low", "Words", "-- Words.\n\n-- The first.\nabbrev pub First : Type 0\n\nabbrev pub Second : Type 0\n")
+        users = {"First": "read", "Second": "write", "Third": "end"}
+        found = {("wasm_low", "Words", name): f"code.rt, {user}" for name, user in users.items()}
+        rows, faults = definitions.rows_by_file({("wasm_low", "Words"): low}, [], found)
+        self.assertEqual([row.names for row in rows[low]], [["First"]])
+        self.assertEqual(faults, [
+            "wasm_low/Words.antt does not define Third, used by code.rt, end",
+            "no comment describes Second (wasm_low/Words.antt), used by code.rt, write",
+            "no group of tools/pages/definitions_page.py has wasm_low/Words",
+        ])
 
 
 def tool(name):

@@ -1,0 +1,41 @@
+"""What a test found, and how a difference is shown."""
+
+LINES = 12
+WIDTH = 160
+
+
+class Outcome:
+    """How an item ended: how many of its tests passed and failed, and the lines that show why."""
+
+    def __init__(self, passed, failed, lines=()):
+        self.passed, self.failed, self.lines = passed, failed, list(lines)
+
+    @classmethod
+    def of(cls, faults):
+        """Makes the outcome of an item that is one test."""
+        return cls(0 if faults else 1, 1 if faults else 0, faults)
+
+
+def short(line):
+    """Returns a line, cut if it is long."""
+    text = line.decode(errors="replace")
+    return repr(text if len(text) <= WIDTH else f"{text[:WIDTH]}..")
+
+
+def difference(expected, found, what):
+    """Returns lines that show the first lines in which two texts differ; none if they are equal."""
+    if expected == found:
+        return []
+    wanted, got = expected.split(b"\n"), found.split(b"\n")
+    at = next((at for at, pair in enumerate(zip(wanted, got)) if pair[0] != pair[1]), min(len(wanted), len(got)))
+    shown = []
+    for number in range(at, min(at + 3, max(len(wanted), len(got)))):
+        lines = [short(text[number]) if number < len(text) else "the end" for text in (wanted, got)]
+        if lines[0] != lines[1]:
+            shown += [f"{what}, line {number + 1}:", f"  expected {lines[0]}", f"  found    {lines[1]}"]
+    return shown
+
+
+def tail(text, count=LINES):
+    """Returns the last lines of a text."""
+    return text.rstrip("\n").split("\n")[-count:] if text.strip() else []

@@ -1,0 +1,100 @@
+"""Runs jobs, several at a time, the longest first."""
+
+import os
+import queue
+import threading
+import traceback
+from pathlib import Path
+
+from testing.outcome import Outcome
+from testing.running import Clock, Stopped
+
+# What a job may need, in bytes.
+MEMORY = 1_300_000_000
+COSTS = Path(__file__).resolve().parent / "costs.tsv"
+
+
+def costs():
+    """Returns the CPU seconds of each item when it was measured last."""
+    rows = [line.split("\t") for line in COSTS.read_text(encoding="utf-8").splitlines()[1:]]
+    return {row[0]: float(row[1]) for row in rows}
+
+
+def store_costs(known):
+    """Writes the CPU seconds of each item, the most first."""
+    rows = sorted(known.items(), key=lambda row: (-row[1], row[0]))
+    lines = ["item\tCPU seconds", *[f"{item}\t{seconds:.1f}" for item, seconds in rows]]
+    COSTS.write_text("\n".join(lines) + "\n", encoding="utf-8")
+
+
+def longest_first(jobs, known, wanted):
+    """Returns the jobs in the order in which they start. One with an item that was never measured is the first."""
+    cost = lambda job: sum(known.get(it, float("inf")) for it in job.items if it in wanted)
+    return sorted((job for job in jobs if wanted & set(job.items)), key=cost, reverse=True)
+
+
+def free_memory(meminfo):
+    """Returns the bytes that are available, from the text of /proc/meminfo; None if it does not say."""
+    for line in meminfo.splitlines():
+        if line.startswith("MemAvailable:"):
+            return 1024 * int(line.split()[1])
+    return None
+
+
+def group_memory(folder=Path("/sys/fs/cgroup")):
+    """Returns the bytes that the control group leaves; None if it sets no limit."""
+    for limit, used in (("memory.max", "memory.current"), ("memory/memory.limit_in_bytes", "memory/memory.usage_in_bytes")):
+        try:
+            return int((folder / limit).read_text()) - int((folder / used).read_text())
+        except (OSError, ValueError):
+            continue
+    return None
+
+
+def jobs_at_once():
+    """Returns how many jobs run at a time: as many as there are cores and memory for."""
+    try:
+        found = [free_memory(Path("/proc/meminfo").read_text(encoding="ascii")), group_memory()]
+    except OSError:
+        found = []
+    memory = min((it for it in found if it is not None), default=MEMORY)
+    return max(1, min(len(os.sched_getaffinity(0)), memory // MEMORY))
+
+
+def work(left, done, context, wanted):
+    """Takes jobs until none is left, and reports each item as it ends."""
+    while True:
+        try:
+            job = left.get_nowait()
+        except queue.Empty:
+            done.put(None)
+            return
+        missing = [it for it in job.items if it in wanted]
+        clock = Clock()
+        try:
+            for item, outcome, seconds in job.run(context, wanted):
+                missing.remove(item)
+                done.put((item, outcome, clock.seconds(), seconds))
+                clock = Clock()
+        except Stopped:
+            done.put(None)
+            return
+        except Exception:  # an item that the tool itself fails on has failed, and the others go on
+            text = traceback.format_exc().splitlines()[-3:]
+            for item in missing:
+                done.put((item, Outcome.of(text), clock.seconds(), 0))
+
+
+def results(jobs, context, wanted, count):
+    """Yields each item as it ends: its name, its outcome, its seconds and its CPU seconds."""
+    left, done = queue.Queue(), queue.Queue()
+    for job in jobs:
+        left.put(job)
+    for _ in range(count):
+        threading.Thread(target=work, args=(left, done, context, wanted), daemon=True).start()
+    while count:
+        found = done.get()
+        if found is None:
+            count -= 1
+        else:
+            yield found

@@ -1,0 +1,169 @@
+"""Tests `tools/test`: breaks one expectation at a time in a copy of the repository, and looks at what fails."""
+
+import re
+import shutil
+import sys
+
+from testing import running
+from testing.items import CHECKS, REPLAY, Check, Program, Tests, find_jobs, is_named
+from testing.outcome import tail
+from testing.running import Clock
+
+LIMIT = 7200
+# What a copy of the repository leaves out.
+LEFT_OUT = (".git", "out", "__pycache__", "target", "native")
+LINE = re.compile(r"(ok|FAILED) \d+ s ([\w/-]+)")
+# A test's head, and what makes it fail.
+TEST_HEAD = re.compile(r"#\[test\]\n\s*fn \w+\((\w+): [^{]*\{\n")
+WRONG_VISITS = "\nimpl VisitMisc for Broken {\n    fn visit_data_drop(&mut self) {}\n}\n"
+WRONG_ROW = "\n| `NoSuchDefinition` | a word that nothing defines | | `Nothing.antt` |\n"
+WRONG_EDIT = "file: src/lib.rt\nold: a text that does not occur\nnew: another\n"
+
+
+class Break:
+    """A change of one file, and the items that fail by it: one must, the others may."""
+
+    def __init__(self, item, path, change, others=()):
+        self.item, self.path, self.change, self.others = item, path, change, set(others)
+
+
+def more(text):
+    """Returns a change that appends a text."""
+    return lambda old: old + text
+
+
+def replaced(pattern, new):
+    """Returns a change that replaces the first match of a pattern."""
+    return lambda old: re.sub(pattern, new, old, count=1, flags=re.M)
+
+
+def wrong_status(text):
+    """Changes the status of the first case."""
+    head, row, rest = text.split("\n", 2)
+    cells = row.split("\t")
+    cells[3] = str(int(cells[3]) + 1)
+    return "\n".join([head, "\t".join(cells), rest])
+
+
+def wrong_test(text):
+    """Makes the first test fail."""
+    return TEST_HEAD.sub(lambda found: f"{found[0]}    assert_eq!({found[1]}; 1, 2);\n", text, count=1)
+
+
+def first(paths):
+    """Returns the first of some paths."""
+    return sorted(paths)[0]
+
+
+def head_of_lists(top):
+    """Returns the first line of the generated lists."""
+    return re.search(r'^HEAD = "(.*)"$', (top / "tools" / "generate" / "table.py").read_text(encoding="utf-8"), re.M)[1]
+
+
+def breaks_of_checks(top):
+    """Returns a break of each check, by the name of the check."""
+    edit = first(top.glob("crates/*/must-fail/*.edit"))
+    equal = first(path for path in top.glob("tools/tests/test_*.py") if "self.assertEqual(" in path.read_text(encoding="utf-8"))
+    return [
+        Break("unit-tests", equal, replaced(r"self\.assertEqual\(", "self.assertNotEqual(")),
+        Break("lists", top / "crates" / "wasm_bench" / "specs" / "LeftOver.antt", more(f"-- {head_of_lists(top)}\n")),
+        Break("expected", top / "crates" / "wasm_tests_lists" / "edges.txt", more("one line more\n")),
+        Break("expected-reading", top / "crates" / "wasm_tests_decode" / "rows.tsv", lambda old: old + old.splitlines(True)[-1]),
+        Break("definitions", top / "docs" / "DEFINITIONS.md", more(WRONG_ROW)),
+        Break("edges", top / "crates.txt", replaced(r"^(uses:.*)$", r"\1 bitflags")),
+        Break("forwarding", top / "crates" / "uses" / "src" / "lib.rt", more(WRONG_VISITS)),
+        Break("bindings", top / "examples" / "c" / "list.c", more('int broken = "text";\n'), [REPLAY]),
+        Break("edits", edit, more(WRONG_EDIT)),
+        Break(REPLAY, top / "tools" / "bindings", replaced(r"'mvp (\d+)'", r"'mvp \g<1>0'")),
+    ]
+
+
+def breaks_of_program(folder, items):
+    """Returns the breaks of the items of a program."""
+    name = folder.name
+    if name in items:
+        stored = folder / "stdout.short"
+        yield Break(name, folder / "status", lambda old: f"{int(old or 0) + 1}\n")
+        # (some of these files are written by scripts, which check them)
+        yield Break(name, stored if stored.exists() else folder / "stdout", more("one line more\n"), CHECKS)
+    if f"{name}/cases" in items:
+        yield Break(f"{name}/cases", folder / "cases.tsv", wrong_status)
+    if f"{name}/modules" in items:
+        yield Break(f"{name}/modules", first((folder / "data").glob("*.txt")), more("one line more\n"))
+
+
+def breaks_of_tests(folder):
+    """Returns the break of the tests of a crate."""
+    tests = first(path for path in folder.glob("src/**/*.rt") if TEST_HEAD.search(path.read_text(encoding="utf-8")))
+    return Break(f"{folder.name}/tests", tests, wrong_test)
+
+
+def breaks(crates):
+    """Returns the breaks of all items of a repository."""
+    of_checks, found = breaks_of_checks(crates.top), []
+    for job in find_jobs(crates, is_full=False):
+        if isinstance(job, Check):
+            found += [it for it in of_checks if it.item == job.name]
+        elif isinstance(job, Program):
+            found += breaks_of_program(job.folder, job.items)
+        elif isinstance(job, Tests):
+            found.append(breaks_of_tests(crates.folder(job.name)))
+    return found
+
+
+def run_tool(top, kept):
+    """Runs `tools/test` of a copy. Returns the items that passed, those that failed, and what it wrote."""
+    ran = running.run([sys.executable, "-B", top / "tools" / "test", "--keep", kept], LIMIT, top)
+    lines = LINE.findall(ran.out.decode(errors="replace"))
+    passed, failed = ({name for word, name in lines if word == wanted} for wanted in ("ok", "FAILED"))
+    if ran.status != (1 if failed else 0):
+        failed.add(f"exit status {ran.status}")
+    return passed, failed, ran.text()
+
+
+def fault_of(broken, top, kept):
+    """Applies a break, runs `tools/test`, and takes the break back. Returns what is wrong, or None."""
+    before = broken.path.read_text(encoding="utf-8") if broken.path.exists() else None
+    after = broken.change(before or "")
+    if after == before:
+        return f"the break of {broken.path.relative_to(top)} changes nothing"
+    broken.path.write_text(after, encoding="utf-8")
+    try:
+        _, failed, text = run_tool(top, kept)
+    finally:
+        if before is None:
+            broken.path.unlink()
+        else:
+            broken.path.write_text(before, encoding="utf-8")
+    if broken.item in failed and failed - {broken.item} <= broken.others:
+        return None
+    return "\n".join([f"these fail: {', '.join(sorted(failed)) or 'none'}", *tail(text)])
+
+
+def self_test(crates_of, top, scratch, kept, names, write):
+    """Runs the self-test of all items, or of those that are named.
+
+    Returns how many breaks did what they should, and how many did not.
+    """
+    copy = scratch / "copy"
+    shutil.copytree(top, copy, symlinks=True, ignore=shutil.ignore_patterns(*LEFT_OUT))
+    crates = crates_of(copy)
+    clock = Clock()
+    passed, failed, text = run_tool(copy, kept)
+    write(f"{clock.seconds():.0f} s: {len(passed)} items pass in a copy, {len(failed)} fail")
+    if failed or not passed:
+        write("\n".join(tail(text)))
+        return 0, 1
+    found = breaks(crates)
+    unbroken = sorted(passed - {it.item for it in found})
+    for item in unbroken:
+        write(f"FAILED {item}: it has no break")
+    found = [it for it in found if not names or any(is_named(it.item, name) for name in names)]
+    good = 0
+    for broken in found:
+        clock = Clock()
+        fault = fault_of(broken, copy, kept)
+        good += fault is None
+        what = f"{clock.seconds():.0f} s {broken.item}, by {broken.path.relative_to(copy)}"
+        write(f"FAILED {what}: {fault}" if fault else f"ok {what}")
+    return good, len(found) - good + len(unbroken)

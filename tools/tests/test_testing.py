@@ -1,0 +1,220 @@
+"""`tools/test`: what it finds, in which order it runs that, and how it reports."""
+
+import os
+import tempfile
+import time
+import unittest
+from pathlib import Path
+
+from testing import built, items, outcome, pool, running, selftest
+from testing.crates import Crates, listed
+from testing.programs import Builder
+
+CRATES = """\
+# NAME: what it uses
+low: bitflags
+middle: low
+library staticlib: middle
+program: middle
+"""
+
+
+def repository(folder, files):
+    """Makes a repository of crates with these files."""
+    texts = {"crates.txt": CRATES, "tools/bindings": "", **files}
+    for name in ("low", "middle", "library"):
+        texts.setdefault(f"crates/{name}/src/lib.rt", "")
+    texts.setdefault("crates/program/src/main.rt", "")
+    for name, text in texts.items():
+        path = Path(folder) / name
+        path.parent.mkdir(parents=True, exist_ok=True)
+        path.write_text(text, encoding="utf-8")
+    return Crates(Path(folder))
+
+
+class Job:
+    """A job that reports what it is made of."""
+
+    def __init__(self, name, *outcomes):
+        self.items = [name, *[f"{name}/{number}" for number in range(1, len(outcomes))]]
+        self.outcomes = outcomes
+
+    def run(self, context, wanted):
+        for item, found in zip(self.items, self.outcomes):
+            if isinstance(found, Exception):
+                raise found
+            yield item, found, 1
+
+
+class Finding(unittest.TestCase):
+    """What there is to test in a repository."""
+
+    def items(self, files, is_full=False):
+        """Returns the items of crates with these files."""
+        with tempfile.TemporaryDirectory() as folder:
+            jobs = items.find_jobs(repository(folder, files), is_full)
+        return [it for job in jobs for it in job.items if it not in items.CHECKS]
+
+    def test_crates(self):
+        self.assertEqual(listed(CRATES), {"low": ["bitflags"], "middle": ["low"], "library": ["middle"], "program": ["middle"]})
+        with tempfile.TemporaryDirectory() as folder:
+            crates = repository(folder, {})
+            self.assertEqual(crates.below("program"), ["low", "middle"])
+            self.assertEqual(crates.of_kit("low"), ["std", "bitflags"])
+
+    def test_a_program_without_output_is_no_item(self):
+        self.assertEqual(self.items({}), [])
+
+    def test_items_by_files(self):
+        files = {"crates/program/stdout": "", "crates/program/cases.tsv": "", "crates/program/data/a.wasm": ""}
+        self.assertEqual(self.items(files), ["program", "program/cases", "program/modules"])
+        self.assertEqual(self.items(files, is_full=True)[-1], "program/allocations")
+
+    def test_tests(self):
+        files = {"crates/low/src/inner/tests.rt": "#[test]\nfn one() {}\n"}
+        self.assertEqual(self.items(files), ["low/tests"])
+        self.assertEqual(self.items(files, is_full=True), ["low/tests", "low/tests/allocations"])
+
+    def test_replay_if_bindings_has_it(self):
+        self.assertEqual(self.items({"tools/bindings": "--unproved"}), [items.REPLAY])
+
+    def test_chosen(self):
+        jobs = [Job("low", 1), Job("program", 1, 2, 3), Job("program_of_tests", 1)]
+        self.assertEqual(items.chosen(jobs, [])[0], {"low", "program", "program/1", "program/2", "program_of_tests"})
+        self.assertEqual(items.chosen(jobs, ["program"]), ({"program", "program/1", "program/2"}, []))
+        self.assertEqual(items.chosen(jobs, ["program/2", "prog", "low"]), ({"program/2", "low"}, ["prog"]))
+
+
+class Building(unittest.TestCase):
+    """When a program that was kept is taken."""
+
+    def test_digest(self):
+        with tempfile.TemporaryDirectory() as folder:
+            top = Path(folder)
+            digest = lambda: Builder(top, Crates(top), top, top, False).digest("program", False)
+            repository(folder, {})
+            first = digest()
+            (top / "crates/library/src/lib.rt").write_text("one", encoding="utf-8")
+            self.assertEqual(digest(), first)
+            (top / "crates/low/src/lib.rt").write_text("one", encoding="utf-8")
+            second = digest()
+            self.assertNotEqual(second, first)
+            (top / "crates.txt").write_text(CRATES.replace("low: bitflags", "low:"), encoding="utf-8")
+            self.assertNotEqual(digest(), second)
+
+
+class Pool(unittest.TestCase):
+    """The order of the jobs, how many run, and what is reported of each."""
+
+    def test_longest_first(self):
+        jobs = [Job("a", 1), Job("b", 1, 1), Job("new", 1), Job("d", 1)]
+        known = {"a": 3, "b": 2, "b/1": 2, "d": 9}
+        order = lambda wanted: [job.items[0] for job in pool.longest_first(jobs, known, wanted)]
+        self.assertEqual(order({"a", "b", "b/1", "new", "d"}), ["new", "d", "b", "a"])
+        self.assertEqual(order({"a", "b"}), ["a", "b"])
+
+    def test_stored_costs(self):
+        self.assertTrue(all(seconds >= 0 for seconds in pool.costs().values()))
+
+    def test_memory(self):
+        self.assertEqual(pool.free_memory("MemTotal: 9 kB\nMemAvailable:     3 kB\n"), 3072)
+        self.assertIsNone(pool.free_memory("MemTotal: 9 kB\n"))
+        with tempfile.TemporaryDirectory() as folder:
+            self.assertIsNone(pool.group_memory(Path(folder)))
+            for name, text in (("memory.max", "500\n"), ("memory.current", "200\n")):
+                (Path(folder) / name).write_text(text, encoding="ascii")
+            self.assertEqual(pool.group_memory(Path(folder)), 300)
+            (Path(folder) / "memory.max").write_text("max\n", encoding="ascii")
+            self.assertIsNone(pool.group_memory(Path(folder)))
+        self.assertTrue(1 <= pool.jobs_at_once() <= len(os.sched_getaffinity(0)))
+
+    def results(self, *jobs, count=2):
+        """Runs jobs. Returns how many tests of each item passed and failed."""
+        wanted = {it for job in jobs for it in job.items}
+        return {item: (found.passed, found.failed) for item, found, _, _ in pool.results(jobs, None, wanted, count)}
+
+    def test_results(self):
+        good, bad = outcome.Outcome(3, 0), outcome.Outcome.of(["wrong"])
+        self.assertEqual(self.results(Job("a", good, bad), Job("b", good)), {"a": (3, 0), "a/1": (0, 1), "b": (3, 0)})
+
+    def test_a_job_that_breaks_down(self):
+        good = outcome.Outcome.of([])
+        found = self.results(Job("a", good, ValueError("no"), good), Job("b", good), count=1)
+        self.assertEqual(found, {"a": (1, 0), "a/1": (0, 1), "a/2": (0, 1), "b": (1, 0)})
+
+
+class Reporting(unittest.TestCase):
+    """How a difference is shown."""
+
+    def test_equal(self):
+        self.assertEqual(outcome.difference(b"a\n", b"a\n", "stdout"), [])
+
+    def test_first_lines(self):
+        found = outcome.difference(b"a\nb\nc\n", b"a\nB\nc\n", "stdout")
+        self.assertEqual(found, ["stdout, line 2:", "  expected 'b'", "  found    'B'"])
+
+    def test_cut(self):
+        found = outcome.difference(b"a\nb\n", b"a", "stdout")
+        self.assertEqual(found[:3], ["stdout, line 2:", "  expected 'b'", "  found    the end"])
+        self.assertTrue(outcome.difference(b"a", b"a\n", "stdout"))
+
+    def test_tail(self):
+        self.assertEqual(outcome.tail("a\nb\nc\n", 2), ["b", "c"])
+        self.assertEqual(outcome.tail("\n"), [])
+
+
+class Running(unittest.TestCase):
+    """Commands with a limit."""
+
+    def test_ends(self):
+        ran = running.run(["sh", "-c", "cat; echo no >&2; exit 3"], 60, "/", env=running.PLAIN)
+        self.assertEqual((ran.status, ran.out, ran.err, ran.failure(60)), (3, b"", b"no\n", "exit status 3"))
+        self.assertIsNone(running.run(["true"], 60, "/").failure(60))
+        self.assertIn("SIGSEGV", running.run(["sh", "-c", "kill -SEGV $$"], 60, "/").failure(60))
+
+    def test_input(self):
+        with tempfile.NamedTemporaryFile() as given:
+            given.write(b"text")
+            given.flush()
+            self.assertEqual(running.run(["cat"], 60, "/", given=given.name).out, b"text")
+
+    def test_limit_ends_the_group(self):
+        began = time.monotonic()
+        ran = running.run(["sh", "-c", "sleep 100 & sleep 100"], 0.2, "/")
+        self.assertEqual(ran.failure(0.2), "not finished after 0.2 s, killed")
+        self.assertLess(time.monotonic() - began, 50)
+
+
+class Scripts(unittest.TestCase):
+    """The programs that scripts run."""
+
+    def test_given(self):
+        path, words = built.program_of(["a", "--program", "/b", "c"])
+        self.assertEqual((str(path), words), ("/b", ["a", "c"]))
+        self.assertEqual(built.program_of(["a", "--program"]), (None, ["a", "--program"]))
+
+    def test_missing(self):
+        self.assertEqual(built.built("no_crate"), [])
+        self.assertIn("crates/no_crate/out/no_crate is missing", built.missing("no_crate"))
+        self.assertEqual(built.missing("a", Path("/b")), "a: /b is missing")
+
+
+class SelfTest(unittest.TestCase):
+    """The breaks of the self-test apply to this repository."""
+
+    def test_each_break_changes_its_file(self):
+        crates = Crates(built.TOP)
+        found = selftest.breaks(crates)
+        jobs = items.find_jobs(crates, is_full=False)
+        self.assertEqual({it.item for it in found}, {it for job in jobs for it in job.items})
+        for broken in found:
+            before = broken.path.read_text(encoding="utf-8") if broken.path.exists() else ""
+            self.assertNotEqual(broken.change(before), before, broken.path)
+
+    def test_lines(self):
+        lines = "ok 3 s low/tests: 4 tests\nFAILED 12 s expected-reading\n    ok\n7 passed, 1 failed\n"
+        self.assertEqual(selftest.LINE.findall(lines), [("ok", "low/tests"), ("FAILED", "expected-reading")])
+
+
+if __name__ == "__main__":
+    unittest.main()
