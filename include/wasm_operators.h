@@ -1,9 +1,9 @@
-/* The operators of WebAssembly function bodies, by a decoder that is proved: libwasm_c.a.
+/* Reads the operators of WebAssembly function bodies: the header of libwasm_c.a, a decoder that is proved.
  *
  * Written by tools/lists.py from tools/operators.tsv.
- * C99 and C++. docs/CALLERS.md has a first program. All memory is the caller's, and no pointer may be
- * null, also where the length behind it is 0. Calls may run on several threads at once, each on memory
- * of its own. */
+ * C99 and C++. docs/CALLERS.md has a first program. The caller provides all memory. No pointer may be
+ * null, even if its length is 0. Calls may run on several threads at once if each call uses its own
+ * memory. */
 #ifndef WASM_OPERATORS_H
 #define WASM_OPERATORS_H
 
@@ -14,13 +14,13 @@
 extern "C" {
 #endif
 
-/* The version of the structs and calls. wasm_operators_version() answers that of the library. */
+/* The version of these structs and functions. wasm_operators_version() returns the library's version. */
 #define WASM_OPERATORS_VERSION 3u
 
-/* The length of the longest name that wasm_operator_name writes, in bytes. */
+/* The length in bytes of the longest name that wasm_operator_name writes. */
 #define WASM_LONGEST_NAME 29
 
-/* The features, of which any may be joined. */
+/* The features, which may be combined with |. */
 enum wasm_feature {
   WASM_FEATURE_MULTI_MEMORY = 1,
   WASM_FEATURE_MEMORY64 = 2,
@@ -31,13 +31,13 @@ enum wasm_feature {
   WASM_FEATURES_ALL = 63
 };
 
-/* Which fields of an operator have a meaning. */
+/* The fields of an operator that have a meaning. */
 enum wasm_shape {
   WASM_SHAPE_NONE = 0, /* no immediates */
   WASM_SHAPE_INDEX = 1, /* first */
   WASM_SHAPE_TWO_INDICES = 2, /* first, second */
   WASM_SHAPE_MEMORY = 3, /* wide, align, max_align, target, first, ordering */
-  WASM_SHAPE_MEMORY_LANE = 4, /* those, and lane */
+  WASM_SHAPE_MEMORY_LANE = 4, /* the fields of WASM_SHAPE_MEMORY, and lane */
   WASM_SHAPE_LANE = 5, /* lane */
   WASM_SHAPE_I32 = 6, /* wide */
   WASM_SHAPE_I64 = 7, /* wide */
@@ -49,22 +49,22 @@ enum wasm_shape {
   WASM_SHAPE_ORDERED_TWO = 13, /* ordering, first, second */
   WASM_SHAPE_FENCE = 14, /* ordering */
   WASM_SHAPE_HEAP_TYPE = 15, /* kind, first */
-  WASM_SHAPE_CAST = 16, /* first, and the types kind, second and other_kind, third */
+  WASM_SHAPE_CAST = 16, /* first: the label; kind, second: the source type; other_kind, third: the target type */
   WASM_SHAPE_BLOCK = 17, /* kind, first */
-  WASM_SHAPE_BRANCH_TABLE = 18, /* first targets, and second, the default one */
+  WASM_SHAPE_BRANCH_TABLE = 18, /* first: number of targets; second: the default target */
   WASM_SHAPE_SELECT_ONE = 19, /* kind, first */
-  WASM_SHAPE_SELECT_MANY = 20, /* first types */
-  WASM_SHAPE_TRY_TABLE = 21, /* kind, first, and second catches */
-  WASM_SHAPE_RESUME = 22, /* first, and second clauses */
-  WASM_SHAPE_RESUME_THROW = 23 /* first, second, and third clauses */
+  WASM_SHAPE_SELECT_MANY = 20, /* first: number of types */
+  WASM_SHAPE_TRY_TABLE = 21, /* kind, first: the block type; second: number of catches */
+  WASM_SHAPE_RESUME = 22, /* first; second: number of clauses */
+  WASM_SHAPE_RESUME_THROW = 23 /* first, second; third: number of clauses */
 };
 
-/* Types. To the kind of an abstract heap type WASM_KIND_SHARED may be added, to that of any heap type WASM_KIND_NULLABLE
- * where null is in it, and to that of a reference type as a value type WASM_KIND_REFERENCE. */
+/* Types. WASM_KIND_SHARED may be added to an abstract heap type. WASM_KIND_NULLABLE is added to the heap type of a
+ * nullable reference type, and WASM_KIND_REFERENCE if a reference type is a value type. */
 enum wasm_kind {
-  WASM_KIND_FUNC_TYPE = 0, /* of a block: the function type of the index */
-  WASM_KIND_CONCRETE = 1,  /* the type of the index, or one below it */
-  WASM_KIND_EXACT = 2,     /* the type of the index alone */
+  WASM_KIND_FUNC_TYPE = 0, /* of a block: the function type with the index */
+  WASM_KIND_CONCRETE = 1,  /* the type with the index, or a subtype */
+  WASM_KIND_EXACT = 2,     /* exactly the type with the index */
   WASM_KIND_EMPTY = 0x40,  /* of a block: no result */
   WASM_KIND_CONT = 0x68,
   WASM_KIND_EXN = 0x69,
@@ -90,7 +90,7 @@ enum wasm_kind {
   WASM_KIND_REFERENCE = 1024
 };
 
-/* What a catch catches: a tag or all, and whether it gives the exception too. */
+/* The forms of a catch: it catches one tag or all, and REF passes the exception too. */
 enum wasm_catch {
   WASM_CATCH_ONE = 0,
   WASM_CATCH_ONE_REF = 1,
@@ -98,13 +98,13 @@ enum wasm_catch {
   WASM_CATCH_ALL_REF = 3
 };
 
-/* What a clause of a resume does. */
+/* The forms of a clause of a resume. */
 enum wasm_clause {
   WASM_CLAUSE_ON_LABEL = 0,
   WASM_CLAUSE_ON_SWITCH = 1
 };
 
-/* The refusals. docs/REFUSALS.md tells their texts and offsets. */
+/* The refusals. docs/ERRORS-AND-FEATURES.md lists their texts and offsets. */
 enum wasm_refused {
   WASM_REFUSED_END_OF_DATA = 1,
   WASM_REFUSED_FEATURE_REQUIRED = 2,
@@ -138,8 +138,8 @@ enum wasm_refused {
   WASM_REFUSED_NO_LIST = 104
 };
 
-/* The operators: the opcode; behind a prefix byte the subopcode, and 65536 times that byte. A select with
- * no types or several has the opcode of WASM_OP_TypedSelect, and another shape. */
+/* The operators: the opcode, or the subopcode plus 65536 times the prefix byte. A typed select with no types
+ * or several has the opcode of WASM_OP_TypedSelect and another shape. */
 enum wasm_opcode {
   WASM_OP_Unreachable = 0x0,
   WASM_OP_Nop = 0x1,
@@ -770,7 +770,7 @@ enum wasm_opcode {
   WASM_OP_Pause = 0xfe0004
 };
 
-/* The proposals that brought the operators. */
+/* The proposals that added the operators. */
 enum wasm_proposal {
   WASM_PROPOSAL_MVP = 0,
   WASM_PROPOSAL_SIGN_EXTENSION = 1,
@@ -793,48 +793,48 @@ enum wasm_proposal {
   WASM_PROPOSAL_ACQUIRE_RELEASE_ATOMICS = 18
 };
 
-/* An operator: 64 bytes without gaps. `shape` says which of the fields have a meaning; the others are 0. */
+/* An operator: 64 bytes without padding. `shape` selects the fields that have a meaning; the others are 0. */
 typedef struct wasm_operator {
   /* The offset of its first byte. */
   uint64_t offset;
-  /* A constant: an integer in two's complement, its sign repeated up to bit 63, or the bits of a float;
-   * or the static offset of a memory argument, in bytes. */
+  /* A constant or the static offset of a memory argument in bytes. An integer constant is sign-extended to
+   * 64 bits; a float constant is its bits. */
   uint64_t wide;
-  /* Which operator it is: one of `enum wasm_opcode`. */
+  /* One of `enum wasm_opcode`. */
   uint32_t opcode;
-  /* Indices, in the order of the binary format; or the number of members of a list. */
+  /* Indices, in the order of the binary format, or the number of elements of a list. */
   uint32_t first;
   uint32_t second;
   uint32_t third;
-  /* A type: `enum wasm_kind`; its index, if it has one, is in the field that the shape names. */
+  /* A type: `enum wasm_kind`. Its index, if it has one, is in the field that the shape names. */
   uint32_t kind;
-  /* The type that a cast tests for. */
+  /* The target type of a cast: `enum wasm_kind`. */
   uint32_t other_kind;
   /* One of `enum wasm_shape`. */
   uint8_t shape;
-  /* The alignment that a memory argument gives, as the exponent of a power of two. */
+  /* The alignment in a memory argument, as the exponent of a power of two. */
   uint8_t align;
   /* The operator's natural alignment, as the exponent of a power of two. */
   uint8_t max_align;
-  /* The index of a lane. */
+  /* A lane index. */
   uint8_t lane;
-  /* What a memory argument accesses: 0 the memory of index `first`, 1 an array of that type. */
+  /* What a memory argument accesses: 0 for the memory of index `first`, 1 for an array of type `first`. */
   uint16_t target;
-  /* The memory ordering: 0 none, 1 sequentially consistent, 2 acquire and release; of a memory argument
-   * of a read-modify-write 3 and 4. */
+  /* The memory ordering: 0 none, 1 sequentially consistent, 2 acquire and release. In a memory argument of
+   * a read-modify-write operator these two are 3 and 4. */
   uint16_t ordering;
-  /* A vector of 128 bits, the lowest byte first; or the sixteen lanes of a shuffle. */
+  /* A vector of 128 bits, little-endian, or the sixteen lane indices of a shuffle. */
   uint8_t bytes[16];
 } wasm_operator;
 
-/* A reader of operators, which may be copied: 32 bytes without gaps. wasm_open fills it in, and the calls
- * that read move it on; to go back to where it stood, keep a copy of it and of the frames. */
+/* A reader of operators: 32 bytes without padding. wasm_open fills it in, and the functions that read
+ * advance it. It may be copied: a copy of it and of the frames allows reading again from there. */
 typedef struct wasm_reader {
   /* The offset of the first byte. */
   uint64_t offset;
-  /* How many bytes were read. */
+  /* The number of bytes that were read. */
   uint64_t position;
-  /* How many frames are open: as many bytes of the array of frames are in use. */
+  /* The number of open frames, which is the number of bytes in use in the array of frames. */
   uint64_t depth;
   /* The features. */
   uint32_t features;
@@ -842,127 +842,133 @@ typedef struct wasm_reader {
   uint32_t reserved;
 } wasm_reader;
 
-/* A refusal: 24 bytes without gaps. */
+/* A refusal: 24 bytes without padding. */
 typedef struct wasm_refusal {
-  /* The offset of what is refused: with WASM_REFUSED_UNKNOWN_FEATURES, WASM_REFUSED_PAST_OFFSETS and
-   * WASM_REFUSED_NOT_A_READER that of the first byte, with WASM_REFUSED_NO_LIST the one that was asked for.
-   * Where nothing is refused, that of the end of the bytes, that where a reader stands, or the one that was
-   * asked for. */
+  /* The offset of the error. For WASM_REFUSED_UNKNOWN_FEATURES, WASM_REFUSED_PAST_OFFSETS and
+   * WASM_REFUSED_NOT_A_READER it is the offset of the first byte, for WASM_REFUSED_NO_LIST the argument `at`.
+   * Without an error it is the offset of the end of the bytes, the reader's offset, or the argument `at`. */
   uint64_t offset;
-  /* 0 where nothing is refused, else one of `enum wasm_refused`. */
+  /* 0 without an error, else one of `enum wasm_refused`. */
   uint32_t number;
-  /* Which name its text tells. */
+  /* The number of the name that its text has. */
   uint32_t name;
-  /* The byte, code or flags that its text tells. */
+  /* The byte, code or flags that its text has. */
   uint32_t value;
   /* 0. */
   uint32_t reserved;
 } wasm_refusal;
 
-/* A value type: 8 bytes without gaps. */
+/* A value type: 8 bytes without padding. */
 typedef struct wasm_type {
-  /* `enum wasm_kind`. */
+  /* One of `enum wasm_kind`, with the flags that are added to it. */
   uint32_t kind;
-  /* The index in a reference type, else 0. */
+  /* The type index of a reference type, else 0. */
   uint32_t index;
 } wasm_type;
 
-/* A catch of a try_table, or a clause of a resume: 12 bytes without gaps. */
+/* A catch of a try_table, or a clause of a resume: 12 bytes without padding. */
 typedef struct wasm_handler {
-  /* `enum wasm_catch`, `enum wasm_clause`. */
+  /* One of `enum wasm_catch` or `enum wasm_clause`. */
   uint32_t kind;
-  /* The index of its tag, else 0. */
+  /* Its tag index, or 0 without a tag. */
   uint32_t tag;
-  /* Its label, else 0. */
+  /* Its label, or 0 without a label. */
   uint32_t label;
 } wasm_handler;
 
-/* The version of the structs and calls of the library. */
+/* Returns the version of the structs and functions of the library. */
 uint32_t wasm_operators_version(void);
 
-/* All operators of the function body `bytes`, its locals first; the first byte has this offset.
+/* Reads all operators of the function body `bytes`, which starts with its locals. `offset` is the offset of
+ * the first byte.
  *
- * As many operators as there is room for stand in `out`, and `out` is unchanged behind them. `*count` is
- * how many were found: more than `out_length` where there was too little room, and a second call with that
- * much room then gives them all. Answers 0 where the bytes encode a body. Else it answers the number of the
- * refusal, and the operators are the longest beginning of a body; where memory was refused, a beginning.
- * `*refusal` has the number and the offset.
+ * Writes at most `out_length` operators to `out` and leaves the rest of `out` unchanged. `*count` is the
+ * number of operators that were found. If it is greater than `out_length`, a second call with that capacity
+ * gives all of them.
  *
- * WASM_REFUSED_UNKNOWN_FEATURES where a bit of `features` is none of `enum wasm_feature`, WASM_REFUSED_PAST_OFFSETS where
- * `offset + bytes_length` does not fit in 64 bits: nothing is read then. */
+ * Returns 0 if the bytes encode a body. Otherwise it returns the number of the refusal, and the operators are
+ * the longest prefix that begins a body. After an allocation failure the prefix may be shorter. `*refusal`
+ * has the number and the offset.
+ *
+ * Fails with WASM_REFUSED_UNKNOWN_FEATURES if a bit of `features` is not in `enum wasm_feature`. Fails with
+ * WASM_REFUSED_PAST_OFFSETS if `offset + bytes_length` does not fit in 64 bits. Nothing is read then. */
 uint32_t wasm_read_body(const uint8_t *bytes, size_t bytes_length, uint64_t offset, uint32_t features,
                         wasm_operator *out, size_t out_length, size_t *count, wasm_refusal *refusal);
 
-/* The text of a refusal in ASCII, as much of it as there is room for, without a byte 0 behind it. Answers
- * its whole length in bytes; 0 where the numbers are those of no refusal. */
+/* Writes the text of a refusal in ASCII, truncated to `text_length` bytes and without a terminating 0.
+ * Returns the length of the whole text in bytes, or 0 if the struct is not a refusal. */
 size_t wasm_refusal_text(const wasm_refusal *refusal, uint8_t *text, size_t text_length);
 
-/* The name of an operator in ASCII, as much of it as there is room for, without a byte 0 behind it. Answers
- * its whole length in bytes; 0 where its number is that of none. */
+/* Writes the name of an operator in ASCII, truncated to `name_length` bytes and without a terminating 0.
+ * Returns the length of the whole name in bytes, or 0 if no operator has its number. */
 size_t wasm_operator_name(const wasm_operator *op, uint8_t *name, size_t name_length);
 
-/* How many frames may be open at once along so many bytes: an array of this many has always room. */
+/* Returns the number of frames that may be open at once in `bytes_length` bytes. An array of that many bytes is
+ * always large enough. */
 size_t wasm_frames_needed(size_t bytes_length);
 
-/* Opens the expression `bytes`; the first byte has this offset. `frames` is room for the open frames, a byte
- * each, which the calls that read use. Answers 0.
+/* Opens the expression `bytes` and returns 0. `offset` is the offset of the first byte. `frames` has one byte
+ * for each open frame; the functions that read use it.
  *
- * WASM_REFUSED_UNKNOWN_FEATURES and WASM_REFUSED_PAST_OFFSETS as wasm_read_body, WASM_REFUSED_NO_ROOM where
- * there is no room for a frame: nothing changes then but `*refusal`. */
+ * Fails with WASM_REFUSED_UNKNOWN_FEATURES and WASM_REFUSED_PAST_OFFSETS like wasm_read_body, and with
+ * WASM_REFUSED_NO_ROOM if `frames` has no byte for a frame. Only `*refusal` changes then. */
 uint32_t wasm_open(const uint8_t *bytes, size_t bytes_length, uint64_t offset, uint32_t features,
                    uint8_t *frames, size_t frames_length, wasm_reader *reader, wasm_refusal *refusal);
 
-/* Opens the expression of the function body `bytes`, behind its locals, which are read and may be refused. */
+/* Reads the locals of the function body `bytes` and opens the expression after them. Fails like wasm_open, and
+ * with the refusal of the locals. */
 uint32_t wasm_open_body(const uint8_t *bytes, size_t bytes_length, uint64_t offset, uint32_t features,
                         uint8_t *frames, size_t frames_length, wasm_reader *reader, wasm_refusal *refusal);
 
-/* Reads the next operator, from the bytes and under the frames that the reader was opened with, and answers
- * 0. Else the number of the refusal, and nothing changes but `*refusal`: that of what stands there;
- * WASM_REFUSED_NO_ROOM where it opens a frame for which there is no room; or WASM_REFUSED_NOT_A_READER where
- * the reader is none of these bytes and frames, whatever is in them. */
+/* Reads the next operator and returns 0. `bytes` and `frames` are those that the reader was opened with.
+ *
+ * Otherwise it returns the number of the refusal, and only `*refusal` changes. Fails with
+ * WASM_REFUSED_NO_ROOM if the operator opens a frame and `frames` is full. Fails with
+ * WASM_REFUSED_NOT_A_READER if the reader cannot be one of these bytes and frames, whatever their contents. */
 uint32_t wasm_next(const uint8_t *bytes, size_t bytes_length, uint8_t *frames, size_t frames_length,
                    wasm_reader *reader, wasm_operator *op, wasm_refusal *refusal);
 
-/* Reads operators into `out`, one after another as wasm_next, until it is full or all bytes are read, and
- * answers 0; or until one is not read, and answers why. `*count` is how many were read; `out` is unchanged
- * behind them. */
+/* Reads operators into `out`, like repeated calls of wasm_next, until `out` is full or all bytes are read, and
+ * returns 0. If an operator cannot be read, it stops and returns the number of the refusal. `*count` is the
+ * number of operators that were read; the rest of `out` is unchanged. */
 uint32_t wasm_read(const uint8_t *bytes, size_t bytes_length, uint8_t *frames, size_t frames_length,
                    wasm_reader *reader, wasm_operator *out, size_t out_length, size_t *count,
                    wasm_refusal *refusal);
 
-/* Whether an expression ends where the reader stands: answers 0 where no frame is open and all bytes are
+/* Checks that the expression ends at the reader's position. Returns 0 if no frame is open and all bytes are
  * read, else the number of the refusal. */
 uint32_t wasm_finish(const uint8_t *bytes, size_t bytes_length, const uint8_t *frames, size_t frames_length,
                      const wasm_reader *reader, wasm_refusal *refusal);
 
-/* The targets of the br_table that begins at the offset `at` of the bytes, the first of which has the offset
- * `offset`: those from the index `index` on, as many as there is room for in `out`, without the default one.
- * `*count` is how many it has, and `out` is unchanged behind those that are written. Answers 0.
+/* Writes the targets of the br_table that begins at the offset `at`, and returns 0. `offset` is the offset of
+ * the first byte. Writes the targets from the index `index` on, without the default target, at most
+ * `out_length` of them; the rest of `out` is unchanged. `*count` is the number of all targets.
  *
- * Else the number of the refusal, and nothing changes but `*refusal`: that of what stands there, which is read
- * as inside a block, and at the end of the bytes WASM_REFUSED_END_OF_DATA; WASM_REFUSED_NO_LIST where another
- * operator does, or `at` lies before the first byte or past the end; WASM_REFUSED_UNKNOWN_FEATURES and
- * WASM_REFUSED_PAST_OFFSETS as wasm_read_body. */
+ * Otherwise it returns the number of the refusal, and only `*refusal` changes. The operator is read as if
+ * inside a block; at the end of the bytes the call fails with WASM_REFUSED_END_OF_DATA. Fails with
+ * WASM_REFUSED_NO_LIST if another operator begins there, or if `at` is before the first byte or past the end.
+ * Fails with WASM_REFUSED_UNKNOWN_FEATURES and WASM_REFUSED_PAST_OFFSETS like wasm_read_body. */
 uint32_t wasm_br_table_targets(const uint8_t *bytes, size_t bytes_length, uint64_t offset, uint32_t features,
                                uint64_t at, size_t index, uint32_t *out, size_t out_length, size_t *count,
                                wasm_refusal *refusal);
 
-/* The types of the select with types that begins there, as wasm_br_table_targets. */
+/* Writes the types of the typed select that begins at the offset `at`, like wasm_br_table_targets. */
 uint32_t wasm_select_types(const uint8_t *bytes, size_t bytes_length, uint64_t offset, uint32_t features,
                            uint64_t at, size_t index, wasm_type *out, size_t out_length, size_t *count,
                            wasm_refusal *refusal);
 
-/* The catches of the try_table that begins there, as wasm_br_table_targets. */
+/* Writes the catches of the try_table that begins at the offset `at`, like wasm_br_table_targets. */
 uint32_t wasm_try_table_catches(const uint8_t *bytes, size_t bytes_length, uint64_t offset, uint32_t features,
                                 uint64_t at, size_t index, wasm_handler *out, size_t out_length, size_t *count,
                                 wasm_refusal *refusal);
 
-/* The clauses of the resume, resume_throw or resume_throw_ref that begins there, as wasm_br_table_targets. */
+/* Writes the clauses of the resume, resume_throw or resume_throw_ref that begins at the offset `at`, like
+ * wasm_br_table_targets. */
 uint32_t wasm_resume_handlers(const uint8_t *bytes, size_t bytes_length, uint64_t offset, uint32_t features,
                               uint64_t at, size_t index, wasm_handler *out, size_t out_length, size_t *count,
                               wasm_refusal *refusal);
 
-/* The proposal that brought an operator; -1 where the number is that of none. */
+/* Returns the proposal that added an operator, or -1 if no operator has its number. */
 static inline int wasm_operator_proposal(const wasm_operator *op) {
   switch (op->opcode) {
     case 0x0: return WASM_PROPOSAL_MVP;

@@ -1,12 +1,12 @@
 #!/usr/bin/env python3
-"""Writes what the program wasm_tests_lists has to print, from the original's lists alone.
+"""Writes the expected output of the program wasm_tests_lists, from wasmparser's lists alone.
 
     tools/expected.py            writes crates/wasm_tests_lists/stdout
-    tools/expected.py --check    fails where that file is not what they give
+    tools/expected.py --check    fails if that file is not what these lists give
 
-It reads tools/original and two files beside the program that are written by hand: by_rule.tsv, what
-the operators whose arity goes by rule take and leave in the program's module, and edges.txt, the
-lines of what stands at the edges and of the visitors. It reads neither the table nor anything that is made of it.
+It reads tools/original and two handwritten files next to the program. by_rule.tsv has the arities, in the
+program's module, of the operators whose arity depends on the module. edges.txt has the lines of the edge
+cases and of the visitors. It reads neither the table nor anything generated from it.
 """
 
 import csv
@@ -20,7 +20,7 @@ from original import originals
 TOP = Path(__file__).resolve().parent.parent
 CRATE = TOP / "crates" / "wasm_tests_lists"
 
-# How the program's values print: those of fields of these names, and else those of these types.
+# How fields print: by the name of the field, or else by its type.
 BY_NAME = {
     "array_size": "5",
     "struct_type_index": "1",
@@ -56,19 +56,19 @@ BY_TYPE = {
     "TryTable": "TryTable { ty: FuncType(0), catches: Members { items: [All { label: 1 }] } }",
     "ResumeTable": "ResumeTable { handlers: Members { items: [OnSwitch { tag: 0 }] } }",
 }
-# The types of which the program makes a value as it runs, and prints what has one of them last.
+# The types whose values the program makes at run time. Operators with such a field are printed last.
 MADE = ("Ieee32", "Ieee64", "V128", "RefType", "BrTable<'a>", "SelectTypes", "TryTable", "ResumeTable")
-# The order in which the program prints the operators, by the enums that have them.
+# The order in which the program prints the operators, by enum.
 ORDER = ["Own", "Numeric", "Gc", "Misc", "Simd", "Atomic"]
 
 
 def is_made(op):
-    """Whether the program makes the operator as it runs."""
+    """Returns whether the program makes the operator at run time."""
     return any(ty in MADE for _, ty in op.fields)
 
 
 def shown(op):
-    """The operator as it prints."""
+    """Returns the operator as it prints."""
     text = op.name
     if op.fields:
         values = [f"{name}: {BY_NAME.get(name) or BY_TYPE[ty]}" for name, ty in op.fields]
@@ -77,7 +77,7 @@ def shown(op):
 
 
 def line_of(op, by_rule):
-    """The line of an operator: its row, its arity, four answers, and itself."""
+    """Returns the line of an operator: its row, its arity, four results of calls, and its value."""
     prefix = f"Some({int(op.prefix, 16)})" if op.prefix else "None"
     takes, leaves = by_rule[op.name] if op.is_by_rule else (op.takes.split()[0], op.leaves)
     is_simd = "true" if op.is_simd else "false"
@@ -87,7 +87,7 @@ def line_of(op, by_rule):
 
 
 def expected():
-    """All that the program prints."""
+    """Returns the expected output."""
     with open(CRATE / "by_rule.tsv", encoding="utf-8", newline="") as lines:
         rows = csv.DictReader(lines, delimiter="\t")
         by_rule = {row["name"]: (row["takes"], row["leaves"]) for row in rows}

@@ -1,13 +1,13 @@
 #!/usr/bin/env python3
-"""Writes what the program wasm_tests_decode is asked and what it has to print, from outside.
+"""Writes the input and the expected output of the program wasm_tests_decode, from wasmparser's samples.
 
     tools/expected_reading.py            writes crates/wasm_tests_decode/stdin and stdout
-    tools/expected_reading.py --check    fails where a file is not what they give
+    tools/expected_reading.py --check    fails if a file is not what the samples and rows give
 
-It reads tools/original, two samples of each operator with the original's answers among it, and
-rows.tsv beside the program, which is written by hand. Besides those it asks for each subopcode lengthened by a byte, each opcode that no
-operator has, the subopcodes next to known ones, and the operators that want a frame in each frame.
-It reads neither the table nor anything that is made of it.
+It reads tools/original, which has two samples of each operator with wasmparser's results, and the
+handwritten rows.tsv of the program. It adds each subopcode lengthened by a byte, each opcode that no
+operator has, the subopcodes next to known ones, and in each frame the operators that need a frame.
+It reads neither the table nor anything generated from it.
 """
 
 import csv
@@ -21,35 +21,35 @@ from original import FOLDER, GROUPS, originals
 TOP = Path(__file__).resolve().parent.parent
 CRATE = TOP / "crates" / "wasm_tests_decode"
 
-# The features, each by its bit.
+# The features, in the order of their bits.
 FEATURES = [
     "MULTI_MEMORY", "MEMORY64", "CALL_INDIRECT_OVERLONG", "LEGACY_EXCEPTIONS", "ACQUIRE_RELEASE_ATOMICS",
     "MULTIBYTE_ARRAY_ACCESS",
 ]
 ALL = 2 ** len(FEATURES) - 1
 FRAMES = ["Block", "If", "Else", "Loop", "TryTable", "LegacyTry", "LegacyCatch", "LegacyCatchAll"]
-# The innermost frame behind the bytes that stand before a sample.
+# The innermost frame after the bytes before a sample.
 FRAME_BEHIND = {"00": "Block", "000440": "If", "000640": "LegacyTry"}
-# The operators that want a frame: their bytes, fields, the frames that they may stand in, and the
-# name of the instruction and of the frame in the refusal.
+# The operators that need a frame: their bytes, fields, the frames that allow them, and the names of the
+# instruction and of the frame in the error.
 FRAMED = [
     ("05", "Else", ["If"], "else", "If"),
     ("0701", "Catch tag_index=1", ["LegacyTry", "LegacyCatch"], "catch", "LegacyTry"),
     ("19", "CatchAll", ["LegacyTry", "LegacyCatch"], "catch_all", "LegacyTry"),
     ("1801", "Delegate relative_depth=1", ["LegacyTry"], "delegate", "LegacyTry"),
 ]
-# Those that want the feature LEGACY_EXCEPTIONS, by their bytes.
+# The operators that need the feature LEGACY_EXCEPTIONS, by their bytes.
 LEGACY = [("0640", "try"), ("0701", "catch"), ("19", "catch_all")]
-# Flags of a memory argument that a feature gives a meaning, as `i32.load` reads them with the offset 0.
+# Flags of a memory argument that need a feature, in `i32.load` with the offset 0.
 FLAGS = [
     ("MULTI_MEMORY", "28400000", "I32Load memarg=0/2/0/M0/-"),
     ("MULTIBYTE_ARRAY_ACCESS", "28200000", "I32Load memarg=0/2/0/A0/-"),
     ("ACQUIRE_RELEASE_ATOMICS", "281200", "E18 at 1: cannot specify atomic ordering on non-atomic instruction"),
 ]
 RESERVED = "E20 at 1: malformed memop: reserved flags bits set"
-# The immediates that are taken at once: cut data are found to be short where these begin.
+# The sizes of the immediates that are read as a block: for cut data, EndOfData is at the start of the block.
 BLOCKS = {"float_32": 4, "float_64": 8, "vector": 16}
-# The operators that the program's visitor has visits of its own for, some of each group.
+# The operators whose visits the program's visitor overrides, some of each group.
 OWN = (
     "Unreachable", "Nop", "LocalGet", "I32Const", "Switch",
     "I32Eqz", "I64Extend32S",
@@ -59,14 +59,14 @@ OWN = (
     "V128Load", "I8x16Shuffle", "V128AnyTrue",
     "I64x2Eq", "I32x4RelaxedDotI8x16I7x16AddS",
 )
-# A visitor gets the same through a reference, in a box, and through a reference to the box.
+# The output for the visitor by reference, in a box, and by reference to the box.
 OTHERS = "others same same same"
-# So does it by the call of the half of a vector operator's subopcode, made by itself in these four ways.
+# The output for a direct call of `decode_simd_low` or `decode_simd_high`, in the same four ways.
 HALF = "; half same same same same"
 
 
 class Task:
-    """One operator to read: how, its bytes and those around it, and the answer, fields or refusal."""
+    """One operator to read: features, frame, its bytes and those around it, and the result: fields or an error."""
 
     def __init__(self, operator, answer, *, features=ALL, frame="Block", before="", behind=""):
         self.features = features
@@ -78,36 +78,36 @@ class Task:
 
     @property
     def start(self):
-        """Where the operator begins."""
+        """Returns the offset at which the operator begins."""
         return len(self.before)
 
     @property
     def is_refused(self):
-        """Whether the answer is a refusal."""
+        """Returns whether the result is an error."""
         return self.answer.split(" at ")[0][1:].isdecimal()
 
     def line(self):
-        """What the program is asked."""
+        """Returns the line of the program's input."""
         text = (self.before + self.operator + self.behind).hex()
         return f"{self.features} {self.frame} {self.start} {text}".rstrip()
 
 
 def cuts(task, kinds):
-    """The offsets at which an operator is found to be cut, one for each of its proper prefixes."""
+    """Returns the offset of EndOfData for each proper prefix of the operator."""
     block = sum(BLOCKS.get(kind, 0) for kind in kinds)
     last = len(task.operator) - block
     return [task.start + (size if size < last or not block else last) for size in range(len(task.operator))]
 
 
 def plain_answer(task, otherwise):
-    """What a plain visitor answers."""
+    """Returns the output for a visitor without SIMD operators."""
     if task.operator[:1] == b"\xfd" and task.frame != "None":
         return f"E14 at {task.start}: unexpected SIMD opcode: 0xfd; at {task.start}"
     return otherwise
 
 
 def half(task):
-    """What is printed of the call of the half, where a subopcode stands behind the byte 0xfd in a frame."""
+    """Returns the output for the direct call, if a subopcode follows the byte 0xfd in a frame."""
     number = (task.operator + task.behind)[1:6]
     size = next((at + 1 for at, byte in enumerate(number) if byte < 0x80), None)
     has_subopcode = size is not None and (size < 5 or number[4] < 0x10)
@@ -115,7 +115,7 @@ def half(task):
 
 
 def wanted(task, kinds):
-    """The line that the program prints of a task; `kinds` has the immediates of each operator."""
+    """Returns the line that the program prints for a task. `kinds` has the immediates of each operator."""
     if task.is_refused:
         answer = f"{task.answer}; at {task.start}"
         plain = plain_answer(task, answer)
@@ -129,7 +129,7 @@ def wanted(task, kinds):
 
 
 def samples():
-    """Two samples of each operator."""
+    """Returns two samples of each operator."""
     with open(FOLDER / "samples.tsv", encoding="utf-8", newline="") as lines:
         for row in csv.DictReader(lines, delimiter="\t"):
             frame = FRAME_BEHIND[row["before"]]
@@ -137,7 +137,7 @@ def samples():
 
 
 def lengthened(task):
-    """A task whose subopcode takes one byte more."""
+    """Returns a task whose subopcode has one more byte."""
     text = task.operator
     last = next(at for at in range(1, len(text)) if text[at] < 0x80)
     longer = text[:last] + bytes([text[last] | 0x80, 0]) + text[last + 1 :]
@@ -145,7 +145,7 @@ def lengthened(task):
 
 
 def unsigned(value):
-    """A number as LEB128, in hexadecimal."""
+    """Returns a number as LEB128, in hexadecimal."""
     out = []
     while value >= 0x80:
         out.append(value % 0x80 | 0x80)
@@ -154,7 +154,7 @@ def unsigned(value):
 
 
 def unknown(ops):
-    """Each opcode that no operator has, and the subopcodes next to those that operators have."""
+    """Returns tasks for each unknown opcode, and for the unknown subopcodes next to known ones."""
     known = {op.code for op in ops if not op.prefix} | {int(prefix, 16) for prefix in GROUPS}
     for code in range(0x100):
         if code not in known:
@@ -168,7 +168,7 @@ def unknown(ops):
 
 
 def framed():
-    """The operators that want a frame or a feature, in each frame."""
+    """Returns tasks for the operators that need a frame or a feature, in each frame."""
     for operator, fields, frames, instruction, name in FRAMED:
         for frame in FRAMES:
             refusal = f"E7 at 2: `{instruction}` found outside `{name}` block"
@@ -181,7 +181,7 @@ def framed():
 
 
 def flagged():
-    """Flags of memory arguments under all features."""
+    """Returns tasks for flags of memory arguments, under all sets of features."""
     for feature, operator, answer in FLAGS:
         for features in range(ALL + 1):
             has = features >> FEATURES.index(feature) & 1
@@ -189,7 +189,7 @@ def flagged():
 
 
 def features_of(text):
-    """The features that a row names: `all`, `none`, or `all but` one."""
+    """Returns the features that a row names: `all`, `none`, or `all but` one."""
     without = text.removeprefix("all but ")
     if without in FEATURES:
         return ALL - 2 ** FEATURES.index(without)
@@ -197,7 +197,7 @@ def features_of(text):
 
 
 def written_by_hand():
-    """The rows beside the program."""
+    """Returns the tasks of the handwritten rows."""
     with open(CRATE / "rows.tsv", encoding="utf-8", newline="") as lines:
         for row in csv.DictReader(lines, delimiter="\t", quoting=csv.QUOTE_NONE):
             features = features_of(row["features"])
@@ -205,7 +205,7 @@ def written_by_hand():
 
 
 def tasks():
-    """All that the program is asked."""
+    """Returns all tasks."""
     ops = originals()
     found = list(samples())
     longer = [lengthened(task) for task in found[::2] if f"{task.operator[0]:02x}" in GROUPS]
@@ -213,7 +213,7 @@ def tasks():
 
 
 def files():
-    """What the program is asked, and what it prints."""
+    """Returns the files of the program's input and output."""
     kinds = {op.name: op.immediates for op in originals()}
     asked = tasks()
     return {

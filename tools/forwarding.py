@@ -16,7 +16,7 @@ from pathlib import Path
 
 TOP = Path(__file__).resolve().parent.parent
 FILES = [TOP / "crates/wasm_visit/src" / name for name in ("visit_groups.rt", "vectors.rt")]
-SAYS = re.compile(r"A visitor with visits in `(?P<group>\w+)` says `(?P<call>[^`]+)` here")
+SAYS = re.compile(r"A visitor that overrides visits of `(?P<group>\w+)` calls `(?P<call>[^`]+)` here")
 # A method of a trait: its documentation, its attributes, and its head up to its contract.
 METHOD = re.compile(
     r"((?:^    ///[^\n]*\n)+)((?:^    #\[[^\n]*\]\n)*)(    fn .*?)(?=\n    where|\n        requires|\n        ensures)", re.M | re.S

@@ -13,7 +13,7 @@ TRAIT = """\
 pub trait VisitGroups: Visitor {
     /// Visits an operator behind the byte 0xfc.
     ///
-    /// A visitor with visits in `VisitMisc` says `dispatch::misc(self, op)` here.
+    /// A visitor that overrides visits of `VisitMisc` calls `dispatch::misc(self, op)` here.
     fn dispatch_misc(&mut self, op: MiscOperator) -> Self::Output
         ensures { Self.visits self.old (Operator.Misc op) result self.new }
     {
@@ -25,7 +25,7 @@ pub trait VisitGroups: Visitor {
         ensures { Unit }
     {}
 
-    /// A visitor with visits in `VisitMisc` says
+    /// A visitor that overrides visits of `VisitMisc` calls
     /// `decode::misc(self, code)` here too.
     #[inline(always)]
     fn decode_misc(

@@ -1,34 +1,126 @@
-"""The code that pages show is the code of proved callers."""
+"""The code that pages show is the code of proved callers and of their proofs, and what pages name exists."""
 
 import re
 import unittest
 from pathlib import Path
+
+from paths import crates
+from table import COLUMNS, KINDS
 
 TOP = Path(__file__).resolve().parent.parent.parent
 # A page, and the file whose code each of its blocks shows.
 SHOWN = [
     ("README.md", ["crates/uses/src/list.rt"]),
     ("docs/WRITING-A-VISITOR.md", ["crates/uses/src/count.rt", "crates/uses/src/own_visits.rt"]),
+    ("docs/CALLING.md", ["crates/uses/src/list.rt", "crates/uses/proofs/list/operators/Answers.antt"]),
 ]
 
 
 def code_of(text):
-    """The lines of code, without comments, imports, layout and `pub`."""
+    """Returns the lines of code, without comments, imports, layout and `pub`."""
     text = re.sub(r"//.*|^use [^;]*;", "", text, flags=re.MULTILINE)
     lines = [line.strip().removeprefix("pub ").rstrip(" {") for line in text.splitlines()]
     return [line for line in lines if line]
 
 
 def left_out(shown, whole):
-    """The first line of the one that does not stand in the other behind those before it; None where each does."""
+    """Returns the first shown line that does not follow the lines before it in the whole, or `None`."""
     lines = iter(whole)
     return next((line for line in shown if line not in lines), None)
+
+
+def section(page, heading):
+    """Returns the lines of a page below a heading of the second level."""
+    text = (TOP / page).read_text(encoding="utf-8")
+    return re.search(rf"^## {re.escape(heading)}\n(.*?)(?=^## |\Z)", text, re.DOTALL | re.MULTILINE)[1].splitlines()
+
+
+def edges(lines):
+    """Returns the crates of a graph, each with the crates that it lists: one above it with less indentation, and some after `+`."""
+    out, above = {}, []
+    for line in lines:
+        indent = len(line) - len(line.lstrip())
+        name, *about = re.split(" {2,}", line.strip())
+        more = "".join(part[2:] for part in about if part.startswith("+ "))
+        above = [one for one in above if one[0] < indent]
+        out[name] = {one for _, one in above[-1:]} | set(more.split())
+        above.append((indent, name))
+    return out
+
+
+def rows(lines):
+    """Returns the cells of the rows of a table, without its head."""
+    return [[cell.strip() for cell in line[1:-1].split("|")] for line in lines if line.startswith("|")][2:]
+
+
+def is_defined(function, text):
+    """Returns whether Rattle code defines a function, which may be named with its type."""
+    type_name, _, name = function.rpartition("::")
+    has_type = not type_name or re.search(rf"^impl.*\b{type_name}\b.* {{$", text, re.MULTILINE)
+    return bool(has_type and re.search(rf"\bfn {name}\b", text))
+
+
+class Architecture(unittest.TestCase):
+    page = "docs/ARCHITECTURE.md"
+
+    def test_the_graph_has_the_edges_of_the_crates(self):
+        lines = section(self.page, "Crates")
+        first = lines.index("```text")
+        shown = lines[first + 1 : lines.index("```", first + 1)]
+        self.assertEqual(edges(shown), {name: set(listed) for name, listed in crates().items()})
+        self.assertEqual(len(edges(shown)), len(shown))
+
+    def test_the_functions_of_the_trace_exist(self):
+        lines = section(self.page, "One body, function by function")
+        seen = set()
+        for _, file, functions, _ in rows(lines):
+            path = TOP / "crates" / file.strip("`")
+            text = path.read_text(encoding="utf-8")
+            for function in re.findall(r"`([^`]+)`", functions):
+                self.assertTrue(is_defined(function, text), (file, function))
+                self.assertNotIn((file, function), seen)
+                seen.add((file, function))
+        counts = re.search(r"(\d+) functions in (\d+) files", "\n".join(lines))
+        self.assertEqual(counts.groups(), (str(len(seen)), str(len({file for file, _ in seen}))))
+
+    def test_the_names_of_decoder_and_proofs_exist(self):
+        sources = [path for end in ("rt", "antt") for path in TOP.glob(f"crates/*/s*/**/*.{end}")]
+        sources += TOP.glob("crates/*/proofs/**/*.antt")
+        words = set(re.findall(r"\w+", "\n".join(path.read_text(encoding="utf-8") for path in sources)))
+        words |= {path.name for path in TOP.glob("crates/*")}
+        for heading in ("The decoder", "Proofs"):
+            for name in re.findall(r"`([^`]+)`", "\n".join(section(self.page, heading))):
+                if name.startswith("tools/"):
+                    self.assertTrue((TOP / name.split()[0]).exists(), name)
+                elif name.endswith(".antt"):
+                    self.assertTrue(any(path.match(name) for path in sources), name)
+                elif not name.endswith(".md"):
+                    self.assertEqual(set(re.findall(r"\w+", name)) - words, set(), name)
+
+    def test_a_function_that_is_gone_is_found(self):
+        text = "impl<'a> OperatorsReader<'a> {\n    pub fn read(&mut self) {}\n}\n"
+        self.assertTrue(is_defined("OperatorsReader::read", text))
+        self.assertFalse(is_defined("ControlStack::read", text))
+        self.assertFalse(is_defined("read_all", text))
+
+    def test_an_edge_is_its_indentation(self):
+        shown = ["a    bytes  + z", "  b", "    c  + a z", "  d", "e"]
+        self.assertEqual(edges(shown), {"a": {"z"}, "b": {"a"}, "c": {"b", "a", "z"}, "d": {"a"}, "e": set()})
+
+
+class Columns(unittest.TestCase):
+    def test_each_column_and_kind_is_described(self):
+        lines = section("docs/ADDING-AN-OPERATOR.md", "The columns of `tools/operators.tsv`")
+        described = [name for row in rows(lines) for name in re.findall(r"`(\w+)`", row[0])]
+        self.assertEqual(described, COLUMNS)
+        kinds = re.search(r"The kinds are (.*?)\. ", "\n".join(lines))[1]
+        self.assertEqual(set(re.findall(r"`(\w+)`", kinds)), set(KINDS))
 
 
 class Pages(unittest.TestCase):
     def test_each_block_is_proved_code(self):
         for page, files in SHOWN:
-            blocks = re.findall(r"```rust\n(.*?)```", (TOP / page).read_text(encoding="utf-8"), re.DOTALL)
+            blocks = re.findall(r"```(?:rust|antt)\n(.*?)```", (TOP / page).read_text(encoding="utf-8"), re.DOTALL)
             self.assertEqual(len(blocks), len(files), page)
             for block, file in zip(blocks, files):
                 whole = code_of((TOP / file).read_text(encoding="utf-8"))

@@ -639,7 +639,7 @@ pub enum Operator<'a> {
     Pause,
 }
 
-/// The operator of this plain data, whose first byte is the first of these.
+/// Converts the C struct of an operator. `bytes` starts with the operator's first byte.
 #[inline]
 #[rustfmt::skip]
 pub(crate) fn operator_of<'a>(op: &PlainOperator, bytes: &'a [u8], features: u32) -> Operator<'a> {
@@ -1277,7 +1277,7 @@ pub(crate) fn operator_of<'a>(op: &PlainOperator, bytes: &'a [u8], features: u32
 }
 
 impl Operator<'_> {
-    /// The name of the operator.
+    /// Returns the name of the variant.
     #[rustfmt::skip]
     pub fn name(&self) -> &'static str {
         match self {

@@ -4,13 +4,13 @@ use crate::lists::{BrTable, ResumeTable, TryTable};
 use crate::operator::Operator;
 use crate::types::{BlockType, HeapType, Ieee32, Ieee64, MemArg, Ordering, RefType, V128, ValType};
 
-/// Visits operators. A visit that a visitor has not of its own goes to `visit_any`.
+/// A visitor of operators. A visit that is not overridden calls `visit_any`.
 #[rustfmt::skip]
 pub trait VisitOperator<'a> {
-    /// What a visit answers.
+    /// The type that a visit returns.
     type Output;
 
-    /// Visits an operator that has no visit of its own.
+    /// Visits an operator whose visit is not overridden.
     fn visit_any(&mut self, op: Operator<'a>) -> Self::Output;
 
     /// Visits `Unreachable`.
@@ -1898,7 +1898,7 @@ pub trait VisitOperator<'a> {
     fn visit_pause(&mut self) -> Self::Output { self.visit_any(Operator::Pause) }
 }
 
-/// Calls the visitor's method for an operator.
+/// Calls the visitor's visit of an operator.
 #[rustfmt::skip]
 pub fn visit_operator<'a, V: VisitOperator<'a> + ?Sized>(visitor: &mut V, op: Operator<'a>) -> V::Output {
     match op {

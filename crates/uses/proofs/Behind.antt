@@ -1,4 +1,4 @@
--- Where a reader stands behind several calls that read to the end, as behind one.
+-- Several calls that read to the end, seen as one call.
 use Rattle.std.proofs.Common.{◌≡◌, ℕ, ◌+◌, List, [], ◌++◌, length, refl, sym, ap, subst, ◌∙◌, arith, append_assoc, length-append}
 use Rattle.wasm_operators.specs.below.Source.{Reader, rest, offset_of, source_of, at_position, Takes}
 use Rattle.wasm_operators.specs.Expression.{Placed, operators, LaidOut, AreWalk, EncodesRest, EncodesExpression}
@@ -8,7 +8,7 @@ use Rattle.wasm_operators.specs.Laws.{LaysOutBoth}
 use Rattle.uses.specs.Again.{HasFound}
 use Rattle.uses.proofs.Parts.{operators_join}
 
--- What is laid out from a reader on that took a text of another is laid out behind that text.
+-- If a reader took a text, the operators encoded after its position are encoded after that text.
 laid_behind : (r old : Reader) (text : List ℕ) (placed : Placed) (more : List ℕ) → Takes r old text → LaidOut old.features (offset_of old) placed more →
     LaidOut r.features (offset_of r + length text) placed more
 laid_behind r old text placed more takes laid =
@@ -25,7 +25,7 @@ takes_both r old new a b first second =
       parts = first.parts ∙ ap (λ t. a ++ t) second.parts ∙ sym (append_assoc a b (rest new));
     }
 
--- Before the first call.
+-- Before the first call, nothing is found.
 pub stands_first : (r : Reader) (now : State) → now.reader ≡ r → StoodBefore [] now → HasFound r now []
 stands_first r now same stood =
     let place : r.position ≡ r.position + 0 = omega arith in
@@ -36,7 +36,7 @@ stands_first r now same stood =
       stood = stood;
     }
 
--- A call more that was refused.
+-- One more call that failed.
 pub stands_on : (r : Reader) (old new : State) (found placed : Placed) (text : List ℕ) → LaysOutBoth r.features → HasFound r old found →
     Takes old.reader new.reader text → LaidOut old.reader.features (offset_of old.reader) placed text →
     StoodBefore (operators found ++ operators placed) new → HasFound r new (found ++ placed)
@@ -47,7 +47,7 @@ stands_on r old new found placed text joined h takes laid stood = record {
   stood = subst (λ ops. StoodBefore ops new) (sym (operators_join found placed)) stood;
 }
 
--- A call more that read to the end.
+-- One more call that read the whole expression.
 pub whole_behind : (r : Reader) (old : State) (found placed : Placed) → LaysOutBoth r.features → HasFound r old found →
     EncodesRest (operators found) (source_of old.reader) placed → EncodesExpression (source_of r) (found ++ placed)
 whole_behind r old found placed joined h (laid, walk) =

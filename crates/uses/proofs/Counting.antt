@@ -1,4 +1,4 @@
--- Visits that each count one more count the list.
+-- If each visit adds one, the count is the length of the list.
 use Rattle.std.proofs.Common.{◌≡◌, ℕ, ◌+◌, ◌-◌, ◌^◌, ◌<◌, List, [], ◌∷◌, length, ap, ◌∙◌, arith}
 use Rattle.wasm_operators.specs.instr.declared.operator.Operator.{Operator}
 use Rattle.wasm_operators.specs.Expression.{Placed}

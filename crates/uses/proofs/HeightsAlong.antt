@@ -5,7 +5,7 @@ use Rattle.wasm_operators.specs.Visiting.{VisitRun, Visited}
 use Rattle.uses.specs.declared.heights.Heights.{Heights}
 use Rattle.uses.specs.Heights.{HaveArities, StepsHeight}
 
--- From where no fault was kept at the end, in a module of these types and functions.
+-- If there is no fault at the end, each operator has an arity in the module.
 run : {A : Type 0} (placed : Placed) (answers : List A) (before after : Heights) → after.fault ≡ None →
     VisitRun {A = A} (λ s op a t. StepsHeight s op t) before placed answers after →
     (before.fault ≡ None) × HaveArities before.context.types.now before.context.functions.now placed

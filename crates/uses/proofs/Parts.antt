@@ -1,4 +1,4 @@
--- Lists that are laid out one behind the other.
+-- Lists of operators that are encoded one after another.
 use Rattle.std.proofs.Common.{◌≡◌, ◌+◌, [], ◌∷◌, ◌++◌, refl, ap}
 use Rattle.wasm_operators.specs.Expression.{Placed, operators}
 

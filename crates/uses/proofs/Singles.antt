@@ -1,4 +1,4 @@
--- What was peeked, inside a frame of the caller's.
+-- Peeking an operator inside a frame that the caller gives.
 use Rattle.std.proofs.Common.{◌≡◌, ◌≢◌, List, [], ◌++◌, ℕ, Some, Result, Ok, Err, IfOk, IfErr, refl, ◌∙◌, append-nil}
 use Rattle.wasm_operators.specs.below.bytes.error.Error.{Error}
 use Rattle.wasm_operators.specs.below.bytes.message.Message.{Message}
@@ -21,7 +21,7 @@ may_follow message.EndOfData other = refl
 may_follow message.OutOfMemory other = absurd (other refl)
 may_follow _ other = tt
 
--- Where nothing was peeked, nothing stands there that the frame allows.
+-- If peeking fails, no operator that the frame allows is encoded there.
 pub none_peeked : (kind : FrameKind) (r : Reader) (result : Result Operator Error) → PeeksOperator (Some kind) result r →
     IfErr result (λ e. e.message ≢ message.OutOfMemory → (op : Operator) (text more : List ℕ) → rest r ≡ text ++ more →
     EncodesOperator r.features op text → Allows kind (role_of op) → ⊥)

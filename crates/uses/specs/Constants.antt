@@ -7,16 +7,16 @@ use Rattle.wasm_operators.specs.instr.declared.operator.Operator.TheVariants as 
 use Rattle.wasm_operators.specs.Constant.{EncodesConstant}
 use Rattle.wasm_operators.specs.Expression.{Placed, operators, EncodesExpression}
 
--- The number of an `i32.const` and one operator behind it, which in an expression is its `end`.
+-- The constant of an `i32.const` with one operator after it; in an expression, that operator is `end`.
 abbrev pub i32_of : List Operator → Option ℤ
 i32_of (operator.I32Const n ∷ last ∷ []) = Some n
 i32_of _ = None
 
--- These bytes, the first at this offset, under these features.
+-- These bytes, at the reader's offset and under its features.
 abbrev pub text_at : Reader → List ℕ → Source
 text_at r text = record { features = r.features; offset = offset_of r; bytes = text }
 
--- The text of a constant expression with these operators was taken, and this is its number if it is one `i32.const`.
+-- The text of a constant expression with these operators is taken, and `number` is its constant if it is one `i32.const`.
 pub record TakesOffset (number : Option ℤ) (old new : Reader) : Type 0 where
   pub text : List ℕ
   pub takes : Takes old new text

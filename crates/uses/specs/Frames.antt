@@ -1,11 +1,11 @@
--- How many frames are open along operators, and which operators close one.
+-- The number of open frames along operators.
 -- WebAssembly Core Specification 3.0: Binary Format, Instructions, Control Instructions.
 -- The legacy exception handling proposal: try and delegate.
 use Rattle.std.specs.Prelude.{ℕ, ◌+◌, ◌-◌, List, [], ◌∷◌}
 use Rattle.wasm_operators.specs.instr.declared.operator.Operator.{Operator}
 use Rattle.wasm_operators.specs.instr.declared.operator.Operator.TheVariants as operator
 
--- How many frames an operator opens.
+-- The number of frames that an operator opens.
 abbrev pub opens : Operator → ℕ
 opens (operator.Block _) = 1
 opens (operator.Loop _) = 1
@@ -14,13 +14,13 @@ opens (operator.Try _) = 1
 opens (operator.TryTable _) = 1
 opens _ = 0
 
--- How many it closes.
+-- The number of frames that an operator closes.
 abbrev pub closes : Operator → ℕ
 closes operator.End = 1
 closes (operator.Delegate _) = 1
 closes _ = 0
 
--- How many frames are open behind operators, where so many are open before them.
+-- The number of frames that are open after operators, if `n` are open before them.
 abbrev pub open_behind : ℕ → List Operator → ℕ
 open_behind n [] = n
 open_behind n (op ∷ ops) = open_behind (n + opens op - closes op) ops

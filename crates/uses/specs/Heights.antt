@@ -1,4 +1,4 @@
--- Which operators have an arity in a module, and what a visit that keeps the height of the operand stack does.
+-- The operators that have an arity in a module, and the effect of a visit that keeps the height of the operand stack.
 -- WebAssembly Core Specification 3.0: Validation, Instructions; Appendix, Validation Algorithm.
 use Rattle.std.specs.Prelude.{◌≡◌, ℕ, List, [], ◌∷◌, None, IsSome}
 use Rattle.wasm_operators.specs.instr.Arity.{arity_of}
@@ -8,22 +8,22 @@ use Rattle.uses.specs.declared.heights.Heights.{Heights}
 use Rattle.uses.specs.declared.module.Frame.{Frame}
 use Rattle.uses.specs.Module.{answers}
 
--- The operator has an arity in the module, where some frames are open.
+-- The operator has an arity in the module, for some open frames.
 abbrev pub HasArity : List (ℕ × ℕ) → List ℕ → Operator → Type 0
 HasArity types functions op = (frames : List Frame) × IsSome (arity_of (answers types functions frames) op)
 
--- Each of the operators has one.
+-- Each of the operators has an arity in the module.
 abbrev pub HaveArities : List (ℕ × ℕ) → List ℕ → Placed → Type 0
 HaveArities types functions [] = Unit {0}
 HaveArities types functions (p ∷ ps) = HasArity types functions p.0 × HaveArities types functions ps
 
--- The module is the same, and a fault stays.
+-- The module is unchanged, and a fault is kept.
 pub record KeepsModule (before after : Heights) : Type 0 where
   pub types : after.context.types.now ≡ before.context.types.now
   pub functions : after.context.functions.now ≡ before.context.functions.now
   pub fault : after.fault ≡ None → before.fault ≡ None
 
--- One visit: where no fault is kept, none was before, and the operator has an arity in the module.
+-- One visit: if there is no fault after it, there was none before, and the operator has an arity in the module.
 pub record StepsHeight (before : Heights) (op : Operator) (after : Heights) : Type 0 where
   pub keeps : KeepsModule before after
   pub arity : after.fault ≡ None → HasArity before.context.types.now before.context.functions.now op

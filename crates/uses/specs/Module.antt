@@ -1,4 +1,4 @@
--- What a module answers to the questions on which arities depend, from lists of its types and functions.
+-- The facts about a module on which arities depend, from lists of its types and functions.
 -- WebAssembly Core Specification 3.0: Validation, Instructions; Appendix, Validation Algorithm.
 use Rattle.std.specs.Prelude.{ℕ, ◌-◌, List, length, Option, None, if◌then◌else◌, nat_lt, min}
 use Rattle.std.specs.List.{slice_get}
@@ -12,7 +12,7 @@ use Rattle.uses.specs.declared.module.BlockArity.{BlockArity}
 use Rattle.uses.specs.declared.module.BlockArity.TheVariants as arity
 use Rattle.uses.specs.declared.module.Frame.{Frame}
 
--- A block type of this arity; which value it leaves is not told.
+-- A block type of this arity; its value type is arbitrary.
 abbrev pub block_of : BlockArity → BlockType
 block_of arity.Nothing = block.Empty
 block_of arity.OneResult = block.Value value.I32
@@ -24,11 +24,11 @@ arity_of block.Empty = arity.Nothing
 arity_of (block.Value ty) = arity.OneResult
 arity_of (block.FuncType index) = arity.OfType index
 
--- The block type and the kind of the frame at a depth, the innermost being 0, of frames from the outermost to the innermost.
+-- The block type and the kind of the frame at a depth. Depth 0 is the innermost frame, which is the last of the list.
 abbrev pub label : List Frame → ℕ → Option (BlockType × FrameKind)
 label frames depth = if nat_lt depth (length frames) then option_map (λ f. (block_of f.arity, f.kind)) (slice_get frames (length frames - 1 - depth)) else None
 
--- The answers of a module of plain function types, of which these are parameters and results, with functions of these types, where these frames are open.
+-- The facts about a module that has only function types, with these parameters and results, and functions of these types, while these frames are open.
 abbrev pub answers : List (ℕ × ℕ) → List ℕ → List Frame → Answers
 answers types functions frames = record {
   func_type_arity = slice_get types;

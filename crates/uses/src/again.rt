@@ -1,4 +1,4 @@
-//! A reader that goes on after allocation failure.
+//! A reader that continues after allocation failure.
 ghost use Rattle.std.specs.Prelude.{IfOk};
 ghost use Rattle.wasm_operators.specs.Expression.{EncodesExpression};
 ghost use Rattle.uses.specs.Input.{input};
@@ -8,12 +8,12 @@ use wasm_operators::{
     BinaryReader, Error, Message, Operator, OperatorsReader, Result, WasmFeatures, expression_laws,
 };
 
-/// The operators of an expression, where memory may be refused so many times but one: the same list
-/// as if it had never been.
+/// Returns the operators of an expression. Calls `read_all` at most `tries` times: again only after
+/// allocation failed. The list is the same as without a failure.
 ///
-/// Behind a call that was refused for memory, the clause `beginning` says that what was found stands
-/// before the reader; the clause `tree` of the next call is over what was found before it, and the
-/// law `layouts` joins the lists.
+/// After a call that failed with `OutOfMemory`, the clause `beginning` says which operators were
+/// read before the reader's position. The clause `tree` of the next call takes these as read
+/// before, and the law `layouts` joins the lists.
 pub fn operators_again<'a>(
     alloc: Global,
     features: WasmFeatures,

@@ -1,4 +1,4 @@
-//! A constant expression, as the offset of an active segment.
+//! A constant expression, such as the offset of an active segment.
 ghost use Rattle.std.specs.Prelude.{◌≡◌, IfOk, IfErr};
 ghost use Rattle.wasm_operators.specs.Expression.{operators};
 ghost use Rattle.uses.specs.Constants.{i32_of, TakesOffset};
@@ -6,7 +6,7 @@ ghost use Rattle.uses.specs.Constants.{i32_of, TakesOffset};
 use std::alloc::Global;
 use wasm_operators::{BinaryReader, ConstExpr, Operator, Result};
 
-/// The number of an `i32.const` that is a whole expression.
+/// Returns the constant of an expression that is one `i32.const` and `end`, else `None`.
 fn i32_of(list: &[(Operator<'_>, u64)]) -> Option<i32>
     ensures { result ≡ i32_of (operators list.now) }
 {
@@ -19,10 +19,10 @@ fn i32_of(list: &[(Operator<'_>, u64)]) -> Option<i32>
     }
 }
 
-/// The constant expression at the start of the rest, as the offset of a segment: its number where it
-/// is one `i32.const`, and `None` where it has other operators. It is taken; on `Err` nothing is.
+/// Reads the constant expression at the reader's position. Returns its constant if it is one
+/// `i32.const`, and `None` if it has other operators. On `Err` the reader is unchanged.
 ///
-/// `ConstExpr::read` takes the text of a constant expression and remembers where it stood, and the
+/// `ConstExpr::read` takes the text of a constant expression and keeps it with its offset. The
 /// clause `tree` of `read_all` says that the list is the one expression that the text encodes.
 pub fn read_offset(alloc: Global, reader: &mut BinaryReader<'_>) -> Result<Option<i32>>
     ensures takes { IfOk result (λ offset. TakesOffset offset reader.old reader.new) }

@@ -1,4 +1,4 @@
-//! How many operators an expression has.
+//! The number of operators in an expression.
 ghost use Rattle.std.specs.Prelude.{◌≡◌, ◌+◌, ◌-◌, ◌^◌, ◌<◌, length, IfOk, IfErr};
 ghost use Rattle.wasm_operators.specs.Expression.{Placed, EncodesExpression};
 ghost use Rattle.uses.specs.Input.{input};
@@ -9,7 +9,7 @@ use wasm_operators::{
     VisitSimdOperator, Visitor, WasmFeatures, expression_laws,
 };
 
-/// How many operators were visited.
+/// The number of operators that were visited.
 #[derive(Debug, Drop)]
 pub struct Count {
     pub operators: u64,
@@ -18,7 +18,7 @@ pub struct Count {
 impl Visitor for Count {
     type Output = ();
 
-    // A visit counts one more.
+    // A visit adds one.
     ghost visits = { λ before op answer after. before.operators < 2 ^ 64 - 1 → after.operators ≡ before.operators + 1 };
 
     fn visit_any(&mut self, _op: Operator<'static>) {
@@ -36,11 +36,11 @@ impl<'a> VisitOperator<'a> for Count {
 
 impl VisitSimdOperator for Count {}
 
-/// How many operators an expression has.
+/// Returns the number of operators in an expression.
 ///
-/// The visitor's relation counts one visit; along the list of the clause `tree` it counts them all,
-/// since a list that is laid out is no longer than its bytes: the law `layouts`. Where the bytes
-/// encode an expression, nothing but memory is refused: the clause `only`.
+/// The visitor's relation counts one visit. Along the list of the clause `tree` it counts them all:
+/// by the law `layouts`, the list is no longer than its bytes. If the bytes encode an expression,
+/// only allocation can fail: the clause `only`.
 pub fn count_operators(alloc: Global, features: WasmFeatures, bytes: &[u8]) -> Result<u64>
     ensures counts { IfOk result (λ count. (placed : Placed)
         × EncodesExpression (input features bytes.now) placed × (count ≡ length placed)) }

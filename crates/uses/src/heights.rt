@@ -13,20 +13,20 @@ use wasm_operators::{
     VisitSimdOperator, Visitor, WasmFeatures, body_laws,
 };
 
-/// Why the heights of a body are no valid ones.
+/// The reason why a body has no valid stack heights.
 #[derive(Clone, Copy, Debug, PartialEq, Eq)]
 pub enum HeightFault {
-    /// The module does not say what an operator takes and leaves.
+    /// The module does not determine the arity of an operator.
     Unknown,
-    /// An operator takes more than its frame holds.
+    /// An operator takes more operands than its frame holds.
     Underflow,
-    /// Too much is left where a frame ends.
+    /// Too many operands are left at the end of a frame.
     LeftOver,
-    /// Memory for the open frames was refused.
+    /// Allocating an open frame failed.
     Memory,
 }
 
-/// A visitor that keeps the height.
+/// A visitor that keeps the height of the operand stack.
 #[derive(Drop)]
 pub struct Heights<'m> {
     pub context: Context<'m>,
@@ -35,7 +35,7 @@ pub struct Heights<'m> {
     pub fault: Option<HeightFault>,
 }
 
-/// Whether what stands behind the operator is not reached.
+/// Returns whether the code after this operator is unreachable.
 fn is_stack_polymorphic(op: &Operator<'_>) -> bool {
     matches!(
         op,
@@ -52,7 +52,7 @@ fn is_stack_polymorphic(op: &Operator<'_>) -> bool {
     )
 }
 
-/// The kind of the frame that takes the place of the innermost one, if the operator turns it.
+/// Returns the kind of the frame that replaces the innermost one, if the operator turns a frame.
 fn turned(op: &Operator<'_>) -> Option<FrameKind> {
     match op {
         Operator::Else => Some(FrameKind::Else),
@@ -62,7 +62,7 @@ fn turned(op: &Operator<'_>) -> Option<FrameKind> {
     }
 }
 
-/// The frame that an operator opens, if it does.
+/// Returns the frame that an operator opens, if it opens one.
 fn opened(op: &Operator<'_>) -> Option<(BlockArity, FrameKind)> {
     match op {
         Operator::Block { blockty } => Some((BlockArity::new(*blockty), FrameKind::Block)),
@@ -76,13 +76,13 @@ fn opened(op: &Operator<'_>) -> Option<(BlockArity, FrameKind)> {
     }
 }
 
-/// Adds a frame, if there is memory for it.
+/// Adds a frame. Returns `false` if allocation fails.
 fn add_frame(frames: &mut Vec<Frame>, frame: Frame) -> bool {
     frames.push(frame).is_ok()
 }
 
 impl<'m> Heights<'m> {
-    /// Takes so many operands from a frame, and where it ends all of them.
+    /// Takes `takes` operands from a frame, or all of them if the frame ends.
     fn take(&mut self, frame: Frame, takes: u32, all: bool)
         ensures { KeepsModule self.old self.new }
     {
@@ -100,7 +100,7 @@ impl<'m> Heights<'m> {
         };
     }
 
-    /// Leaves so many.
+    /// Adds `leaves` results.
     fn leave(&mut self, leaves: u32)
         ensures { KeepsModule self.old self.new }
     {
@@ -124,7 +124,7 @@ impl<'m> Heights<'m> {
         let _ = self.context.frames.pop();
     }
 
-    /// What an operator does inside this frame, the innermost, to the frames.
+    /// Updates the frames for an operator in the innermost frame, `frame`.
     fn turn(&mut self, frame: Frame, op: &Operator<'_>)
         ensures { KeepsModule self.old self.new }
     {
@@ -154,7 +154,7 @@ impl<'m> Heights<'m> {
         }
     }
 
-    /// Counts one operator.
+    /// Applies one operator to the height and the frames.
     fn step(&mut self, op: &Operator<'_>)
         ensures { StepsHeight self.old op.now self.new }
     {
@@ -180,7 +180,7 @@ impl<'m> Heights<'m> {
 impl<'m> Visitor for Heights<'m> {
     type Output = ();
 
-    // A visit counts the operator's arity.
+    // A visit applies the operator's arity.
     ghost visits = { λ before op answer after. StepsHeight before op after };
 
     fn visit_any(&mut self, op: Operator<'static>) {
@@ -198,10 +198,11 @@ impl<'a, 'm> VisitOperator<'a> for Heights<'m> {
 
 impl<'m> VisitSimdOperator for Heights<'m> {}
 
-/// The heights along a body of this function type, in a module of these types and functions.
+/// Computes the stack heights along a body of this function type, in a module with these types and
+/// functions.
 ///
-/// Proved: where no fault is kept, the bytes encode a body each of whose operators has an arity in
-/// the module. That the heights are those of the validation algorithm is not proved.
+/// Proved: if there is no fault, the bytes encode a body, and each of its operators has an arity in
+/// the module. It is not proved that the heights are those of the validation algorithm.
 pub fn heights_of_body<'m>(
     alloc: Global,
     features: WasmFeatures,

@@ -1,5 +1,7 @@
-//! Proved callers of `wasm_operators`: each shows how a conclusion follows from public contracts and
-//! laws alone.
+//! Proved callers of `wasm_operators`. Each shows how a conclusion follows from public contracts
+//! and laws alone.
+//!
+//! A call that allocates may fail with `OutOfMemory`.
 #![tactic(auto)]
 
 mod again;

@@ -7,10 +7,10 @@ ghost use Rattle.uses.specs.Input.{input};
 use std::alloc::Global;
 use wasm_operators::{BinaryReader, Message, Operator, OperatorsReader, Result};
 
-/// The operators of an expression, each with the offset of its first byte.
+/// Returns the operators of an expression, each with the offset of its first byte.
 ///
-/// They are those of the one expression that the bytes encode: the clause `tree` of `read_all`. Where
-/// the bytes encode one, nothing but memory is refused: the clause `only`.
+/// They are those of the one expression that the bytes encode: the clause `tree` of `read_all`. If
+/// the bytes encode one, only allocation can fail: the clause `only`.
 pub fn operators<'a>(alloc: Global, bytes: &'a [u8]) -> Result<Vec<(Operator<'a>, u64)>>
     ensures encodes { IfOk result (λ found. EncodesExpression (input all_features bytes.now) found.items) }
     ensures whole { (placed : Placed) → EncodesExpression (input all_features bytes.now) placed

@@ -1,4 +1,4 @@
-//! A body: its locals, and then its operators.
+//! A body: its locals and its operators.
 ghost use Rattle.std.specs.Prelude.{IfOk};
 ghost use Rattle.wasm_operators.specs.Body.{EncodesBody};
 ghost use Rattle.uses.specs.Input.{input};
@@ -8,19 +8,19 @@ use wasm_operators::{
     BinaryReader, Error, FunctionBody, Message, Operator, Result, ValType, WasmFeatures, body_laws,
 };
 
-/// A body: the declarations of its locals, and its operators with their offsets.
+/// The local declarations of a body, and its operators with their offsets.
 #[derive(Drop)]
 pub struct Body<'a> {
     pub locals: Vec<(u32, ValType)>,
     pub operators: Vec<(Operator<'a>, u64)>,
 }
 
-/// The declarations and the operators of a body: those of the one body that the bytes encode.
+/// Reads the one body that the bytes encode.
 ///
-/// Each step of the iterator over locals is one declaration, and the law `steps_of_locals` adds it to
-/// those before; behind them `into_operators_reader` says that the reader stands behind the
-/// declarations that were given, the clause `tree` of `read_all` that the rest is the expression, and
-/// the law `past_locals` that both are the body.
+/// Each step of the iterator over locals is one declaration, and the law `steps_of_locals` adds it
+/// to those before. `into_operators_reader` then says that the reader is after these declarations,
+/// and the clause `tree` of `read_all` that the rest is the expression. The law `past_locals` joins
+/// both to the body.
 pub fn read_body<'a>(alloc: Global, features: WasmFeatures, bytes: &'a [u8]) -> Result<Body<'a>>
     ensures { IfOk result (λ body. EncodesBody (input features bytes.now) body.locals.items body.operators.items) }
 {

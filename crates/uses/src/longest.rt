@@ -1,4 +1,4 @@
-//! The longest beginning of an expression that was cut short or broken, as an editor keeps it.
+//! The longest prefix of an expression in incomplete or invalid bytes, as an editor keeps it.
 ghost use Rattle.std.specs.Prelude.{◌≡◌, ◌++◌, replicate, IfOk, IfErr};
 ghost use Rattle.wasm_operators.specs.Expression.{operators, AreWalk, IsLongestBeginning};
 ghost use Rattle.uses.specs.Frames.{opens, closes, open_behind};
@@ -10,14 +10,14 @@ use wasm_operators::{
     grammar_laws,
 };
 
-/// What is kept of an expression: its operators, and how many `end`s complete them.
+/// The operators that are kept, and the number of `end`s that complete them.
 #[derive(Drop)]
 pub struct Kept<'a> {
     pub operators: Vec<(Operator<'a>, u64)>,
     pub ends: usize,
 }
 
-/// How many frames an operator opens.
+/// Returns how many frames an operator opens.
 fn opens(op: &Operator<'_>) -> usize
     ensures { result ≡ opens op.now }
 {
@@ -31,7 +31,7 @@ fn opens(op: &Operator<'_>) -> usize
     }
 }
 
-/// How many it closes.
+/// Returns how many frames an operator closes.
 fn closes(op: &Operator<'_>) -> usize
     ensures { result ≡ closes op.now }
 {
@@ -41,7 +41,7 @@ fn closes(op: &Operator<'_>) -> usize
     }
 }
 
-/// How many frames are open behind the operators of an expression.
+/// Returns how many frames are open after the operators of an expression.
 fn open_frames(list: &[(Operator<'_>, u64)]) -> usize
     ensures { result ≡ open_behind 1 (operators list.now) }
 {
@@ -52,7 +52,7 @@ fn open_frames(list: &[(Operator<'_>, u64)]) -> usize
     open
 }
 
-/// What is kept of these operators.
+/// Returns these operators, with the number of `end`s that complete them.
 fn keep<'a>(found: Vec<(Operator<'a>, u64)>) -> Kept<'a>
     ensures operators { result.operators.items ≡ found.entry.items }
     ensures ends { result.ends ≡ open_behind 1 (operators found.entry.items) }
@@ -64,12 +64,14 @@ fn keep<'a>(found: Vec<(Operator<'a>, u64)>) -> Kept<'a>
     }
 }
 
-/// The longest list of operators that some prefix of the bytes encodes and that begins an expression,
-/// and how many `end`s complete it; a whole expression needs none. Only memory is refused.
+/// Returns the longest list of operators that some prefix of the bytes encodes and that begins an
+/// expression. `ends` is the number of `end`s that complete it; it is 0 for a whole expression.
+/// Only allocation can fail.
 ///
-/// Where `read_all` refuses the bytes, the clause `beginning` says that the list is the longest, and
-/// where its open path leads; the laws `path_is_run` and `ends_complete` of the grammar say the rest.
-/// Where it succeeds, `tree` says so, and the law `whole_is_longest` that nothing is longer.
+/// If `read_all` fails, the clause `beginning` says that the list is the longest, and which frames
+/// its open path has. The laws `path_is_run` and `ends_complete` of the grammar say the rest. If
+/// `read_all` succeeds, the clause `tree` says so, and the law `whole_is_longest` that nothing is
+/// longer.
 pub fn longest_beginning<'a>(
     alloc: Global,
     features: WasmFeatures,

@@ -1,22 +1,22 @@
-//! What a module answers to the questions on which arities depend, from types kept in lists.
+//! The types and functions of a module on which arities depend, kept in slices.
 ghost use Rattle.std.specs.Prelude.{◌≡◌};
 ghost use Rattle.uses.specs.Module.{arity_of, block_of};
 
 use wasm_operators::{BlockType, FrameKind, ModuleArity, ValType};
 
-/// How many parameters and results a block has: as its type, of which values are not told apart.
+/// The number of parameters and results of a block. Value types are not distinguished.
 #[derive(Clone, Copy, Debug, PartialEq, Eq)]
 pub enum BlockArity {
     /// No parameters and no results.
     Nothing,
     /// No parameters, and one result.
     OneResult,
-    /// Those of the function type of this index.
+    /// The parameters and results of the function type with this index.
     OfType(u32),
 }
 
 impl BlockArity {
-    /// That of a block type.
+    /// Returns the arity of a block type.
     pub fn new(ty: BlockType) -> BlockArity
         ensures { result ≡ arity_of ty }
     {
@@ -27,7 +27,7 @@ impl BlockArity {
         }
     }
 
-    /// A block type of that arity.
+    /// Returns a block type with this arity.
     pub fn block_type(&self) -> BlockType
         ensures { result ≡ block_of self.now }
     {
@@ -44,14 +44,15 @@ impl BlockArity {
 pub struct Frame {
     pub arity: BlockArity,
     pub kind: FrameKind,
-    /// The height below its operands.
+    /// The height of the operand stack below the frame's operands.
     pub base: u32,
-    /// Whether what stands here is not reached, so that operands are there as needed.
+    /// Whether the current code is unreachable, so that missing operands are allowed.
     pub unreachable: bool,
 }
 
-/// What arities depend on: the parameters and results of a module's types, the types of its
-/// functions, and the open frames, the innermost last.
+/// What arities depend on: the types and functions of a module, and the open frames, the innermost
+/// last. A type is given by the numbers of its parameters and results, a function by its type
+/// index.
 #[derive(Drop)]
 pub struct Context<'m> {
     pub types: &'m [(u32, u32)],

@@ -1,4 +1,4 @@
-//! A visitor with visits of its own.
+//! A visitor that overrides visits.
 ghost use Rattle.std.specs.Prelude.{◌≡◌, ◌+◌, ◌-◌, ◌^◌, ◌<◌, length, IfOk};
 ghost use Rattle.wasm_operators.specs.Expression.{Placed, EncodesExpression};
 ghost use Rattle.uses.specs.Input.{input};
@@ -9,7 +9,7 @@ use wasm_operators::{
     VisitOperator, VisitSimdOperator, Visitor, WasmFeatures, decode, dispatch, expression_laws,
 };
 
-/// How many operators copy or fill a stretch of memory, and how many others there were.
+/// The number of operators that copy or fill memory, and the number of all others.
 #[derive(Debug, Drop)]
 pub struct Moves {
     pub moves: u64,
@@ -19,7 +19,7 @@ pub struct Moves {
 impl Visitor for Moves {
     type Output = ();
 
-    // A visit counts one more, in one of the two.
+    // A visit adds one to one of the two counts.
     ghost visits = { λ before op answer after. before.moves + before.others < 2 ^ 64 - 1
         → after.moves + after.others ≡ before.moves + before.others + 1 };
 
@@ -61,10 +61,11 @@ impl<'a> VisitOperator<'a> for Moves {
 
 impl VisitSimdOperator for Moves {}
 
-/// How many operators of an expression copy or fill a stretch of memory, and how many others it has:
-/// together as many as it has operators.
+/// Counts the operators of an expression that copy or fill memory, and all others. The sum is the
+/// number of its operators.
 ///
-/// As `count_operators`, by a relation over both counts, which all visits keep.
+/// The proof is that of `count_operators`, with a relation over both counts that all visits
+/// satisfy.
 pub fn count_moves(alloc: Global, features: WasmFeatures, bytes: &[u8]) -> Result<Moves>
     ensures { IfOk result (λ found. (placed : Placed)
         × EncodesExpression (input features bytes.now) placed × (found.moves + found.others ≡ length placed)) }

@@ -1,4 +1,4 @@
-//! One operator at a time, under frames of the caller's own.
+//! One operator at a time, inside a frame that the caller gives.
 ghost use Rattle.std.specs.Prelude.{◌≡◌, ◌≢◌, ℕ, List, ◌++◌, IfOk, IfErr};
 ghost use Rattle.wasm_operators.specs.below.bytes.message.Message.{Message};
 ghost use Rattle.wasm_operators.specs.below.Source.{rest};
@@ -10,7 +10,7 @@ ghost use Rattle.wasm_operators.specs.grammar.Frames.{Allows};
 use std::alloc::Global;
 use wasm_operators::{BinaryReader, FrameKind, FrameStack, Operator, ReadOperators, Result};
 
-/// The frame of which one is inside.
+/// The innermost frame.
 #[derive(Clone, Copy, Debug, PartialEq, Eq)]
 pub struct Inside {
     pub kind: FrameKind,
@@ -26,10 +26,11 @@ impl FrameStack for Inside {
     }
 }
 
-/// The operator at the start of the rest, which stays there, inside a frame of this kind.
+/// Returns the operator at the reader's position, inside a frame of this kind, without consuming
+/// it.
 ///
-/// `peek_operator` answers what a reading would: a prefix of the rest encodes the operator, and the
-/// frame allows it. Where it is refused no such operator stands there, memory aside.
+/// `peek_operator` returns what a read would: a prefix of the rest encodes the operator, and the
+/// frame allows it. On an error other than `OutOfMemory`, no such operator is encoded there.
 pub fn operator_inside<'a>(
     alloc: Global,
     reader: &BinaryReader<'a>,

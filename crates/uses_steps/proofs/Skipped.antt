@@ -1,4 +1,4 @@
--- Operators that were gone past, one after another.
+-- Operators that are skipped, one after another.
 use Rattle.std.proofs.Common.{◌≡◌, ℕ, ◌+◌, ◌-◌, ◌≤◌, [], ◌∷◌, ◌++◌, length, length-append, refl, ap, arith}
 use Rattle.wasm_operators.specs.below.Source.{Reader, offset_of}
 use Rattle.wasm_operators.specs.instr.declared.operator.Operator.{Operator}
@@ -8,7 +8,7 @@ use Rattle.wasm_operators.specs.Headline.{IsWithinDepth}
 use Rattle.wasm_operators.specs.Laws.{TakesNone, TakesOneMore, TakesNoMore, AddsFewFrames, MemoryAddsUp}
 use Rattle.wasm_operators.specs.Reading.{State, GrowsLittle, IsUnchanged, TakesOperator, TakesOperators}
 
--- So many operators were taken, few frames were opened, and their memory grew little.
+-- `count` operators are taken, and the frames and their memory are within bounds.
 pub record HasSkipped (count : ℕ) (old now : State) : Type 0 where
   pub placed : Placed
   pub many : length placed ≡ count

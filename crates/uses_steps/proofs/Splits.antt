@@ -1,7 +1,7 @@
--- A list at one of its places.
+-- A list split at an index.
 use Rattle.std.proofs.Common.{◌≡◌, ℕ, zero, suc, ◌+◌, ◌<◌, List, [], ◌∷◌, ◌++◌, length, get_or, refl, sym, ap, ◌∙◌, arith}
 
--- This element stands there, with these before and behind it.
+-- The element at index `i`, with the elements before and after it.
 pub record SplitsAt {X : Type 0} (xs : List X) (i : ℕ) (x : X) : Type 0 where
   pub before : List X
   pub after : List X
@@ -21,7 +21,7 @@ splits_at [] i x few is = absurd (omega arith)
 splits_at (y ∷ ys) zero x few is = record { before = []; after = ys; parts = ap (λ z. z ∷ ys) (sym is); place = refl }
 splits_at (y ∷ ys) (suc i) x few is = behind_one ys i x y (splits_at ys i x (omega arith) is)
 
--- These two elements stand there, one behind the other.
+-- The elements at index `i` and after it.
 pub record SplitsInto {X : Type 0} (xs : List X) (i : ℕ) (x y : X) : Type 0 where
   pub before : List X
   pub after : List X

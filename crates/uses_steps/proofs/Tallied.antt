@@ -1,4 +1,4 @@
--- Visits that each count one more count the list.
+-- If each visit adds one, the count is the length of the list.
 use Rattle.std.proofs.Common.{◌≡◌, ◌+◌, ◌^◌, ◌<◌, List, [], ◌∷◌, length, ap, ◌∙◌, arith}
 use Rattle.wasm_operators.specs.Expression.{Placed}
 use Rattle.wasm_operators.specs.Visiting.{VisitRun, Visited}

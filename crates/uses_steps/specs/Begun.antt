@@ -1,4 +1,4 @@
--- What expressions that arrive in pieces still want, and expressions at the start of bytes.
+-- What bytes miss to be an expression, and expressions at the start of bytes.
 use Rattle.std.specs.Prelude.{◌≡◌, ℕ, List, [], ◌++◌, length}
 use Rattle.wasm_operators.specs.below.Source.{Source}
 use Rattle.wasm_operators.specs.Expression.{Placed, IsAny, EncodesExpression}
@@ -6,14 +6,15 @@ use Rattle.wasm_operators.specs.Headline.{IsCut, IsCompletedByEnds}
 use Rattle.uses_steps.specs.declared.beginnings.Wanted.{Wanted}
 use Rattle.uses_steps.specs.declared.beginnings.Wanted.TheVariants as wanted
 
--- What is said to be wanted behind the bytes: they are an expression; some bytes 0x0b make them one; or, of those of which it is never wanted, no bytes do.
+-- What the result claims: the bytes are an expression; some bytes 0x0b make them one; or no bytes make them one. If the rest of an operator is missing, it
+-- claims nothing.
 abbrev pub IsWanted : Source → Wanted → Type 0
 IsWanted s wanted.Nothing = (placed : Placed) × EncodesExpression s placed
 IsWanted s wanted.Ends = (n : ℕ) × IsCompletedByEnds [] s n
 IsWanted s wanted.Bytes = Unit {0}
 IsWanted s wanted.Never = ¬ IsCut IsAny [] s
 
--- The first so many of the bytes are an expression.
+-- The first `n` of the bytes are an expression.
 pub record BeginsExpression (s : Source) (n : ℕ) : Type 0 where
   pub text : List ℕ
   pub more : List ℕ

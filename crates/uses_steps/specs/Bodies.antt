@@ -1,4 +1,4 @@
--- Bodies, and their first declaration of locals.
+-- Bodies, and their first local declaration.
 use Rattle.std.specs.Prelude.{◌≡◌, ℕ, List, ◌++◌}
 use Rattle.wasm_operators.specs.below.Number.{EncodesUnsigned}
 use Rattle.wasm_operators.specs.below.Source.{Source, Reader, rest}
@@ -6,11 +6,11 @@ use Rattle.wasm_operators.specs.Body.{EncodesBody}
 use Rattle.wasm_operators.specs.Expression.{Placed}
 use Rattle.wasm_operators.specs.Locals.{Declaration, EncodesDeclaration}
 
--- The bytes are some body.
+-- The bytes are a body.
 abbrev pub IsBody : Source → Type 0
 IsBody s = (declarations : List Declaration) × (placed : Placed) × EncodesBody s declarations placed
 
--- A count stands first, and this declaration behind it.
+-- The bytes start with a count, and then this declaration.
 pub record BeginsWithDeclaration (body : Reader) (d : Declaration) : Type 0 where
   pub count : ℕ
   pub number : List ℕ

@@ -1,4 +1,4 @@
--- Which operators get which complaint.
+-- The reasons why an operator is not read.
 -- WebAssembly Core Specification 3.0: Binary Format, Instructions, Control Instructions. Proposal legacy exception handling.
 use Rattle.std.specs.Prelude.{◌≡◌, Option, Some, None}
 use Rattle.wasm_operators.specs.below.bytes.error.Error.{Error}
@@ -15,12 +15,12 @@ use Rattle.wasm_operators.specs.Reading.{State, TakesOperator}
 use Rattle.uses_steps.specs.declared.single.Complaint.{Complaint}
 use Rattle.uses_steps.specs.declared.single.Complaint.TheVariants as complaint
 
--- The next operator is refused so; or it was taken.
+-- Reading the next operator fails with this error, or takes an operator.
 abbrev pub IsRefusal : Option Error → State → State → Type 0
 IsRefusal (Some e) old new = StopsNext EncodesAllowed OperatorFault e old new
 IsRefusal None old new = (op : Operator) × TakesOperator EncodesAllowed op old new
 
--- An operator of the legacy exceptions stands there, which are off; or one that the innermost frame does not allow.
+-- The next operator needs the feature of legacy exceptions, which is disabled; or the innermost frame does not allow it.
 abbrev pub IsComplaint : State → Complaint → Type 0
 IsComplaint s complaint.Feature = (g : Guard) × BeginsGuarded g s.reader × LacksFeature s.reader.features g
 IsComplaint s complaint.Frame =

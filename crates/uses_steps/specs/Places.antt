@@ -1,10 +1,10 @@
--- Where an operator of a list stands.
+-- The range of an operator in a list.
 use Rattle.std.specs.Prelude.{◌≡◌, ℕ, ◌∷◌, ◌++◌, length}
 use Rattle.wasm_operators.specs.below.bytes.features.WasmFeatures.{WasmFeatures}
 use Rattle.wasm_operators.specs.instr.declared.operator.Operator.{Operator}
 use Rattle.wasm_operators.specs.Expression.{Placed, EndsAt}
 
--- The operator of this index has its first byte at the one offset, and its bytes end before the other.
+-- The bytes of the operator at this index have the offsets from `start` up to, but not including, `end`.
 pub record IsRangeOf (features : WasmFeatures) (list : Placed) (index start end : ℕ) : Type 0 where
   pub before : Placed
   pub op : Operator

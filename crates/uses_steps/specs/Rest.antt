@@ -1,11 +1,11 @@
--- What is left of an expression, read behind others.
+-- The rest of an expression, which is read after other operators.
 use Rattle.std.specs.Prelude.{◌≡◌, ◌++◌}
 use Rattle.wasm_operators.specs.below.Source.{source_of}
 use Rattle.wasm_operators.specs.Expression.{Placed, operators, AreEncoded}
 use Rattle.wasm_operators.specs.Headline.{ClosesFrom}
 use Rattle.wasm_operators.specs.Reading.{State}
 
--- The operators that were added take all of the bytes that were left and close every frame, and each has an encoding.
+-- The operators that were added encode all bytes that were left and close every frame, and each of them has an encoding.
 pub record AddsRest (old : State) (before after : Placed) : Type 0 where
   pub placed : Placed
   pub added : after ≡ before ++ placed

@@ -1,4 +1,4 @@
-//! What bytes that may be an expression begin with.
+//! The longest prefix of an expression in some bytes, and what completes it.
 ghost use Rattle.std.specs.Prelude.{◌≡◌, ◌≢◌, ℕ, length, IfOk, IfErr, IfSome, IfNone};
 ghost use Rattle.wasm_operators.specs.Expression.{Placed, EncodesExpression, IsLongestBeginning};
 ghost use Rattle.wasm_operators.specs.Flat.{IsFlatBeginning};
@@ -11,23 +11,23 @@ use wasm_operators::{
     expression_laws, grammar_laws, reading_laws,
 };
 
-/// What an expression that arrives in pieces still wants.
+/// What an expression that arrives in pieces still misses.
 #[derive(Clone, Copy, Debug, PartialEq, Eq)]
 pub enum Wanted {
-    /// Nothing: it is whole.
+    /// Nothing: the expression is whole.
     Nothing,
-    /// Some bytes `0b`, each an `end`.
+    /// Only `end`s, each the byte `0b`.
     Ends,
     /// The rest of an operator.
     Bytes,
-    /// No bytes behind these make it an expression.
+    /// No further bytes make it an expression.
     Never,
 }
 
-/// What is wanted behind these bytes, that they are an expression.
+/// Returns what the bytes miss to be an expression.
 ///
-/// The clause `cut` of `read_all` says that data which more bytes would make an expression is refused
-/// by its end alone, and `completed` that on `FramesRemain` some `end`s complete it.
+/// If more bytes would complete the expression, `read_all` fails only because the data ends: the
+/// clause `cut`. After `FramesRemain`, some `end`s complete it: the clause `completed`.
 pub fn wanted_behind(alloc: Global, features: WasmFeatures, bytes: &[u8]) -> Result<Wanted>
     ensures { IfOk result (λ what. IsWanted (input features bytes.now) what) }
 {
@@ -44,11 +44,11 @@ pub fn wanted_behind(alloc: Global, features: WasmFeatures, bytes: &[u8]) -> Res
     }
 }
 
-/// As many operators at the start of the bytes as the open frames allow, one after another. Only
-/// memory is refused.
+/// Returns as many operators from the start of the bytes as the open frames allow. Only allocation
+/// can fail.
 ///
-/// The clause `flat` of `read_all` says so without trees, and the law `flat_beginnings` that the list
-/// is the longest beginning of an expression.
+/// The clause `flat` of `read_all` says so without trees, and the law `flat_beginnings` that the
+/// list is the longest prefix of an expression.
 pub fn allowed_operators<'a>(
     alloc: Global,
     features: WasmFeatures,
@@ -72,10 +72,10 @@ pub fn allowed_operators<'a>(
     }
 }
 
-/// How many operators the longest beginning of an expression has, and so a whole one.
+/// Returns the number of operators in the longest prefix of an expression, and so in a whole one.
 ///
-/// That the list which was read is the one of which a caller knows, the laws `one_longest_beginning`
-/// and `one_expression` say.
+/// By the laws `one_longest_beginning` and `one_expression`, a list that a caller knows is the list
+/// that was read.
 pub fn beginning_len(alloc: Global, features: WasmFeatures, bytes: &[u8]) -> Result<usize>
     ensures longest { (longest : Placed) → IsLongestBeginning (input features bytes.now) longest
         → IfOk result (λ count. count ≡ length longest) }
@@ -96,13 +96,13 @@ pub fn beginning_len(alloc: Global, features: WasmFeatures, bytes: &[u8]) -> Res
     }
 }
 
-/// How many bytes at the start of these are an expression, whatever follows them; `None` where none
-/// are.
+/// Returns how many bytes at the start of `bytes` are an expression, whatever follows them; `None`
+/// if there is no such number.
 ///
-/// The law `run_messages` says that `OperatorsRemaining` is answered exactly where no frame is open:
-/// what was read is an expression then. Else a frame is open behind the longest beginning, of which an
-/// expression at the start of the bytes would be a part, by `one_layout`; and the frames of that would
-/// be closed, by `rules_accept_walks`, so that nothing followed it.
+/// By the law `run_messages`, the error is `OperatorsRemaining` if and only if no frame is open:
+/// the operators read are then an expression. Otherwise a frame is open after the longest prefix.
+/// An expression at the start of the bytes would be a prefix of that, by `one_layout`. Its frames
+/// would be closed, by `rules_accept_walks`, so that nothing could follow it.
 pub fn expression_size(alloc: Global, features: WasmFeatures, bytes: &[u8]) -> Result<Option<usize>>
     ensures some { IfOk result (λ size. IfSome size (λ n. BeginsExpression (input features bytes.now) n)) }
     ensures none { IfOk result (λ size. IfNone size ((n : ℕ) → BeginsExpression (input features bytes.now) n → ⊥)) }
@@ -124,10 +124,10 @@ pub fn expression_size(alloc: Global, features: WasmFeatures, bytes: &[u8]) -> R
     }
 }
 
-/// The refusal of the bytes, found by two readings: one message at one offset, memory aside. Where
-/// one is not refused they are an expression.
+/// Reads the bytes twice, and returns both errors: the same message at the same offset, unless an
+/// allocation failed. Returns `None` if one read succeeds; the bytes are then an expression.
 ///
-/// The law `one_answer` says so of the clauses `beginning` of both.
+/// The law `one_answer` says so of the clauses `beginning` of both reads.
 pub fn refused_twice(alloc: Global, features: WasmFeatures, bytes: &[u8]) -> Option<(Error, Error)>
     ensures again { IfSome result (λ both. both.0.message ≢ Message.OutOfMemory → both.1.message ≢ Message.OutOfMemory
         → (both.0.message ≡ both.1.message) × (both.0.offset ≡ both.1.offset)) }

@@ -11,10 +11,10 @@ use wasm_operators::{
     BinaryReader, FunctionBody, Message, Result, ValType, WasmFeatures, body_laws,
 };
 
-/// Whether the bytes are a body.
+/// Returns whether the bytes are a body.
 ///
-/// What was opened and read to the end is one: the law `opened_bodies`. What is refused is none: the
-/// laws `refused_locals` and `stopped_bodies`.
+/// If a reader opens and reads them to the end, they are a body: the law `opened_bodies`. If that
+/// fails, they are not: the laws `refused_locals` and `stopped_bodies`.
 pub fn is_body(alloc: Global, features: WasmFeatures, bytes: &[u8]) -> Result<bool>
     ensures { IfOk result (λ answer. IsTrue answer ↔ IsBody (input features bytes.now)) }
 {
@@ -36,9 +36,9 @@ pub fn is_body(alloc: Global, features: WasmFeatures, bytes: &[u8]) -> Result<bo
     }
 }
 
-/// How many operators a body has.
+/// Returns the number of operators in a body.
 ///
-/// The law `one_body` says that the bytes are no other body.
+/// By the law `one_body`, the bytes are no other body.
 pub fn body_len(alloc: Global, features: WasmFeatures, bytes: &[u8]) -> Result<usize>
     ensures { (declarations : List Declaration) (placed : Placed)
         → EncodesBody (input features bytes.now) declarations placed → IfOk result (λ count. count ≡ length placed) }
@@ -51,7 +51,7 @@ pub fn body_len(alloc: Global, features: WasmFeatures, bytes: &[u8]) -> Result<u
     Ok(found.len())
 }
 
-/// The first declaration of a body's locals.
+/// Returns the first local declaration of a body.
 pub fn first_declaration(body: &FunctionBody<'_>) -> Result<(u32, ValType)>
     ensures { IfOk result (λ declaration. BeginsWithDeclaration body.now declaration) }
 {

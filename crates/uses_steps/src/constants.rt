@@ -8,10 +8,12 @@ ghost use Rattle.wasm_operators.specs.ConstantFaults.{ConstantFault, ConstantMay
 use std::alloc::Global;
 use wasm_operators::{BinaryReader, ConstExpr, Message, Result, constant_laws};
 
-/// How many bytes the constant expression has that stands next, and stays there.
+/// Returns the length in bytes of the constant expression at the reader's position, without
+/// consuming it.
 ///
-/// The law `constant_expressions` says that no other text is one, and `constant_refusals` that what a
-/// caller knows to be wrong is what is refused. `read` says where memory may be refused.
+/// By the law `constant_expressions`, no other prefix is a constant expression. By
+/// `constant_refusals`, an error that a caller can predict is the error that is returned. `read`
+/// says when allocation may fail.
 pub fn constant_size(alloc: Global, reader: &BinaryReader<'_>) -> Result<usize>
     ensures size { (text more : List ℕ) (constant : Reader) → rest reader.now ≡ text ++ more
         → EncodesConstantReader reader.now.features text constant → IfOk result (λ size. size ≡ length text) }

@@ -1,10 +1,10 @@
-//! Frames of the caller's own.
+//! Frames that the caller keeps.
 ghost use Rattle.std.specs.Prelude.{◌≡◌, ◌↔◌, [], IsTrue, None};
 ghost use Rattle.wasm_operators.specs.below.Source.{rest};
 
 use wasm_operators::{BinaryReader, FrameKind, FrameStack, ReadOperators};
 
-/// The frame of which one is inside, if one is open.
+/// The innermost frame, if one is open.
 #[derive(Clone, Copy, Debug, PartialEq, Eq)]
 pub struct Inside {
     pub kind: Option<FrameKind>,
@@ -18,7 +18,7 @@ impl FrameStack for Inside {
     }
 }
 
-/// Whether an expression ends here.
+/// Returns whether an expression ends at the reader's position.
 pub fn is_over(reader: &BinaryReader<'_>, inside: &Inside) -> bool
     ensures { IsTrue result ↔ ((inside.now.kind ≡ None) × (rest reader.now ≡ [])) }
 {

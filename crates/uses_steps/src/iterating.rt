@@ -1,4 +1,4 @@
-//! Operators by an iterator.
+//! Operators from an iterator.
 ghost use Rattle.std.specs.Prelude.{IfOk};
 ghost use Rattle.uses_steps.specs.Input.{input};
 ghost use Rattle.uses_steps.specs.Iterated.{AreAllAllowed};
@@ -9,11 +9,11 @@ use wasm_operators::{
     grammar_laws, run_laws,
 };
 
-/// All operators that the bytes encode, each with the offset of its first byte: each is allowed where
-/// it stands. Whether frames are open behind them is not asked.
+/// Returns all operators that the bytes encode, each with the offset of its first byte. The open
+/// frames allow each of them. Frames may be open after the last.
 ///
-/// Each step of the iterator is one read, and the law `one_operator` says that its operator stands
-/// before the next then; `path_is_run` says the same by the frames.
+/// Each step of the iterator is one read. By the law `one_operator`, its operator is read before
+/// the next; `path_is_run` says the same by the frames.
 pub fn iterated<'a>(
     alloc: Global,
     features: WasmFeatures,

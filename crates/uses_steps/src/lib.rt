@@ -1,6 +1,8 @@
-//! Proved callers of `wasm_operators` that go one operator, number or item at a time, and callers of
-//! whole expressions for what those of `uses` leave out: each shows how a conclusion follows from
+//! Proved callers of `wasm_operators` that read one operator, number or item at a time, and callers
+//! for whole expressions that `uses` does not cover. Each shows how a conclusion follows from
 //! public contracts and laws alone.
+//!
+//! A call that allocates may fail with `OutOfMemory`.
 #![tactic(auto)]
 
 mod beginnings;

@@ -16,10 +16,11 @@ use wasm_operators::{
     Result, byte_laws, control_laws, memory_laws,
 };
 
-/// The number of 32 bits that stands next, and stays there: what is answered stands there.
+/// Returns the number of 32 bits at the reader's position, without consuming it.
 ///
-/// `Reads` says that it is read wherever one stands, and the law `unsigned_numbers` that no other one
-/// does; `number_refusals`, that what a caller knows to be wrong is what is refused.
+/// By `Reads`, the number is read if one is encoded there. By the law `unsigned_numbers`, no other
+/// number is. By `number_refusals`, an error that a caller can predict is the error that is
+/// returned.
 pub fn peek_index(reader: &BinaryReader<'_>) -> Result<u32>
     ensures reads { (n : ℕ) (text more : List ℕ) → rest reader.now ≡ text ++ more → EncodesUnsigned 32 text n
         → result ≡ Ok n }
@@ -32,8 +33,7 @@ pub fn peek_index(reader: &BinaryReader<'_>) -> Result<u32>
     reader.clone().read_var_u32()
 }
 
-/// Two numbers of 32 bits, one behind the other, as the limits of a memory. Where one is refused,
-/// nothing is taken.
+/// Reads two numbers of 32 bits, such as the limits of a memory. On `Err` the reader is unchanged.
 pub fn read_limits(reader: &mut BinaryReader<'_>) -> Result<(u32, u32)>
     ensures taken { IfOk result (λ limits. (first second : List ℕ) × Takes reader.old reader.new (first ++ second)
         × EncodesUnsigned 32 first limits.0 × EncodesUnsigned 32 second limits.1) }
@@ -46,10 +46,11 @@ pub fn read_limits(reader: &mut BinaryReader<'_>) -> Result<(u32, u32)>
     Ok((least, most))
 }
 
-/// How many bytes the value of a type has that stands next, and stays there.
+/// Returns the length in bytes of the value of type `T` at the reader's position, without consuming
+/// it.
 ///
-/// The laws that each such type has say that no other text is a value, and that what a caller knows to
-/// be wrong is what is refused.
+/// By the laws of `T`, no other prefix encodes a value. An error that a caller can predict is the
+/// error that is returned.
 pub fn value_size<'a, T: FromReader<'a>>(alloc: Global, reader: &BinaryReader<'a>) -> Result<usize>
     ensures size { (value : T) (text more : List ℕ) → rest reader.now ≡ text ++ more
         → T.encodes reader.now.features text value → IfOk result (λ size. size ≡ length text) }
@@ -63,8 +64,8 @@ pub fn value_size<'a, T: FromReader<'a>>(alloc: Global, reader: &BinaryReader<'a
     Ok(ahead.current_position() - reader.current_position())
 }
 
-/// The block type that stands next, and stays there. The laws are `block_types` and
-/// `control_refusals`.
+/// Returns the block type at the reader's position, without consuming it. The laws are
+/// `block_types` and `control_refusals`.
 pub fn peek_block_type(reader: &BinaryReader<'_>) -> Result<BlockType>
     ensures reads { (ty : BlockType) (text more : List ℕ) → rest reader.now ≡ text ++ more → EncodesBlockType text ty
         → result ≡ Ok ty }
@@ -77,8 +78,8 @@ pub fn peek_block_type(reader: &BinaryReader<'_>) -> Result<BlockType>
     BlockType::read(&mut reader.clone())
 }
 
-/// The argument of a plain access of memory that stands next, and stays there. The law is
-/// `memory_arguments`.
+/// Returns the memory argument of a plain access at the reader's position, without consuming it.
+/// The law is `memory_arguments`.
 pub fn peek_memory_argument(reader: &BinaryReader<'_>, max_align: u8) -> Result<MemArg>
     ensures reads { (argument : MemArg) (text more : List ℕ) → rest reader.now ≡ text ++ more
         → EncodesMemArg reader.now.features MemArgKind.Plain max_align text argument → result ≡ Ok argument }
@@ -89,7 +90,8 @@ pub fn peek_memory_argument(reader: &BinaryReader<'_>, max_align: u8) -> Result<
     MemArg::read(&mut reader.clone(), max_align, MemArgKind::Plain)
 }
 
-/// The number of `f64.const` that stands next, and stays there. The law is `fixed_numbers`.
+/// Returns the constant of an `f64.const` at the reader's position, without consuming it. The law
+/// is `fixed_numbers`.
 pub fn peek_f64(reader: &BinaryReader<'_>) -> Result<Ieee64>
     ensures reads { (bits : Ieee64) (text more : List ℕ) → rest reader.now ≡ text ++ more → EncodesFixed w64 text bits
         → result ≡ Ok bits }

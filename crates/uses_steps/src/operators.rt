@@ -1,4 +1,4 @@
-//! Operators by themselves.
+//! Operators as values.
 ghost use Rattle.std.specs.Prelude.{◌≡◌, ◌++◌, List, ℕ};
 ghost use Rattle.wasm_operators.specs.below.bytes.features.WasmFeatures.{WasmFeatures};
 ghost use Rattle.wasm_operators.specs.instr.Encoding.{EncodesOperator, EncodesOpcode};
@@ -7,8 +7,8 @@ ghost use Rattle.wasm_operators.specs.instr.Kinds.{HoldsList};
 use std::alloc::Global;
 use wasm_operators::Operator;
 
-/// The prefix byte of an operator, if it has one, and its opcode or subopcode: with these each of its
-/// encodings begins.
+/// Returns the prefix byte of an operator, if it has one, and its opcode or subopcode. Each
+/// encoding of the operator starts with them.
 pub fn opcode(op: &Operator<'_>) -> (Option<u8>, u32)
     ensures { (features : WasmFeatures) (text : List ℕ) → EncodesOperator features op.now text
         → (head behind : List ℕ) × (text ≡ head ++ behind) × EncodesOpcode result.0 result.1 head }
@@ -17,7 +17,7 @@ pub fn opcode(op: &Operator<'_>) -> (Option<u8>, u32)
     (row.prefix, row.code)
 }
 
-/// A copy of an operator that holds no list: it takes no memory, and always succeeds.
+/// Returns a copy of an operator that owns no list. It does not allocate, and always succeeds.
 pub fn copy_without_list<'a>(alloc: Global, op: &Operator<'a>) -> Operator<'a>
     requires { ¬ HoldsList op.now }
     ensures { result ≡ op.now }

@@ -1,4 +1,4 @@
-//! Where operators and refusals stand in the bytes.
+//! The offsets of operators and errors in the bytes.
 ghost use Rattle.std.specs.Prelude.{◌≡◌, ◌+◌, ◌<◌, ◌≤◌, ℕ, List, length, Some, None, IfOk, IfSome, IfNone};
 ghost use Rattle.wasm_operators.specs.below.bytes.error.Error.{Error};
 ghost use Rattle.wasm_operators.specs.below.Source.{rest, offset_of};
@@ -15,11 +15,11 @@ use wasm_operators::{
     position_laws,
 };
 
-/// The bytes before the place where they are refused as an expression, with that refusal; all of them
-/// where they are one.
+/// Reads the bytes as an expression. Returns the bytes before the offset of the error, with the
+/// error; or all bytes, if they are an expression.
 ///
-/// That the offset of the refusal is one of the bytes, or just behind them, the laws
-/// `refusals_ahead` and `taken_within` say: so they can be cut there.
+/// By the laws `refusals_ahead` and `taken_within`, the error's offset is at most the length of the
+/// bytes, so that they can be cut there.
 pub fn bytes_before_refusal<'a>(
     alloc: Global,
     features: WasmFeatures,
@@ -40,10 +40,11 @@ pub fn bytes_before_refusal<'a>(
     }
 }
 
-/// How far ahead of the reader the next operator is refused; `None` where it is read.
+/// Returns the distance in bytes from the reader's position to the error of the next operator, or
+/// `None` if the operator is read.
 ///
-/// The law `within`, a call, says that the reader stands within its data, and `refusals_ahead` that
-/// the offset of the refusal lies in what is left, or just behind it.
+/// By the law `within`, a call, the reader's position is within its data. By `refusals_ahead`, the
+/// error's offset is at most the end of the data.
 pub fn refusal_distance(operators: &mut OperatorsReader<'_>) -> Option<u64>
     ensures ahead { IfSome result (λ distance. distance ≤ length (rest operators.new.reader)) }
     ensures refused { IfSome result (λ distance. (e : Error) × IsRefusal (Some e) operators.old operators.new
@@ -58,9 +59,10 @@ pub fn refusal_distance(operators: &mut OperatorsReader<'_>) -> Option<u64>
     Some(error.offset() - operators.original_position())
 }
 
-/// The offsets of the bytes of one operator of a list that was read up to the offset `end`.
+/// Returns the offsets of the bytes of one operator, in a list that was read up to the offset
+/// `end`.
 ///
-/// It ends where the next begins, and the last at `end`: the law `ranges`.
+/// An operator ends where the next one starts, and the last one at `end`: the law `ranges`.
 pub fn range_of(
     features: WasmFeatures,
     list: &[(Operator<'_>, u64)],
@@ -79,7 +81,7 @@ pub fn range_of(
     start..end
 }
 
-/// The next operator, with the offsets of its bytes.
+/// Reads the next operator, and returns it with the offsets of its bytes.
 pub fn read_ranged<'a>(operators: &mut OperatorsReader<'a>) -> Result<(Operator<'a>, Range<u64>)>
     ensures start { IfOk result (λ found. found.1.start ≡ offset_of operators.old.reader) }
     ensures end { IfOk result (λ found. EndsAt operators.old.reader.features (found.0, found.1.start) found.1.end) }

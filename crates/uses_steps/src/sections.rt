@@ -1,4 +1,4 @@
-//! Sections that are lists.
+//! Sections that contain a list.
 ghost use Rattle.std.specs.Prelude.{◌≡◌, ℕ, List, IfOk, IfErr};
 ghost use Rattle.wasm_operators.specs.below.Number.{EncodesUnsigned};
 ghost use Rattle.wasm_operators.specs.below.Sequence.{Then};
@@ -8,11 +8,11 @@ ghost use Rattle.wasm_operators.specs.imm.Lists.{EncodesMany};
 use std::alloc::Global;
 use wasm_operators::{BinaryReader, Error, Message, Result, SectionLimited, byte_laws};
 
-/// The indices of a section that is a list of them, as the function section is one of types. Where the
-/// bytes are one, only memory is refused.
+/// Reads the contents of a section that is a list of indices, such as the function section. If the
+/// bytes are such a list, only allocation can fail.
 ///
-/// `SectionLimited::new` reads how many they are, each step of its iterator one of them, and nothing
-/// is left behind the last. The law `unsigned_numbers` says that no other list stands there.
+/// `SectionLimited::new` reads the count, each step of its iterator one index, and no byte may
+/// follow the last. By the law `unsigned_numbers`, the bytes encode no other list.
 pub fn read_indices(alloc: Global, reader: BinaryReader<'_>) -> Result<Vec<u32>>
     ensures found { IfOk result (λ indices. Then (EncodesUnsigned 32) (EncodesMany (EncodesUnsigned 32)) (rest reader.entry) indices.items) }
     ensures only { (indices : List ℕ) → Then (EncodesUnsigned 32) (EncodesMany (EncodesUnsigned 32)) (rest reader.entry) indices

@@ -1,4 +1,4 @@
-//! One operator after another.
+//! Operators that are read one after another.
 ghost use Rattle.std.specs.Prelude.{◌≡◌, ◌≢◌, ◌↔◌, ◌<◌, ◌⊎◌, ℕ, List, [], ◌∷◌, ◌++◌, length, Ok, Option, IsTrue, IfOk, IfErr, IfSome, IfNone};
 ghost use Rattle.wasm_operators.specs.below.bytes.error.Error.{Error};
 ghost use Rattle.wasm_operators.specs.below.Source.{rest, BeginsWith};
@@ -23,29 +23,29 @@ use wasm_operators::{
     operator_laws, reading_laws, run_laws,
 };
 
-/// Why an operator that stands there is not read.
+/// The reason why the next operator is not read.
 #[derive(Clone, Copy, Debug, PartialEq, Eq)]
 pub enum Complaint {
-    /// It belongs to the legacy exceptions, which are off.
+    /// The operator needs the feature of legacy exceptions, which is disabled.
     Feature,
-    /// It has to stand in another frame.
+    /// The innermost frame does not allow the operator.
     Frame,
-    /// Anything else.
+    /// Any other reason.
     Other,
 }
 
-/// Reads the next operator, and answers its refusal alone, if it is refused.
+/// Reads the next operator, and returns only the error, if there is one.
 pub fn next_refusal(operators: &mut OperatorsReader<'_>) -> Option<Error>
     ensures { IsRefusal result operators.old operators.new }
 {
     operators.read().err()
 }
 
-/// Why the next operator is not read, where it is not; `None` where it is, where no frame is open
-/// and where memory was refused.
+/// Returns why reading the next operator fails. Returns `None` if it succeeds, if no frame is open,
+/// or if allocation fails.
 ///
-/// The laws `features_required` and `wrong_frames` say which operators get these refusals. That the
-/// one of which a caller knows is the one that was answered, `operator_refusals` says.
+/// The laws `features_required` and `wrong_frames` say which operators fail in these ways. By
+/// `operator_refusals`, an error that a caller can predict is the error that is returned.
 pub fn why_refused(operators: &mut OperatorsReader<'_>) -> Option<Complaint>
     ensures why { IfSome result (λ why. IsComplaint operators.old why) }
     ensures feature { (g : Guard) → BeginsGuarded g operators.old.reader → LacksFeature operators.old.reader.features g
@@ -71,10 +71,10 @@ pub fn why_refused(operators: &mut OperatorsReader<'_>) -> Option<Complaint>
     }
 }
 
-/// The refusal of the next operator, asked for twice: where it was not for memory, the operator is
-/// not read afterwards, and a second refusal is the first.
+/// Reads the next operator twice if the first read fails, and returns both errors. Unless
+/// allocation failed, the second error equals the first.
 ///
-/// The law `not_taken` says that the call which can't happen does not, and `refused_again` the rest.
+/// By the law `not_taken`, the second call cannot succeed; `refused_again` says the rest.
 pub fn asked_twice(operators: &mut OperatorsReader<'_>) -> Option<(Error, Error)>
     ensures again { IfSome result (λ both. both.1.message ≢ Message.OutOfMemory
         → (both.0.message ≡ both.1.message) × (both.0.offset ≡ both.1.offset)) }
@@ -95,8 +95,8 @@ pub fn asked_twice(operators: &mut OperatorsReader<'_>) -> Option<(Error, Error)
     }
 }
 
-/// The next operator of two readers that stand alike, as a reader and its clone do: the same one, and
-/// they stand alike behind it.
+/// Reads the next operator from two readers in the same state, such as a reader and its clone. Both
+/// return the same operator, and are in the same state after it.
 ///
 /// The law `same_answer` says so.
 pub fn read_in_step<'a>(
@@ -118,11 +118,11 @@ pub fn read_in_step<'a>(
     }
 }
 
-/// The first operator of an expression, where there is room for the frame that it may open: so memory
-/// is refused only to an operator that may own a list. Where it is refused otherwise, nothing stands
-/// there that the frame of an expression allows.
+/// Reads the first operator of an expression, with capacity for the frame that it may open. So
+/// allocation can fail only for an operator that may own a list. On any other error, no operator
+/// that an expression may begin with is encoded there.
 ///
-/// The law `memory_asked` says where memory may be refused.
+/// The law `memory_asked` says when allocation may fail.
 pub fn first_operator<'a>(
     alloc: Global,
     reader: BinaryReader<'a>,
@@ -140,9 +140,9 @@ pub fn first_operator<'a>(
     OperatorsReader::new_with_allocs(alloc, reader, allocs).read()
 }
 
-/// How many bytes the next operator has.
+/// Reads the next operator, and returns its length in bytes.
 ///
-/// The law `operators` says that it is the only one which a prefix of the bytes encodes.
+/// By the law `operators`, it is the only operator that a prefix of the bytes encodes.
 pub fn operator_size(operators: &mut OperatorsReader<'_>) -> Result<usize>
     ensures { (op : Operator) (text more : List ℕ) → rest operators.old.reader ≡ text ++ more
         → EncodesOperator operators.old.reader.features op text → IfOk result (λ size. size ≡ length text) }
@@ -153,7 +153,7 @@ pub fn operator_size(operators: &mut OperatorsReader<'_>) -> Result<usize>
     Ok(operators.get_binary_reader().current_position() - before.current_position())
 }
 
-/// Whether all of an expression was read.
+/// Returns whether the whole expression was read.
 pub fn is_whole(operators: &OperatorsReader<'_>) -> bool
     ensures { IsTrue result ↔ ((operators.now.frames ≡ []) × (rest operators.now.reader ≡ [])) }
 {
@@ -163,13 +163,13 @@ pub fn is_whole(operators: &OperatorsReader<'_>) -> bool
     }
 }
 
-/// The first operator of an expression, and then the others. Where the bytes encode an expression,
-/// only memory is refused.
+/// Reads the first operator of an expression, and then the others. If the bytes encode an
+/// expression, only allocation can fail.
 ///
-/// The law `one_operator` says that the first stands before the reader then, so that what `read_all`
-/// promises is of the expression that begins with it; and `single_reads` that the operator and what
-/// `read_all` took are one list, which has what `read_to_the_end` says. That an expression begins with
-/// an operator which its frame allows, `rules_accept_walks` says.
+/// By the law `one_operator`, the first operator is then read before the others. So the contract of
+/// `read_all` is about the expression that it begins. By `single_reads`, the operator and what
+/// `read_all` read are one list, to which `read_to_the_end` applies. By `rules_accept_walks`, an
+/// expression begins with an operator that its frame allows.
 pub fn first_and_rest<'a>(
     alloc: Global,
     features: WasmFeatures,

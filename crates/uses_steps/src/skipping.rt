@@ -1,4 +1,4 @@
-//! Going past operators.
+//! Skipping operators.
 ghost use Rattle.std.specs.Prelude.{◌≡◌, ◌-◌, ◌<◌, length, IfOk, IfErr};
 ghost use Rattle.wasm_operators.specs.opcodes.Allowed.{EncodesAllowed};
 ghost use Rattle.wasm_operators.specs.opcodes.OperatorFaults.{OperatorFault};
@@ -9,11 +9,11 @@ ghost use Rattle.wasm_operators.specs.Reading.{GrowsLittle, TakesOperators, Stop
 
 use wasm_operators::{OperatorsReader, Result, run_laws};
 
-/// Goes past this many operators, or up to a refusal, which is that of what stands there. Few frames
-/// are opened, and their memory grows little.
+/// Skips `count` operators. Fails with the error of the first operator that cannot be read. Bounds
+/// the number of open frames and the growth of their memory.
 ///
-/// The law `single_reads` says that reads one after another take a list, `one_depth` bounds the
-/// frames behind one read, and `memory_adds_up` adds what is said of memory.
+/// By the law `single_reads`, reads one after another are of a list; `one_depth` bounds the frames
+/// after one read, and `memory_adds_up` adds up the memory.
 pub fn skip_operators(operators: &mut OperatorsReader<'_>, count: u32) -> Result<()>
     ensures skipped { IfOk result (λ done. (placed : Placed) × (length placed ≡ count)
         × TakesOperators operators.old operators.new placed) }

@@ -10,7 +10,7 @@ use wasm_operators::{
     visit_owned_simd,
 };
 
-/// How many operators were visited.
+/// The number of operators that were visited.
 #[derive(Debug, Drop)]
 pub struct Tally {
     pub operators: u64,
@@ -19,7 +19,7 @@ pub struct Tally {
 impl Visitor for Tally {
     type Output = ();
 
-    // A visit counts one more.
+    // A visit adds one.
     ghost visits = { λ before op answer after. CountsOne before.operators after.operators };
 
     fn visit_any(&mut self, _op: Operator<'static>) {
@@ -37,7 +37,7 @@ impl<'a> VisitOperator<'a> for Tally {
 
 impl VisitSimdOperator for Tally {}
 
-/// Single operators are visited as inside a block.
+/// Single operators are visited as if inside a block.
 impl FrameStack for Tally {
     ghost use Rattle.std.specs.Prelude.{Some};
     ghost use Rattle.wasm_operators.specs.grammar.declared.frame_kind.FrameKind.TheVariants.{Block};
@@ -49,7 +49,7 @@ impl FrameStack for Tally {
     }
 }
 
-/// Counts the operator that stands next, a vector operator too.
+/// Counts the operator at the reader's position, which may be a SIMD operator.
 pub fn tally_next(alloc: Global, reader: &mut BinaryReader<'_>, tally: &mut Tally) -> Result<()>
     ensures taken { IfOk result (λ _. TakesOne reader.old reader.new) }
     ensures counted { IfOk result (λ _. CountsOne tally.old.operators tally.new.operators) }
@@ -57,7 +57,7 @@ pub fn tally_next(alloc: Global, reader: &mut BinaryReader<'_>, tally: &mut Tall
     reader.visit_operator_simd(alloc, tally)
 }
 
-/// Counts the operator that stands next, which is no vector operator.
+/// Counts the operator at the reader's position. Fails if it is a SIMD operator.
 pub fn tally_next_scalar(
     alloc: Global,
     reader: &mut BinaryReader<'_>,
@@ -76,7 +76,7 @@ pub fn tally_owned(tally: &mut Tally, op: Operator<'_>)
     visit_owned_simd(tally, op)
 }
 
-/// Counts an operator that is no vector operator.
+/// Counts an operator, unless it is a SIMD operator.
 pub fn tally_scalar(tally: &mut Tally, op: Operator<'_>)
     ensures vector { IsVector op.entry → tally.new ≡ tally.old }
     ensures scalar { ¬ IsVector op.entry → CountsOne tally.old.operators tally.new.operators }
@@ -87,7 +87,7 @@ pub fn tally_scalar(tally: &mut Tally, op: Operator<'_>)
     visit_owned(tally, op)
 }
 
-/// Counts the operators of a list, which stay there.
+/// Counts the operators of a borrowed list.
 pub fn tally_list(alloc: Global, tally: &mut Tally, list: &[(Operator<'_>, u64)]) -> Result<()>
     ensures { IfOk result (λ _. tally.old.operators + length list.now < 2 ^ 64
         → tally.new.operators ≡ tally.old.operators + length list.now) }

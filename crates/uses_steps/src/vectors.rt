@@ -1,4 +1,4 @@
-//! Vector operators of an expression.
+//! SIMD operators of an expression.
 ghost use Rattle.std.specs.Prelude.{◌≡◌, true, false, [], ◌++◌, ◌∷◌, ℕ, length, IfOk};
 ghost use Rattle.wasm_operators.specs.instr.declared.operator.Operator.{Operator};
 ghost use Rattle.wasm_operators.specs.instr.Kinds.{IsVector};
@@ -12,11 +12,11 @@ use wasm_operators::{
     BinaryReader, Message, OperatorsReader, Result, WasmFeatures, expression_laws,
 };
 
-/// Whether an expression has vector operators, up to where it is refused.
+/// Returns whether an expression, up to its first error, has SIMD operators.
 ///
-/// The clause `vector` of `visit_all` says that the first vector operator of the longest beginning is
-/// refused as such. Where none is, no beginning has one: a longest beginning exists (the law
-/// `longest_exists`), it has no vector operator, and others are beginnings of it (`one_layout`).
+/// By the clause `vector` of `visit_all`, the first SIMD operator of the longest prefix gets the
+/// error for SIMD operators. Without that error no prefix has one. A longest prefix exists (the law
+/// `longest_exists`), and it has no SIMD operator; the others are prefixes of it (`one_layout`).
 pub fn has_vectors(alloc: Global, features: WasmFeatures, bytes: &[u8]) -> Result<bool>
     ensures found { (longest : Placed) → IsLongestBeginning (input features bytes.now) longest → ¬ IsScalar longest
         → IfOk result (λ has. has ≡ true) }
@@ -41,11 +41,11 @@ pub fn has_vectors(alloc: Global, features: WasmFeatures, bytes: &[u8]) -> Resul
     }
 }
 
-/// How many operators stand before the first vector operator of an expression, up to where it is
-/// refused.
+/// Returns how many operators precede the first SIMD operator of an expression, up to its first
+/// error.
 ///
-/// The clause `beginning` of `visit_all` says which list was visited, and the law `scalar_longest` how
-/// it stands to the longest beginning.
+/// The clause `beginning` of `visit_all` says which list was visited. The law `scalar_longest`
+/// relates that list to the longest prefix.
 pub fn count_before_vectors(alloc: Global, features: WasmFeatures, bytes: &[u8]) -> Result<u64>
     ensures { (longest : Placed) → IsLongestBeginning (input features bytes.now) longest
         → IfOk result (λ count. count ≡ length (scalar_beginning longest)) }

@@ -1,4 +1,4 @@
--- The first byte of a type, and the refusals of its parts.
+-- The first byte of a type, and the errors of its parts.
 use Rattle.std.proofs.Common.{◌≡◌, ◌≢◌, ℕ, ◌<◌, ◌≤◌, inl, inr, Bool, true, false, List, [], ◌∷◌, ◌++◌, Result, Ok, Err, IfErr, refl, sym, subst, ap, ◌∙◌, append_assoc, arith, lit≤, ℤ, pos}
 use Rattle.std.proofs.lemmas.Bool.{le-ltb}
 use Rattle.std.proofs.lemmas.Int.{ints}
@@ -31,7 +31,7 @@ heap_byte_within ty.Array = (lit≤ tt, lit≤ tt)
 heap_byte_within ty.Exn = (lit≤ tt, lit≤ tt)
 heap_byte_within ty.Cont = (lit≤ tt, lit≤ tt)
 
--- a short form begins so
+-- the first byte of a short form
 pub short_leads : (b : ℕ) (tail : List ℕ) (h : HeapType) → EncodesShort (b ∷ tail) h → LeadsShort b
 short_leads b tail (heap.Abstract false t) e =
     let w = heap_byte_within t in
@@ -43,7 +43,7 @@ short_leads b tail (heap.Abstract true t) e =
 short_leads b tail (heap.Concrete _) e = absurd e
 short_leads b tail (heap.Exact _) e = absurd e
 
--- a number that is not negative begins with a byte below 64 or from 128 on
+-- a number that is not negative starts with a byte below 64 or above 127
 pub index_leads : (width b : ℕ) (tail : List ℕ) (i : ℕ) → EncodesSigned width (b ∷ tail) (pos i) → 64 ≤ b → b < 128 → ⊥
 index_leads width b [] i (lt, same, fits) ge lt2 = negative b i ge lt2 same
   where
@@ -88,7 +88,7 @@ concrete_heap text (heap.Abstract shared t) p = absurd p
 concrete_heap text (heap.Concrete i) p = p
 concrete_heap text (heap.Exact i) p = absurd p
 
--- a number that is no index
+-- a number that is not a type index
 pub no_concrete : (text after more : List ℕ) (n : ℤ) → EncodesSigned 33 text n → ((i : ℕ) → n ≡ pos i → i ≤ max_type_index → ⊥) →
     NoPrefix EncodesConcrete ((text ++ after) ++ more)
 no_concrete text after more n p over t2 more2 (heap.Abstract shared t) q e = q
@@ -104,7 +104,7 @@ no_exact text after more n p over t2 more2 (heap.Exact i) (behind, prefix, q, wi
     cc (e, ap (λ z. z ++ more2) prefix))).1 in
     omega (arith, within)
 
--- behind the byte 0x62
+-- after the byte 0x62
 pub exact_behind : (tail : List ℕ) (h : HeapType) → EncodesExact (98 ∷ tail) h → (n : ℕ) × EncodesUnsigned 32 tail n
 exact_behind tail (heap.Abstract shared t) p = absurd p
 exact_behind tail (heap.Concrete i) p = absurd p
@@ -197,7 +197,7 @@ value_is_ref b l tail (value.Ref r) p = (r, refl, p)
 pub value_ref : (b : ℕ) → LeadsRefType b → (tail : List ℕ) (v : ValType) → EncodesValType (b ∷ tail) v → (r : Reference) × EncodesRefType (b ∷ tail) r
 value_ref b l tail v p = (let s = value_is_ref b l tail v p in (s.0, s.2))
 
--- what is wrong behind the byte 0x63 or 0x64 is wrong with the reference type
+-- an error after the byte 0x63 or 0x64 is an error of the reference type
 pub long_fault : (result : Result Reference Error) (n : Bool) (r : Reader) → BeginsWith (ref_byte n) (rest r) →
     IfErr result (λ e. HeapTypeFault e.message (behind_byte r) e.offset) → IfErr result (λ e. RefTypeFault e.message r e.offset)
 long_fault (Ok x) n r prefix h = tt

@@ -1,18 +1,18 @@
--- What a reference type refers to.
+-- Reference types.
 use Rattle.std.specs.Prelude.{ℕ, ◌≤◌, Bool}
 use Rattle.wasm_below.specs.declared.types.HeapType.{HeapType}
 use Rattle.wasm_below.specs.declared.types.HeapType.TheVariants as heap
 
--- A reference type: whether it has the null reference, and the type of what it refers to.
+-- A reference type: whether it includes the null reference, and the type of what it refers to.
 pub record Reference : Type 0 where
   pub nullable : Bool
   pub heap_type : HeapType
 
--- An index of a type is at most this. A limit of this layer, and none of the specification.
+-- The greatest type index. It is a limit of this project, not of the specification.
 abbrev pub max_type_index : ℕ
 max_type_index = 1048575
 
--- An index in this heap type keeps to the limit.
+-- A type index in this heap type is within the limit.
 abbrev pub IsIndexed : HeapType → Type 0
 IsIndexed (heap.Abstract shared ty) = Unit {0}
 IsIndexed (heap.Concrete index) = index ≤ max_type_index

@@ -1,4 +1,4 @@
--- Heap types as reference types hold them.
+-- Heap types as reference types store them.
 use Rattle.std.specs.Prelude.{◌≡◌}
 use Rattle.std.proofs.Common.{refl}
 use Rattle.wasm_below.specs.declared.types.HeapType.{HeapType}
@@ -12,13 +12,13 @@ heap_type_of (short.Abstract shared ty) = heap.Abstract shared ty
 heap_type_of (short.Concrete index) = heap.Concrete index
 heap_type_of (short.Exact index) = heap.Exact index
 
--- What is held of a heap type.
+-- The stored form of a heap type.
 abbrev pub short_of : HeapType → ShortHeapType
 short_of (heap.Abstract shared ty) = short.Abstract shared ty
 short_of (heap.Concrete index) = short.Concrete index
 short_of (heap.Exact index) = short.Exact index
 
--- What is held comes back.
+-- Converting a stored form to a heap type and back gives the same stored form.
 pub held_again : (t : ShortHeapType) → short_of (heap_type_of t) ≡ t
 held_again (short.Abstract shared ty) = refl
 held_again (short.Concrete index) = refl

@@ -1,5 +1,7 @@
 -- Types as bytes.
--- WebAssembly Core Specification 3.0, Binary Format, Types: Heap Types, Reference Types, Value Types. Of proposals beyond it are the bytes 0x62 (exact), 0x65 (shared), 0x68 (cont) and 0x75 (nocont).
+-- WebAssembly Core Specification 3.0, Binary Format, Types: Heap Types, Reference Types, Value
+-- Types. The bytes 0x62 (exact), 0x65 (shared), 0x68 (cont) and 0x75 (nocont) belong to proposals
+-- beyond it.
 use Rattle.std.specs.Prelude.{◌≡◌, ◌≢◌, ℕ, ◌+◌, ◌≤◌, ◌⊎◌, Bool, true, false, List, [], ◌∷◌, pos}
 use Rattle.wasm_below_bytes.specs.declared.message.Message.{Message}
 use Rattle.wasm_below_bytes.specs.declared.message.Message.TheVariants as message
@@ -33,7 +35,7 @@ heap_type_byte ty.Array = 0x6a
 heap_type_byte ty.Exn = 0x69
 heap_type_byte ty.Cont = 0x68
 
--- A short form: the byte of an abstract heap type; where it is shared, behind the byte 0x65.
+-- A short form: the byte of an abstract heap type, after the byte 0x65 if the type is shared.
 --   absheaptype ::= 0x69 ⇒ exn | 0x6A ⇒ array | 0x6B ⇒ struct | 0x6C ⇒ i31 | 0x6D ⇒ eq | 0x6E ⇒ any | 0x6F ⇒ extern
 --                 | 0x70 ⇒ func | 0x71 ⇒ none | 0x72 ⇒ noextern | 0x73 ⇒ nofunc | 0x74 ⇒ noexn
 abbrev pub EncodesShort : List ℕ → HeapType → Type 0
@@ -41,42 +43,43 @@ EncodesShort text (heap.Abstract false ty) = text ≡ heap_type_byte ty ∷ []
 EncodesShort text (heap.Abstract true ty) = text ≡ 0x65 ∷ heap_type_byte ty ∷ []
 EncodesShort text _ = ⊥
 
--- An index of a type, as a signed number that is not negative.
+-- A type index within the limit, as a signed number that is not negative.
 abbrev pub EncodesConcrete : List ℕ → HeapType → Type 0
 EncodesConcrete text (heap.Concrete index) = EncodesSigned 33 text (pos index) × (index ≤ max_type_index)
 EncodesConcrete text _ = ⊥
 
--- The byte 0x62 and an index of a type.
+-- The byte 0x62 and a type index within the limit.
 abbrev pub EncodesExact : List ℕ → HeapType → Type 0
 EncodesExact text (heap.Exact index) = (behind : List ℕ) × (text ≡ 0x62 ∷ behind) × EncodesUnsigned 32 behind index × (index ≤ max_type_index)
 EncodesExact text _ = ⊥
 
--- Heap Types.
+-- A heap type: a short form, a type index, or the byte 0x62 and a type index. Heap Types.
 --   heaptype ::= absheaptype | x33:s33 ⇒ x33, if x33 ≥ 0
 abbrev pub EncodesHeapType : List ℕ → HeapType → Type 0
 EncodesHeapType text (heap.Abstract shared ty) = EncodesShort text (heap.Abstract shared ty)
 EncodesHeapType text (heap.Concrete index) = EncodesConcrete text (heap.Concrete index)
 EncodesHeapType text (heap.Exact index) = EncodesExact text (heap.Exact index)
 
--- The byte before a heap type: 0x63 where null is in the type, else 0x64.
+-- The prefix byte of a heap type in a reference type: 0x63 if the reference type includes null,
+-- otherwise 0x64.
 abbrev pub ref_byte : Bool → ℕ
 ref_byte true = 0x63
 ref_byte false = 0x64
 
--- A short form, in which null is in the type.
+-- A reference type in the short form, which includes null.
 abbrev pub EncodesShortRef : List ℕ → Reference → Type 0
 EncodesShortRef text r = (r.nullable ≡ true) × EncodesShort text r.heap_type
 
--- A heap type behind the byte that says whether null is in the type.
+-- A heap type after the byte that says whether the reference type includes null.
 abbrev pub EncodesLongRef : List ℕ → Reference → Type 0
 EncodesLongRef text r = (behind : List ℕ) × (text ≡ ref_byte r.nullable ∷ behind) × EncodesHeapType behind r.heap_type
 
--- Reference Types.
+-- A reference type: a short form, or a heap type after the byte 0x63 or 0x64. Reference Types.
 --   reftype ::= 0x63 ht:heaptype ⇒ ref null ht | 0x64 ht:heaptype ⇒ ref ht | ht:absheaptype ⇒ ref null ht
 abbrev pub EncodesRefType : List ℕ → Reference → Type 0
 EncodesRefType text r = EncodesShortRef text r ⊎ EncodesLongRef text r
 
--- Number Types and Vector Types.
+-- A number type or a vector type. Number Types and Vector Types.
 --   numtype ::= 0x7C ⇒ f64 | 0x7D ⇒ f32 | 0x7E ⇒ i64 | 0x7F ⇒ i32      vectype ::= 0x7B ⇒ v128
 abbrev pub EncodesNumberType : List ℕ → ValType → Type 0
 EncodesNumberType text value.I32 = text ≡ 0x7f ∷ []
@@ -86,63 +89,70 @@ EncodesNumberType text value.F64 = text ≡ 0x7c ∷ []
 EncodesNumberType text value.V128 = text ≡ 0x7b ∷ []
 EncodesNumberType text (value.Ref r) = ⊥
 
--- Value Types.
+-- A value type: a number type, a vector type or a reference type. Value Types.
 --   valtype ::= numtype | vectype | reftype
 abbrev pub EncodesValType : List ℕ → ValType → Type 0
 EncodesValType text (value.Ref r) = EncodesRefType text r
 EncodesValType text ty = EncodesNumberType text ty
 
--- The reader behind its next byte.
+-- The reader after its next byte.
 abbrev pub behind_byte : Reader → Reader
 behind_byte r = at_position r (r.position + 1)
 
--- Bytes with which a short form begins.
+-- The bytes that a short form can start with.
 abbrev pub LeadsShort : ℕ → Type 0
 LeadsShort byte = (0x65 ≤ byte) × (byte ≤ 0x75) × (byte ≢ 0x66) × (byte ≢ 0x67)
 
--- Bytes with which a reference type begins.
+-- The bytes that a reference type can start with.
 abbrev pub LeadsRefType : ℕ → Type 0
 LeadsRefType byte = (0x63 ≤ byte) × (byte ≤ 0x75) × (byte ≢ 0x66) × (byte ≢ 0x67)
 
--- Short forms whose bytes are missing: nothing, and the byte 0x65 alone.
+-- A short form is incomplete: the bytes are empty, or only the byte 0x65 is left.
 abbrev pub IsCutShort : List ℕ → Type 0
 IsCutShort bytes = (bytes ≡ []) ⊎ (bytes ≡ 0x65 ∷ [])
 
--- Which refusal a short form has: the data ends where it begins or behind the byte 0x65, or no type of this name stands there.
+-- The error of a short form. The data ends at its start or after the byte 0x65, or the bytes are
+-- not a type of this name.
 abbrev pub ShortFault : TypeName → Message → Reader → ℕ → Type 0
 ShortFault name message.EndOfData r offset = (offset ≡ end_of r) × IsCutShort (rest r)
 ShortFault name (message.InvalidType what) r offset = (what ≡ name) × (offset ≡ offset_of r) × (¬ IsCutShort (rest r))
 ShortFault name _ r offset = ⊥
 
--- Which refusal a type of one byte has: the data ends, or the byte is none of this name.
+-- The error of a type of one byte: the data ends, or the byte is not a type of this name.
 abbrev pub ByteFault : TypeName → Message → Reader → ℕ → Type 0
 ByteFault name message.EndOfData r offset = (offset ≡ end_of r) × (rest r ≡ [])
 ByteFault name (message.InvalidType what) r offset = (what ≡ name) × (offset ≡ offset_of r) × (rest r ≢ [])
 ByteFault name _ r offset = ⊥
 
--- A number stands there that is no index of a heap type, which begins at this reader.
+-- The error of a number that is not an index of a heap type: `InvalidType` at the start of the heap
+-- type, which is at the reader `begin`.
 abbrev pub NoIndex : Reader → Message → Reader → ℕ → Type 0
 NoIndex begin m r offset = (m ≡ message.InvalidType type_name.HeapType) × (offset ≡ offset_of begin)
 
--- Which refusal an index behind the byte 0x62 has, and one by itself: that of its number, or the number is no index.
+-- The error of a type index after the byte 0x62 (`ExactFault`), and of one alone (`ConcreteFault`).
+-- Either reading the number fails, or the number is not a type index.
 abbrev pub ExactFault : Message → Reader → ℕ → Type 0
 ExactFault m r offset = ThenFault (EncodesUnsigned 32) U32Fault (λ n. NoIndex r) m (behind_byte r) offset
 
 abbrev pub ConcreteFault : Message → Reader → ℕ → Type 0
 ConcreteFault m r offset = ThenFault (EncodesSigned 33) S33Fault (λ n. NoIndex r) m r offset
 
--- A byte of this kind stands first.
+-- The first byte is of this kind.
 abbrev pub LedBy : (ℕ → Type 0) → List ℕ → Type 0
 LedBy Leads bytes = (byte : ℕ) × Leads byte × BeginsWith byte bytes
 
--- Which refusal a heap type has: behind the byte 0x62 that of an index, where a short form begins that of one, else that of an index by itself.
+-- The error of a heap type. After the byte 0x62 it is the error of an index. If the first byte
+-- starts a short form, it is the error of the short form. Otherwise it is the error of an index
+-- alone.
 abbrev pub HeapTypeFault : Message → Reader → ℕ → Type 0
 HeapTypeFault m r offset = (BeginsWith 0x62 (rest r) × ExactFault m r offset) ⊎ ((LedBy LeadsShort (rest r) × ShortFault type_name.HeapType m r offset) ⊎ ((¬ BeginsWith 0x62 (rest r)) × (¬ LedBy LeadsShort (rest r)) × ConcreteFault m r offset))
 
--- Which refusal a reference type has: behind the byte 0x63 or 0x64 that of a heap type, else one of its own.
+-- The error of a reference type. After the byte 0x63 or 0x64 it is the error of a heap type, and
+-- otherwise the error of a short form.
 abbrev pub RefTypeFault : Message → Reader → ℕ → Type 0
 RefTypeFault m r offset = ((nullable : Bool) × BeginsWith (ref_byte nullable) (rest r) × HeapTypeFault m (behind_byte r) offset) ⊎ (((nullable : Bool) → BeginsWith (ref_byte nullable) (rest r) → ⊥) × ShortFault type_name.ReferenceType m r offset)
 
--- Which refusal a value type has: that of a reference type where one begins, else one of its own.
+-- The error of a value type. If the first byte starts a reference type, it is the error of the
+-- reference type. Otherwise it is the error of a type of one byte.
 abbrev pub ValTypeFault : Message → Reader → ℕ → Type 0
 ValTypeFault m r offset = ((byte : ℕ) × LeadsRefType byte × BeginsWith byte (rest r) × RefTypeFault m r offset) ⊎ (((byte : ℕ) → LeadsRefType byte → BeginsWith byte (rest r) → ⊥) × ByteFault type_name.ValueType m r offset)

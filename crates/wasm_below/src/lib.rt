@@ -1,8 +1,8 @@
 //! Reading WebAssembly's binary format from the start of borrowed bytes: errors, features, a reader
 //! of bytes and numbers, and types.
 //!
-//! Bytes and numbers stand in `wasm_below_bytes`, whose names this crate has too; callers list this
-//! crate alone.
+//! Bytes and numbers are in `wasm_below_bytes`, whose names this crate re-exports. Callers list
+//! only this crate. Reading a type does not allocate.
 #![tactic(auto)]
 
 mod from_reader;

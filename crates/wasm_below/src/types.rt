@@ -10,7 +10,7 @@ mod short;
 
 use short::ShortHeapType;
 
-/// The greatest index of a type that is read.
+/// The greatest type index that is read.
 const MAX_TYPE_INDEX: u32 = 1048575;
 
 /// A value type. Types, Value Types.
@@ -24,7 +24,7 @@ pub enum ValType {
     Ref(RefType),
 }
 
-/// A heap type that stands for many. Types, Heap Types.
+/// A heap type that is not given by a type index. Types, Heap Types.
 #[derive(Clone, Copy, Debug, PartialEq, Eq)]
 pub enum AbstractHeapType {
     Func,
@@ -43,20 +43,20 @@ pub enum AbstractHeapType {
     NoCont,
 }
 
-/// What a reference refers to. Types, Heap Types.
+/// The type of what a reference refers to. Types, Heap Types.
 #[derive(Clone, Copy, Debug, PartialEq, Eq)]
 pub enum HeapType {
     /// An abstract heap type, shared between threads or not.
     Abstract { shared: bool, ty: AbstractHeapType },
-    /// The type of this index, or one below it.
+    /// The type with this index, or a subtype of it.
     Concrete(u32),
-    /// The type of this index alone.
+    /// The type with this index only.
     Exact(u32),
 }
 
-/// A reference type, whose index of a type is at most 1048575. Types, Reference Types.
+/// A reference type. A type index in it is at most 1048575. Types, Reference Types.
 ///
-/// It is held in five bytes.
+/// Its size is five bytes.
 #[derive(Clone, Copy, PartialEq, Eq)]
 pub struct RefType {
     nullable: bool,
@@ -88,8 +88,8 @@ impl Debug for RefType {
 }
 
 impl RefType {
-    /// The type of references to this, with the null reference or without. `None` where an index
-    /// is above 1048575.
+    /// Creates the type of references to `heap_type`, which includes the null reference if
+    /// `nullable` is set. Returns `None` if a type index is above 1048575.
     pub fn new(nullable: bool, heap_type: HeapType) -> Option<RefType>
         ensures some { IsSome result ↔ IsIndexed heap_type }
         ensures value { IfSome result (λ r. (r.nullable ≡ nullable) × (r.heap_type ≡ heap_type)) }
@@ -101,7 +101,7 @@ impl RefType {
         }
     }
 
-    /// The type of references to what has no index above the limit.
+    /// Creates a reference type from a heap type without an index above the limit.
     #[inline(always)]
     fn of(nullable: bool, heap_type: HeapType) -> RefType
         requires { IsIndexed heap_type }
@@ -114,14 +114,14 @@ impl RefType {
         }
     }
 
-    /// Whether the null reference is in the type.
+    /// Returns whether the type includes the null reference.
     pub fn is_nullable(&self) -> bool
         ensures { result ≡ self.now.nullable }
     {
         self.nullable
     }
 
-    /// The type of what is referred to.
+    /// Returns the type of what the reference refers to.
     pub fn heap_type(&self) -> HeapType
         ensures value { result ≡ self.now.heap_type }
         ensures indexed { IsIndexed result }
@@ -130,7 +130,7 @@ impl RefType {
     }
 }
 
-/// Whether an index keeps to the limit.
+/// Returns whether a type index, if there is one, is within the limit.
 fn is_indexed(heap_type: HeapType) -> bool
     ensures { IsTrue result ↔ IsIndexed heap_type }
 {

@@ -1,5 +1,4 @@
--- Which refusal a reading has.
--- Which part of a reading was refused.
+-- The error of a read: which part failed.
 use Rattle.std.proofs.Common.{◌≡◌, ℕ, ◌+◌, inl, List, [], Result, Ok, Err, IfErr, sym, ap, ◌∙◌, arith, ◌-◌, length, length-drop}
 use Rattle.std.proofs.lemmas.List.{drop_all}
 use Rattle.wasm_below_bytes.specs.declared.error.Error.{Error}
@@ -12,12 +11,12 @@ pub if_err : {X : Type 0} (P Q : Error → Type 0) (result : Result X Error) →
 if_err P Q (Ok x) f h = tt
 if_err P Q (Err e) f h = f e h
 
--- the first of two parts is refused
+-- reading the first of two parts fails
 pub first_fault : {X : Type 0} (First : List ℕ → X → Type 0) (FirstFault : Message → Reader → ℕ → Type 0) (Behind : X → Message → Reader → ℕ →
     Type 0) (e : Error) (r : Reader) → IsRefusal First e r → FirstFault e.message r e.offset → ThenFault First FirstFault Behind e.message r e.offset
 first_fault First FirstFault Behind e r h f = inl (refused_now First e r h, f)
 
--- at the end of the data nothing is left
+-- nothing is left at the end of the data
 pub none_here : (r : Reader) → offset_of r ≡ end_of r → rest r ≡ []
 none_here r e = drop_all r.position r.buffer (omega arith)
 

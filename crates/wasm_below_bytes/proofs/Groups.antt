@@ -1,4 +1,4 @@
--- LEB128 numbers of several bytes, without a sign and with one, by one statement.
+-- LEB128 numbers of several bytes: one statement for unsigned and signed numbers.
 use Rattle.std.proofs.Common.{◌≡◌, ℕ, ◌+◌, ◌-◌, ◌*◌, ◌/◌, ◌%◌, ◌<◌, ◌≤◌, ◌^◌, List, [], ◌∷◌, ◌++◌, length, drop, get_or, Bool, true, false, refl, sym, subst, ap, ◌∙◌, append_assoc, length-append, add-one, arith, ℤ, pos, ◌+ℤ◌, ◌*ℤ◌}
 use Rattle.std.specs.Prelude.{ltb}
 use Rattle.std.proofs.lemmas.Int.{ints}
@@ -10,7 +10,8 @@ use Rattle.wasm_below_bytes.specs.Source.{NoPrefix}
 use Rattle.wasm_below_bytes.proofs.Numbers.{unsigned_rest, unsigned_long}
 use Rattle.wasm_below_bytes.proofs.SignedNumbers.{signed_rest, signed_long}
 
--- Numbers by groups of seven bits, whatever they are: how one more low group is joined to the number behind it, and what is no number.
+-- An encoding of numbers by groups of seven bits. It says how a low group is joined to the number
+-- after it, and which bytes are not a number.
 pub record IsLeb128 {X : Type 0} (Encodes : ℕ → List ℕ → X → Type 0) (join : ℕ → X → X) : Type 0 where
   pub more : (width b : ℕ) (text : List ℕ) (high : X) → 7 < width → 128 ≤ b → b < 256 → Encodes (width - 7) text high →
       Encodes width (b ∷ text) (join (b - 128) high)
@@ -18,13 +19,13 @@ pub record IsLeb128 {X : Type 0} (Encodes : ℕ → List ℕ → X → Type 0) (
   pub behind : (bytes after : List ℕ) (b width : ℕ) → bytes ≡ b ∷ after → 128 ≤ b → NoPrefix (Encodes (width - 7)) after → NoPrefix (Encodes width) bytes
   pub long : (bytes after : List ℕ) (b width : ℕ) → bytes ≡ b ∷ after → 128 ≤ b → width ≤ 7 → NoPrefix (Encodes width) bytes
 
--- the number behind these groups, joined to them
+-- the number after these groups, joined to them
 abbrev pub joined : {X : Type 0} → (ℕ → X → X) → List ℕ → X → X
 joined join [] x = x
 joined join (c ∷ text) x = join (c - 128) (joined join text x)
 
 module _ {X : Type 0} (Encodes : ℕ → List ℕ → X → Type 0) (join : ℕ → X → X) (leb128 : IsLeb128 Encodes join) where
-  -- a last byte behind groups that go on continues what began
+  -- continuation bytes and a last byte are a number
   pub continued : (text : List ℕ) (width last : ℕ) (x : X) → AllGoOn text → 7 * length text < width → Encodes (width - 7 * length text) (last ∷ []) x →
       Encodes width (text ++ last ∷ []) (joined join text x)
   continued [] width last x go lt p = subst (λ w. Encodes w (last ∷ []) x) (omega arith) p
@@ -32,7 +33,7 @@ module _ {X : Type 0} (Encodes : ℕ → List ℕ → X → Type 0) (join : ℕ 
       leb128.more width c (text ++ last ∷ []) (joined join text x) (omega arith) ge small
       (continued text (width - 7) last x go (omega arith) (subst (λ w. Encodes w (last ∷ []) x) (omega arith) p))
 
-  -- what is no rest of a number is none behind groups that go on
+  -- if no prefix is the rest of a number, continuation bytes before it do not make it one
   pub none_behind : (text after : List ℕ) (width : ℕ) → AllGoOn text → NoPrefix (Encodes (width - 7 * length text)) after →
       NoPrefix (Encodes width) (text ++ after)
   none_behind [] after width go none = subst (λ w. NoPrefix (Encodes w) after) (omega arith) none
@@ -71,7 +72,7 @@ group_power n = let e : 7 * n + 7 ≡ 7 + 7 * n = omega arith in ap (λ k. 2 ^ k
 suc_power : (n k : ℕ) → k ≡ 7 * n + 7 → 2 ^ k ≡ 128 * 2 ^ (7 * n)
 suc_power n k e = ap (λ k. 2 ^ k) e ∙ group_power n
 
--- groups that go on have seven bits each
+-- continuation bytes have seven bits each
 pub low_below : (text : List ℕ) → AllGoOn text → low_bits text < 2 ^ (7 * length text)
 low_below [] go = omega arith
 low_below (c ∷ text) (ge, small, go) = omega (arith, low_below text go, suc_power (length text) (7 * length (c ∷ text)) (omega arith))
@@ -120,7 +121,7 @@ low_more (d ∷ text) c =
     let p = suc_power (length text) (7 * length (d ∷ text)) (omega arith) in
     omega (arith, low_more text c, ap (λ m. (c - 128) * m) p)
 
--- the byte at a position, behind a text that stands before it
+-- the byte at a position, after a text that ends there
 pub stands_more : (buffer text : List ℕ) (start position : ℕ) → position < length buffer → StandsAt buffer start position text →
     StandsAt buffer start (position + 1) (text ++ get_or buffer position 0 ∷ [])
 stands_more buffer text start position lt s =

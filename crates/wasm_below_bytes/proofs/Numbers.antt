@@ -18,13 +18,13 @@ unsigned_below (c ∷ d ∷ text) width n (wide, big, small, high, e, p) =
     let s = width_split width wide in
     omega (arith, s)
 
--- a byte that is not the last, where the width has no room for another
+-- a continuation byte, if the width allows no further byte
 pub unsigned_long : (bytes after : List ℕ) (b width : ℕ) → bytes ≡ b ∷ after → 128 ≤ b → width ≤ 7 → NoPrefix (EncodesUnsigned width) bytes
 unsigned_long bytes after b width eb ge narrow [] rest x p e = p
 unsigned_long bytes after b width eb ge narrow (c ∷ []) rest x p e = let h : c ≡ b = cc (eb, e) in omega (arith, p.0)
 unsigned_long bytes after b width eb ge narrow (c ∷ d ∷ text) rest x p e = omega (arith, p.0)
 
--- what follows is no number
+-- the bytes after it are not a number
 pub unsigned_rest : (bytes after : List ℕ) (b width : ℕ) → bytes ≡ b ∷ after → 128 ≤ b → NoPrefix (EncodesUnsigned (width - 7)) after →
     NoPrefix (EncodesUnsigned width) bytes
 unsigned_rest bytes after b width eb ge none [] rest x p e = p

@@ -1,4 +1,4 @@
--- Readers of a part.
+-- Readers over a part of the bytes.
 use Rattle.std.proofs.Common.{◌≡◌, ℕ, ◌++◌, List, Ok, refl, ap, ◌∙◌}
 use Rattle.std.specs.Borrow.{Bor}
 use Rattle.wasm_below_bytes.specs.declared.error.Error.{Error}
@@ -18,7 +18,7 @@ part_read old mid new n block offset (t1, p, k1) (t2, q, k2) = (
   takes_then old mid new t1 t2 k1 k2,
 )
 
--- a number was read and too few bytes stand behind it
+-- a number was read and fewer bytes follow it
 pub part_refused : (old mid new : Reader) (n position : ℕ) (e : Error) → Reads (EncodesUnsigned 32) (Ok n) old mid → position ≡ old.position →
     new ≡ at_position mid position → IsRefusal (IsReaderOf old.features n) e mid → (new ≡ old) × IsRefusal (EncodesReader old.features) e old
 part_refused old mid new n position e r same went h = (

@@ -1,4 +1,4 @@
--- No encoding of a number or a byte begins another, and an encoding is that of one value.
+-- No encoding of a number or a byte is a proper prefix of another, and each encoding has one value.
 use Rattle.std.proofs.Common.{◌≡◌, ℕ, ◌-◌, ◌<◌, List, [], ◌∷◌, ◌++◌, length, ℤ, pos, ◌*ℤ◌, ◌+ℤ◌, sym, ap, ◌∙◌, arith, refl}
 use Rattle.wasm_below_bytes.specs.Number.{EncodesUnsigned, EncodesSigned, EncodesFixed, EncodesSize}
 use Rattle.std.specs.Int.{w32, w64, from_le_bytes}
@@ -36,7 +36,7 @@ pub signed_some : (text : List ℕ) (width : ℕ) (n : ℤ) → EncodesSigned wi
 signed_some [] width n p = absurd p
 signed_some (c ∷ text) width n p = omega arith
 
--- behind as many bytes equal lists have equal prefixes
+-- prefixes of equal length of equal lists are equal
 prefixes : {A : Type 0} (a b x y : List A) → length a ≡ length b → a ++ x ≡ b ++ y → a ≡ b
 prefixes [] [] x y n e = refl
 prefixes [] (d ∷ b) x y n e = absurd (omega (arith, n))

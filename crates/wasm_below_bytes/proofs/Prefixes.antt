@@ -1,4 +1,4 @@
--- What the first byte of what is left says of it.
+-- What the first byte of the rest implies.
 use Rattle.std.proofs.Common.{◌≡◌, ℕ, ◌+◌, ◌-◌, ◌<◌, List, [], ◌∷◌, ◌++◌, length, drop, Result, Ok, Err, refl, sym, subst, ap, ◌∙◌, length-append, length-drop, arith}
 use Rattle.std.proofs.lemmas.List.{drop-drop}
 use Rattle.wasm_below_bytes.specs.declared.error.Error.{Error}
@@ -14,14 +14,14 @@ advanced old new b (more, prefix) moved =
       parts = prefix ∙ ap (λ z. b ∷ z) (sym (ap rest moved ∙ sym (drop-drop 1 old.position old.buffer) ∙ ap (drop 1) prefix));
     }
 
--- where a text was taken, what is left begins within the data
+-- if a text was taken, the reader was within the data before
 pub ahead_here : (old mid : Reader) (text : List ℕ) (offset : ℕ) → Takes old mid text → 0 < length text → offset ≡ offset_of old → IsAhead old offset
 ahead_here old mid text offset t some at =
     let left : length old.buffer - old.position ≡ length text + length (rest mid) = sym (length-drop old.position old.buffer) ∙ ap length t.parts ∙
     length-append text (rest mid) in
     (omega arith, omega arith)
 
--- back where a text was read, a refusal of what stands there
+-- back at the start of a text that was read, with an error there
 pub refused_at : {X : Type 0} (Encodes : List ℕ → X → Type 0) (e : Error) (old mid new : Reader) (text : List ℕ) (position : ℕ) → Takes old mid text →
     0 < length text → position ≡ old.position → new ≡ at_position mid position → e.offset ≡ mid.start + position → IsReadFault e.message →
     ((more : List ℕ) → NoPrefix Encodes ((text ++ rest mid) ++ more)) → (new ≡ old) × IsRefusal Encodes e old
@@ -37,7 +37,7 @@ refused_at Encodes e old mid new text position t some same went offset fault non
       },
     )
 
--- no text at the end of the data
+-- no encoding at the end of the data
 pub end_refused : {X : Type 0} (Encodes : List ℕ → X → Type 0) (e : Error) (r : Reader) → ((x : X) → Encodes [] x → ⊥) → IsEndHere e r → IsRefusal Encodes e r
 end_refused Encodes e r empty h =
     record {
@@ -58,7 +58,8 @@ end_refused Encodes e r empty h =
     no_elements [] e = refl
     no_elements (c ∷ text) e = absurd (omega arith)
 
--- where each text that begins with this byte is a text of another kind, what refuses that kind refuses this one
+-- if each encoding of kind Q that starts with this byte is of kind P, an error of P is an error of
+-- Q
 pub led_refused : {X Y : Type 0} (P : List ℕ → X → Type 0) (Q : List ℕ → Y → Type 0) (e : Error) (r : Reader) (b : ℕ) → BeginsWith b (rest r) →
     ((y : Y) → Q [] y → ⊥) → ((tail : List ℕ) (y : Y) → Q (b ∷ tail) y → (x : X) × P (b ∷ tail) x) → IsRefusal P e r → IsRefusal Q e r
 led_refused {X} {Y} P Q e r b (after, prefix) empty strip h =
@@ -71,14 +72,15 @@ led_refused {X} {Y} P Q e r b (after, prefix) empty strip h =
         let p = strip tail y (subst (λ z. Q (z ∷ tail) y) same q) in
         none (b ∷ tail) behind p.0 p.1 (eq ∙ ap (λ z. z ∷ (tail ++ behind)) same)
 
--- the same of a reading, where a text of the other kind is one of this
+-- the same of a read, if each encoding of kind P is of kind Q
 pub led_reads : {X : Type 0} (P Q : List ℕ → X → Type 0) (result : Result X Error) (old new : Reader) (b : ℕ) → BeginsWith b (rest old) →
     ((text : List ℕ) (x : X) → P text x → Q text x) → ((x : X) → Q [] x → ⊥) → ((tail : List ℕ) (x : X) → Q (b ∷ tail) x → P (b ∷ tail) x) →
     Reads P result old new → Reads Q result old new
 led_reads P Q (Ok x) old new b prefix into empty strip (text, p, takes) = (text, into text x p, takes)
 led_reads P Q (Err e) old new b prefix into empty strip (same, h) = (same, led_refused P Q e old b prefix empty (λ tail x q. (x, strip tail x q)) h)
 
--- where behind this byte each text is one of another kind, what refuses that kind behind it refuses the whole
+-- if after this byte each encoding is of kind P, an error of kind P after the byte is an error of
+-- the whole
 pub behind_refused : {X Y : Type 0} (P : List ℕ → X → Type 0) (Q : List ℕ → Y → Type 0) (e : Error) (old mid : Reader) (b : ℕ) → Takes old mid (b ∷ []) →
     ((y : Y) → Q [] y → ⊥) → ((tail : List ℕ) (y : Y) → Q (b ∷ tail) y → (x : X) × P tail x) → IsRefusal P e mid → IsRefusal Q e old
 behind_refused {X} {Y} P Q e old mid b takes empty strip h =

@@ -1,4 +1,4 @@
--- What calls take from the start, one after the other, and how a reader goes back.
+-- What calls take from the start in sequence, and how a reader goes back.
 use Rattle.std.proofs.Common.{◌≡◌, ℕ, ◌+◌, ◌-◌, ◌≤◌, ◌<◌, List, [], ◌∷◌, ◌++◌, length, drop, leb, Ok, refl, sym, subst, ap, ◌∙◌, append_assoc, length-append, length-drop, arith}
 use Rattle.std.specs.Prelude.{IsTrue, ◌↔◌, slice_index}
 use Rattle.std.proofs.lemmas.Bool.{le-leb, leb-true}
@@ -7,7 +7,7 @@ use Rattle.wasm_below_bytes.specs.declared.error.Error.{Error}
 use Rattle.wasm_below_bytes.specs.Refusal.{IsReadFault}
 use Rattle.wasm_below_bytes.specs.Source.{Reader, rest, offset_of, at_position, byte_at, Takes, NoPrefix, IsAhead, IsRefusal, Reads, IsByte, IsEndHere, NumberFault, S33Fault}
 
--- two readers of one buffer differ in their position alone
+-- two readers of one buffer differ only in their position
 pub rewound : (old new : Reader) (text : List ℕ) → Takes old new text → at_position new old.position ≡ old
 rewound old new text t = ap (λ r. at_position r old.position) t.moved
 
@@ -37,7 +37,7 @@ within_buffer old new text le t =
     length-append text (rest new) in
     omega arith
 
--- what lies ahead of a reader lies ahead of where it was
+-- an offset ahead of a reader is ahead of where the reader was before
 pub ahead_before : (old mid : Reader) (text : List ℕ) (offset : ℕ) → Takes old mid text → IsAhead mid offset → IsAhead old offset
 ahead_before old mid text offset t h =
     let starts : mid.start ≡ old.start = ap (λ (r : Reader). r.start) t.moved in
@@ -57,25 +57,25 @@ none_left n xs left e le = (
   λ h. le-leb (length xs) n (let z : length xs - n ≡ 0 = sym (length-drop n xs) ∙ ap length (e ∙ h) in omega (arith, z)),
 )
 
--- behind equal prefixes of one list equal rests stand
+-- after equal prefixes of one list the rests are equal
 pub same_rest : {A : Type 0} (a b x y : List A) → a ≡ b → a ++ x ≡ b ++ y → x ≡ y
 same_rest [] [] x y h e = e
 same_rest [] (c ∷ b) x y h e = absurd (cc h)
 same_rest (c ∷ a) [] x y h e = absurd (cc h)
 same_rest (c ∷ a) (d ∷ b) x y h e = same_rest a b x y (cc h) (cc e)
 
--- the data ends where a byte is wanted
+-- the data ends at the place of a byte
 pub end_fault : (e : Error) (r : Reader) → IsEndHere e r → (width : ℕ) → NumberFault e.message width r e.offset
 end_fault e r h width = subst (λ m. NumberFault m width r e.offset) (sym h.0) (h.1 ∙ h.2, omega (arith, h.2))
 
 pub end_too_long : (e : Error) (r : Reader) → IsEndHere e r → S33Fault e.message r e.offset
 end_too_long e r h = subst (λ m. S33Fault m r e.offset) (sym h.0) ((h.1 ∙ h.2, omega (arith, h.2)), tt)
 
--- back where the call began
+-- back at the start of the call
 pub back : (old mid new : Reader) (text : List ℕ) (position : ℕ) → Takes old mid text → position ≡ old.position → new ≡ at_position mid position → new ≡ old
 back old mid new text position t same e = e ∙ ap (at_position mid) same ∙ rewound old mid text t
 
--- back at a byte that was read, a refusal of what begins with it
+-- back at a byte that was read, with an error for what starts with it
 pub refused_back : {X : Type 0} (Encodes : List ℕ → X → Type 0) (e : Error) (old mid new : Reader) (b position : ℕ) → Reads IsByte (Ok b) old mid →
     position ≡ old.position → new ≡ at_position mid position → e.offset ≡ mid.start + position → IsReadFault e.message →
     ((more : List ℕ) → NoPrefix Encodes (rest old ++ more)) → (new ≡ old) × IsRefusal Encodes e old
@@ -87,7 +87,7 @@ refused_back Encodes e old mid new b position r same went offset fault none =
       record { refuses = λ more _. none more; fault = fault; ahead = (omega (arith, offset, same, start), omega (arith, offset, same, start)) },
     )
 
--- a refusal of what stands behind a text that was read
+-- an error of what follows a text that was read
 pub refused_behind : {X Y : Type 0} (Behind : List ℕ → X → Type 0) (Encodes : List ℕ → Y → Type 0) (e : Error) (old mid : Reader) (text : List ℕ) →
     Takes old mid text → IsRefusal Behind e mid → ((more : List ℕ) → NoPrefix Behind (rest mid ++ more) → NoPrefix Encodes (rest old ++ more)) →
     IsRefusal Encodes e old

@@ -1,9 +1,9 @@
--- The features as bits of a number.
+-- Features as bits of a number.
 use Rattle.std.specs.Prelude.{ℕ, ◌==◌, IsTrue}
 use Rattle.std.specs.Int.RustNames.{bit_and}
 use Rattle.wasm_below_bytes.specs.declared.features.WasmFeatures.{WasmFeatures}
 
--- The set of these bits.
+-- The set of the features with these bits.
 abbrev pub features_of : ℕ → WasmFeatures
 features_of bits = record { 0 = bits }
 
@@ -29,6 +29,6 @@ acquire_release_atomics = features_of 16
 abbrev pub multibyte_array_access : WasmFeatures
 multibyte_array_access = features_of 32
 
--- Every bit of the first set is on in the second.
+-- Every bit of the first set is on in the second set.
 abbrev pub HasFeature : WasmFeatures → WasmFeatures → Type 0
 HasFeature feature features = IsTrue (bit_and features.0 feature.0 == feature.0)

@@ -1,4 +1,4 @@
--- What a type's own reading answers.
+-- The contract of the read call of a type (`from_reader`).
 use Rattle.std.specs.Prelude.{◌≡◌, ℕ, zero, suc, ◌+◌, ◌<◌, ◌⊎◌, Bool, true, List, length, Result, Ok, Err, Option, Some, None}
 use Rattle.wasm_below_bytes.specs.declared.error.Error.{Error}
 use Rattle.wasm_below_bytes.specs.declared.message.Message.{Message}
@@ -9,34 +9,41 @@ use Rattle.wasm_below_bytes.specs.Fault.{HasFault, ThenFault}
 use Rattle.wasm_below_bytes.specs.Sequence.{Then}
 use Rattle.wasm_below_bytes.specs.Source.{Reader, rest, offset_of, Takes, Refuses, IsAhead, U32Fault, EndsWithin}
 
--- A refusal of a call that began at this reader. Of allocation failure, which a type that takes none never answers, it says no more than where the call began.
+-- An error of a call that began at this reader. Only a type that allocates fails with
+-- `OutOfMemory`; then the offset is where the call began, and nothing is said of the bytes.
 pub record IsRefused {X : Type 0} (Encodes : List ℕ → X → Type 0) (takes_memory : Bool) (e : Error) (old : Reader) : Type 0 where
   pub refuses : Refuses Encodes (rest old) e.message
   pub ahead : IsAhead old e.offset
   pub memory : e.message ≡ message.OutOfMemory → (takes_memory ≡ true) × (e.offset ≡ offset_of old)
 
--- The call answers Ok exactly where a prefix of the rest encodes a value, memory aside: it then takes that prefix and answers that value. Else nothing changes.
+-- Unless allocation fails, the call returns `Ok` if and only if a prefix of the rest encodes a
+-- value. It then returns that value and advances past that prefix. On `Err`, the reader is
+-- unchanged.
 abbrev pub ReadsValue : {X : Type 0} → (List ℕ → X → Type 0) → Bool → Result X Error → Reader → Reader → Type 0
 ReadsValue Encodes takes_memory (Ok x) old new = (text : List ℕ) × Encodes text x × Takes old new text
 ReadsValue Encodes takes_memory (Err e) old new = (new ≡ old) × IsRefused Encodes takes_memory e old
 
--- A fresh reader of these bytes, of which there are n. Where they stood is not seen.
+-- A new reader of these bytes, of which there are `n`. The offset of its first byte is left open.
 abbrev pub IsReaderOf : WasmFeatures → ℕ → List ℕ → Reader → Type 0
 IsReaderOf features n text r = (r.features ≡ features) × (r.buffer ≡ text) × (r.position ≡ 0) × (length text ≡ n)
 
--- A number of 32 bits, and that many bytes.
+-- A number of 32 bits, followed by that many bytes.
 abbrev pub EncodesReader : WasmFeatures → List ℕ → Reader → Type 0
 EncodesReader features = Then (EncodesUnsigned 32) (IsReaderOf features)
 
--- The same reader, wherever its bytes stood.
+-- The readers have the same features, bytes and position. The offsets of their first bytes may
+-- differ.
 abbrev pub SameReader : Reader → Reader → Type 0
 SameReader r s = (r.features ≡ s.features) × (r.buffer ≡ s.buffer) × (r.position ≡ s.position)
 
--- Which refusal such a reading has: that of the number, or the data ends within the bytes behind it.
+-- The error of reading a number and that many bytes: the error of the number, or `EndOfData` if
+-- fewer bytes follow it.
 abbrev pub ReaderFault : Message → Reader → ℕ → Type 0
 ReaderFault m r offset = ThenFault (EncodesUnsigned 32) U32Fault EndsWithin m r offset
 
--- A step of an iterator that has this many items left before and after. Where the item stood is known as of one that is read by itself.
+-- A step of an iterator that has `before` items left before the step, and `after` items after it.
+-- An item satisfies `Placed` as if it were read without the iterator. After an error no item is
+-- left.
 abbrev pub StepsItems : {X : Type 0} → (List ℕ → X → Type 0) → (Message → Reader → ℕ → Type 0) → (Reader → X → Reader → Type 0) → Bool → ℕ → ℕ →
     Option (Result X Error) → Reader → Reader → Type 0
 StepsItems Encodes Fault Placed takes_memory before after None old new = (before ≡ 0) × (after ≡ 0) × (new ≡ old)
@@ -45,7 +52,8 @@ StepsItems Encodes Fault Placed takes_memory before after (Some (Ok x)) old new 
 StepsItems Encodes Fault Placed takes_memory before after (Some (Err e)) old new =
     (0 < before) × (after ≡ 0) × ReadsValue Encodes takes_memory (Err e) old new × HasFault Fault e old
 
--- What reading this many values leaves, one after another and up to a refusal: no value is left; or one is read, and the others behind it; or one is refused where the reader stands.
+-- The effect of reading `n` values in order, up to the first error. Either `n` is 0, or one value
+-- is read and the others after it, or reading the first value fails.
 abbrev pub ReadsOn : {X : Type 0} → (List ℕ → X → Type 0) → Bool → ℕ → Reader → Reader → Type 0
 ReadsOn Encodes takes_memory zero old new = new ≡ old
 ReadsOn {X} Encodes takes_memory (suc n) old new = ((x : X) × (mid : Reader) × ReadsValue Encodes takes_memory (Ok x) old mid × ReadsOn Encodes takes_memory n mid new) ⊎ ((e : Error) × (new ≡ old) × IsRefused Encodes takes_memory e old)

@@ -1,4 +1,4 @@
--- LEB128 numbers as they are read: bytes that say that more follow, and a last one.
+-- LEB128 numbers as the code reads them: continuation bytes, and then a last byte.
 use Rattle.std.specs.Prelude.{◌≡◌, ℕ, ◌+◌, ◌-◌, ◌*◌, ◌/◌, ◌<◌, ◌≤◌, zero, suc, List, [], ◌∷◌, ◌++◌, length, drop, slice_index, ℤ, ltb}
 use Rattle.wasm_below_bytes.specs.declared.long_numbers.Groups.{Groups}
 use Rattle.wasm_below_bytes.specs.declared.long_numbers.NumberRefusal.{NumberRefusal}
@@ -9,26 +9,27 @@ use Rattle.wasm_below_bytes.specs.declared.message.NumberName.{NumberName}
 use Rattle.wasm_below_bytes.specs.Number.{with_sign}
 use Rattle.wasm_below_bytes.specs.Source.{NoPrefix}
 
--- Each of the bytes says that more follow.
+-- Each byte is a continuation byte, from 128 to 255.
 abbrev pub AllGoOn : List ℕ → Type 0
 AllGoOn [] = Unit {0}
 AllGoOn (c ∷ text) = (128 ≤ c) × (c < 256) × AllGoOn text
 
--- Their seven bits each as one number.
+-- The low seven bits of each byte, as one number.
 abbrev pub low_bits : List ℕ → ℕ
 low_bits [] = 0
 low_bits (c ∷ text) = 128 * low_bits text + (c - 128)
 
--- The number of these low bits and this last byte, whose lowest bit stands for `unit`, and its highest for the sign.
+-- The signed number with these low bits and this last byte. The lowest bit of the last byte counts
+-- `unit`, and its highest bit is the sign.
 abbrev pub signed_value : ℕ → ℕ → ℕ → ℤ
 signed_value low unit last = with_sign (ltb last 64) (low + last * unit) (128 * unit)
 
--- A text stands at this position of a buffer, and ends where `behind` is.
+-- The buffer has the bytes `text` from position `start` up to position `behind`.
 pub record StandsAt (buffer : List ℕ) (start behind : ℕ) (text : List ℕ) : Type 0 where
   pub parts : drop start buffer ≡ text ++ drop behind buffer
   pub ends : behind ≡ start + length text
 
--- The groups of a number of at most `width` bits.
+-- The groups of seven bits of a number of at most `width` bits.
 pub record IsGroups (buffer : List ℕ) (start width : ℕ) (groups : Groups) : Type 0 where
   pub text : List ℕ
   pub go_on : AllGoOn text
@@ -38,47 +39,51 @@ pub record IsGroups (buffer : List ℕ) (start width : ℕ) (groups : Groups) : 
   pub small : groups.last < 128
   pub stands : StandsAt buffer start groups.behind (text ++ groups.last ∷ [])
 
--- No such groups: all bytes up to the end of the data go on, and the width has room for another; or one goes on behind which the width has no room.
+-- There are no such groups, for this reason.
+-- `EndOfData`: all bytes up to the end of the data are continuation bytes, and the width allows
+-- another byte.
+-- `TooLong`: the last byte that the width allows is a continuation byte.
 abbrev pub RefusesGroups : NumberRefusal → ℕ → List ℕ → ℕ → Type 0
 RefusesGroups refusal.EndOfData width buffer start = AllGoOn (drop start buffer) × (length (drop start buffer) ≤ (width - 1) / 7)
 RefusesGroups refusal.TooLong width buffer start = (text after : List ℕ) × (c : ℕ) × AllGoOn text × (128 ≤ c) × (length text ≡ (width - 1) / 7) × (drop start buffer ≡ text ++ c ∷ after)
 RefusesGroups refusal.TooLarge width buffer start = ⊥
 
--- A number stands at this position, and ends where `behind` is.
+-- The buffer has an encoding of x from position `start` up to position `behind`.
 abbrev pub NumberAt : {X : Type 0} → (List ℕ → X → Type 0) → List ℕ → ℕ → X → ℕ → Type 0
 NumberAt Encodes buffer start x behind = (text : List ℕ) × Encodes text x × StandsAt buffer start behind text
 
--- However the bytes go on, no prefix of them is such a text.
+-- No prefix of the bytes encodes a value, whatever bytes follow them.
 abbrev pub NeverBegins : {X : Type 0} → (List ℕ → X → Type 0) → List ℕ → Type 0
 NeverBegins Encodes bytes = (more : List ℕ) → NoPrefix Encodes (bytes ++ more)
 
--- The position of the last byte that a number of this many bits has room for.
+-- The position of the last byte that a number of this many bits may have.
 abbrev pub last_position : ℕ → ℕ → ℕ
 last_position width start = start + (width - 1) / 7
 
--- No number of this width stands there, for this reason.
+-- No number of this width is encoded at position `start`, for this reason.
 abbrev pub NoNumber : {X : Type 0} → (List ℕ → X → Type 0) → NumberRefusal → ℕ → List ℕ → ℕ → Type 0
 NoNumber Encodes refusal.EndOfData width buffer start = (length buffer ≤ last_position width start) × NoPrefix Encodes (drop start buffer)
 NoNumber Encodes refusal.TooLong width buffer start = (last_position width start < length buffer) × (128 ≤ slice_index buffer (last_position width start)) × NeverBegins Encodes (drop start buffer)
 NoNumber Encodes refusal.TooLarge width buffer start = (last_position width start < length buffer) × (slice_index buffer (last_position width start) < 128) × NeverBegins Encodes (drop start buffer)
 
--- The message of such a refusal.
+-- The message for this reason.
 abbrev pub refusal_message : NumberRefusal → NumberName → Message
 refusal_message refusal.EndOfData name = message.EndOfData
 refusal_message refusal.TooLong name = message.IntegerTooLong name
 refusal_message refusal.TooLarge name = message.IntegerTooLarge name
 
--- Its offset, where the number begins at the offset `start` and the data ends at the offset `end`: the end, or that of the last byte that the width has room for.
+-- The offset of the error, for a number at the offset `start` in data that ends at the offset
+-- `end`. It is `end`, or the offset of the last byte that the width allows.
 abbrev pub refusal_offset : NumberRefusal → ℕ → ℕ → ℕ → ℕ
 refusal_offset refusal.EndOfData width start end = end
 refusal_offset _ width start end = last_position width start
 
--- That offset lies in the data.
+-- That offset lies within the data, unless the data ended.
 abbrev pub HasPlace : NumberRefusal → ℕ → ℕ → ℕ → Type 0
 HasPlace refusal.EndOfData width start end = Unit {0}
 HasPlace _ width start end = last_position width start < end
 
--- The refusal of a code.
+-- The reason with this code.
 abbrev pub refusal_of_code : ℕ → NumberRefusal
 refusal_of_code zero = refusal.EndOfData
 refusal_of_code (suc zero) = refusal.TooLong

@@ -1,4 +1,4 @@
--- The refusals by number, and the kinds that callers tell apart. docs/REFUSALS.md has the table.
+-- The numbers of the refusals, and the kinds of errors. docs/ERRORS-AND-FEATURES.md has the table.
 use Rattle.std.specs.Prelude.{ℕ, List, codes, ◌≡◌}
 use Rattle.wasm_below_bytes.specs.declared.message.NumberName.{NumberName}
 use Rattle.wasm_below_bytes.specs.declared.message.NumberName.TheVariants as number_name
@@ -49,7 +49,8 @@ kind_of (message.FeatureRequired _) = kind.MissingFeature
 kind_of message.OutOfMemory = kind.OutOfMemory
 kind_of _ = kind.Other
 
--- What the reading of one value may find wrong: not allocation failure, nor what is said of frames, of a whole body or of a section.
+-- A message that reading one value may return. Excluded are `OutOfMemory` and the errors of open
+-- frames, of a whole body and of a section: E8 to E11, E23 and E25.
 abbrev pub IsReadFault : Message → Type 0
 IsReadFault message.OutOfMemory = ⊥
 IsReadFault message.OperatorsRemaining = ⊥
@@ -60,7 +61,7 @@ IsReadFault message.TooManyLocals = ⊥
 IsReadFault message.DataAfterSection = ⊥
 IsReadFault _ = Unit {0}
 
--- The text of the name of a kind of number, in the texts of the two faults that a number may have.
+-- The text that names a kind of number, in the two messages about an invalid number.
 abbrev pub number_name_text : NumberName → List ℕ
 number_name_text number_name.VarU32 = codes "var_u32"
 number_name_text number_name.VarU64 = codes "var_u64"
@@ -68,14 +69,14 @@ number_name_text number_name.VarI32 = codes "var_i32"
 number_name_text number_name.VarS33 = codes "var_s33"
 number_name_text number_name.VarI64 = codes "var_i64"
 
--- The text of the name of a list, in the text of a count that is above its limit.
+-- The text that names a list, in the message about a count above its limit.
 abbrev pub size_name_text : SizeName → List ℕ
 size_name_text size_name.BrTable = codes "br_table"
 size_name_text size_name.SelectTypes = codes "select types"
 size_name_text size_name.Catches = codes "catches"
 size_name_text size_name.ResumeTable = codes "resume table"
 
--- The text of the name of an instruction of the legacy exceptions, or `else`.
+-- The text that names an instruction of the legacy exceptions, or `else`.
 abbrev pub instruction_name_text : InstructionName → List ℕ
 instruction_name_text instruction_name.Else = codes "else"
 instruction_name_text instruction_name.Try = codes "try"
@@ -83,24 +84,24 @@ instruction_name_text instruction_name.Catch = codes "catch"
 instruction_name_text instruction_name.CatchAll = codes "catch_all"
 instruction_name_text instruction_name.Delegate = codes "delegate"
 
--- The text of the name of what a leading byte tells the form of.
+-- The text that names the construct whose leading byte is invalid.
 abbrev pub leading_byte_name_text : LeadingByteName → List ℕ
 leading_byte_name_text leading_name.Catch = codes "catch"
 leading_byte_name_text leading_name.OnClause = codes "on clause"
 
--- The text of the name of a kind of type.
+-- The text that names a kind of type.
 abbrev pub type_name_text : TypeName → List ℕ
 type_name_text type_name.ValueType = codes "value type"
 type_name_text type_name.ReferenceType = codes "reference type"
 type_name_text type_name.HeapType = codes "heap type"
 
--- A refused number is named so.
+-- If the message is about an invalid number, it names this kind of number.
 abbrev pub NamesNumber : NumberName → Message → Type 0
 NamesNumber name (message.IntegerTooLong n) = n ≡ name
 NamesNumber name (message.IntegerTooLarge n) = n ≡ name
 NamesNumber name _ = Unit {0}
 
--- A refusal of a count names this list.
+-- If the message is about a count above its limit, it names this list.
 abbrev pub NamesSize : SizeName → Message → Type 0
 NamesSize name (message.SizeOutOfBounds what) = what ≡ name
 NamesSize name m = Unit {0}

@@ -1,4 +1,4 @@
--- What a reader has before it, and what a reading call does to it.
+-- The state of a reader, and the effect of a read call.
 -- WebAssembly Core Specification 3.0, Binary Format, Instructions.
 use Rattle.std.specs.Prelude.{◌≡◌, ℕ, ◌+◌, ◌-◌, ◌/◌, ◌<◌, ◌≤◌, List, [], ◌∷◌, ◌++◌, length, drop, Result, Ok, Err, slice_index}
 use Rattle.std.specs.Borrow.{Bor}
@@ -11,13 +11,14 @@ use Rattle.wasm_below_bytes.specs.declared.message.NumberName.TheVariants as num
 use Rattle.wasm_below_bytes.specs.declared.message.SizeName.{SizeName}
 use Rattle.wasm_below_bytes.specs.Refusal.{IsReadFault, NamesNumber, NamesSize}
 
--- Features, the offset of the bytes, and the bytes.
+-- Features, the offset of the first byte, and the bytes.
 pub record Source : Type 0 where
   pub features : WasmFeatures
   pub offset : ℕ
   pub bytes : List ℕ
 
--- What a reader stands on: its features, all its bytes, the offset of the first of them, and how many were read.
+-- The state of a reader: its features, the offset of its first byte, all its bytes, and how many
+-- bytes it has read.
 pub record Reader : Type 0 where
   pub features : WasmFeatures
   pub start : ℕ
@@ -32,23 +33,23 @@ rest r = drop r.position r.buffer
 abbrev pub offset_of : Reader → ℕ
 offset_of r = r.start + r.position
 
--- The offset behind the data.
+-- The offset of the end of the data.
 abbrev pub end_of : Reader → ℕ
 end_of r = r.start + length r.buffer
 
--- What is left, as a source.
+-- The bytes that are left, as a `Source`.
 abbrev pub source_of : Reader → Source
 source_of r = record { features = r.features; offset = offset_of r; bytes = rest r }
 
--- A reader of these bytes that has read none.
+-- A new reader of these bytes.
 abbrev pub reader_of : WasmFeatures → ℕ → List ℕ → Reader
 reader_of features offset bytes = record { features = features; start = offset; buffer = bytes; position = 0 }
 
--- The same reader, where it has read this many bytes.
+-- The same reader after it has read `position` bytes.
 abbrev pub at_position : Reader → ℕ → Reader
 at_position r position = record { features = r.features; start = r.start; buffer = r.buffer; position = position }
 
--- The call took this text from the start of the rest.
+-- The call read the bytes `text` from the start of the rest, and changed only the position.
 pub record Takes (old new : Reader) (text : List ℕ) : Type 0 where
   pub moved : new ≡ at_position old (old.position + length text)
   pub parts : rest old ≡ text ++ rest new
@@ -57,35 +58,39 @@ pub record Takes (old new : Reader) (text : List ℕ) : Type 0 where
 abbrev pub with_features : Reader → WasmFeatures → Reader
 with_features r features = record { features = features; start = r.start; buffer = r.buffer; position = r.position }
 
--- This byte stands first.
+-- The bytes start with this byte.
 abbrev pub BeginsWith : ℕ → List ℕ → Type 0
 BeginsWith byte bytes = (more : List ℕ) × (bytes ≡ byte ∷ more)
 
--- No prefix of the bytes is a text of this kind.
+-- No prefix of the bytes encodes a value.
 abbrev pub NoPrefix : {X : Type 0} → (List ℕ → X → Type 0) → List ℕ → Type 0
 NoPrefix {X} Encodes bytes = (text more : List ℕ) (x : X) → Encodes text x → bytes ≡ text ++ more → ⊥
 
--- What may stand behind the bytes that a call had, where it answered this: anything; nothing where it asked for more; and of allocation failure nothing is said.
+-- The claim of a failed call holds also if `more` follows its data. After `EndOfData`, `more` is
+-- empty; after `OutOfMemory`, there is no claim; after any other message, `more` is any list.
 abbrev pub MayFollow : Message → List ℕ → Type 0
 MayFollow message.EndOfData more = more ≡ []
 MayFollow message.OutOfMemory more = ⊥
 MayFollow _ more = Unit {0}
 
--- No prefix of the bytes is such a text, and unless the data ended none would be, however the bytes went on. So a proper prefix of such a text is refused by the end of the data alone.
+-- No prefix of the bytes encodes a value. Unless the message is `EndOfData`, this holds whatever
+-- bytes follow. Of `OutOfMemory` nothing is said. So for a proper prefix of an encoding the message
+-- is `EndOfData`, unless allocation fails.
 abbrev pub Refuses : {X : Type 0} → (List ℕ → X → Type 0) → List ℕ → Message → Type 0
 Refuses Encodes bytes m = (more : List ℕ) → MayFollow m more → NoPrefix Encodes (bytes ++ more)
 
--- The offset lies where the reader has its rest, or just behind it.
+-- The offset lies within the bytes that are left, or at their end.
 abbrev pub IsAhead : Reader → ℕ → Type 0
 IsAhead r offset = (offset_of r ≤ offset) × (offset ≤ end_of r)
 
--- A refusal of a call that began at this reader.
+-- An error of a call that began at this reader.
 pub record IsRefusal {X : Type 0} (Encodes : List ℕ → X → Type 0) (e : Error) (old : Reader) : Type 0 where
   pub refuses : Refuses Encodes (rest old) e.message
   pub fault : IsReadFault e.message
   pub ahead : IsAhead old e.offset
 
--- The call answers Ok exactly where a prefix of the rest encodes a value: it then takes that prefix and answers that value. Else nothing changes.
+-- The call returns `Ok` if and only if a prefix of the rest encodes a value. It then returns that
+-- value and advances past that prefix. On `Err`, the reader is unchanged.
 abbrev pub Reads : {X : Type 0} → (List ℕ → X → Type 0) → Result X Error → Reader → Reader → Type 0
 Reads Encodes (Ok x) old new = (text : List ℕ) × Encodes text x × Takes old new text
 Reads Encodes (Err e) old new = (new ≡ old) × IsRefusal Encodes e old
@@ -94,46 +99,51 @@ Reads Encodes (Err e) old new = (new ≡ old) × IsRefusal Encodes e old
 abbrev pub IsByte : List ℕ → ℕ → Type 0
 IsByte text byte = (text ≡ byte ∷ []) × (byte < 256)
 
--- A block of this many bytes.
+-- A block of `n` bytes.
 abbrev pub IsBlock : ℕ → List ℕ → Bor (List ℕ) → Type 0
 IsBlock n text block = (block.now ≡ text) × (length text ≡ n)
 
--- The data ends where the reader stands: a message and its offset, and an error.
+-- The error at the end of the data: `EndOfData` at the offset of the reader. `EndFault` is about a
+-- message and an offset, `IsEndHere` about an error.
 abbrev pub EndFault : Message → Reader → ℕ → Type 0
 EndFault m r offset = (m ≡ message.EndOfData) × (offset ≡ offset_of r) × (offset_of r ≡ end_of r)
 
 abbrev pub IsEndHere : Error → Reader → Type 0
 IsEndHere e r = EndFault e.message r e.offset
 
--- Fewer than this many bytes are left: a message and its offset, and an error.
+-- The error if fewer than `n` bytes are left: `EndOfData` at the offset of the reader. `EndsWithin`
+-- is about a message and an offset, `IsShort` about an error.
 abbrev pub EndsWithin : ℕ → Message → Reader → ℕ → Type 0
 EndsWithin n m r offset = (m ≡ message.EndOfData) × (offset ≡ offset_of r) × (end_of r < offset_of r + n)
 
 abbrev pub IsShort : ℕ → Error → Reader → Type 0
 IsShort n e r = EndsWithin n e.message r e.offset
 
--- The byte at an offset.
+-- The byte at this offset.
 abbrev pub byte_at : Reader → ℕ → ℕ
 byte_at r offset = slice_index r.buffer (offset - r.start)
 
--- The offset of the last byte that a number of this many bits has room for.
+-- The offset of the last byte that a number of this many bits may have.
 abbrev pub last_offset : ℕ → Reader → ℕ
 last_offset width r = offset_of r + (width - 1) / 7
 
--- Which refusal a number has: the data ends before the last byte that the width has room for; or that byte says that more follow, or has a bit past the width.
+-- The error of a number.
+-- `EndOfData`: the data ends before the last byte that the width allows.
+-- `IntegerTooLong`: that byte is a continuation byte.
+-- `IntegerTooLarge`: that byte is below 128, but has a bit beyond the width.
 abbrev pub NumberFault : Message → ℕ → Reader → ℕ → Type 0
 NumberFault message.EndOfData width r offset = (offset ≡ end_of r) × (end_of r ≤ last_offset width r)
 NumberFault (message.IntegerTooLong _) width r offset = (offset ≡ last_offset width r) × (128 ≤ byte_at r offset) × (offset < end_of r)
 NumberFault (message.IntegerTooLarge _) width r offset = (offset ≡ last_offset width r) × (byte_at r offset < 128) × (offset < end_of r)
 NumberFault _ width r offset = ⊥
 
--- The same for a number whose two faults have one text.
+-- The same for a number whose two faults have one message, `IntegerTooLong`.
 abbrev pub TooLongFault : Message → ℕ → Reader → ℕ → Type 0
 TooLongFault message.EndOfData width r offset = (offset ≡ end_of r) × (end_of r ≤ last_offset width r)
 TooLongFault (message.IntegerTooLong _) width r offset = (offset ≡ last_offset width r) × (offset < end_of r)
 TooLongFault _ width r offset = ⊥
 
--- The same of each kind of number, with its name.
+-- The error of each kind of number, which names the kind.
 abbrev pub U32Fault : Message → Reader → ℕ → Type 0
 U32Fault m r offset = NumberFault m 32 r offset × NamesNumber number_name.VarU32 m
 
@@ -149,7 +159,7 @@ S33Fault m r offset = TooLongFault m 33 r offset × NamesNumber number_name.VarS
 abbrev pub I64Fault : Message → Reader → ℕ → Type 0
 I64Fault m r offset = NumberFault m 64 r offset × NamesNumber number_name.VarI64 m
 
--- The message with that text.
+-- The message with `IntegerTooLong` in place of `IntegerTooLarge`.
 abbrev pub as_too_long : Message → Message
 as_too_long (message.IntegerTooLarge kind) = message.IntegerTooLong kind
 as_too_long m = m
@@ -158,16 +168,16 @@ as_too_long m = m
 abbrev pub BeginsAbove : ℕ → List ℕ → Type 0
 BeginsAbove limit bytes = (text more : List ℕ) × (n : ℕ) × EncodesUnsigned 32 text n × (limit < n) × (bytes ≡ text ++ more)
 
--- Which refusal a count has: it is above the limit, or no number stands there.
+-- The error of a count: it is above the limit, or no prefix encodes a number.
 abbrev pub SizeFault : Message → ℕ → Reader → ℕ → Type 0
 SizeFault (message.SizeOutOfBounds _) limit r offset = (offset ≡ offset_of r) × BeginsAbove limit (rest r)
 SizeFault m limit r offset = NumberFault m 32 r offset × NoPrefix (EncodesUnsigned 32) (rest r)
 
--- As `Reads`, of a call whose refusals may stand before the reader, from this offset on.
+-- As `Reads`, for a call whose errors may lie before the reader, from the offset `start` on.
 abbrev pub ReadsFrom : {X : Type 0} → ℕ → (List ℕ → X → Type 0) → Result X Error → Reader → Reader → Type 0
 ReadsFrom start Encodes (Ok x) old new = Reads Encodes (Ok x) old new
 ReadsFrom start Encodes (Err e) old new = (new ≡ old) × Refuses Encodes (rest old) e.message × IsReadFault e.message × (start ≤ e.offset) × (e.offset ≤ end_of old)
 
--- The same with the names of the list and of the number.
+-- The error of a count, which names the list and the kind of number.
 abbrev pub CountFault : SizeName → ℕ → Message → Reader → ℕ → Type 0
 CountFault name limit m r offset = SizeFault m limit r offset × NamesSize name m × NamesNumber number_name.VarU32 m

@@ -17,12 +17,13 @@ mod leb128;
 /// The opcode of `end`.
 const END: u8 = 0x0b;
 
-/// Borrowed bytes that are read from their start.
+/// Borrowed bytes that are read from the start.
 ///
-/// Offsets in errors count from the offset that the reader was given for its first byte.
+/// Offsets in errors count from the offset given for the first byte.
 ///
-/// A loop that holds a reader in a variable of its own keeps it in registers, as long as no call out of
-/// line is lent it: so what refuses is inline here, and a call out of line is lent a copy.
+/// A loop that holds a reader in a local variable keeps it in registers, unless a call that is not
+/// inlined borrows it. So the functions that create errors are inline, and a call that is not
+/// inlined borrows a copy.
 #[derive(Debug, Drop)]
 pub struct BinaryReader<'a> {
     buffer: &'a [u8],
@@ -55,7 +56,8 @@ impl<'a> Clone for BinaryReader<'a> {
 }
 
 impl<'a> BinaryReader<'a> {
-    /// A reader of these bytes, of which the first has this offset, with all features.
+    /// Creates a reader over `bytes`. `original_offset` is the offset of the first byte. All
+    /// features are enabled.
     pub fn new(bytes: &'a [u8], original_offset: u64) -> BinaryReader<'a>
         requires { original_offset + length bytes.now < 2 ^ 64 }
         ensures { result ≡ reader_of all_features original_offset bytes.now }
@@ -63,7 +65,8 @@ impl<'a> BinaryReader<'a> {
         BinaryReader::new_features(bytes, original_offset, WasmFeatures::all())
     }
 
-    /// A reader of these bytes, of which the first has this offset, with these features.
+    /// Creates a reader over `bytes` with these features. `original_offset` is the offset of the
+    /// first byte.
     ///
     /// # Examples
     ///
@@ -86,21 +89,21 @@ impl<'a> BinaryReader<'a> {
         }
     }
 
-    /// How many bytes may stand at this offset: the test for what `new` wants.
+    /// Returns the greatest number of bytes that `new` accepts at this offset.
     pub fn max_data_len(original_offset: u64) -> usize
         ensures { result + original_offset + 1 ≡ 2 ^ 64 }
     {
         (u64::MAX - original_offset) as usize
     }
 
-    /// The features that are on.
+    /// Returns the enabled features.
     pub fn features(&self) -> WasmFeatures
         ensures { result ≡ self.now.features }
     {
         self.features
     }
 
-    /// The offset of the next byte.
+    /// Returns the offset of the next byte.
     #[inline(always)]
     pub fn original_position(&self) -> u64
         ensures { result ≡ offset_of self.now }
@@ -108,7 +111,7 @@ impl<'a> BinaryReader<'a> {
         self.original_offset + self.position as u64
     }
 
-    /// How many bytes were read.
+    /// Returns the number of bytes read.
     #[inline(always)]
     pub fn current_position(&self) -> usize
         ensures { result ≡ self.now.position }
@@ -116,7 +119,7 @@ impl<'a> BinaryReader<'a> {
         self.position
     }
 
-    /// Whether no byte is left.
+    /// Returns whether the reader is at the end of the data.
     #[inline(always)]
     pub fn eof(&self) -> bool
         ensures { IsTrue result ↔ (rest self.now ≡ []) }
@@ -124,7 +127,7 @@ impl<'a> BinaryReader<'a> {
         self.position >= self.buffer.len()
     }
 
-    /// How many bytes are left.
+    /// Returns the number of bytes left.
     #[inline(always)]
     pub fn bytes_remaining(&self) -> usize
         ensures { result ≡ length (rest self.now) }
@@ -132,14 +135,14 @@ impl<'a> BinaryReader<'a> {
         self.buffer.len() - self.position
     }
 
-    /// The bytes that are left.
+    /// Returns the bytes that are left.
     pub fn remaining_buffer(&self) -> &'a [u8]
         ensures { result.now ≡ rest self.now }
     {
         &self.buffer[self.position..]
     }
 
-    /// The offsets of all the data: of the first byte, and behind the last.
+    /// Returns the offsets of all the data: of the first byte, and of the end.
     pub fn range(&self) -> Range<u64>
         ensures start { result.start ≡ self.now.start }
         ensures end { result.end ≡ end_of self.now }
@@ -147,7 +150,7 @@ impl<'a> BinaryReader<'a> {
         self.original_offset..self.original_offset + self.buffer.len() as u64
     }
 
-    /// The offsets of what is left: of the next byte, and behind the last.
+    /// Returns the offsets of the bytes that are left: of the next byte, and of the end.
     pub fn remaining_range(&self) -> Range<u64>
         ensures start { result.start ≡ offset_of self.now }
         ensures end { result.end ≡ end_of self.now }
@@ -155,23 +158,23 @@ impl<'a> BinaryReader<'a> {
         self.original_position()..self.original_offset + self.buffer.len() as u64
     }
 
-    /// Whether what is left is one `end` instruction.
+    /// Returns whether a single `end` instruction is left.
     pub fn is_end_then_eof(&self) -> bool
         ensures { IsTrue result ↔ (rest self.now ≡ END ∷ []) }
     {
         matches!(self.remaining_buffer(), [END])
     }
 
-    /// Turns features on and off.
+    /// Replaces the set of enabled features.
     pub fn set_features(&mut self, features: WasmFeatures)
         ensures { self.new ≡ with_features self.old features }
     {
         self.features = features;
     }
 
-    /// The next byte, which stays.
+    /// Returns the next byte without consuming it.
     ///
-    /// `EndOfData` where no byte is left.
+    /// Fails with `EndOfData` at the end of the data.
     #[inline(always)]
     pub fn peek(&self) -> Result<u8>
         ensures prefix { IfOk result (λ byte. BeginsWith byte (rest self.now)) }
@@ -183,7 +186,7 @@ impl<'a> BinaryReader<'a> {
         Ok(self.buffer[self.position])
     }
 
-    /// The same reader again, which takes no memory.
+    /// Returns a copy of the reader. Does not allocate.
     #[inline(always)]
     pub fn clone(&self) -> BinaryReader<'a>
         ensures { result ≡ self.now }
@@ -196,7 +199,7 @@ impl<'a> BinaryReader<'a> {
         }
     }
 
-    /// Goes back to where this many bytes were read.
+    /// Goes back to an earlier position, given as a number of bytes read.
     #[inline(always)]
     pub fn rewind(&mut self, position: usize)
         requires { position ≤ self.old.position }
@@ -205,7 +208,7 @@ impl<'a> BinaryReader<'a> {
         self.position = position;
     }
 
-    /// Goes to where this many of its bytes were read, as a copy of it did.
+    /// Sets the position to this number of bytes read, as a copy of the reader has reached it.
     #[inline(always)]
     pub fn set_position(&mut self, to: usize)
         requires { to ≤ length self.old.buffer }
@@ -214,7 +217,7 @@ impl<'a> BinaryReader<'a> {
         self.position = to;
     }
 
-    /// Goes past the next byte.
+    /// Skips the next byte.
     #[inline(always)]
     pub fn advance(&mut self)
         requires { rest self.old ≢ [] }
@@ -223,7 +226,9 @@ impl<'a> BinaryReader<'a> {
         self.position += 1;
     }
 
-    /// One byte.
+    /// Reads one byte.
+    ///
+    /// Fails with `EndOfData` at the end of the data.
     #[inline(always)]
     pub fn read_u8(&mut self) -> Result<u8>
         ensures reads { Reads IsByte result self.old self.new }
@@ -237,7 +242,7 @@ impl<'a> BinaryReader<'a> {
         Ok(byte)
     }
 
-    /// The data ends here.
+    /// Returns the `EndOfData` error of a reader at the end of the data.
     #[inline(always)]
     fn end_of_data(&self) -> Error
         requires { offset_of self.now ≡ end_of self.now }
@@ -246,9 +251,9 @@ impl<'a> BinaryReader<'a> {
         Error::new(Message::EndOfData, self.original_position())
     }
 
-    /// This many bytes.
+    /// Reads `n` bytes.
     ///
-    /// `EndOfData` where they begin.
+    /// Fails with `EndOfData` at the offset of the first of them.
     #[inline(always)]
     pub fn read_bytes(&mut self, n: usize) -> Result<&'a [u8]>
         ensures reads { Reads (IsBlock n) result self.old self.new }
@@ -262,7 +267,7 @@ impl<'a> BinaryReader<'a> {
         Ok(&self.buffer[start..start + n])
     }
 
-    /// The data has fewer bytes than these.
+    /// Returns the `EndOfData` error for a block of `n` bytes, of which fewer are left.
     #[inline(always)]
     fn block_missing(&self, n: usize) -> Error
         requires { end_of self.now < offset_of self.now + n }
@@ -271,7 +276,8 @@ impl<'a> BinaryReader<'a> {
         Error::new(Message::EndOfData, self.original_position())
     }
 
-    /// A reader of these bytes, of which the first has this offset, with the same features.
+    /// Creates a reader over `bytes` with the same features. `offset` is the offset of the first
+    /// byte.
     pub fn part(&self, bytes: &'a [u8], offset: u64) -> BinaryReader<'a>
         requires { offset + length bytes.now ≤ end_of self.now }
         ensures { result ≡ reader_of self.now.features offset bytes.now }
@@ -280,9 +286,9 @@ impl<'a> BinaryReader<'a> {
         BinaryReader::new_features(bytes, offset, self.features)
     }
 
-    /// Four bytes, the lowest first.
+    /// Reads a number of four bytes, the lowest first.
     ///
-    /// `EndOfData` where they begin.
+    /// Fails with `EndOfData` at the offset of the first of them.
     #[inline(always)]
     pub fn read_u32(&mut self) -> Result<u32>
         ensures reads { Reads (EncodesFixed w32) result self.old self.new }
@@ -292,9 +298,9 @@ impl<'a> BinaryReader<'a> {
         Ok(u32::from_le_bytes([block[0], block[1], block[2], block[3]]))
     }
 
-    /// Eight bytes, the lowest first.
+    /// Reads a number of eight bytes, the lowest first.
     ///
-    /// `EndOfData` where they begin.
+    /// Fails with `EndOfData` at the offset of the first of them.
     #[inline(always)]
     pub fn read_u64(&mut self) -> Result<u64>
         ensures reads { Reads (EncodesFixed w64) result self.old self.new }
@@ -306,9 +312,11 @@ impl<'a> BinaryReader<'a> {
         ]))
     }
 
-    /// A count of the list that `desc` names: an unsigned LEB128 number of 32 bits, at most `limit`.
+    /// Reads the count of the list that `desc` names: an unsigned LEB128 number of 32 bits, at most
+    /// `limit`.
     ///
-    /// `SizeOutOfBounds` where the number begins, if it is above the limit.
+    /// Fails with `SizeOutOfBounds` at the start of the number if it is above the limit, and
+    /// otherwise like `read_var_u32`.
     pub fn read_size(&mut self, limit: usize, desc: SizeName) -> Result<usize>
         ensures reads { Reads (EncodesSize limit) result self.old self.new }
         ensures fault { IfErr result (λ e. CountFault desc limit e.message self.old e.offset) }
@@ -321,7 +329,7 @@ impl<'a> BinaryReader<'a> {
         Ok(size)
     }
 
-    /// Goes back to where this many bytes were read, and refuses what stands there.
+    /// Goes back to this position, and returns an error with the message and the offset there.
     #[inline(always)]
     pub fn refuse(&mut self, position: usize, message: Message) -> Error
         requires { position ≤ self.old.position }

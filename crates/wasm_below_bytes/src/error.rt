@@ -1,4 +1,4 @@
-//! A refusal: what was refused, and at which offset.
+//! Errors: a message and an offset.
 ghost use Rattle.std.specs.Prelude.{◌≡◌};
 ghost use Rattle.wasm_below_bytes.specs.Refusal.{kind_of};
 
@@ -11,27 +11,27 @@ pub struct Error {
     pub offset: u64,
 }
 
-/// The name that older callers know.
+/// The name of `Error` in wasmparser.
 pub type BinaryReaderError = Error;
 
-/// A result whose error is a refusal of the bytes.
+/// A `Result` with [`Error`] as its error.
 pub type Result<T> = std::result::Result<T, Error>;
 
-/// What a caller may want to tell apart.
+/// The kinds of errors that a caller may distinguish.
 #[derive(Clone, Copy, Debug, PartialEq, Eq)]
 pub enum ErrorKind {
-    /// The data ended: more bytes might make it whole.
+    /// The data ended. With more bytes the call might succeed.
     EndOfData,
     /// A feature is off.
     MissingFeature,
-    /// Memory was refused.
+    /// Allocation failed.
     OutOfMemory,
-    /// Anything else: no more bytes make it whole.
+    /// Any other error. More bytes would not help.
     Other,
 }
 
 impl Error {
-    /// A refusal at this offset.
+    /// Creates an error from a message and an offset.
     pub fn new(message: Message, offset: u64) -> Error
         ensures message { result.message ≡ message }
         ensures offset { result.offset ≡ offset }
@@ -39,7 +39,7 @@ impl Error {
         Error { message, offset }
     }
 
-    /// What sort of refusal this is.
+    /// Returns the kind of the error.
     pub fn kind(&self) -> ErrorKind
         ensures { result ≡ kind_of self.now.message }
     {
@@ -51,14 +51,14 @@ impl Error {
         }
     }
 
-    /// The offset, counted as the reader counts its bytes.
+    /// Returns the offset of the error, counted from the offset given for the reader's first byte.
     pub fn offset(&self) -> u64
         ensures { result ≡ self.now.offset }
     {
         self.offset
     }
 
-    /// What was refused.
+    /// Returns what is wrong.
     pub fn message(&self) -> Message
         ensures { result ≡ self.now.message }
     {

@@ -1,10 +1,10 @@
-//! The features that change what is read.
+//! Features that change what is read.
 ghost use Rattle.std.specs.Prelude.{◌≡◌, ◌<◌, ⊤, [], ◌∷◌, codes, IsTrue, SomeIff, ◌↔◌};
 ghost use Rattle.wasm_below_bytes.specs.Features.{HasFeature, all_features, features_of};
 
 use bitflags::{Flag, Flags, bitflag_items};
 
-/// The proposals that change what is read. `docs/DEFINITIONS.md` says how.
+/// A set of the proposals that change what is read. `docs/ERRORS-AND-FEATURES.md` says how.
 #[derive(Clone, Copy, Debug, PartialEq, Eq)]
 pub struct WasmFeatures(u32);
 
@@ -48,21 +48,21 @@ impl Flags for WasmFeatures {
 }
 
 impl WasmFeatures {
-    /// All six features.
+    /// Returns the set of all six features.
     pub fn all() -> WasmFeatures
         ensures { result ≡ all_features }
     {
         WasmFeatures(63)
     }
 
-    /// No feature.
+    /// Returns the empty set.
     pub fn none() -> WasmFeatures
         ensures { result ≡ features_of 0 }
     {
         WasmFeatures(0)
     }
 
-    /// The features of these bits, where each bit is that of a feature.
+    /// Returns the set of the features with these bits, or `None` if a bit belongs to no feature.
     pub fn from_bits(bits: u32) -> Option<WasmFeatures>
         ensures { SomeIff result (bits < 64) (features_of bits) }
     {
@@ -73,7 +73,7 @@ impl WasmFeatures {
         }
     }
 
-    /// Whether all these features are on.
+    /// Returns whether all features of `other` are on.
     #[inline(always)]
     pub fn contains(&self, other: WasmFeatures) -> bool
         ensures { IsTrue result ↔ HasFeature other self.now }

@@ -1,4 +1,4 @@
-//! Types that are read by a call of their own, and lists of their values.
+//! Types that `BinaryReader::read` reads, and lists of their values.
 ghost use Rattle.std.specs.Prelude.{◌≡◌, ℕ, ⊤, List, ◌++◌, IfOk, IfErr, IfSome, []};
 ghost use Rattle.wasm_below_bytes.specs.declared.features.WasmFeatures.{WasmFeatures};
 ghost use Rattle.wasm_below_bytes.specs.declared.message.Message.{Message};
@@ -18,18 +18,18 @@ use crate::message::SizeName;
 use std::alloc::Global;
 use std::marker::PhantomData;
 
-/// A type that is read from the start of bytes.
+/// A type that can be read from the start of bytes.
 pub trait FromReader<'a>: UsesMemory + Drop + Sized {
-    // Under these features the bytes encode the value.
+    // With these features the bytes encode the value.
     ghost encodes: { WasmFeatures → List ℕ → Self → Type 0 };
 
-    // Which refusal a reading has, allocation failure aside.
+    // The error of a read, unless allocation fails.
     ghost fault: { Message → Reader → ℕ → Type 0 };
 
-    // The same value, but for the place that a reader inside it remembers.
+    // The values are the same, except for the offset that a reader in them holds.
     ghost same: { Self → Self → Type 0 } = { λ a b. a ≡ b };
 
-    // Where the value stood that was read between these readers, where the value remembers it.
+    // The place of the value that was read between these readers, if the value holds it.
     ghost placed: { Reader → Self → Reader → Type 0 } = { λ old value new. ⊤ };
 
     /// Reads the value that a prefix of the rest encodes.
@@ -38,13 +38,13 @@ pub trait FromReader<'a>: UsesMemory + Drop + Sized {
         ensures placed { IfOk result (λ value. placed reader.old value reader.new) }
         ensures fault { IfErr result (λ e. HasFault fault e reader.old) };
 
-    /// A law: no encoding is a proper prefix of another, and each is that of one value. It does
-    /// nothing; generic code calls it to use the law.
+    /// States a law: no encoding is a proper prefix of another, and each encoding has one value.
+    /// The function does nothing; generic code calls it to use the law.
     fn is_prefix_code()
         ensures { (features : WasmFeatures) → PrefixCodeUpTo same (encodes features) };
 
-    /// A law: what the fault of a reading says determines the message and the offset. It does
-    /// nothing; generic code calls it to use the law.
+    /// States a law: the fault of a read determines the message and the offset of the error. The
+    /// function does nothing; generic code calls it to use the law.
     fn determines_refusal()
         ensures { DeterminesRefusal fault };
 }
@@ -68,7 +68,7 @@ impl<'a> FromReader<'a> for u32 {
 }
 
 impl<'a> BinaryReader<'a> {
-    /// Reads a value of a type. Refused as the type's own reading.
+    /// Reads a value of type `T`. Fails like `T::from_reader`.
     #[inline(always)]
     pub fn read<T: FromReader<'a>>(&mut self, alloc: Global) -> Result<T>
         ensures reads { ReadsValue (T.encodes self.old.features) T.Memory.TAKES result self.old self.new }
@@ -78,10 +78,10 @@ impl<'a> BinaryReader<'a> {
         T::from_reader(alloc, self)
     }
 
-    /// Reads a number of 32 bits and that many bytes, as a reader with the same features whose
-    /// offset is theirs.
+    /// Reads a number of 32 bits and that many bytes, and returns the bytes as a reader. The reader
+    /// has the same features, and its first byte keeps its offset.
     ///
-    /// Refused as the number; `EndOfData` where the bytes begin.
+    /// Fails like `read_var_u32`, or with `EndOfData` at the offset of the first of the bytes.
     pub fn read_reader(&mut self) -> Result<BinaryReader<'a>>
         ensures reads { Reads (EncodesReader self.old.features) result self.old self.new }
         ensures placed { IfOk result (λ r. end_of r ≡ offset_of self.new) }
@@ -99,9 +99,10 @@ impl<'a> BinaryReader<'a> {
         }
     }
 
-    /// Reads a count, at most this limit, of the list of this name, and then its items.
+    /// Reads a count of at most `limit` of the list that `desc` names, and returns an iterator over
+    /// its items.
     ///
-    /// Refused as `read_size`, which goes back to where the count begins.
+    /// Fails like `read_size`.
     pub fn read_iter<'r, T: FromReader<'a>>(
         &'r mut self,
         alloc: Global,
@@ -119,9 +120,9 @@ impl<'a> BinaryReader<'a> {
     }
 }
 
-/// The items of a list, read one after the other.
+/// An iterator over the items of a list.
 ///
-/// Dropping it reads the items that are left, up to a refusal.
+/// Dropping it reads the items that are left, up to the first error.
 pub struct BinaryReaderIter<'a, 'r, T: FromReader<'a>> {
     remaining: usize,
     reader: &'r mut BinaryReader<'a>,
@@ -130,7 +131,7 @@ pub struct BinaryReaderIter<'a, 'r, T: FromReader<'a>> {
 }
 
 impl<'a, 'r, T: FromReader<'a>> BinaryReaderIter<'a, 'r, T> {
-    /// This many items, from where the reader stands.
+    /// Creates an iterator over this many items, which start at the reader's position.
     pub fn new(
         alloc: Global,
         reader: &'r mut BinaryReader<'a>,
@@ -198,7 +199,7 @@ impl<'a, 'r, T: FromReader<'a>> Drop for BinaryReaderIter<'a, 'r, T> {
     }
 }
 
-/// Reads this many values, up to a refusal.
+/// Reads `count` values, up to the first error.
 fn read_on<'a, T: FromReader<'a>>(alloc: Global, reader: &mut BinaryReader<'a>, count: usize)
     ensures { ReadsOn (T.encodes reader.old.features) T.Memory.TAKES count reader.old reader.new }
 {

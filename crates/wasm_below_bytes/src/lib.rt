@@ -1,7 +1,11 @@
 //! Bytes: errors with their messages, features, and a reader of bytes and LEB128 numbers.
 //!
-//! A reading call answers `Ok` exactly where a prefix of the rest encodes a value, and takes that
-//! prefix. A refused call changes nothing (`specs/Source.antt`).
+//! A read call returns `Ok` if and only if a prefix of the rest encodes a value. It then returns
+//! the value and advances past that prefix. On `Err`, the reader is unchanged
+//! (`specs/Source.antt`).
+//!
+//! Every call that allocates may fail with `OutOfMemory` at the offset where the call began. The
+//! reader is then unchanged too.
 #![tactic(auto)]
 
 mod binary_reader;

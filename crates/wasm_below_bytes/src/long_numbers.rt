@@ -6,43 +6,43 @@ ghost use Rattle.wasm_below_bytes.specs.Leb128.{IsGroups, RefusesGroups, NumberA
 use crate::error::Error;
 use crate::message::{Message, NumberName};
 
-/// Why no number stands in the bytes.
+/// Why the bytes encode no number.
 #[derive(Clone, Copy)]
 pub enum NumberRefusal {
     /// The data ends before the last byte.
     EndOfData,
-    /// The last byte that the width has room for says that more follow.
+    /// The last byte that the width allows is a continuation byte.
     TooLong,
-    /// The last byte has a bit past the width.
+    /// The last byte has a bit beyond the width.
     TooLarge,
 }
 
-/// The groups of a number: the last byte, and all those before it as one number of `shift` bits.
+/// The groups of a number: the last byte, and the bytes before it as one number of `shift` bits.
 #[derive(Clone, Copy)]
 pub struct Groups {
     pub low: u64,
     pub shift: u32,
     pub last: u8,
-    /// The position behind the last byte.
+    /// The position after the last byte.
     pub behind: usize,
 }
 
-/// A number, and the position behind it.
+/// A number, and the position after it.
 #[derive(Clone, Copy)]
 pub struct Unsigned {
     pub value: u64,
     pub behind: usize,
 }
 
-/// A number with a sign, and the position behind it.
+/// A signed number, and the position after it.
 #[derive(Clone, Copy)]
 pub struct Signed {
     pub value: i64,
     pub behind: usize,
 }
 
-/// The error of a number of at most this many bits, which does not stand in the data from the
-/// offset `start` to the offset `end`.
+/// Returns the error of a number of at most this many bits. `start` is the offset of the number,
+/// `end` the offset of the end of the data.
 #[cold]
 #[inline(never)]
 pub fn number_error(
@@ -70,7 +70,7 @@ pub fn number_error(
     }
 }
 
-/// The unsigned number of two bytes at this position, if one stands there.
+/// Reads the unsigned number at this position if it has two bytes.
 #[inline(always)]
 pub fn two_bytes(buffer: &[u8], start: usize) -> Option<Unsigned>
     ensures of_32 { IfSome result (λ n. NumberAt (EncodesUnsigned 32) buffer.now start n.value n.behind) }
@@ -91,7 +91,7 @@ pub fn two_bytes(buffer: &[u8], start: usize) -> Option<Unsigned>
     })
 }
 
-/// The unsigned number of 32 bits at this position.
+/// Reads the unsigned number of 32 bits at this position.
 #[inline(always)]
 pub fn u32_at(buffer: &[u8], start: usize) -> Result<Unsigned, NumberRefusal>
     ensures number { IfOk result (λ n. NumberAt (EncodesUnsigned 32) buffer.now start n.value n.behind) }
@@ -101,7 +101,7 @@ pub fn u32_at(buffer: &[u8], start: usize) -> Result<Unsigned, NumberRefusal>
     read_unsigned(buffer, start, 32)
 }
 
-/// The signed number of 32 bits at this position.
+/// Reads the signed number of 32 bits at this position.
 pub fn long_i32(buffer: &[u8], start: usize) -> Result<Signed, NumberRefusal>
     ensures number { IfOk result (λ n. NumberAt (EncodesSigned 32) buffer.now start n.value n.behind) }
     ensures within { IfOk result (λ n. FitsWidth 32 n.value) }
@@ -110,7 +110,7 @@ pub fn long_i32(buffer: &[u8], start: usize) -> Result<Signed, NumberRefusal>
     read_signed(buffer, start, 32)
 }
 
-/// The signed number of 33 bits at this position.
+/// Reads the signed number of 33 bits at this position.
 pub fn long_s33(buffer: &[u8], start: usize) -> Result<Signed, NumberRefusal>
     ensures number { IfOk result (λ n. NumberAt (EncodesSigned 33) buffer.now start n.value n.behind) }
     ensures refused { IfErr result (λ r. NoNumber (EncodesSigned 33) r 33 buffer.now start) }
@@ -118,7 +118,7 @@ pub fn long_s33(buffer: &[u8], start: usize) -> Result<Signed, NumberRefusal>
     read_signed(buffer, start, 33)
 }
 
-/// The number of at most this many bits at this position.
+/// Reads the unsigned number of at most this many bits at this position.
 #[inline(always)]
 pub fn read_unsigned(buffer: &[u8], start: usize, bits: u32) -> Result<Unsigned, NumberRefusal>
     requires low { 0 < bits }
@@ -140,7 +140,7 @@ pub fn read_unsigned(buffer: &[u8], start: usize, bits: u32) -> Result<Unsigned,
     })
 }
 
-/// The number with a sign, of at most this many bits, at this position.
+/// Reads the signed number of at most this many bits at this position.
 #[inline(always)]
 pub fn read_signed(buffer: &[u8], start: usize, bits: u32) -> Result<Signed, NumberRefusal>
     requires low { 0 < bits }
@@ -162,7 +162,7 @@ pub fn read_signed(buffer: &[u8], start: usize, bits: u32) -> Result<Signed, Num
     })
 }
 
-/// The groups of a number of at most this many bits.
+/// Reads the groups of a number of at most this many bits.
 #[inline(always)]
 fn read_groups(buffer: &[u8], start: usize, bits: u32) -> Result<Groups, NumberRefusal>
     requires low { 0 < bits }
@@ -205,7 +205,7 @@ fn read_groups(buffer: &[u8], start: usize, bits: u32) -> Result<Groups, NumberR
     })
 }
 
-/// The seven bits of a last byte, the highest of them the sign.
+/// Returns the seven bits of a last byte as a signed number: the highest bit is the sign.
 #[inline(always)]
 pub fn last_value(byte: u8) -> i64
     requires { byte < 128 }
@@ -215,7 +215,7 @@ pub fn last_value(byte: u8) -> i64
     i64::from((byte + 64) % 128) - 64
 }
 
-/// Whether a value of seven bits has no more than these.
+/// Returns whether a signed value of seven bits fits in this many bits.
 #[inline(always)]
 fn fits_signed(value: i64, bits: u32) -> bool
     requires low { 0 < bits }
@@ -229,7 +229,7 @@ fn fits_signed(value: i64, bits: u32) -> bool
     -half <= value && value < half
 }
 
-/// Whether a last byte has no more than these bits.
+/// Returns whether a last byte fits in this many bits.
 #[inline(always)]
 fn fits_unsigned(last: u8, bits: u32) -> bool
     requires { last < 128 }
@@ -241,7 +241,7 @@ fn fits_unsigned(last: u8, bits: u32) -> bool
     last >> bits == 0
 }
 
-/// A number from its last byte and the `shift` bits before it.
+/// Joins the last byte of a number and the `shift` bits before it.
 #[inline(always)]
 fn join_unsigned(low: u64, shift: u32, last: u8) -> u64
     requires shift { shift < 64 }
@@ -252,7 +252,7 @@ fn join_unsigned(low: u64, shift: u32, last: u8) -> u64
     low + (u64::from(last) << shift)
 }
 
-/// A number with a sign from its last byte and the `shift` bits before it.
+/// Joins the last byte of a signed number and the `shift` bits before it.
 #[inline(always)]
 fn join_signed(low: u64, shift: u32, last: u8) -> i64
     requires shift { shift < 64 }

@@ -1,18 +1,18 @@
-//! Whether the reading of a type asks for memory.
+//! Whether reading a type allocates.
 ghost use Rattle.std.specs.Prelude.{Bool, true, false};
 
-/// What is known of the memory that a reading asks for.
+/// Whether reading a type allocates, as a type: `May` or `Never`.
 pub trait MemoryUse {
     ghost TAKES: { Bool };
 
-    /// Whether a reading may answer that memory was refused.
+    /// Whether a read may fail with `OutOfMemory`.
     const TAKES: bool;
 }
 
-/// Memory may be asked for, and refused.
+/// Reading may allocate, and fail with `OutOfMemory`.
 pub struct May;
 
-/// No memory is ever asked for.
+/// Reading never allocates.
 pub struct Never;
 
 impl MemoryUse for May {
@@ -27,18 +27,18 @@ impl MemoryUse for Never {
     const TAKES: bool = false;
 }
 
-/// A type that says what its reading asks for.
+/// A type that declares whether reading it allocates.
 pub trait UsesMemory {
     /// `May` or `Never`.
     type Memory: MemoryUse;
 }
 
-/// The same as a constant of the type itself. Each type that says it has the constant, and none
-/// can give it another value.
+/// The same as a constant of the type. Each type that implements `UsesMemory` has the constant, and
+/// cannot give it another value.
 pub trait TakesMemory {
     ghost TAKES_MEMORY: { Bool };
 
-    /// Whether a reading may answer that memory was refused.
+    /// Whether a read may fail with `OutOfMemory`.
     const TAKES_MEMORY: bool;
 }
 

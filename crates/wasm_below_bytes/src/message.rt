@@ -1,10 +1,10 @@
-//! What was refused, and the names that its text tells.
+//! Messages of errors, and the names in their texts.
 ghost use Rattle.std.specs.Prelude.{◌≡◌};
 ghost use Rattle.wasm_below_bytes.specs.Refusal.{number_of, number_name_text, size_name_text, instruction_name_text, leading_byte_name_text, type_name_text};
 
 use std::fmt;
 
-/// The kind of frame that an operator wanted to stand in.
+/// The kind of frame that an operator must occur in.
 #[derive(Clone, Copy, Debug, PartialEq, Eq)]
 pub enum FrameName {
     /// The first body of an `if`.
@@ -22,7 +22,7 @@ impl fmt::Display for FrameName {
     }
 }
 
-/// The name of a kind of number, in the texts of the two faults that a number may have.
+/// The name of a kind of number, in the two messages about an invalid number.
 #[derive(Clone, Copy, Debug, PartialEq, Eq)]
 pub enum NumberName {
     /// An unsigned LEB128 number of 32 bits.
@@ -38,7 +38,7 @@ pub enum NumberName {
 }
 
 impl NumberName {
-    /// The text of the name.
+    /// Returns the text of the name.
     pub fn text(self) -> &'static str
         ensures { result.now ≡ number_name_text self }
     {
@@ -58,7 +58,7 @@ impl fmt::Display for NumberName {
     }
 }
 
-/// The name of a list, in the text of a count that is above its limit.
+/// The name of a list, in the message about a count above its limit.
 #[derive(Clone, Copy, Debug, PartialEq, Eq)]
 pub enum SizeName {
     /// The targets of a branch table.
@@ -72,7 +72,7 @@ pub enum SizeName {
 }
 
 impl SizeName {
-    /// The text of the name.
+    /// Returns the text of the name.
     pub fn text(self) -> &'static str
         ensures { result.now ≡ size_name_text self }
     {
@@ -94,20 +94,15 @@ impl fmt::Display for SizeName {
 /// The name of an instruction of the legacy exceptions, or `else`.
 #[derive(Clone, Copy, Debug, PartialEq, Eq)]
 pub enum InstructionName {
-    /// The instruction `else`.
     Else,
-    /// The instruction `try`.
     Try,
-    /// The instruction `catch`.
     Catch,
-    /// The instruction `catch_all`.
     CatchAll,
-    /// The instruction `delegate`.
     Delegate,
 }
 
 impl InstructionName {
-    /// The text of the name.
+    /// Returns the text of the name.
     pub fn text(self) -> &'static str
         ensures { result.now ≡ instruction_name_text self }
     {
@@ -127,7 +122,7 @@ impl fmt::Display for InstructionName {
     }
 }
 
-/// The name of what a leading byte tells the form of.
+/// The name of the construct whose leading byte is invalid.
 #[derive(Clone, Copy, Debug, PartialEq, Eq)]
 pub enum LeadingByteName {
     /// A catch of a try table.
@@ -137,7 +132,7 @@ pub enum LeadingByteName {
 }
 
 impl LeadingByteName {
-    /// The text of the name.
+    /// Returns the text of the name.
     pub fn text(self) -> &'static str
         ensures { result.now ≡ leading_byte_name_text self }
     {
@@ -157,16 +152,13 @@ impl fmt::Display for LeadingByteName {
 /// The name of a kind of type.
 #[derive(Clone, Copy, Debug, PartialEq, Eq)]
 pub enum TypeName {
-    /// A value type.
     ValueType,
-    /// A reference type.
     ReferenceType,
-    /// A heap type.
     HeapType,
 }
 
 impl TypeName {
-    /// The text of the name.
+    /// Returns the text of the name.
     pub fn text(self) -> &'static str
         ensures { result.now ≡ type_name_text self }
     {
@@ -184,66 +176,66 @@ impl fmt::Display for TypeName {
     }
 }
 
-/// What was refused. `docs/REFUSALS.md` has each with its number, its text and the offset at which
-/// it is answered.
+/// What is wrong. `docs/ERRORS-AND-FEATURES.md` lists each message with its number, its text and
+/// the offset of the error.
 #[derive(Clone, Copy, Debug, PartialEq, Eq)]
 pub enum Message {
     /// The data ends too early.
     EndOfData,
-    /// The instruction named needs a feature that is off.
+    /// The named instruction needs a feature that is off.
     FeatureRequired(InstructionName),
-    /// Memory was refused.
+    /// Allocation failed.
     OutOfMemory,
-    /// A number of the kind named goes on past its greatest length.
+    /// A number of the named kind has more bytes than its width allows.
     IntegerTooLong(NumberName),
-    /// A number of the kind named has a bit past its width.
+    /// A number of the named kind has a bit beyond its width.
     IntegerTooLarge(NumberName),
-    /// A count of the list named is above its limit.
+    /// The count of the named list is above its limit.
     SizeOutOfBounds(SizeName),
-    /// A block type's index is negative.
+    /// The index of a block type is negative.
     InvalidFunctionType,
-    /// The instruction named stands outside the frame that it needs.
+    /// The named instruction occurs outside the frame that it needs.
     WrongFrame(InstructionName, FrameName),
     /// No frame is open.
     OperatorsRemaining,
     /// Frames are open at the end of a body or an expression.
     FramesRemain,
-    /// Frames are open behind the first `end` of a constant expression.
+    /// Frames are open after the first `end` of a constant expression.
     FramesRemainConst,
-    /// Data is left behind the last operator.
+    /// Data is left after the last operator.
     UnexpectedData,
     /// No operator has this opcode.
     IllegalOpcode(u8),
-    /// No operator has this subopcode behind this prefix byte.
+    /// No operator has this subopcode after this prefix byte.
     UnknownSubopcode(u8, u32),
-    /// A vector operator where none is read.
+    /// A SIMD operator, in a call that reads none.
     UnexpectedSimd,
     /// A byte is not 0.
     ZeroByteExpected,
     /// The byte of `atomic.fence` is not 0.
     NonzeroAfterFence,
-    /// A memory argument names a memory and an array.
+    /// A memory argument has both a memory index and an array index.
     MemoryAndArray,
-    /// A memory argument of an operator that is not atomic has an ordering.
+    /// The memory argument of an operator that is not atomic has an ordering.
     OrderingOnPlain,
-    /// A byte is no ordering. `hex` tells how the byte is printed.
+    /// A byte is not an ordering. If `hex` is set, the text has the byte in hexadecimal.
     InvalidOrdering { byte: u8, hex: bool },
-    /// A memory argument has bits that mean nothing.
+    /// The flags of a memory argument have reserved bits.
     ReservedFlags,
     /// The flags of a cast are above 3.
     InvalidCastFlags(u8),
-    /// No form of what is named begins with this byte.
+    /// The named construct cannot start with this byte.
     InvalidLeadingByte(u8, LeadingByteName),
     /// More than 4294967295 locals.
     TooManyLocals,
-    /// No type of the kind named stands here.
+    /// The next bytes are not a type of the named kind.
     InvalidType(TypeName),
-    /// Data is left behind the items of a section.
+    /// Data is left after the items of a section.
     DataAfterSection,
 }
 
 impl Message {
-    /// The number of the refusal, from 1 to 25.
+    /// Returns the number of the refusal, from 1 to 25.
     pub fn number(&self) -> u8
         ensures { result ≡ number_of self.now }
     {

@@ -1,6 +1,7 @@
-//! Long LEB128 numbers by calls that stay calls. What such a call answers is two words, so that it
-//! stands in registers: an enum of more would go through memory. No number ends at the position 0, so
-//! that position says that none stands there, and the value is the code of the refusal.
+//! Long LEB128 numbers, read by calls that are not inlined. The result of such a call is two words,
+//! and so is returned in registers; a larger enum would go through memory. No number ends at
+//! position 0. So this position says that there is no number, and `value` is then the code of the
+//! reason.
 ghost use Rattle.std.specs.Prelude.{◌≡◌, ◌<◌, ◌^◌, unsigned_abs};
 ghost use Rattle.wasm_below_bytes.specs.Number.{EncodesUnsigned, EncodesSigned};
 ghost use Rattle.wasm_below_bytes.specs.Leb128.{NumberAt, NoNumber, HasPlace, refusal_of_code, refusal_message, refusal_offset};
@@ -11,7 +12,7 @@ use crate::long_numbers::{
 };
 use crate::message::NumberName;
 
-/// The unsigned number of 32 bits at this position.
+/// Reads the unsigned number of 32 bits at this position.
 #[inline(never)]
 pub fn long_u32(buffer: &[u8], start: usize) -> Unsigned
     ensures number { 0 < result.behind → NumberAt (EncodesUnsigned 32) buffer.now start result.value result.behind }
@@ -27,7 +28,7 @@ pub fn long_u32(buffer: &[u8], start: usize) -> Unsigned
     }
 }
 
-/// The unsigned number of 64 bits at this position.
+/// Reads the unsigned number of 64 bits at this position.
 #[inline(never)]
 pub fn long_u64(buffer: &[u8], start: usize) -> Unsigned
     ensures number { 0 < result.behind → NumberAt (EncodesUnsigned 64) buffer.now start result.value result.behind }
@@ -42,7 +43,7 @@ pub fn long_u64(buffer: &[u8], start: usize) -> Unsigned
     }
 }
 
-/// The signed number of 64 bits at this position.
+/// Reads the signed number of 64 bits at this position.
 #[inline(never)]
 pub fn long_i64(buffer: &[u8], start: usize) -> Signed
     ensures number { 0 < result.behind → NumberAt (EncodesSigned 64) buffer.now start result.value result.behind }
@@ -57,7 +58,7 @@ pub fn long_i64(buffer: &[u8], start: usize) -> Signed
     }
 }
 
-/// The error of a refusal with this code.
+/// Returns the error for the reason with this code.
 #[cold]
 #[inline(never)]
 pub fn coded_error(code: u64, start: u64, end: u64, bits: u32, name: NumberName) -> Error
@@ -69,7 +70,7 @@ pub fn coded_error(code: u64, start: u64, end: u64, bits: u32, name: NumberName)
     number_error(refusal_of_code(code), start, end, bits, name)
 }
 
-/// The code of a refusal.
+/// Returns the code of a reason.
 #[inline(always)]
 fn refusal_code(refusal: NumberRefusal) -> u8
     ensures { refusal_of_code result ≡ refusal }
@@ -81,7 +82,7 @@ fn refusal_code(refusal: NumberRefusal) -> u8
     }
 }
 
-/// The refusal of a code.
+/// Returns the reason with this code.
 #[inline(always)]
 fn refusal_of_code(code: u64) -> NumberRefusal
     ensures { result ≡ refusal_of_code code }

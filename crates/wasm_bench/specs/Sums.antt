@@ -6,11 +6,11 @@ use Rattle.wasm_operators_readers.specs.imm.control.block_type.BlockType.TheVari
 use Rattle.wasm_operators_readers.specs.imm.BranchTables.{BranchTable}
 use Rattle.wasm_operators_readers.specs.imm.Lists.{EncodesEach}
 
--- Where the bytes are the encodings of values, one after another, the answer is the sum of what each counts, in 64 bits.
+-- If the bytes are encodings of values, one after another, `answer` is the sum of what each value counts, in 64 bits.
 abbrev pub IsSumOf : {X : Type 0} → (List ℕ → X → Type 0) → (X → ℕ) → List ℕ → ℕ → Type 0
 IsSumOf {X} Encodes counts bytes answer = (values : List X) → EncodesEach Encodes bytes values → answer ≡ sum_by counts values % 2 ^ 64
 
--- What each kind of value counts.
+-- What a value of each kind counts.
 abbrev pub itself : ℕ → ℕ
 itself n = n
 

@@ -1,7 +1,6 @@
-//! The readers of numbers and immediates by themselves, as a static library that is timed
-//! (`tools/bench`). Each function reads its bytes from the first to the last, with all features,
-//! and answers a sum of what it read, so that no reading can be left out. Where a reading is
-//! refused it answers the sum so far.
+//! Readers of single numbers and immediates, as a static library that `tools/bench` measures. Each
+//! function reads its bytes to the end, with all features. It returns a sum of the values, so that
+//! the compiler can't remove a read. On an error, a function returns the sum so far.
 #![tactic(auto)]
 
 ghost use Rattle.std.specs.Prelude.{◌≡◌};
@@ -21,7 +20,7 @@ use std::alloc::Global;
 use wasm_operators_readers::below::BinaryReader;
 use wasm_operators_readers::imm::{BlockType, BrTable, MemArg, MemArgKind};
 
-/// The sum of the bytes.
+/// Returns the sum of the bytes.
 #[unsafe(no_mangle)]
 pub extern "C" fn wasm_bench_u8(_alloc: Global, bytes: &[u8]) -> u64
     ensures { IsSumOf IsByte itself bytes.now result }
@@ -37,7 +36,7 @@ pub extern "C" fn wasm_bench_u8(_alloc: Global, bytes: &[u8]) -> u64
     sum
 }
 
-/// The sum of the unsigned numbers of 32 bits.
+/// Returns the sum of the unsigned numbers of 32 bits.
 #[unsafe(no_mangle)]
 pub extern "C" fn wasm_bench_u32(_alloc: Global, bytes: &[u8]) -> u64
     ensures { IsSumOf (EncodesUnsigned 32) itself bytes.now result }
@@ -53,7 +52,7 @@ pub extern "C" fn wasm_bench_u32(_alloc: Global, bytes: &[u8]) -> u64
     sum
 }
 
-/// The sum of the signed numbers of 32 bits, each as its bits.
+/// Returns the sum of the signed numbers of 32 bits, each reinterpreted as unsigned.
 #[unsafe(no_mangle)]
 pub extern "C" fn wasm_bench_i32(_alloc: Global, bytes: &[u8]) -> u64
     ensures { IsSumOf (EncodesSigned 32) (cast_unsigned w32) bytes.now result }
@@ -69,7 +68,7 @@ pub extern "C" fn wasm_bench_i32(_alloc: Global, bytes: &[u8]) -> u64
     sum
 }
 
-/// The sum of the signed numbers of 64 bits, each as its bits.
+/// Returns the sum of the signed numbers of 64 bits, each reinterpreted as unsigned.
 #[unsafe(no_mangle)]
 pub extern "C" fn wasm_bench_i64(_alloc: Global, bytes: &[u8]) -> u64
     ensures { IsSumOf (EncodesSigned 64) (cast_unsigned w64) bytes.now result }
@@ -85,7 +84,7 @@ pub extern "C" fn wasm_bench_i64(_alloc: Global, bytes: &[u8]) -> u64
     sum
 }
 
-/// The sum of the offsets and alignments of memory arguments.
+/// Returns the sum of the offsets and alignments of memory arguments.
 #[unsafe(no_mangle)]
 pub extern "C" fn wasm_bench_memarg(_alloc: Global, bytes: &[u8]) -> u64
     ensures { IsSumOf (EncodesMemArg all_features MemArgKind.Plain 2) argument_counts bytes.now result }
@@ -104,7 +103,7 @@ pub extern "C" fn wasm_bench_memarg(_alloc: Global, bytes: &[u8]) -> u64
     sum
 }
 
-/// The sum over block types: 1 for none, 2 for a value type, else the index.
+/// Returns the sum over block types: 1 for an empty one, 2 for a value type, else the type index.
 #[unsafe(no_mangle)]
 pub extern "C" fn wasm_bench_block(_alloc: Global, bytes: &[u8]) -> u64
     ensures { IsSumOf EncodesBlockType block_counts bytes.now result }
@@ -120,7 +119,7 @@ pub extern "C" fn wasm_bench_block(_alloc: Global, bytes: &[u8]) -> u64
     sum
 }
 
-/// The sum of the counts and default targets of branch tables.
+/// Returns the sum of the counts and default targets of branch tables.
 #[unsafe(no_mangle)]
 pub extern "C" fn wasm_bench_br_table(_alloc: Global, bytes: &[u8]) -> u64
     ensures { IsSumOf EncodesBranchTable table_counts bytes.now result }
@@ -139,7 +138,7 @@ pub extern "C" fn wasm_bench_br_table(_alloc: Global, bytes: &[u8]) -> u64
     sum
 }
 
-/// What a block type adds to the sum.
+/// Returns what a block type adds to the sum.
 #[inline(always)]
 fn block_number(ty: BlockType) -> u64
     ensures { result ≡ block_counts ty }

@@ -5,7 +5,7 @@ use wasm_operators_readers::OperatorsReader;
 use wasm_operators_readers::below::{BinaryReader, ValType};
 use wasm_operators_readers::instr::Operator;
 
-/// The operators behind the locals of a body. Code Section.
+/// Creates a reader of the operators after the locals of a body (section Code Section).
 fn operators_of(alloc: Global, body: &[u8]) -> Option<OperatorsReader<'_>> {
     let mut reader = BinaryReader::new(body, 0);
     let count = reader.read_var_u32().ok()?;
@@ -16,7 +16,7 @@ fn operators_of(alloc: Global, body: &[u8]) -> Option<OperatorsReader<'_>> {
     Some(OperatorsReader::new(alloc, reader))
 }
 
-/// How many operators a body has, counted by a visitor without visits of its own.
+/// Returns the number of operators in a body, counted by a visitor that overrides no visit.
 #[unsafe(no_mangle)]
 pub extern "C" fn wasm_bench_count_any(alloc: Global, body: &[u8]) -> u64 {
     let mut count = CountAny { operators: 0 };
@@ -26,8 +26,8 @@ pub extern "C" fn wasm_bench_count_any(alloc: Global, body: &[u8]) -> u64 {
     count.operators
 }
 
-/// How many operators a body has, counted by a visitor with four visits of its own. The numbers that
-/// these see are looked at, so that no reading of them can be left out.
+/// Returns the number of operators in a body, counted by a visitor that overrides four visits. The
+/// immediates of these are added up, so that the compiler can't remove a read.
 #[unsafe(no_mangle)]
 pub extern "C" fn wasm_bench_count_some(alloc: Global, body: &[u8]) -> u64 {
     let mut count = CountSome {
@@ -43,8 +43,8 @@ pub extern "C" fn wasm_bench_count_some(alloc: Global, body: &[u8]) -> u64 {
     count.operators
 }
 
-/// The sum over the operators of a body of the indices, constants and offsets of four, and of 1 for
-/// each other.
+/// Returns a sum over the operators of a body: the index, constant or offset of four operators, and
+/// 1 for each other.
 #[unsafe(no_mangle)]
 pub extern "C" fn wasm_bench_read(alloc: Global, body: &[u8]) -> u64 {
     let Some(mut operators) = operators_of(alloc, body) else {
@@ -60,7 +60,7 @@ pub extern "C" fn wasm_bench_read(alloc: Global, body: &[u8]) -> u64 {
     sum
 }
 
-/// How many operators of a body are read into a list.
+/// Returns the number of operators in a body, which are read into a list.
 #[unsafe(no_mangle)]
 pub extern "C" fn wasm_bench_read_vec(alloc: Global, body: &[u8]) -> u64 {
     let mut out = Vec::new(alloc);
@@ -70,7 +70,7 @@ pub extern "C" fn wasm_bench_read_vec(alloc: Global, body: &[u8]) -> u64 {
     out.len() as u64
 }
 
-/// What an operator adds to the sum.
+/// Returns what an operator adds to the sum.
 #[inline(always)]
 fn number_of(op: &Operator<'_>) -> u64 {
     match op {

@@ -1,4 +1,4 @@
-//! The visitors that are timed.
+//! The visitors that are measured.
 ghost use Rattle.std.specs.Prelude.{◌≡◌, ◌+◌, ◌-◌, ◌^◌, ◌<◌};
 
 use std::alloc::Global;
@@ -9,7 +9,7 @@ use wasm_operators_readers::visitors::{
     VisitGroups, VisitOneByte, VisitOperator, VisitSimdOperator, Visitor, decode, dispatch,
 };
 
-/// Counts in `visit_any` alone.
+/// A visitor that counts operators in `visit_any` alone.
 #[derive(Drop)]
 pub struct CountAny {
     pub operators: u64,
@@ -18,7 +18,7 @@ pub struct CountAny {
 impl Visitor for CountAny {
     type Output = ();
 
-    // A visit counts one more.
+    // A visit adds one.
     ghost visits = { λ before op answer after. before.operators < 2 ^ 64 - 1 → after.operators ≡ before.operators + 1 };
 
     #[inline(always)]
@@ -38,7 +38,7 @@ impl<'a> VisitOperator<'a> for CountAny {
 
 impl VisitSimdOperator for CountAny {}
 
-/// Counts too, with visits of its own for four operators, whose immediates it adds up.
+/// A visitor that counts operators, and overrides four visits to add up their immediates.
 #[derive(Drop)]
 pub struct CountSome {
     pub operators: u64,
@@ -48,7 +48,7 @@ pub struct CountSome {
 impl Visitor for CountSome {
     type Output = ();
 
-    // A visit counts one more.
+    // A visit adds one.
     ghost visits = { λ before op answer after. before.operators < 2 ^ 64 - 1 → after.operators ≡ before.operators + 1 };
 
     #[inline(always)]
@@ -58,7 +58,7 @@ impl Visitor for CountSome {
 }
 
 impl CountSome {
-    /// Counts an operator with this number.
+    /// Counts an operator and adds its immediate.
     #[inline(always)]
     fn add(&mut self, number: u64)
         ensures { self.old.operators < 2 ^ 64 - 1 → self.new.operators ≡ self.old.operators + 1 }

@@ -12,7 +12,7 @@ use Rattle.wasm_c.specs.declared.refusal.WasmRefusal.{WasmRefusal}
 use Rattle.wasm_c.specs.Steps.{IsReader, reader_at, state_at, TakesPlain, ReadsPlain, ReadsEach, EndsBatch, ReadsBatch}
 use Rattle.wasm_c.proofs.Written.{one_more}
 
--- One more.
+-- One more operator.
 reads_one : (old now next : State) (placed : Placed) (op : Operator) (offset : ℕ) → ReadsEach old placed now → TakesOperator EncodesAllowed op now next →
     offset ≡ offset_of now.reader → ReadsEach old (placed ++ (op, offset) ∷ []) next
 reads_one old now next [] op offset same takes at =
@@ -20,7 +20,7 @@ reads_one old now next [] op offset same takes at =
 reads_one old now next (p ∷ ps) op offset (between, first, place, others) takes at =
     (between, first, place, reads_one between now next ps op offset others takes at)
 
--- So many were read, and stand at the beginning of the array.
+-- The operators that are read so far are at the start of the array.
 abbrev pub Batch : List ℕ → WasmReader → WasmReader → List ℕ → List ℕ → ℕ → List WasmOperator → List WasmOperator → Type 0
 Batch bytes old now frames_old frames_now count out_old out = (placed : Placed) × ReadsEach (state_at bytes old frames_old) placed (state_at bytes now frames_now) ×
     (count ≡ length placed) × (length placed ≤ length out_old) × (out ≡ views placed ++ drop (length placed) out_old) ×
@@ -46,7 +46,7 @@ batch_on bytes old now next frames_old frames_now frames_next count out_old out 
       λ none. absurd (omega (arith, n, ap length none)),
     )
 
--- Those of a reader, up to where one still stands.
+-- The batch ends, and the C struct is still a reader.
 pub batch_ends : (r : WasmRefusal) (bytes : List ℕ) (old now : WasmReader) (frames_old frames_now : List ℕ) (count : ℕ) (out_old out : List WasmOperator) →
     (b : Batch bytes old now frames_old frames_now count out_old out) → IsReader bytes (length frames_old) old → IsReader bytes (length frames_now) now →
     EndsBatch r bytes now frames_now (length b.0 ≡ length out_old) → ReadsBatch r count bytes old now frames_old frames_now out_old out
@@ -63,7 +63,7 @@ batch_ends r bytes old now frames_old frames_now count out_old out b was still e
   ends = ends;
 }
 
--- One that was not read.
+-- The batch ends because an operator is not read.
 pub batch_stops : (r : WasmRefusal) (bytes : List ℕ) (old now next : WasmReader) (frames_old frames_now frames_next : List ℕ) (count : ℕ)
     (out_old out : List WasmOperator) → Batch bytes old now frames_old frames_now count out_old out → IsReader bytes (length frames_old) old →
     IsReader bytes (length frames_now) now → ReadsPlain (Err r) bytes now next frames_now frames_next →

@@ -1,4 +1,4 @@
--- What the laws of `run_laws` say that proofs here are handed.
+-- The statements of the laws of `run_laws` that proofs here get as arguments.
 use Rattle.std.proofs.Common.{◌≡◌, List, []}
 use Rattle.wasm_operators.specs.below.bytes.error.Error.{Error}
 use Rattle.wasm_operators.specs.below.Source.{rest}

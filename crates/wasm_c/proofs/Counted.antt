@@ -1,4 +1,4 @@
--- Visits that each count one more count the list, behind as many as were counted before.
+-- If each visit adds one, the count grows by the length of the list.
 use Rattle.std.proofs.Common.{◌≡◌, ℕ, ◌+◌, ◌-◌, ◌^◌, ◌<◌, ◌≤◌, List, [], ◌∷◌, ◌++◌, length, length-append, length-drop, drop, refl, ap, sym, ◌∙◌, arith}
 use Rattle.wasm_operators.specs.instr.declared.operator.Operator.{Operator}
 use Rattle.wasm_operators.specs.Expression.{Placed}
@@ -32,7 +32,7 @@ drop_all list n all = none_of (drop n list) (omega (arith, length-drop n list, a
     none_of [] none = refl
     none_of (x ∷ xs) none = absurd (omega (arith, none))
 
--- An array that is full has the views of the first of them, however many follow.
+-- A full array has the C structs of the first operators, however many follow.
 pub array_full : (found more : Placed) (old new : List WasmOperator) → length found ≡ length old → new ≡ views found ++ drop (length found) old →
     new ≡ written (views (found ++ more)) old
 array_full found more old new full is =

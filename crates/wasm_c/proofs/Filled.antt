@@ -1,4 +1,4 @@
--- An array whose beginning has the views of the operators that were read.
+-- An array that starts with the C structs of the operators that were read.
 use Rattle.std.proofs.Common.{◌≡◌, ℕ, ◌+◌, ◌<◌, ◌≤◌, List, [], ◌∷◌, ◌++◌, length, drop, set, refl, sym, subst, arith, length-append}
 use Rattle.wasm_operators.specs.below.Source.{offset_of}
 use Rattle.wasm_operators.specs.instr.declared.operator.Operator.{Operator}
@@ -10,7 +10,7 @@ use Rattle.wasm_view.specs.View.{view_of, views}
 use Rattle.wasm_view.specs.declared.view.WasmOperator.{WasmOperator}
 use Rattle.wasm_c.proofs.Written.{one_more}
 
--- So many were read since the reader was opened, and stand at the beginning of the array, which else is as it was.
+-- The operators read since the reader was opened are at the start of the array, and its other elements are unchanged.
 abbrev pub Filled : State → State → ℕ → List WasmOperator → List WasmOperator → Type 0
 Filled opened now count old out = (found : Placed) × TakesOperators opened now found × (count ≡ length found) × (length found ≤ length old) ×
     (out ≡ views found ++ drop (length found) old)

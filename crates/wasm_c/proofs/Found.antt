@@ -1,4 +1,4 @@
--- What was found in two steps, as in one; and behind the locals of a body.
+-- What is found in two steps is found in one; and the same after the locals of a body.
 use Rattle.std.proofs.Common.{◌≡◌, ℕ, ◌+◌, ◌≤◌, List, [], ◌++◌, length, length-append, length-drop, Result, Ok, Err, refl, sym, ap, subst, ◌∙◌, arith, inl, inr}
 use Rattle.wasm_operators.specs.below.bytes.error.Error.{Error}
 use Rattle.wasm_operators.specs.below.bytes.features.WasmFeatures.{WasmFeatures}
@@ -15,7 +15,7 @@ use Rattle.wasm_operators.specs.Laws.{TakesBoth, IsNoLonger}
 use Rattle.wasm_c.specs.Reads.{EndsBody, EndsOperators}
 use Rattle.wasm_c.proofs.Cited.{OfTree, OfBeginning, OfStops}
 
--- Where memory may be refused is not said of a body.
+-- The contract of a body does not say when allocation may fail.
 ends_anywhere : {X : Type 0} → OfStops → (result : Result X Error) (s : State) → EndsRun EncodesAllowed OperatorFault (NextMayAllocate EncodesAllowed) result s →
     EndsRun EncodesAllowed OperatorFault Anywhere result s
 ends_anywhere law (Ok x) s h = h
@@ -27,7 +27,7 @@ ends_run : {X : Type 0} → OfTree → OfBeginning → (result : Result X Error)
 ends_run tree beginning (Ok x) opened new all stood ran (closed, taken) = (tree [] opened new all stood ran closed taken).encodes
 ends_run tree beginning (Err e) opened new all stood ran stops = (new, beginning [] e opened new all stood ran stops)
 
--- The operators that were found before, and those that were read to the end behind them.
+-- The operators found before, and those read to the end after them.
 pub ends_joined : {X : Type 0} → TakesBoth → OfTree → OfBeginning → (result : Result X Error) (opened old new : State) (found more : Placed) →
     StoodBefore [] opened → TakesOperators opened old found → RunsToEnd (Adds [] more) EncodesAllowed OperatorFault Anywhere result old new →
     EndsOperators result opened (found ++ more)
@@ -35,7 +35,7 @@ ends_joined joined tree beginning result opened old new found more stood ran (pl
     subst (λ list. EndsOperators result opened (found ++ list)) (sym came)
     (ends_run tree beginning result opened new (found ++ placed) stood (joined opened old new found placed ran on) ends)
 
--- The same of those that were visited.
+-- The same if the later operators are visited.
 pub ends_visited : {X : Type 0} (Happened : OfPlaced) → TakesBoth → OfTree → OfBeginning → OfStops → (result : Result X Error) (opened old new : State)
     (found : Placed) → StoodBefore [] opened → TakesOperators opened old found →
     RunsToEnd Happened EncodesAllowed OperatorFault (NextMayAllocate EncodesAllowed) result old new →
@@ -46,7 +46,7 @@ ends_visited Happened joined tree beginning stops result opened old new found st
   ends_run tree beginning result opened new (found ++ placed) stood (joined opened old new found placed ran on) (ends_anywhere stops result new ends),
 )
 
--- They are no more than the bytes.
+-- The number of operators is at most that of the bytes.
 pub ends_few : {X : Type 0} (result : Result X Error) (opened : State) (placed : Placed) → IsNoLonger opened.reader.features →
     EndsOperators result opened placed → length placed ≤ end_of opened.reader
 ends_few (Ok x) opened placed lengths h =
@@ -61,7 +61,7 @@ ends_few (Err e) opened placed lengths h =
 abbrev source : WasmFeatures → ℕ → List ℕ → Source
 source features offset bytes = record { features = features; offset = offset; bytes = bytes }
 
--- The locals of a body, and the expression behind them.
+-- The locals of a body, followed by its expression.
 body_behind : (body opened : Reader) (declarations : List Declaration) (placed : Placed) → IsPastLocals declarations body opened →
     EncodesExpression (source_of opened) placed → EncodesBody (source_of body) declarations placed
 body_behind body opened declarations placed (text, encodes, takes) h =
@@ -86,10 +86,10 @@ pub ends_body : {X : Type 0} (result : Result X Error) (body : Reader) (opened :
 ends_body (Ok x) body opened placed ((declarations, past), fresh) h = (declarations, body_behind body opened.reader declarations placed past h)
 ends_body (Err e) body opened placed opens h = inr (record { opened = opened; opens = opens; stopped = h.0; reads = h.1 })
 
--- A body whose locals are refused.
+-- A body whose locals are an error.
 pub refused_locals : (e : Error) (body : Reader) → RefusesLocals e body → StopsBody e body []
 refused_locals e body h = inl (record { refused = h; nothing = refl })
 
--- The bytes behind the locals end where those of the body do.
+-- The bytes after the locals end where the body ends.
 pub opened_end : (body : Reader) (opened : State) → OpensBody (Ok opened) body → end_of opened.reader ≡ end_of body
 opened_end body opened ((declarations, (text, encodes, takes)), fresh) = ap end_of takes.moved

@@ -1,4 +1,4 @@
--- What calls for the members of a list answer, of what stands at an offset.
+-- The results of the calls for an operator's list.
 use Rattle.std.proofs.Common.{◌≡◌, ℕ, List, Option, Some, None, Result, Ok, Err, refl, ap, subst, ◌∙◌, inl, inr}
 use Rattle.std.specs.Prelude.{IfSome, IfNone}
 use Rattle.wasm_operators.specs.below.bytes.error.Error.{Error}
@@ -19,14 +19,14 @@ abbrev reader_in : Reader → Result Reader WasmRefusal → Reader
 reader_in other (Ok r) = r
 reader_in other (Err e) = other
 
--- Bytes that stand somewhere, or why none do.
+-- Bytes at an offset, or why there are none.
 abbrev some_bytes : Reader → Result Reader WasmRefusal
 some_bytes ahead = Ok ahead
 
 abbrev no_bytes : WasmRefusal → Result Reader WasmRefusal
 no_bytes r = Err r
 
--- What the bytes that stand there are, or which misuse there is.
+-- The bytes at the offset, or the misuse.
 abbrev pub FindsBytes : Result Reader WasmRefusal → List ℕ → ℕ → ℕ → ℕ → Type 0
 FindsBytes result bytes offset features at =
     AtOffset (λ number place. result ≡ Err (misuse number place)) (λ input. result ≡ Ok input) bytes offset features at
@@ -38,15 +38,15 @@ some_operator op = Ok op
 abbrev no_operator : WasmRefusal → Result Operator WasmRefusal
 no_operator r = Err r
 
--- An operator that was read there.
+-- An operator that was read is encoded here.
 pub stands_there : (op : Operator) (ahead : Reader) → PeeksOperator (Some frame.Block) (Ok op) ahead → StandsThere ahead op
 stands_there op ahead (behind, (text, encodes, takes)) = (text, rest behind, takes.parts, encodes.0)
 
--- One that was refused there.
+-- A read that failed is an error here.
 pub refuses_there : (e : Error) (r : WasmRefusal) (ahead : Reader) → PeeksOperator (Some frame.Block) (Err e) ahead → r ≡ refusal_of e → RefusesThere r ahead
 refuses_there e r ahead (behind, (same, refused, fault)) is = (e, is, (refl, refused, fault))
 
--- What is said of a call at an offset, where it follows from something else that is.
+-- A statement about a call at an offset follows from a stronger one.
 at_offset : (Misuse Refuses : ℕ → ℕ → Type 0) (There Stands : Reader → Type 0) (bytes : List ℕ) (offset features at : ℕ) →
     ((number place : ℕ) → Misuse number place → Refuses number place) → ((input : Reader) → There input → Stands input) →
     AtOffset Misuse There bytes offset features at → AtOffset Refuses Stands bytes offset features at
@@ -58,7 +58,7 @@ at_offset Misuse Refuses There Stands bytes offset features at refused stood h =
   there = λ known within low high. stood (bytes_at bytes offset features at) (h.there known within low high);
 }
 
--- What was read from the bytes that stand there.
+-- The operator that was read from the bytes at the offset.
 pub reads_ahead : (result : Result Operator WasmRefusal) (ahead : Reader) (bytes : List ℕ) (offset features at : ℕ) →
     FindsBytes (some_bytes ahead) bytes offset features at → AnswersThere result ahead → ReadsAt result bytes offset features at
 reads_ahead result ahead bytes offset features at found answers =
@@ -66,7 +66,7 @@ reads_ahead result ahead bytes offset features at found answers =
     (λ input. some_bytes ahead ≡ Ok input) (AnswersThere result) bytes offset features at (λ number place is. absurd (cc is))
     (λ input is. subst (AnswersThere result) (ap (reader_in ahead) is) answers) found
 
--- No bytes stand there.
+-- There are no bytes at the offset.
 pub reads_nothing : (r : WasmRefusal) (bytes : List ℕ) (offset features at : ℕ) → FindsBytes (no_bytes r) bytes offset features at →
     ReadsAt (Err r) bytes offset features at
 reads_nothing r bytes offset features at found =
@@ -84,7 +84,7 @@ tells (Some members) found r at index count_old count_new old new (count, is, pl
     let told = subst (λ f. IfSome f (λ n. (r ≡ no_refusal at) × (count_new ≡ n))) is some in
     (told.0, (told.1 ∙ places.0, places.1))
 
--- The members of the list of the operator that was read.
+-- The list of the operator that was read.
 pub list_read : {X : Type 0} (members_of : Operator → Option (List X)) (op : Operator) (found : Option ℕ) (r : WasmRefusal) (bytes : List ℕ)
     (offset features at index count_old count_new : ℕ) (old new : List X) → ReadsAt (Ok op) bytes offset features at →
     AnswersMembers (members_of op) index old found new → IfSome found (λ n. (r ≡ no_refusal at) × (count_new ≡ n)) →
@@ -95,7 +95,7 @@ list_read members_of op found r bytes offset features at index count_old count_n
     (λ number place is. absurd (cc is))
     (λ input stands. inl (op, stands, tells (members_of op) found r at index count_old count_new old new placed some none)) read
 
--- None was read.
+-- No operator was read.
 pub list_refused : {X : Type 0} (members_of : Operator → Option (List X)) (r : WasmRefusal) (bytes : List ℕ) (offset features at index count : ℕ)
     (old : List X) → ReadsAt (Err r) bytes offset features at → AnswersList members_of r bytes offset features at index count count old old
 list_refused members_of r bytes offset features at index count old read =

@@ -1,15 +1,15 @@
--- A text that is written from its beginning on, as far as there is room.
+-- A text that is written from its start, as far as it fits.
 use Rattle.std.proofs.Common.{◌≡◌, ℕ, ◌≤◌, ◌<◌, List, [], ◌∷◌, length, take, set, get_or, zero, suc, refl, sym, ap, ◌∙◌, arith, inl, inr, ◌⊎◌}
 use Rattle.std.specs.Prelude.{min}
 use Rattle.std.proofs.lemmas.Bool.{cases_lt}
 use Rattle.wasm_view.specs.Lists.{written}
 
--- Nothing yet.
+-- No byte yet.
 pub none_written : {X : Type 0} (text old : List X) → old ≡ written (take 0 text) old
 none_written text [] = refl
 none_written text (y ∷ ys) = refl
 
--- The next one.
+-- The next byte.
 next_written : {X : Type 0} (text old : List X) (n : ℕ) (x : X) → n < length text → n < length old →
     set (written (take n text) old) n (get_or text n x) ≡ written (take (suc n) text) old
 next_written [] old n x within room = absurd (omega (arith, within))
@@ -22,7 +22,7 @@ pub one_written : (text old now : List ℕ) (n after : ℕ) → now ≡ written 
 one_written text old now n after is within room next =
     ap (λ list. set list n (get_or text n 0)) is ∙ next_written text old n 0 within room ∙ ap (λ m. written (take m text) old) (sym next)
 
--- All that there is, or all that there is room for.
+-- The whole text, or as much as fits.
 all_written : {X : Type 0} (text old : List X) (n : ℕ) → (n ≡ length text) ⊎ (n ≡ length old) → written (take n text) old ≡ written text old
 all_written text [] n end = refl
 all_written [] (y ∷ ys) zero end = refl

@@ -1,4 +1,4 @@
--- Pieces of a text, one behind the other.
+-- Pieces of a text, one after another.
 use Rattle.std.proofs.Common.{◌≡◌, ℕ, ◌≤◌, ◌<◌, List, [], ◌∷◌, ◌++◌, length, set, get_or, take, zero, suc, refl, sym, ap, subst, ◌∙◌, arith, append_assoc, length-append}
 use Rattle.std.proofs.lemmas.List.{append-nil}
 use Rattle.wasm_view.specs.Lists.{written}
@@ -21,14 +21,14 @@ written_full items [] x full = refl
 written_full [] (y ∷ ys) x full = absurd (omega (arith, full))
 written_full (i ∷ is) (y ∷ ys) x full = ap (λ list. i ∷ list) (written_full is ys x (omega (arith, full)))
 
--- A byte that was set where there was room for it.
+-- A byte that is written because it fits.
 pub byte_set : (before room old new : List ℕ) (at byte : ℕ) → at ≡ length before → old ≡ written before room → at < length old → new ≡ set old at byte →
     new ≡ written (before ++ byte ∷ []) room
 byte_set before room old new at byte place is within put =
     let fits : length before < length room = omega (arith, within, ap length is, written_length before room, place) in
     put ∙ ap (λ list. set list at byte) is ∙ ap (λ n. set (written before room) n byte) place ∙ written_one before room byte fits
 
--- And where there was none.
+-- A byte that does not fit.
 pub byte_left : (before room old : List ℕ) (at byte : ℕ) → at ≡ length before → old ≡ written before room → length old ≤ at →
     old ≡ written (before ++ byte ∷ []) room
 byte_left before room old at byte place is full =
@@ -39,7 +39,7 @@ byte_left before room old at byte place is full =
 pub puts_none : (at : ℕ) (old : List ℕ) → PutsPiece [] at old at old
 puts_none at old = (omega arith, λ before room place is. is ∙ ap (λ list. written list room) (sym (append-nil before)))
 
--- One behind the other.
+-- Two pieces, one after the other.
 pub puts_both : (a b : List ℕ) (at middle end : ℕ) (old between new : List ℕ) → PutsPiece a at old middle between → PutsPiece b middle between end new →
     PutsPiece (a ++ b) at old end new
 puts_both a b at middle end old between new first second = (
@@ -58,7 +58,7 @@ next_taken [] n x within is = absurd (omega (arith, within))
 next_taken (y ∷ ys) zero x within is = ap (λ z. z ∷ []) (sym is)
 next_taken (y ∷ ys) (suc n) x within is = ap (λ list. y ∷ list) (next_taken ys n x (omega (arith, within)) is)
 
--- A byte more of a piece.
+-- One more byte of a piece.
 pub puts_more : (piece : List ℕ) (index after byte at middle end : ℕ) (old between new : List ℕ) → PutsPiece (take index piece) at old middle between →
     PutsPiece (byte ∷ []) middle between end new → index < length piece → byte ≡ get_or piece index byte → after ≡ suc index →
     PutsPiece (take after piece) at old end new

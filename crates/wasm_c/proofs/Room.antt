@@ -1,4 +1,4 @@
--- Along the bytes that a reader was opened over, half of them and one are room enough for frames.
+-- Along the bytes that a reader was opened over, half as many frames as bytes, and one more, are enough.
 use Rattle.std.proofs.Common.{◌≡◌, ℕ, ◌+◌, ◌*◌, ◌/◌, ◌≤◌, List, [], ◌∷◌, length, sym, ap, subst, ◌∙◌, arith, length-append, length-drop}
 use Rattle.wasm_operators.specs.below.Features.{features_of}
 use Rattle.wasm_operators.specs.below.Source.{rest}
@@ -14,7 +14,7 @@ use Rattle.wasm_c.specs.declared.reader.WasmReader.{WasmReader}
 use Rattle.wasm_c.specs.Steps.{IsReader, reader_at, state_at, FindsNoRoom, ReadsEach}
 use Rattle.wasm_c.proofs.Steps.{kinds_length}
 
--- What the law `frames_opened` says of the half.
+-- The statement of the law `frames_opened` about the half.
 abbrev pub OpensHalf : WasmFeatures → Type 0
 OpensHalf f = (op : Operator) (text : List ℕ) → EncodesOperator f op text → 2 * opened_by op ≤ length text
 

@@ -1,4 +1,4 @@
--- Frames, the innermost last, and what a role makes of them.
+-- Open frames, the innermost last, and the effect of a role on them.
 use Rattle.std.proofs.Common.{◌≡◌, ℕ, ◌≤◌, ◌<◌, ◌-◌, List, [], ◌∷◌, ◌++◌, length, set, get_or, take, zero, suc, Some, refl, sym, ap, ◌∙◌, arith}
 use Rattle.std.specs.Option.{option_map}
 use Rattle.wasm_operators.specs.grammar.declared.frame_kind.FrameKind.{FrameKind}
@@ -9,7 +9,7 @@ use Rattle.wasm_c.specs.declared.frames.FrameChange.{FrameChange}
 use Rattle.wasm_c.specs.declared.frames.FrameChange.TheVariants as change
 use Rattle.wasm_c.specs.Frames.{kind_of, kinds, change_of, frames_changed}
 
--- What the innermost frame becomes, by a role that it allows.
+-- What the innermost frame becomes after a role that it allows.
 replaced : {A : Type 0} (kind : FrameKind) (role : Role A) → Allows kind role → replacement kind role ≡ Some (frames_changed [] kind (change_of role))
 replaced kind (plain a) allowed = refl
 replaced kind (opens nest a) allowed = refl
@@ -54,7 +54,7 @@ after_one : {A : Type 0} (first : FrameKind) (frames : List FrameKind) (kind : F
 after_one first [] kind role = refl
 after_one first (f ∷ frames) kind role = refl
 
--- The frames behind a role that the innermost allows.
+-- The frames after a role that the innermost frame allows.
 pub frames_stepped : {A : Type 0} (outer : List FrameKind) (kind : FrameKind) (role : Role A) → Allows kind role →
     frames_after (outer ++ kind ∷ []) role ≡ Some (frames_changed outer kind (change_of role))
 frames_stepped [] kind role allowed = replaced kind role allowed
@@ -72,7 +72,7 @@ innermost_behind : (first : FrameKind) (frames : List FrameKind) (kind : FrameKi
 innermost_behind first [] kind = refl
 innermost_behind first (f ∷ frames) kind = innermost_behind f frames kind
 
--- The innermost stands last.
+-- The innermost frame is the last.
 pub innermost_last : (outer : List FrameKind) (kind : FrameKind) → innermost (outer ++ kind ∷ []) ≡ Some kind
 innermost_last [] kind = refl
 innermost_last (o ∷ outer) kind = ap Some (innermost_behind o outer kind)
@@ -120,7 +120,7 @@ front_same (f ∷ g ∷ first) [] x y is = absurd (cc is)
 front_same (f ∷ first) (s ∷ second) x y is =
     ap (λ z. z ∷ first) (head_same is) ∙ ap (λ list. s ∷ list) (front_same first second x y (tail_same is))
 
--- What stands around the innermost of so many frames.
+-- The frames around the innermost of `depth` frames.
 pub outer_kinds : (list : List ℕ) (outer : List FrameKind) (kind : FrameKind) (depth : ℕ) → 0 < depth → depth ≤ length list →
     kinds (take depth list) ≡ outer ++ kind ∷ [] → kinds (take (depth - 1) list) ≡ outer
 outer_kinds list outer kind zero some within is = absurd (omega (arith, some))
@@ -132,7 +132,7 @@ outer_kinds list outer kind (suc n) some within is =
     sub-one : (n : ℕ) → suc n - 1 ≡ n
     sub-one n = omega arith
 
--- The frames where the innermost has become another.
+-- The frames after the innermost has become another.
 pub turned : (list : List ℕ) (outer : List FrameKind) (kind other : FrameKind) (depth byte : ℕ) → 0 < depth → depth ≤ length list →
     kinds (take depth list) ≡ outer ++ kind ∷ [] → kind_of byte ≡ other → kinds (take depth (set list (depth - 1) byte)) ≡ outer ++ other ∷ []
 turned list outer kind other zero byte some within is same = absurd (omega (arith, some))
@@ -147,7 +147,7 @@ next_taken [] n within = absurd (omega (arith, within))
 next_taken (y ∷ ys) zero within = refl
 next_taken (y ∷ ys) (suc n) within = ap (λ list. y ∷ list) (next_taken ys n (omega (arith, within)))
 
--- The innermost of so many frames.
+-- The innermost of `depth` frames.
 pub innermost_taken : (list : List ℕ) (depth : ℕ) → 0 < depth → depth ≤ length list →
     Some (kind_of (get_or list (depth - 1) 0)) ≡ innermost (kinds (take depth list))
 innermost_taken list zero some within = absurd (omega (arith, some))

@@ -1,4 +1,4 @@
--- One operator that is read under frames in an array, as by a reader of operators.
+-- One operator that is read with the frames in an array, as by an `OperatorsReader`.
 use Rattle.std.proofs.Common.{◌≡◌, ℕ, ◌+◌, ◌<◌, ◌≤◌, List, [], ◌∷◌, ◌++◌, length, length-append, length-drop, take, zero, suc, Some, Ok, Err, refl, sym, ap, subst, ◌∙◌, arith, inl, inr, ◌⊎◌}
 use Rattle.wasm_operators.specs.below.bytes.error.Error.{Error}
 use Rattle.wasm_operators.specs.below.bytes.message.Message.{Message}
@@ -29,7 +29,7 @@ is_memory : (m : Message) → (m ≡ message.OutOfMemory) ⊎ (m ≡ message.Out
 is_memory message.OutOfMemory = inl refl
 is_memory _ = inr (λ e. cc e)
 
--- What is refused inside the innermost frame stops a read.
+-- An error inside the innermost frame stops a read.
 pub stops_inside : (e : Error) (s : State) (new : Reader) (kind : FrameKind) → innermost s.frames ≡ Some kind →
     RefusesOperator (EncodesAllowed s.reader.features kind) (OperatorFault s.reader.features kind) e s.reader new →
     StopsRead EncodesAllowed OperatorFault (ListMayAllocate EncodesAllowed) e s
@@ -41,12 +41,12 @@ stops_inside e s new kind inside (same, refused, fault) = elim (is_memory e.mess
       inr (inl (record { kind = kind; open_frame = inside; refuses = refused.refuses; ahead = refused.ahead; fault = fault other }))
 ]
 
--- Where no frame is open no operator is read.
+-- If no frame is open, no operator is read.
 pub stops_outside : (e : Error) (bytes frames : List ℕ) (r : WasmReader) → r.depth ≡ 0 → e.message ≡ message.OperatorsRemaining →
     e.offset ≡ offset_of (reader_at bytes r) → StopsRead EncodesAllowed OperatorFault (ListMayAllocate EncodesAllowed) e (state_at bytes r frames)
 stops_outside e bytes frames r none is at = inl (ap (λ n. kinds (take n frames)) none, is, at)
 
--- An operator opens a frame exactly where it does so to the frames of the array.
+-- An operator opens a frame if and only if it opens one in the array.
 pub opened_or_not : {A : Type 0} (role : Role A) →
     (OpensFrame (change_of role) × (opened_by_role role ≡ 1)) ⊎ ((OpensFrame (change_of role) → ⊥) × (opened_by_role role ≡ 0))
 opened_or_not (plain a) = inr (λ h. h, refl)
@@ -64,7 +64,7 @@ kinds_length list zero within = refl
 kinds_length [] (suc n) within = absurd (omega (arith, within))
 kinds_length (x ∷ xs) (suc n) within = ap suc (kinds_length xs n (omega (arith, within)))
 
--- Where a reader stands that took a text of another.
+-- The position of a reader after it took a text.
 pub moved_to : (r ahead : Reader) (text : List ℕ) → Takes r ahead text → at_position r ahead.position ≡ ahead
 moved_to r ahead text takes = ap (λ (a : Reader). at_position r a.position) takes.moved ∙ sym takes.moved
 
@@ -74,7 +74,7 @@ within_taken r ahead text takes within =
     let sum : length (rest r) ≡ length text + length (rest ahead) = ap length takes.parts ∙ length-append text (rest ahead) in
     omega (arith, place, sum, within, length-drop r.position r.buffer)
 
--- An operator that the innermost frame allows, and the change of the frames that it makes.
+-- An operator that the innermost frame allows, and its effect on the frames.
 pub takes_inside : (bytes : List ℕ) (old new : WasmReader) (frames_old frames_new : List ℕ) (ahead : Reader) (kind : FrameKind) (op : Operator) (text : List ℕ)
     (change : FrameChange) → 0 < old.depth → old.depth ≤ length frames_old → innermost (kinds (take old.depth frames_old)) ≡ Some kind →
     EncodesAllowed (reader_at bytes old).features kind text op → Takes (reader_at bytes old) ahead text → change ≡ change_of (role_of op) →
@@ -104,7 +104,7 @@ takes_inside bytes old new frames_old frames_new ahead kind op text change some 
       memory = omega (arith, before, after, some, within, fits, same);
     }
 
--- One that opens a frame for which there is no room.
+-- An operator that opens a frame without space for it.
 pub finds_no_room : (bytes : List ℕ) (r : WasmReader) (frames : List ℕ) (ahead : Reader) (kind : FrameKind) (op : Operator) (text : List ℕ)
     (change : FrameChange) → innermost (kinds (take r.depth frames)) ≡ Some kind → EncodesAllowed (reader_at bytes r).features kind text op →
     Takes (reader_at bytes r) ahead text → change ≡ change_of (role_of op) → OpensFrame change → r.depth ≡ length frames →
@@ -121,12 +121,12 @@ finds_no_room bytes r frames ahead kind op text change inside encodes takes is o
   full = omega (arith, full);
 }
 
--- An operator inside this frame, its plain data and its change of the frames, and where the reader stands behind it.
+-- An operator inside this frame, its C struct, its effect on the frames, and the reader after it.
 abbrev pub Viewed : Reader → FrameKind → Reader → WasmOperator → FrameChange → Type 0
 Viewed r kind ahead view change = (op : Operator) × (text : List ℕ) × EncodesAllowed r.features kind text op × Takes r ahead text ×
     (view ≡ view_of (op, offset_of r)) × (change ≡ change_of (role_of op))
 
--- Where a reader stands behind it.
+-- The position of the reader after the operator.
 stands_behind : (bytes : List ℕ) (old new : WasmReader) (ahead : Reader) (text : List ℕ) → Takes (reader_at bytes old) ahead text →
     new.position ≡ ahead.position → new.offset ≡ old.offset → new.features ≡ old.features → reader_at bytes new ≡ ahead
 stands_behind bytes old new ahead text takes moved offset features =
@@ -141,7 +141,7 @@ stands_plain bytes old new start ahead kind view change same viewed moved offset
     let v = subst (λ r. Viewed r kind ahead view change) same viewed in
     sym (stands_behind bytes old new ahead v.1 v.3 moved offset features)
 
--- One that is taken.
+-- An operator that is read.
 pub takes_plain : (bytes : List ℕ) (old new : WasmReader) (frames_old frames_new : List ℕ) (start ahead : Reader) (kind : FrameKind) (view : WasmOperator)
     (change : FrameChange) → IsReader bytes (length frames_old) old → start ≡ reader_at bytes old → Viewed start kind ahead view change → 0 < old.depth →
     innermost (kinds (take old.depth frames_old)) ≡ Some kind →
@@ -169,14 +169,14 @@ takes_plain bytes old new frames_old frames_new start ahead kind view change was
       same_room = room;
     }
 
--- None is read where no frame is open.
+-- If no frame is open, none is read.
 pub outside_plain : (bytes frames : List ℕ) (r : WasmReader) (start : Reader) (e : Error) (offset : ℕ) (refusal : WasmRefusal) →
     IsReader bytes (length frames) r → start ≡ reader_at bytes r → r.depth ≡ 0 → e.message ≡ message.OperatorsRemaining → e.offset ≡ offset →
     offset ≡ offset_of start → refusal ≡ refusal_of e → StopsPlain refusal bytes r frames
 outside_plain bytes frames r start e offset refusal was same none is at place told =
     inl (was, e, told, stops_outside e bytes frames r none is (at ∙ place ∙ ap offset_of same))
 
--- One that finds no room.
+-- An operator without space for its frame.
 pub no_room_plain : (bytes frames : List ℕ) (r : WasmReader) (start ahead : Reader) (kind : FrameKind) (view : WasmOperator) (change : FrameChange) (offset : ℕ)
     (refusal : WasmRefusal) → IsReader bytes (length frames) r → start ≡ reader_at bytes r → Viewed start kind ahead view change →
     innermost (kinds (take r.depth frames)) ≡ Some kind → OpensFrame change → r.depth ≡ length frames → offset ≡ offset_of start →
@@ -186,7 +186,7 @@ no_room_plain bytes frames r start ahead kind view change offset refusal was sam
     let place : offset ≡ offset_of (reader_at bytes r) = at ∙ ap offset_of same in
     inr (inl (was, is ∙ ap (misuse 102) place, finds_no_room bytes r frames ahead kind v.0 v.1 change inside v.2 v.3 v.5 opened full))
 
--- One that is refused.
+-- An operator that is an error.
 pub refused_plain : (bytes frames : List ℕ) (r : WasmReader) (start ahead : Reader) (kind : FrameKind) (e : Error) (refusal : WasmRefusal) →
     IsReader bytes (length frames) r → start ≡ reader_at bytes r → innermost (kinds (take r.depth frames)) ≡ Some kind →
     RefusesOperator (EncodesAllowed start.features kind) (OperatorFault start.features kind) e start ahead → refusal ≡ refusal_of e →
@@ -196,7 +196,7 @@ refused_plain bytes frames r start ahead kind e refusal was same inside refuses 
     subst (λ (s : Reader). RefusesOperator (EncodesAllowed s.features kind) (OperatorFault s.features kind) e s ahead) same refuses in
     inl (was, e, is, stops_inside e (state_at bytes r frames) ahead kind inside there)
 
--- An expression does not end where frames are open.
+-- If frames are open, an expression does not end.
 pub frames_left : (bytes frames : List ℕ) (r : WasmReader) (start : Reader) (e : Error) (offset : ℕ) (refusal : WasmRefusal) →
     IsReader bytes (length frames) r → start ≡ reader_at bytes r → 0 < r.depth → e.message ≡ message.FramesRemain → e.offset ≡ offset →
     offset ≡ offset_of start → refusal ≡ refusal_of e → FinishesPlain refusal bytes r frames
@@ -213,7 +213,7 @@ frames_left bytes frames r start e offset refusal was same some is at place told
       ),
     )
 
--- Nor where data is left.
+-- If bytes are left, an expression does not end.
 pub data_left : (bytes frames : List ℕ) (r : WasmReader) (start : Reader) (e : Error) (offset : ℕ) (refusal : WasmRefusal) →
     IsReader bytes (length frames) r → start ≡ reader_at bytes r → r.depth ≡ 0 → (rest start ≡ [] → ⊥) → e.message ≡ message.UnexpectedData →
     e.offset ≡ offset → offset ≡ offset_of start → refusal ≡ refusal_of e → FinishesPlain refusal bytes r frames
@@ -230,7 +230,7 @@ data_left bytes frames r start e offset refusal was same none more is at place t
       ),
     )
 
--- Else it does.
+-- Otherwise it ends.
 pub finished : (bytes frames : List ℕ) (r : WasmReader) (start : Reader) (offset : ℕ) (refusal : WasmRefusal) →
     IsReader bytes (length frames) r → start ≡ reader_at bytes r → r.depth ≡ 0 → rest start ≡ [] → offset ≡ offset_of start →
     refusal ≡ refusal_at {X = Unit {0}} (Ok tt) offset → FinishesPlain refusal bytes r frames

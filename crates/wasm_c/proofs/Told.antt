@@ -1,4 +1,4 @@
--- The numbers of a refusal tell its message.
+-- The numbers of an error determine its message.
 use Rattle.std.proofs.Common.{◌≡◌, ◌+◌, ◌*◌, Some, true, false, refl, ap, ◌∙◌}
 use Rattle.std.specs.Option.{option_map}
 use Rattle.wasm_operators.specs.below.bytes.error.Error.{Error}
@@ -99,6 +99,6 @@ message_again message.TooManyLocals = refl
 message_again (message.InvalidType name) = ap (option_map message.InvalidType) (type_again name)
 message_again message.DataAfterSection = refl
 
--- The text of the plain data of a refusal is that of its message.
+-- The text of the C struct of an error is that of its message.
 pub text_again : (e : Error) (r : WasmRefusal) → r ≡ refusal_of e → text_told r ≡ Some (message_text e.message)
 text_again e r is = ap text_told is ∙ ap (option_map message_text) (message_again e.message)

@@ -1,4 +1,4 @@
--- An expression that was opened, read one call after another, and finished.
+-- An expression that is opened, read call by call, and finished.
 use Rattle.std.proofs.Common.{◌≡◌, ℕ, ◌+◌, ◌^◌, ◌<◌, ◌≤◌, List, [], ◌∷◌, ◌++◌, length, Result, Ok, Err, refl, sym, ap, subst, ◌∙◌, arith, append_assoc, inl, inr, ◌⊎◌}
 use Rattle.std.proofs.lemmas.Bool.{cases_lt}
 use Rattle.std.proofs.lemmas.List.{append-nil}
@@ -23,7 +23,7 @@ use Rattle.wasm_c.specs.Steps.{reader_at, state_at, fresh_reader, TakesPlain, Re
 use Rattle.wasm_c.proofs.Cited.{Fresh, OfTree}
 use Rattle.wasm_c.proofs.Found.{ends_body}
 
--- ---- reads, one behind the other
+-- ---- reads, one after another
 
 pub one_read : (bytes : List ℕ) (old new : WasmReader) (frames_old frames_new : List ℕ) (view : WasmOperator) →
     TakesPlain bytes old new frames_old frames_new view →
@@ -46,7 +46,7 @@ each_behind law opened old new found (p ∷ ps) ran (between, takes, at, others)
 
 -- ---- the end
 
--- Each refusal has a number.
+-- Each error has a number.
 numbered : (m : Message) → number_of m ≡ 0 → ⊥
 numbered message.EndOfData zero = omega (arith, zero)
 numbered _ zero = omega (arith, zero)
@@ -67,14 +67,14 @@ finished r bytes reader frames (inr (none, told)) zero =
     let n = number_at r (misuse 103 reader.offset) told zero in
     absurd (omega (arith, n))
 
--- What the laws say that a whole expression needs.
+-- The laws that the proof about a whole expression needs.
 pub record HasLaws : Type 0 where
   pub fresh : Fresh
   pub first : TakesNone
   pub next : TakesOneMore
   pub tree : OfTree
 
--- Where all frames are closed and all bytes are read, an expression was read.
+-- If all frames are closed and all bytes are read, an expression was read.
 whole_between : HasLaws → (end : WasmRefusal) (bytes : List ℕ) (opened last : WasmReader) (frames_opened frames_last : List ℕ) (placed : Placed) →
     IsFresh (state_at bytes opened frames_opened) → ReadsEach (state_at bytes opened frames_opened) placed (state_at bytes last frames_last) →
     FinishesPlain end bytes last frames_last → end.number ≡ 0 → EncodesExpression (source_of (reader_at bytes opened)) placed
@@ -85,7 +85,7 @@ whole_between laws end bytes opened last frames_opened frames_last placed is rea
     let closed = finished end bytes last frames_last finish zero in
     (laws.tree [] first new placed (laws.fresh first is) ran closed.0 closed.1).encodes
 
--- ---- the beginning
+-- ---- the start
 
 opened_there : (r : WasmRefusal) (bytes : List ℕ) (offset features : ℕ) (old new : WasmReader) (frames_old frames_new : List ℕ) →
     OpensExpression r bytes offset features old new frames_old frames_new → r.number ≡ 0 → (features < 64) ⊎ (64 ≤ features) →

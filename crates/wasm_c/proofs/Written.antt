@@ -1,4 +1,4 @@
--- Lists whose beginning was written.
+-- Lists whose first elements are overwritten.
 use Rattle.std.proofs.Common.{◌≡◌, ℕ, ◌+◌, ◌-◌, ◌≤◌, ◌<◌, List, [], ◌∷◌, ◌++◌, length, drop, take, set, get_or, zero, suc, refl, sym, ap, ◌∙◌, arith, append_assoc, length-append, inl, inr, ◌⊎◌}
 use Rattle.std.specs.Prelude.{min}
 use Rattle.std.proofs.lemmas.Bool.{cases_lt}
@@ -14,7 +14,7 @@ pub written_none : {X : Type 0} (old : List X) → old ≡ written [] old
 written_none [] = refl
 written_none (x ∷ xs) = refl
 
--- Those that have room first, and the others behind them.
+-- Elements that all fit, followed by others.
 pub written_behind : {X : Type 0} (first more old : List X) → length first ≤ length old →
     written (first ++ more) old ≡ first ++ written more (drop (length first) old)
 written_behind [] more old fits = refl
@@ -37,13 +37,13 @@ drop_first : {X : Type 0} (first more : List X) → drop (length first) (first +
 drop_first [] more = refl
 drop_first (x ∷ xs) more = drop_first xs more
 
--- The member at an index stands first behind those before it.
+-- The element at an index is the first after those before it.
 next_of : {X : Type 0} (list : List X) (n : ℕ) → n < length list → (x : X) × (drop n list ≡ x ∷ drop (suc n) list)
 next_of [] n within = absurd (omega (arith, within))
 next_of (x ∷ xs) zero within = (x, refl)
 next_of (x ∷ xs) (suc n) within = next_of xs n (omega (arith, within))
 
--- One view more, behind those that stand at the beginning.
+-- One more C struct after those at the start.
 pub one_more : (found : Placed) (p : Operator × ℕ) (old now : List WasmOperator) (at : ℕ) (v : WasmOperator) →
     now ≡ views found ++ drop (length found) old → at ≡ length found → length found < length old → v ≡ view_of p →
     set now at v ≡ views (found ++ p ∷ []) ++ drop (length (found ++ p ∷ [])) old
@@ -90,7 +90,7 @@ placed_there more old now at index p v is few within front next same =
     ap (λ m. take at old ++ (views (take index more ++ p ∷ []) ++ drop m (drop at old))) length_next ∙
     ap (λ list. take at old ++ (views list ++ drop (suc index) (drop at old))) (sym next)
 
--- One view more of those that are placed behind others.
+-- One more C struct of those that follow others.
 pub one_placed : (more : Placed) (old now : List WasmOperator) (at index after : ℕ) (p : Operator × ℕ) (v : WasmOperator) →
     now ≡ take at old ++ (views (take index more) ++ drop index (drop at old)) → at + index < length old → index < length more →
     p ≡ get_or more index p → v ≡ view_of p → after ≡ suc index →
@@ -102,7 +102,7 @@ one_placed more old now at index after p v is room within read same next =
     placed_there more old now at index p v is few (omega (arith, left, room)) front (next_taken more index p within read) same ∙
     ap (λ n. take at old ++ (views (take n more) ++ drop n (drop at old))) (sym next)
 
--- As many of them as there is room for.
+-- As many of them as fit.
 room_filled : (n : ℕ) (more : Placed) (old : List WasmOperator) → n ≤ length old → n ≤ length more → (n ≡ length old) ⊎ (n ≡ length more) →
     views (take n more) ++ drop n old ≡ written (views more) old
 room_filled zero more [] a b end = refl
@@ -132,7 +132,7 @@ all_placed more old now at n fits room is =
     let same : length old - at ≡ length (drop at old) = omega (arith, left, fits) in
     is ∙ ap (λ list. take at old ++ list) (room_placed more (drop at old) n (room ∙ ap (λ m. min m (length more)) same))
 
--- The views of two lists, of which the second was placed behind the first.
+-- The C structs of two lists, the second written after the first.
 pub array_joined : (found more : Placed) (old between new : List WasmOperator) (at : ℕ) → at ≡ length found → length found ≤ length old →
     between ≡ views found ++ drop (length found) old → new ≡ take at between ++ written (views more) (drop at between) →
     new ≡ written (views (found ++ more)) old

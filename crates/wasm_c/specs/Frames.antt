@@ -1,4 +1,4 @@
--- Open frames as bytes, and what operators do to them.
+-- Open frames as bytes, and the effects of operators on them.
 -- WebAssembly Core Specification 3.0: Appendix, Validation Algorithm, control frames.
 use Rattle.std.specs.Prelude.{◌==◌, ℕ, List, [], ◌∷◌, ◌++◌, map, if◌then◌else◌}
 use Rattle.wasm_operators.specs.grammar.declared.frame_kind.FrameKind.{FrameKind}
@@ -8,7 +8,7 @@ use Rattle.wasm_operators.specs.grammar.Role.{Role, plain, opens, opens_if, open
 use Rattle.wasm_c.specs.declared.frames.FrameChange.{FrameChange}
 use Rattle.wasm_c.specs.declared.frames.FrameChange.TheVariants as change
 
--- The kind of a frame, from its byte. A byte that is the number of none is that of a block.
+-- The kind of a frame from its byte; a byte of no kind counts as a block.
 abbrev pub kind_of : ℕ → FrameKind
 kind_of byte =
     if byte == 1 then frame.If else (
@@ -22,7 +22,7 @@ kind_of byte =
 abbrev pub kinds : List ℕ → List FrameKind
 kinds bytes = map kind_of bytes
 
--- What an operator of this role does to the open frames.
+-- The effect of an operator with this role on the open frames.
 abbrev pub change_of : {A : Type 0} → Role A → FrameChange
 change_of (plain a) = change.Stays
 change_of (opens nest a) = change.Opens (kind_of_nest nest)
@@ -38,7 +38,7 @@ abbrev pub OpensFrame : FrameChange → Type 0
 OpensFrame (change.Opens kind) = Unit {0}
 OpensFrame _ = ⊥
 
--- The frames behind a change of the innermost, with those around it.
+-- The open frames after a change of the innermost; `outer` are the frames around it.
 abbrev pub frames_changed : List FrameKind → FrameKind → FrameChange → List FrameKind
 frames_changed outer kind change.Stays = outer ++ kind ∷ []
 frames_changed outer kind (change.Opens inner) = outer ++ kind ∷ inner ∷ []

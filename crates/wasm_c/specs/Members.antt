@@ -1,4 +1,4 @@
--- The members of the list of an operator, read from the bytes where it begins.
+-- The list of the operator at an offset.
 -- WebAssembly Core Specification 3.0: Binary Format, Instructions.
 use Rattle.std.specs.Prelude.{◌≡◌, ℕ, ◌+◌, ◌-◌, ◌^◌, ◌<◌, ◌≤◌, List, ◌++◌, length, Option, Some, None, Result, Ok, Err, ◌⊎◌}
 use Rattle.wasm_operators.specs.below.bytes.error.Error.{Error}
@@ -15,30 +15,30 @@ use Rattle.wasm_c.specs.declared.refusal.WasmRefusal.{WasmRefusal}
 use Rattle.wasm_c.specs.Reads.{IsWithin}
 use Rattle.wasm_c.specs.Refused.{no_refusal, refusal_of, misuse}
 
--- The bytes from this offset on, of those of which the first has the offset `offset`.
+-- The bytes from the offset `at` on; `offset` is the offset of the first of the bytes.
 abbrev pub bytes_at : List ℕ → ℕ → ℕ → ℕ → Reader
 bytes_at bytes offset features at = at_position (reader_of (features_of features) offset bytes) (at - offset)
 
--- The operator is encoded at the start of what is left.
+-- An encoding of the operator is at the start of what is left.
 abbrev pub StandsThere : Reader → Operator → Type 0
 StandsThere input op = (text more : List ℕ) × (rest input ≡ text ++ more) × EncodesOperator input.features op text
 
--- What stands there is refused inside a block.
+-- Reading an operator here, inside a block, fails with this error.
 abbrev pub RefusesThere : WasmRefusal → Reader → Type 0
 RefusesThere r input =
     (e : Error) × (r ≡ refusal_of e) × RefusesOperator (EncodesAllowed input.features frame.Block) (OperatorFault input.features frame.Block) e input input
 
--- Nothing is answered but the refusal.
+-- Neither the count nor the array changes.
 abbrev pub Unchanged : {X : Type 0} → ℕ → ℕ → List X → List X → Type 0
 Unchanged count_old count_new old new = (count_new ≡ count_old) × (new ≡ old)
 
--- The operator that stands there, or the refusal of what does.
+-- The operator that is encoded here, or the error of reading one.
 abbrev pub AnswersThere : Result Operator WasmRefusal → Reader → Type 0
 AnswersThere (Ok op) input = StandsThere input op
 AnswersThere (Err r) input = RefusesThere r input
 
--- A call on what begins at an offset: unknown features, bytes past the largest offset, and an offset before the first byte or past the end are misuse, with a
--- number and an offset; of any other, the end itself among them, the second word says what is so of the bytes that stand there.
+-- The result of a call at an offset. Unknown features, bytes past the largest offset, and an offset before the first byte or past the end are misuse. For any
+-- other offset, the end included, `There` says what holds of the bytes from there on.
 pub record AtOffset (IsMisuse : ℕ → ℕ → Type 0) (There : Reader → Type 0) (bytes : List ℕ) (offset features at : ℕ) : Type 0 where
   pub unknown : 64 ≤ features → IsMisuse 100 offset
   pub past : features < 64 → 2 ^ 64 ≤ offset + length bytes → IsMisuse 101 offset
@@ -46,22 +46,22 @@ pub record AtOffset (IsMisuse : ℕ → ℕ → Type 0) (There : Reader → Type
   pub behind : features < 64 → IsWithin offset bytes → offset + length bytes < at → IsMisuse 104 at
   pub there : features < 64 → IsWithin offset bytes → offset ≤ at → at ≤ offset + length bytes → There (bytes_at bytes offset features at)
 
--- The operator that begins there, or why there is none.
+-- The operator at the offset, or why there is none.
 abbrev pub ReadsAt : Result Operator WasmRefusal → List ℕ → ℕ → ℕ → ℕ → Type 0
 ReadsAt result bytes offset features at = AtOffset (λ number place. result ≡ Err (misuse number place)) (AnswersThere result) bytes offset features at
 
--- The members of the list of an operator from an index on, or that it has no such list.
+-- The members of an operator's list from an index on, or 104 if it has no such list.
 abbrev pub TellsMembers : {X : Type 0} → Option (List X) → WasmRefusal → ℕ → ℕ → ℕ → ℕ → List X → List X → Type 0
 TellsMembers None r at index count_old count_new old new = (r ≡ misuse 104 at) × Unchanged count_old count_new old new
 TellsMembers (Some members) r at index count_old count_new old new = (r ≡ no_refusal at) × PlacesMembers members index old count_new new
 
--- The same of the operator that stands there; or what does is refused.
+-- The same for the operator that is encoded here, or the error of reading one.
 abbrev pub FindsMembers : {X : Type 0} → (Operator → Option (List X)) → WasmRefusal → Reader → ℕ → ℕ → ℕ → ℕ → List X → List X → Type 0
 FindsMembers members_of r input at index count_old count_new old new =
     ((op : Operator) × StandsThere input op × TellsMembers (members_of op) r at index count_old count_new old new)
     ⊎ (RefusesThere r input × Unchanged count_old count_new old new)
 
--- A call that answers the members of the list of the operator that begins at an offset, where it is none of misuse.
+-- The result of a call for the list of the operator at an offset, or misuse.
 abbrev pub AnswersList : {X : Type 0} → (Operator → Option (List X)) → WasmRefusal → List ℕ → ℕ → ℕ → ℕ → ℕ → ℕ → ℕ → List X → List X → Type 0
 AnswersList members_of r bytes offset features at index count_old count_new old new =
     AtOffset (λ number place. (r ≡ misuse number place) × Unchanged count_old count_new old new)

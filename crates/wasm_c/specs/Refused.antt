@@ -1,4 +1,4 @@
--- Refusals as plain data. docs/REFUSALS.md has the table of their numbers.
+-- Errors as C structs. docs/ERRORS-AND-FEATURES.md has the table of their numbers.
 use Rattle.std.specs.Prelude.{ℕ, ◌+◌, ◌*◌, if◌then◌else◌, Result, Ok, Err}
 use Rattle.wasm_operators.specs.below.bytes.error.Error.{Error}
 use Rattle.wasm_operators.specs.below.bytes.message.Message.{Message}
@@ -18,7 +18,7 @@ use Rattle.wasm_operators.specs.below.bytes.message.TypeName.TheVariants as type
 use Rattle.wasm_operators.specs.below.Refusal.{number_of}
 use Rattle.wasm_c.specs.declared.refusal.WasmRefusal.{WasmRefusal}
 
--- The names that texts tell, each list counted from 0.
+-- The numbers of the names in texts, each list counted from 0.
 abbrev pub instruction_number : InstructionName → ℕ
 instruction_number instruction_name.Else = 0
 instruction_number instruction_name.Try = 1
@@ -52,7 +52,8 @@ type_number type_name.ValueType = 0
 type_number type_name.ReferenceType = 1
 type_number type_name.HeapType = 2
 
--- Which name a text tells; of a subopcode, which prefix. Of numbers, too large is told from too long by 16; of a frame, 16 times its number is added.
+-- The number of the name in a message's text. For a subopcode it is the prefix byte. A number that is too large has 16 more than one that is too long. A
+-- frame adds 16 times its number. An ordering has 1 if its byte is shown in hexadecimal.
 abbrev pub told_name : Message → ℕ
 told_name (message.FeatureRequired name) = instruction_number name
 told_name (message.IntegerTooLong name) = number_name_number name
@@ -65,7 +66,7 @@ told_name (message.InvalidLeadingByte byte name) = leading_number name
 told_name (message.InvalidType name) = type_number name
 told_name _ = 0
 
--- Which byte, code or flags it tells.
+-- The byte, code or flags in a message's text.
 abbrev pub told_value : Message → ℕ
 told_value (message.IllegalOpcode code) = code
 told_value (message.UnknownSubopcode prefix code) = code
@@ -74,23 +75,23 @@ told_value (message.InvalidCastFlags flags) = flags
 told_value (message.InvalidLeadingByte byte name) = byte
 told_value _ = 0
 
--- A refusal of these numbers.
+-- The C struct with these numbers.
 abbrev pub told : ℕ → ℕ → ℕ → ℕ → WasmRefusal
 told offset number name value = record { offset = offset; number = number; name = name; value = value; reserved = 0 }
 
--- A refusal as plain data.
+-- The C struct of an error.
 abbrev pub refusal_of : Error → WasmRefusal
 refusal_of e = told e.offset (number_of e.message) (told_name e.message) (told_value e.message)
 
--- None, at this offset.
+-- The value for no error, at this offset.
 abbrev pub no_refusal : ℕ → WasmRefusal
 no_refusal offset = told offset 0 0 0
 
--- What no reading answers, at this offset.
+-- An error in the arguments, at this offset.
 abbrev pub misuse : ℕ → ℕ → WasmRefusal
 misuse number offset = told offset number 0 0
 
--- How reading ended: at this offset, where nothing is refused.
+-- How reading ended; without an error, at this offset.
 abbrev pub refusal_at : {X : Type 0} → Result X Error → ℕ → WasmRefusal
 refusal_at (Ok x) offset = no_refusal offset
 refusal_at (Err e) offset = refusal_of e

@@ -1,4 +1,4 @@
--- Readers of operators as plain data, and what their calls answer.
+-- Readers of operators as C structs, and the results of their calls.
 use Rattle.std.specs.Prelude.{◌≡◌, ℕ, ◌+◌, ◌-◌, ◌^◌, ◌<◌, ◌≤◌, List, [], ◌∷◌, ◌++◌, length, take, drop, Some, Result, Ok, Err, ◌⊎◌}
 use Rattle.wasm_operators.specs.below.bytes.error.Error.{Error}
 use Rattle.wasm_operators.specs.below.Features.{features_of}
@@ -22,18 +22,19 @@ use Rattle.wasm_c.specs.Frames.{kinds}
 use Rattle.wasm_c.specs.Reads.{IsWithin}
 use Rattle.wasm_c.specs.Refused.{no_refusal, refusal_of, refusal_at, misuse}
 
--- The plain data is that of a reader of these bytes, with room for so many frames.
+-- The C struct is a reader of these bytes, for an array of `room` frames.
 pub record IsReader (bytes : List ℕ) (room : ℕ) (r : WasmReader) : Type 0 where
   pub features : r.features < 64
   pub offsets : IsWithin r.offset bytes
   pub position : r.position ≤ length bytes
   pub depth : r.depth ≤ room
 
--- The bytes where it stands.
+-- The reader of the bytes at the C struct's position.
 abbrev pub reader_at : List ℕ → WasmReader → Reader
 reader_at bytes r = at_position (reader_of (features_of r.features) r.offset bytes) r.position
 
--- The reader of operators that it is: the first frames of the array are open, and there is room behind them, and behind the outermost where none is open.
+-- The state of an operators reader that the C struct and the array of frames represent. The first `depth` frames are open, and the rest of the array is the
+-- capacity. If no frame is open, the capacity is all of the array except its first element.
 abbrev pub state_at : List ℕ → WasmReader → List ℕ → State
 state_at bytes r frames = record {
   reader = reader_at bytes r;
@@ -41,7 +42,7 @@ state_at bytes r frames = record {
   room = (length frames - 1) - (r.depth - 1);
 }
 
--- An operator was read, and this is its plain data.
+-- An operator is read, and `view` is its C struct.
 pub record TakesPlain (bytes : List ℕ) (old new : WasmReader) (frames_old frames_new : List ℕ) (view : WasmOperator) : Type 0 where
   pub op : Operator
   pub was : IsReader bytes (length frames_old) old
@@ -50,7 +51,7 @@ pub record TakesPlain (bytes : List ℕ) (old new : WasmReader) (frames_old fram
   pub still : IsReader bytes (length frames_new) new
   pub same_room : length frames_new ≡ length frames_old
 
--- The operator that stands there opens a frame, for which there is no room.
+-- The next operator opens a frame, and there is no space for it.
 pub record FindsNoRoom (s : State) : Type 0 where
   pub kind : FrameKind
   pub open_frame : innermost s.frames ≡ Some kind
@@ -62,7 +63,7 @@ pub record FindsNoRoom (s : State) : Type 0 where
   pub opens : opened_by op ≡ 1
   pub full : s.room ≡ 0
 
--- Why no operator is read: what stands there is refused, or finds no room; or the plain data is not that of a reader.
+-- Why no operator is read: the next one is an error, its frame has no space, or the C struct is not a reader.
 abbrev pub StopsPlain : WasmRefusal → List ℕ → WasmReader → List ℕ → Type 0
 StopsPlain r bytes reader frames =
     (IsReader bytes (length frames) reader × (e : Error) × (r ≡ refusal_of e) ×
@@ -70,48 +71,48 @@ StopsPlain r bytes reader frames =
     ⊎ ((IsReader bytes (length frames) reader × (r ≡ misuse 102 (offset_of (reader_at bytes reader))) × FindsNoRoom (state_at bytes reader frames))
     ⊎ ((IsReader bytes (length frames) reader → ⊥) × (r ≡ misuse 103 reader.offset)))
 
--- One read: an operator; or why none is read, and nothing changes.
+-- One read: an operator is read; or none is, and nothing changes.
 abbrev pub ReadsPlain : Result WasmOperator WasmRefusal → List ℕ → WasmReader → WasmReader → List ℕ → List ℕ → Type 0
 ReadsPlain (Ok view) bytes old new frames_old frames_new = TakesPlain bytes old new frames_old frames_new view
 ReadsPlain (Err r) bytes old new frames_old frames_new = (new ≡ old) × (frames_new ≡ frames_old) × StopsPlain r bytes old frames_old
 
--- The same where the bytes that the reader has ahead are at hand, which then stand where it does.
+-- The same if the reader of the bytes ahead is already known; it is then at the new position.
 abbrev pub StepsPlain : Result (Unit {0}) WasmRefusal → List ℕ → WasmReader → WasmReader → List ℕ → List ℕ → WasmOperator → Reader → Type 0
 StepsPlain (Ok done) bytes old new frames_old frames_new view ahead =
     TakesPlain bytes old new frames_old frames_new view × (ahead ≡ reader_at bytes new)
 StepsPlain (Err r) bytes old new frames_old frames_new view ahead = (new ≡ old) × (frames_new ≡ frames_old) × StopsPlain r bytes old frames_old
 
--- One read, for C, with a place for the operator.
+-- One call of `wasm_next`: an operator is read and written to its place; or none is read, and nothing changes.
 abbrev pub AnswersNext : WasmRefusal → List ℕ → WasmReader → WasmReader → List ℕ → List ℕ → WasmOperator → WasmOperator → Type 0
 AnswersNext r bytes old new frames_old frames_new out_old out_new =
     ((r ≡ no_refusal (offset_of (reader_at bytes new))) × ReadsPlain (Ok out_new) bytes old new frames_old frames_new)
     ⊎ (ReadsPlain (Err r) bytes old new frames_old frames_new × (out_new ≡ out_old))
 
--- Whether an expression ends where a reader stands.
+-- Whether an expression ends at the reader's position.
 abbrev pub FinishesPlain : WasmRefusal → List ℕ → WasmReader → List ℕ → Type 0
 FinishesPlain r bytes reader frames =
     (IsReader bytes (length frames) reader × (result : Result (Unit {0}) Error) × (r ≡ refusal_at result (offset_of (reader_at bytes reader))) ×
     Finishes result (state_at bytes reader frames))
     ⊎ ((IsReader bytes (length frames) reader → ⊥) × (r ≡ misuse 103 reader.offset))
 
--- A reader that has read so many bytes, where the frame of the expression alone is open.
+-- A reader that has read `position` bytes, and in which only the frame of the expression is open.
 abbrev pub fresh_reader : ℕ → ℕ → ℕ → WasmReader
 fresh_reader offset features position = record { offset = offset; position = position; depth = 1; features = features; reserved = 0 }
 
--- What nothing is opened for: unknown features, bytes past the largest offset, or no room for a frame. Nothing changes then.
+-- Why nothing is opened: unknown features, bytes past the largest offset, or no space for a frame. Nothing changes then.
 pub record RefusesOpening (r : WasmRefusal) (bytes : List ℕ) (offset features : ℕ) (old new : WasmReader) (frames_old frames_new : List ℕ) : Type 0 where
   pub unknown : 64 ≤ features → (r ≡ misuse 100 offset) × (new ≡ old) × (frames_new ≡ frames_old)
   pub past : features < 64 → 2 ^ 64 ≤ offset + length bytes → (r ≡ misuse 101 offset) × (new ≡ old) × (frames_new ≡ frames_old)
   pub room : features < 64 → IsWithin offset bytes → frames_old ≡ [] → (r ≡ misuse 102 offset) × (new ≡ old) × (frames_new ≡ frames_old)
 
--- An expression was opened: no byte was read, and its frame is open.
+-- An expression is opened: no byte is read, and its frame is open.
 pub record OpensExpression (r : WasmRefusal) (bytes : List ℕ) (offset features : ℕ) (old new : WasmReader) (frames_old frames_new : List ℕ) : Type 0 where
   pub opens : features < 64 → IsWithin offset bytes → (frames_old ≡ [] → ⊥) →
       (r ≡ no_refusal offset) × (new ≡ fresh_reader offset features 0) × IsReader bytes (length frames_new) new × IsFresh (state_at bytes new frames_new) ×
       (length frames_new ≡ length frames_old)
   pub refuses : RefusesOpening r bytes offset features old new frames_old frames_new
 
--- The expression of a body was opened, behind the locals; or these are refused.
+-- The expression of a body is opened, after the locals; or reading these fails.
 abbrev pub OpensBehindLocals : WasmRefusal → List ℕ → ℕ → ℕ → WasmReader → WasmReader → List ℕ → List ℕ → Type 0
 OpensBehindLocals r bytes offset features old new frames_old frames_new =
     ((r ≡ no_refusal (offset_of (reader_at bytes new))) × OpensBody (Ok (state_at bytes new frames_new)) (reader_of (features_of features) offset bytes) ×
@@ -122,20 +123,20 @@ pub record OpensPlain (r : WasmRefusal) (bytes : List ℕ) (offset features : �
   pub opens : features < 64 → IsWithin offset bytes → (frames_old ≡ [] → ⊥) → OpensBehindLocals r bytes offset features old new frames_old frames_new
   pub refuses : RefusesOpening r bytes offset features old new frames_old frames_new
 
--- Reads of these operators, one after another, each with the offset at which it begins.
+-- Reads of these operators, one after another, each with the offset of its first byte.
 abbrev pub ReadsEach : State → Placed → State → Type 0
 ReadsEach old [] new = new ≡ old
 ReadsEach old (p ∷ ps) new =
     (between : State) × TakesOperator EncodesAllowed p.0 old between × (p.1 ≡ offset_of old.reader) × ReadsEach between ps new
 
--- Why a batch ends: the array is full, or all bytes are read; or no operator is read there.
+-- Why a batch ends: the array is full, all bytes are read, or no operator is read at the position.
 abbrev pub EndsBatch : WasmRefusal → List ℕ → WasmReader → List ℕ → Type 0 → Type 0
 EndsBatch r bytes reader frames Full =
     ((r ≡ no_refusal (offset_of (reader_at bytes reader))) × IsReader bytes (length frames) reader × (Full ⊎ (rest (reader_at bytes reader) ≡ [])))
     ⊎ StopsPlain r bytes reader frames
 
--- A batch of reads: the plain data of these operators stands at the beginning of the array, which else is as it was. Of plain data that
--- is not a reader's none is read; where none is, nothing changes; and a reader stays one.
+-- A batch of reads: the C structs of these operators are at the start of the array, and its other elements are unchanged. If the C struct is not a reader,
+-- none is read. If none is read, nothing changes. A reader remains a reader.
 pub record ReadsBatch (r : WasmRefusal) (count : ℕ) (bytes : List ℕ) (old new : WasmReader) (frames_old frames_new : List ℕ) (out_old out_new : List WasmOperator) : Type 0 where
   pub placed : Placed
   pub reads : ReadsEach (state_at bytes old frames_old) placed (state_at bytes new frames_new)

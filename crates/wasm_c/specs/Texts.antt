@@ -1,4 +1,4 @@
--- The texts of refusals. docs/REFUSALS.md has the table.
+-- The texts of errors. docs/ERRORS-AND-FEATURES.md has the table.
 use Rattle.std.specs.Prelude.{◌≡◌, ◌==◌, ℕ, ◌+◌, ◌-◌, ◌/◌, ◌%◌, List, [], ◌∷◌, ◌++◌, length, map, true, false, if◌then◌else◌, nat_lt, Option, Some, None, codes}
 use Rattle.std.specs.Option.{option_map, option_and_then}
 use Rattle.std.specs.Fmt.{digits, decimal}
@@ -24,11 +24,11 @@ abbrev pub frame_name_text : FrameName → List ℕ
 frame_name_text frame_name.If = codes "If"
 frame_name_text frame_name.LegacyTry = codes "LegacyTry"
 
--- The lowest eight binary digits, the highest of these first.
+-- The lowest eight binary digits of a number, the highest first.
 abbrev pub eight_digits : ℕ → List ℕ
 eight_digits n = map (λ place. 48 + (n / place) % 2) (128 ∷ 64 ∷ 32 ∷ 16 ∷ 8 ∷ 4 ∷ 2 ∷ []) ++ (48 + n % 2) ∷ []
 
--- Lower-case hexadecimal.
+-- A number in lower-case hexadecimal.
 abbrev pub hexadecimal : ℕ → List ℕ
 hexadecimal n = digits 16 false n
 
@@ -64,7 +64,7 @@ message_text message.TooManyLocals = codes "too many locals"
 message_text (message.InvalidType name) = codes "invalid " ++ type_name_text name
 message_text message.DataAfterSection = codes "unexpected data at the end of the section"
 
--- The name of a number, of each list.
+-- The names of numbers, for each list of names.
 abbrev pub instruction_told : ℕ → Option InstructionName
 instruction_told n =
     if n == 0 then Some instruction_name.Else else (
@@ -100,12 +100,12 @@ type_told n =
     if n == 1 then Some type_name.ReferenceType else (
     if n == 2 then Some type_name.HeapType else None))
 
--- The message of a number that does not fit: too long below 16, too large from there on.
+-- The message for a number that does not fit: too long below 16, too large from 16 on.
 abbrev pub integer_told : ℕ → Option Message
 integer_told name =
     if nat_lt name 16 then option_map message.IntegerTooLong (number_told name) else option_map message.IntegerTooLarge (number_told (name - 16))
 
--- The message of a frame: the instruction, and 16 times the frame that it wants.
+-- The message for a frame, from the instruction's number and 16 times the frame's number.
 abbrev pub frames_told : ℕ → Option Message
 frames_told name =
     option_and_then (λ instruction. option_map (λ frame. message.WrongFrame instruction frame) (frame_told (name / 16))) (instruction_told (name % 16))
@@ -114,7 +114,7 @@ abbrev pub ordering_told : ℕ → ℕ → Option Message
 ordering_told name value =
     if name == 0 then Some (message.InvalidOrdering value false) else (if name == 1 then Some (message.InvalidOrdering value true) else None)
 
--- The message of the numbers of those that tell nothing.
+-- The messages whose text has no name or value.
 abbrev pub bare_told : ℕ → Option Message
 bare_told number =
     if number == 1 then Some message.EndOfData else (
@@ -133,7 +133,7 @@ bare_told number =
     if number == 23 then Some message.TooManyLocals else (
     if number == 25 then Some message.DataAfterSection else None))))))))))))))
 
--- The message of these numbers. What a text does not tell is not looked at.
+-- The message with these numbers. Numbers that its text does not show are ignored.
 abbrev pub message_told : ℕ → ℕ → ℕ → Option Message
 message_told number name value =
     if number == 2 then option_map message.FeatureRequired (instruction_told name) else (
@@ -147,16 +147,16 @@ message_told number name value =
     if number == 22 then option_map (λ n. message.InvalidLeadingByte value n) (leading_told name) else (
     if number == 24 then option_map message.InvalidType (type_told name) else bare_told number)))))))))
 
--- The text of what a refusal as plain data tells.
+-- The text of the error in a C struct, if its numbers are those of an error.
 abbrev pub text_told : WasmRefusal → Option (List ℕ)
 text_told r = option_map message_text (message_told r.number r.name r.value)
 
--- A call that writes this text into an array, as much of it as there is room for, and answers its whole length; where there is none it writes nothing, and answers 0.
+-- A call that writes this text to an array, as much of it as fits, and returns the length of the whole text. Without a text it writes nothing, and returns 0.
 abbrev pub AnswersText : Option (List ℕ) → List ℕ → ℕ → List ℕ → Type 0
 AnswersText None old result new = (result ≡ 0) × (new ≡ old)
 AnswersText (Some text) old result new = (result ≡ length text) × (new ≡ written text old)
 
--- The same of a piece that stands behind as many bytes as `at`, whatever they are; and where the next one stands.
+-- The same for a piece that follows `at` bytes, whatever they are; the result is the index after the piece.
 abbrev pub PutsPiece : List ℕ → ℕ → List ℕ → ℕ → List ℕ → Type 0
 PutsPiece piece at old result new =
     (result ≡ at + length piece) × ((before room : List ℕ) → at ≡ length before → old ≡ written before room → new ≡ written (before ++ piece) room)

@@ -1,4 +1,4 @@
-//! A whole body, as plain data into an array.
+//! All operators of a body, as C structs in an array.
 ghost use Rattle.std.specs.Prelude.{◌≡◌, ◌≤◌, ◌<◌, ◌^◌, [], ◌++◌, length, take, drop};
 ghost use Rattle.wasm_operators.specs.below.Source.{reader_of, end_of};
 ghost use Rattle.wasm_operators.specs.Expression.{Placed};
@@ -17,15 +17,15 @@ use wasm_operators::{
 };
 use wasm_view::{WasmOperator, view_of};
 
-/// How many operators were found, and how reading them ended.
+/// The number of operators that were found, and how reading them ended.
 #[derive(Debug, Drop)]
 pub struct Found {
     pub count: usize,
     pub end: Result<()>,
 }
 
-/// Reads operators into the array while it has room, up to the end of the data or a refusal, and
-/// answers how many.
+/// Reads operators into the array until it is full, the data ends, or a read fails. Returns how
+/// many were read.
 fn fill(operators: &mut OperatorsReader<'_>, out: &mut [WasmOperator]) -> usize
     ensures { (found : Placed) × TakesOperators operators.old operators.new found × (result ≡ length found)
         × (length found ≤ length out.old) × (out.new ≡ views found ++ drop (length found) out.old) }
@@ -46,7 +46,7 @@ fn fill(operators: &mut OperatorsReader<'_>, out: &mut [WasmOperator]) -> usize
     count
 }
 
-/// Places operators from this index on, as many as there is room for.
+/// Writes operators to the array from index `at` on, as many as fit.
 fn place(more: &[(Operator<'_>, u64)], at: usize, out: &mut [WasmOperator])
     requires { at ≤ length out.old }
     ensures { out.new ≡ take at out.old ++ written (views more.now) (drop at out.old) }
@@ -58,11 +58,11 @@ fn place(more: &[(Operator<'_>, u64)], at: usize, out: &mut [WasmOperator])
     }
 }
 
-/// Reads the operators of a new reader to the end of the data or a refusal. As many of them as the
-/// array has room for are placed there, and the others are counted.
+/// Reads the operators of a new reader to the end of the data or an error. Writes as many as fit to
+/// the array, and counts the others.
 ///
-/// Where reading stops before the array is full, it goes on once: behind a refusal for memory
-/// operators may come, which are placed too.
+/// If reading stops before the array is full, it continues once: more operators may follow after an
+/// allocation failure, and they are written too.
 fn read_operators(
     alloc: Global,
     features: WasmFeatures,
@@ -93,8 +93,8 @@ fn read_operators(
     }
 }
 
-/// Reads the operators of a body, with an array for their plain data. They are those of the one body
-/// that the bytes encode, or the longest beginning of one and the refusal of what stands behind it.
+/// Reads the operators of a body, and writes their C structs to `out`. They are those of the one
+/// body that the bytes encode; or the longest prefix of one, with the error of what follows.
 pub fn read_body(
     alloc: Global,
     features: WasmFeatures,

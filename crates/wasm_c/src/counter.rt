@@ -3,7 +3,7 @@ ghost use Rattle.std.specs.Prelude.{◌≡◌, ◌+◌, ◌-◌, ◌^◌, ◌<�
 
 use wasm_operators::{BrTable, Operator, VisitGroups, VisitOperator, VisitSimdOperator, Visitor};
 
-/// How many operators were visited.
+/// The number of operators that were visited.
 #[derive(Debug, Drop)]
 pub struct Counter {
     pub count: usize,
@@ -12,7 +12,7 @@ pub struct Counter {
 impl Visitor for Counter {
     type Output = ();
 
-    // A visit counts one more.
+    // A visit adds one.
     ghost visits = { λ before op answer after. before.count < 2 ^ 64 - 1 → after.count ≡ before.count + 1 };
 
     #[inline(always)]

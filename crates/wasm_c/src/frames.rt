@@ -1,4 +1,4 @@
-//! Open frames as bytes in an array of the caller's.
+//! Open frames as bytes in an array of the caller.
 ghost use Rattle.std.specs.Prelude.{◌≡◌, ◌+◌, ◌≤◌, ◌<◌, ◌↔◌, IsTrue, length, take, Some, List, ◌++◌, ◌∷◌, []};
 ghost use Rattle.wasm_operators.specs.grammar.declared.frame_kind.FrameKind.{FrameKind};
 ghost use Rattle.wasm_operators.specs.grammar.Frames.{innermost};
@@ -10,21 +10,21 @@ use wasm_operators::{FrameKind, Operator};
 /// The byte of a block, and of the frame of an expression.
 pub const BLOCK: u8 = 0;
 
-/// What an operator does to the open frames.
+/// The effect of an operator on the open frames.
 #[derive(Clone, Copy, Debug, PartialEq, Eq)]
 pub enum FrameChange {
-    /// They stay.
+    /// No change.
     Stays,
-    /// A frame of this kind opens inside them.
+    /// A frame of this kind opens, as the innermost.
     Opens(FrameKind),
-    /// The innermost becomes one of this kind.
+    /// The innermost frame becomes one of this kind.
     Turns(FrameKind),
-    /// The innermost closes.
+    /// The innermost frame closes.
     Closes,
 }
 
 impl FrameChange {
-    /// Whether a frame opens.
+    /// Returns whether a frame opens.
     pub fn opens(self) -> bool
         ensures { IsTrue result ↔ OpensFrame self }
     {
@@ -32,7 +32,7 @@ impl FrameChange {
     }
 }
 
-/// What this operator does to the open frames.
+/// Returns the effect of this operator on the open frames.
 pub fn change_of(op: &Operator<'_>) -> FrameChange
     ensures { result ≡ change_of (role_of op.now) }
 {
@@ -50,7 +50,7 @@ pub fn change_of(op: &Operator<'_>) -> FrameChange
     }
 }
 
-/// The kind of a frame, from its byte. A byte that is the number of none is that of a block.
+/// Returns the kind of a frame from its byte. A byte of no kind counts as a block.
 fn kind_of(byte: u8) -> FrameKind
     ensures { result ≡ kind_of byte }
 {
@@ -66,7 +66,7 @@ fn kind_of(byte: u8) -> FrameKind
     }
 }
 
-/// The byte of a kind.
+/// Returns the byte of a frame kind.
 fn byte_of(kind: FrameKind) -> u8
     ensures { kind_of result ≡ kind }
 {
@@ -82,7 +82,7 @@ fn byte_of(kind: FrameKind) -> u8
     }
 }
 
-/// The innermost of so many frames.
+/// Returns the kind of the innermost of `depth` frames.
 pub fn innermost(depth: usize, frames: &[u8]) -> FrameKind
     requires some { 0 < depth }
     requires within { depth ≤ length frames.now }
@@ -91,7 +91,7 @@ pub fn innermost(depth: usize, frames: &[u8]) -> FrameKind
     kind_of(frames[depth - 1])
 }
 
-/// Changes the innermost of so many frames, and answers how many are open then.
+/// Changes the innermost of `depth` frames, and returns how many frames are then open.
 pub fn change_frames(change: FrameChange, depth: usize, frames: &mut [u8]) -> usize
     requires some { 0 < depth }
     requires within { depth ≤ length frames.old }

@@ -1,4 +1,4 @@
-//! Laws of readers as plain data: what their calls, one after another, say of the bytes. Each is the
+//! Laws of `WasmReader`: what its calls, one after another, say about the bytes. Each law is the
 //! contract of a function that does nothing.
 ghost use Rattle.std.specs.Prelude.{◌≡◌, ℕ, ◌+◌, ◌/◌, ◌≤◌, List, [], ◌∷◌, ◌++◌, length};
 ghost use Rattle.wasm_operators.specs.below.Features.{features_of};
@@ -16,8 +16,8 @@ ghost use Rattle.wasm_c.specs.Steps.{IsReader, state_at, FindsNoRoom, TakesPlain
 
 use wasm_operators::{WasmFeatures, expression_laws, run_laws};
 
-/// One read of `wasm_next` is a list of one; and the lists of two calls, one behind the other, are
-/// one list. So what any number of `wasm_next` and `wasm_read` took is a list of reads.
+/// States that one `wasm_next` is a list of one read, and that the lists of two successive calls
+/// join to one list. So any number of `wasm_next` and `wasm_read` is a list of reads.
 pub fn reads_follow()
     ensures next { (bytes : List ℕ) (old new : WasmReader) (frames_old frames_new : List ℕ) (view : WasmOperator)
         → TakesPlain bytes old new frames_old frames_new view
@@ -27,9 +27,9 @@ pub fn reads_follow()
         → ReadsEach old (first ++ second) new }
 {}
 
-/// Where `wasm_open` and `wasm_finish` answer 0, the operators that were read between them are those of
-/// the one expression that the bytes encode. That it is the only one, the law `one_expression` of
-/// `wasm_operators` says.
+/// States that if `wasm_open` and `wasm_finish` return 0, the operators read between them are those
+/// of the one expression that the bytes encode. The law `one_expression` of `wasm_operators` says
+/// that there is no other.
 pub fn whole_expression()
     ensures { (opening end : WasmRefusal) (bytes : List ℕ) (offset features : ℕ) (before opened last : WasmReader)
         (frames_before frames_opened frames_last : List ℕ) (placed : Placed)
@@ -43,8 +43,8 @@ pub fn whole_expression()
     run_laws::read_to_the_end();
 }
 
-/// The same of `wasm_open_body`: the operators are those of the one body that the bytes encode. That it
-/// is the only one, the law `one_body` of `wasm_operators` says.
+/// States the same for `wasm_open_body`: the operators are those of the one body that the bytes
+/// encode. The law `one_body` of `wasm_operators` says that there is no other.
 pub fn whole_body()
     ensures { (opening end : WasmRefusal) (bytes : List ℕ) (offset features : ℕ) (before opened last : WasmReader)
         (frames_before frames_opened frames_last : List ℕ) (placed : Placed)
@@ -59,8 +59,8 @@ pub fn whole_body()
     run_laws::read_to_the_end();
 }
 
-/// In an array of as many frames as `wasm_frames_needed` answers, each operator finds room: no call
-/// answers 102 along the bytes that a reader was opened over.
+/// States that an array of as many frames as `wasm_frames_needed` returns has space for each
+/// operator. With the bytes that the reader was opened with, no call returns 102.
 pub fn always_room(features: WasmFeatures)
     ensures { (bytes : List ℕ) (opened now : WasmReader) (frames_opened frames_now : List ℕ) (placed : Placed)
         → IsFresh (state_at bytes opened frames_opened)

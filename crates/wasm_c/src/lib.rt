@@ -1,5 +1,8 @@
-//! The operators of function bodies for C, and for languages that call C: plain data in memory of the
-//! caller's. No call has a `requires`: any bytes, offsets, features and lengths are answered.
+//! The operators of function bodies for C, and for languages that call C. Results are C structs in
+//! memory of the caller. No call has a `requires`: all bytes, offsets, features and lengths are
+//! allowed.
+//!
+//! The calls that read operators may allocate. If allocation fails, they return 3 (`OutOfMemory`).
 #![tactic(auto)]
 
 ghost use Rattle.std.specs.Prelude.{◌≡◌, ◌<◌, ◌≤◌, ◌+◌, ◌^◌, ◌/◌, length, Some, List, ℕ};
@@ -40,11 +43,11 @@ use std::alloc::Global;
 use wasm_view::laws::names;
 use wasm_view::{WasmHandler, WasmOperator, WasmType, name_at};
 
-/// The version of the structs and calls, which is that of `wasm_operators.h`.
+/// The version of the structs and calls, the same as in `wasm_operators.h`.
 const VERSION: u32 = 3;
 
-/// The version of the structs and calls. A header with another `WASM_OPERATORS_VERSION` is not this
-/// library's.
+/// Returns the version of the structs and calls. A header with another `WASM_OPERATORS_VERSION`
+/// does not belong to this library.
 #[unsafe(no_mangle)]
 pub extern "C" fn wasm_operators_version() -> u32
     ensures { result ≡ 3 }
@@ -52,16 +55,19 @@ pub extern "C" fn wasm_operators_version() -> u32
     VERSION
 }
 
-/// All operators of a function body, its locals first.
+/// Reads all operators of a function body, after its locals.
 ///
-/// The body is `bytes`, the first at this offset. `count` is how many operators were found, which may
-/// be more than there is room for; as many as there is room for stand in `out`, the first of them
-/// first, and what is behind them stays as it was. Answers 0 where the bytes encode a body, else the
-/// number of the refusal, and the operators are then the longest beginning of one. `refusal` has the
-/// number too, and the offset of what is refused, else of the end.
+/// The body is `bytes`, and `offset` is the offset of the first byte. Sets `count` to the number of
+/// operators, which may be more than fit in `out`. Writes as many as fit to `out`, in order, and
+/// leaves its other elements unchanged.
 ///
-/// 100 where a bit of `features` is that of no feature; then 101 where the offset of the end does not
-/// fit in 64 bits. Nothing is read then: the count is 0, and the offset is that of the first byte.
+/// Returns 0 if the bytes encode a body, else the number of the error. The operators are then the
+/// longest prefix of a body; after allocation failure (3), a prefix. `refusal` has the same number,
+/// and the offset of the error, or of the end of the bytes.
+///
+/// Returns 100 if a bit of `features` is not a feature; then 101 if the offset of the end does not
+/// fit in 64 bits. In both cases nothing is read: `count` is 0, and the offset in `refusal` is that
+/// of the first byte.
 #[unsafe(no_mangle)]
 pub extern "C" fn wasm_read_body(
     alloc: Global,
@@ -74,7 +80,8 @@ pub extern "C" fn wasm_read_body(
 ) -> u32
     ensures answer { result ≡ refusal.new.number }
     ensures body { features < 64 → IsWithin offset bytes.now
-        → (placed : Placed) × FindsPlain refusal.new (reader_of (features_of features) offset bytes.now) count.new out.old out.new placed }
+        → (placed : Placed)
+        × FindsPlain refusal.new (reader_of (features_of features) offset bytes.now) count.new out.old out.new placed }
     ensures unknown { 64 ≤ features → (refusal.new ≡ misuse 100 offset) × (count.new ≡ 0) × (out.new ≡ out.old) }
     ensures past { features < 64 → 2 ^ 64 ≤ offset + length bytes.now
         → (refusal.new ≡ misuse 101 offset) × (count.new ≡ 0) × (out.new ≡ out.old) }
@@ -94,8 +101,8 @@ pub extern "C" fn wasm_read_body(
     }
 }
 
-/// The text of a refusal, as much of it as there is room for, without a byte 0 behind it. Answers its
-/// whole length in bytes; 0 where the numbers are those of no refusal.
+/// Writes the text of an error to `text`, as much of it as fits, without a NUL byte after it.
+/// Returns the length of the whole text in bytes, or 0 if the numbers are those of no error.
 #[unsafe(no_mangle)]
 pub extern "C" fn wasm_refusal_text(refusal: &WasmRefusal, text: &mut [u8]) -> usize
     ensures told { (e : Error) → refusal.now ≡ refusal_of e
@@ -105,8 +112,8 @@ pub extern "C" fn wasm_refusal_text(refusal: &WasmRefusal, text: &mut [u8]) -> u
     text::write_text(refusal.number, refusal.name, refusal.value, text)
 }
 
-/// The name of the operator of this plain data, as much of it as there is room for, without a byte 0
-/// behind it. Answers its whole length in bytes; 0 where its number is that of none.
+/// Writes the name of the operator to `name`, as much of it as fits, without a NUL byte after it.
+/// Returns the length of the whole name in bytes, or 0 if no operator has this number.
 #[unsafe(no_mangle)]
 pub extern "C" fn wasm_operator_name(operator: &WasmOperator, name: &mut [u8]) -> usize
     ensures named { (op : Operator) (at : ℕ) → operator.now ≡ view_of (op, at)
@@ -117,11 +124,11 @@ pub extern "C" fn wasm_operator_name(operator: &WasmOperator, name: &mut [u8]) -
     text::write_one(name_at(operator.opcode, operator.shape), name)
 }
 
-/// Opens an expression: a reader that has read none of the bytes, the first of which has this offset,
-/// and the frame of the expression as the first of `frames`. Answers 0.
+/// Opens an expression. `offset` is the offset of the first byte. The new reader has read no byte,
+/// and the frame of the expression is the first element of `frames`. Returns 0.
 ///
-/// 100 where a bit of `features` is that of no feature; then 101 where the offset of the end does not
-/// fit in 64 bits; then 102 where `frames` has no room. Nothing changes then but `refusal`.
+/// Returns 100 if a bit of `features` is not a feature; then 101 if the offset of the end does not
+/// fit in 64 bits. Then returns 102 if `frames` is empty. In these cases only `refusal` changes.
 #[unsafe(no_mangle)]
 pub extern "C" fn wasm_open(
     bytes: &[u8],
@@ -138,8 +145,8 @@ pub extern "C" fn wasm_open(
     refusal.number
 }
 
-/// Opens the expression of a function body: as `wasm_open`, behind the locals, which are read and
-/// whose refusal may be answered.
+/// Opens the expression of a function body: reads the locals, and then does the same as
+/// [`wasm_open`]. An error in the locals is returned.
 #[unsafe(no_mangle)]
 pub extern "C" fn wasm_open_body(
     bytes: &[u8],
@@ -156,12 +163,12 @@ pub extern "C" fn wasm_open_body(
     refusal.number
 }
 
-/// Reads the next operator, from the bytes and under the frames that the reader was opened with, and
-/// answers 0: `operator` is its plain data, and the reader stands behind it.
+/// Reads the next operator, with the bytes and the frames that the reader was opened with. Returns
+/// 0: `operator` is the operator, and the reader is after it.
 ///
-/// Else the number of the refusal, and nothing changes but `refusal`: that of the operator, or 102
-/// where it opens a frame and `frames` has no room for it. 103 where the reader is none of these bytes
-/// and frames: one that was not opened, or was overwritten.
+/// On failure, returns the number of the error, and only `refusal` changes. It is 102 if the
+/// operator opens a frame and `frames` is full. It is 103 if `reader` is not a reader of these
+/// bytes and frames: it was not opened, or was overwritten.
 #[unsafe(no_mangle)]
 pub extern "C" fn wasm_next(
     alloc: Global,
@@ -184,9 +191,9 @@ pub extern "C" fn wasm_next(
     refusal.number
 }
 
-/// Reads operators into an array, one after another as `wasm_next`, until it is full or all bytes are
-/// read, and answers 0; or until one is not read, and answers why. `count` is how many stand in
-/// `out`, the first of them first; what is behind them stays as it was.
+/// Reads operators into `out`, in the same way as [`wasm_next`]. Returns 0 when the array is full
+/// or all bytes are read, and the number of the error if a read fails. Sets `count` to the number
+/// of operators written, in order; the other elements of `out` are unchanged.
 #[unsafe(no_mangle)]
 pub extern "C" fn wasm_read(
     alloc: Global,
@@ -204,8 +211,8 @@ pub extern "C" fn wasm_read(
     refusal.number
 }
 
-/// Whether an expression ends where the reader stands: answers 0 where no frame is open and all bytes
-/// are read, else the number of the refusal.
+/// Checks whether an expression ends at the reader's position. Returns 0 if no frame is open and
+/// all bytes are read, else the number of the error.
 #[unsafe(no_mangle)]
 pub extern "C" fn wasm_finish(
     bytes: &[u8],
@@ -220,7 +227,8 @@ pub extern "C" fn wasm_finish(
     refusal.number
 }
 
-/// How many frames may be open at once along so many bytes: an array of this many has always room.
+/// Returns how many frames may be open at once in so many bytes. An array of this length never gets
+/// full.
 #[unsafe(no_mangle)]
 pub extern "C" fn wasm_frames_needed(bytes_length: usize) -> usize
     ensures is { result ≡ bytes_length / 2 + 1 }
@@ -230,13 +238,15 @@ pub extern "C" fn wasm_frames_needed(bytes_length: usize) -> usize
     bytes_length / 2 + 1
 }
 
-/// The targets of the `br_table` that begins at the offset `at` of the bytes, the first of which has the
-/// offset `offset`: those from the index `index` on, as many as there is room for, without the default
-/// one. Answers 0; `count` is how many there are, and what is behind them in `out` stays as it was.
+/// Writes the targets of the `br_table` at the offset `at` to `out`, without the default target:
+/// those from index `index` on, as many as fit. `offset` is the offset of the first of the bytes.
+/// Returns 0, and sets `count` to the number of all targets. The other elements of `out` are
+/// unchanged.
 ///
-/// Else the number of the refusal, and nothing changes but `refusal`: that of what stands there, which
-/// is read as inside a block, and at the end of the bytes 1; 104 where another operator does, or `at`
-/// lies before the first byte or past the end; 100 and 101 as `wasm_read_body`.
+/// On failure, returns the number of the error, and only `refusal` changes. The operator at `at` is
+/// read as if inside a block, and its error is returned; at the end of the bytes that is 1. It is
+/// 104 if another operator is there, or if `at` is before the first byte or past the end. It is 100
+/// or 101 as in [`wasm_read_body`].
 #[unsafe(no_mangle)]
 pub extern "C" fn wasm_br_table_targets(
     alloc: Global,
@@ -256,7 +266,8 @@ pub extern "C" fn wasm_br_table_targets(
     refusal.number
 }
 
-/// The types of the `select` with types that begins there, as `wasm_br_table_targets`.
+/// Writes the types of the `select` with types at the offset `at`, in the same way as
+/// [`wasm_br_table_targets`].
 #[unsafe(no_mangle)]
 pub extern "C" fn wasm_select_types(
     alloc: Global,
@@ -276,7 +287,8 @@ pub extern "C" fn wasm_select_types(
     refusal.number
 }
 
-/// The catches of the `try_table` that begins there, as `wasm_br_table_targets`.
+/// Writes the clauses of the `try_table` at the offset `at`, in the same way as
+/// [`wasm_br_table_targets`].
 #[unsafe(no_mangle)]
 pub extern "C" fn wasm_try_table_catches(
     alloc: Global,
@@ -296,8 +308,8 @@ pub extern "C" fn wasm_try_table_catches(
     refusal.number
 }
 
-/// The clauses of the `resume`, `resume_throw` or `resume_throw_ref` that begins there, as
-/// `wasm_br_table_targets`.
+/// Writes the clauses of the `resume`, `resume_throw` or `resume_throw_ref` at the offset `at`, in
+/// the same way as [`wasm_br_table_targets`].
 #[unsafe(no_mangle)]
 pub extern "C" fn wasm_resume_handlers(
     alloc: Global,

@@ -1,4 +1,4 @@
-//! The members of the list of an operator, from the bytes where it begins.
+//! The list of the operator at an offset.
 ghost use Rattle.std.specs.Prelude.{◌≡◌, ◌<◌, ◌≤◌, ◌+◌, ◌^◌, length, IfSome, IfNone, Ok, Err};
 ghost use Rattle.wasm_operators.specs.below.Source.{Reader};
 ghost use Rattle.wasm_operators.specs.below.bytes.features.WasmFeatures.{WasmFeatures};
@@ -13,7 +13,7 @@ use std::alloc::Global;
 use wasm_operators::{BinaryReader, FrameKind, FrameStack, Operator, ReadOperators};
 use wasm_view::{WasmHandler, WasmType, catches_of, handles_of, targets_of, types_of};
 
-/// The frame that operators with lists are read in: each frame allows them.
+/// The frame in which operators with lists are read: a block, which allows all of them.
 #[derive(Clone, Copy, Debug)]
 struct InBlock;
 
@@ -28,7 +28,8 @@ impl FrameStack for InBlock {
     }
 }
 
-/// The bytes from the offset `at` on, of those of which the first has the offset `offset`.
+/// Returns a reader of the bytes from the offset `at` on. `offset` is the offset of the first of
+/// the bytes.
 fn bytes_from<'a>(
     bytes: &'a [u8],
     offset: u64,
@@ -57,7 +58,7 @@ fn bytes_from<'a>(
     }
 }
 
-/// The operator that begins at an offset of the bytes, the first of which has the offset `offset`.
+/// Returns the operator at the offset `at`. `offset` is the offset of the first of the bytes.
 fn operator_at<'a>(
     alloc: Global,
     bytes: &'a [u8],
@@ -76,7 +77,7 @@ fn operator_at<'a>(
     }
 }
 
-/// Answers how many members the list of an operator has, or refuses it where it has none.
+/// Sets `count` to the length of an operator's list. Fails with 104 if it has no such list.
 fn answer_count(found: Option<usize>, at: u64, count: &mut usize) -> WasmRefusal
     ensures some { IfSome found (λ members. (result ≡ no_refusal at) × (count.new ≡ members)) }
     ensures none { IfNone found ((result ≡ misuse 104 at) × (count.new ≡ count.old)) }
@@ -90,7 +91,7 @@ fn answer_count(found: Option<usize>, at: u64, count: &mut usize) -> WasmRefusal
     }
 }
 
-/// The targets of the `br_table` that begins there, from an index on.
+/// Writes the targets of the `br_table` at the offset `at`, from an index on.
 pub fn targets_at(
     alloc: Global,
     bytes: &[u8],
@@ -109,7 +110,7 @@ pub fn targets_at(
     }
 }
 
-/// The types of the `select` that begins there, from an index on.
+/// Writes the types of the `select` at the offset `at`, from an index on.
 pub fn types_at(
     alloc: Global,
     bytes: &[u8],
@@ -128,7 +129,7 @@ pub fn types_at(
     }
 }
 
-/// The catches of the `try_table` that begins there, from an index on.
+/// Writes the clauses of the `try_table` at the offset `at`, from an index on.
 pub fn catches_at(
     alloc: Global,
     bytes: &[u8],
@@ -147,7 +148,8 @@ pub fn catches_at(
     }
 }
 
-/// The clauses of the `resume` and its kin that begins there, from an index on.
+/// Writes the clauses of the `resume`, `resume_throw` or `resume_throw_ref` at the offset `at`,
+/// from an index on.
 pub fn handles_at(
     alloc: Global,
     bytes: &[u8],

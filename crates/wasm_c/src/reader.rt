@@ -1,4 +1,4 @@
-//! Readers of operators as plain data, under frames in an array of the caller's.
+//! Readers of operators as C structs, with the open frames in an array of the caller.
 ghost use Rattle.std.specs.Prelude.{◌≡◌, ◌≤◌, length, IfSome, IfNone, IfOk, IfErr, List, ℕ};
 ghost use Rattle.wasm_operators.specs.below.Source.{reader_of, offset_of, at_position, Takes};
 ghost use Rattle.wasm_operators.specs.instr.declared.operator.Operator.{Operator};
@@ -22,24 +22,24 @@ use wasm_operators::{
 };
 use wasm_view::WasmOperator;
 
-/// A reader of operators as plain data: 32 bytes without gaps.
+/// A reader of operators as a C struct of 32 bytes without padding.
 #[repr(C)]
 #[derive(Clone, Copy, Debug, PartialEq, Eq)]
 pub struct WasmReader {
     /// The offset of the first byte.
     pub offset: u64,
-    /// How many bytes were read.
+    /// The number of bytes that were read.
     pub position: u64,
-    /// How many frames are open.
+    /// The number of open frames.
     pub depth: u64,
-    /// The features.
+    /// The bits of the enabled features.
     pub features: u32,
-    /// 0.
+    /// Always 0.
     pub reserved: u32,
 }
 
-/// Reads an operator inside this frame: its plain data, and what it does to the frames, are the
-/// visitor's then.
+/// Reads an operator inside this frame. The visitor then has its C struct and its effect on the
+/// frames.
 #[inline(always)]
 fn view_operator(
     alloc: Global,
@@ -58,7 +58,7 @@ fn view_operator(
     reader.visit_operator_simd(alloc, viewer)
 }
 
-/// A reader of what stands behind the locals of a body.
+/// Creates a reader of the bytes after the locals of a body.
 fn past_locals<'a>(bytes: &'a [u8], offset: u64, features: WasmFeatures) -> Result<BinaryReader<'a>>
     requires { IsWithin offset bytes.now }
     ensures { ReadsPastLocals result (reader_of features offset bytes.now) }
@@ -68,7 +68,8 @@ fn past_locals<'a>(bytes: &'a [u8], offset: u64, features: WasmFeatures) -> Resu
 }
 
 impl WasmReader {
-    /// The bytes where this stands, if it is a reader of them and of an array of so many frames.
+    /// Returns a reader of the bytes at this position, or `None` if `self` is not a reader of them
+    /// and of `room` frames.
     fn bytes_ahead<'a>(&self, bytes: &'a [u8], room: usize) -> Option<BinaryReader<'a>>
         ensures ahead { IfSome result (λ ahead. IsReader bytes.now room self.now × (ahead ≡ reader_at bytes.now self.now)) }
         ensures none { IfNone result (IsReader bytes.now room self.now → ⊥) }
@@ -87,8 +88,8 @@ impl WasmReader {
         }
     }
 
-    /// Reads one operator more of the bytes ahead, where this stands: its plain data is the visitor's
-    /// then.
+    /// Reads one operator from the bytes ahead, which are at this position. The visitor then has
+    /// its C struct.
     #[inline(always)]
     fn step(
         &mut self,
@@ -119,7 +120,7 @@ impl WasmReader {
         }
     }
 
-    /// Reads one operator more.
+    /// Reads one operator.
     pub fn read_next(
         &mut self,
         alloc: Global,
@@ -138,7 +139,7 @@ impl WasmReader {
         }
     }
 
-    /// Reads operators into an array, up to its end, the end of the data or a refusal.
+    /// Reads operators into an array until it is full, the data ends, or a read fails.
     pub fn read_many(
         &mut self,
         alloc: Global,
@@ -171,7 +172,7 @@ impl WasmReader {
         WasmRefusal::none(ahead.original_position())
     }
 
-    /// Whether an expression ends here.
+    /// Checks whether an expression ends at this position.
     pub fn finish(&self, bytes: &[u8], frames: &[u8]) -> WasmRefusal
         ensures { FinishesPlain result bytes.now self.now frames.now }
     {
@@ -188,7 +189,8 @@ impl WasmReader {
         WasmRefusal::none(offset)
     }
 
-    /// A reader that has read so many bytes, with the frame of the expression alone.
+    /// Creates a reader that has read `position` bytes, and in which only the frame of the
+    /// expression is open.
     fn fresh(offset: u64, features: u32, position: u64) -> WasmReader
         ensures { result ≡ fresh_reader offset features position }
     {
@@ -201,7 +203,7 @@ impl WasmReader {
         }
     }
 
-    /// Opens the expression that the bytes are to encode.
+    /// Opens the expression that the bytes should encode.
     pub fn open(
         &mut self,
         bytes: &[u8],
@@ -224,7 +226,7 @@ impl WasmReader {
         }
     }
 
-    /// Opens the expression behind the locals of the body that the bytes are to encode.
+    /// Opens the expression after the locals of the body that the bytes should encode.
     pub fn open_body(
         &mut self,
         bytes: &[u8],

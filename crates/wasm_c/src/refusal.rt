@@ -1,4 +1,4 @@
-//! Refusals as plain data.
+//! Errors as C structs.
 ghost use Rattle.std.specs.Prelude.{◌≡◌};
 ghost use Rattle.wasm_c.specs.Texts.{instruction_told, frame_told, number_told, size_told, leading_told, type_told};
 ghost use Rattle.wasm_c.specs.Refused.{told, told_name, told_value, refusal_of, no_refusal, misuse, refusal_at, instruction_number, number_name_number, size_number, frame_number, leading_number, type_number};
@@ -8,42 +8,43 @@ use wasm_operators::{
     TypeName,
 };
 
-/// What is answered where a bit of the features is that of none.
+/// The number of the error for features with an unknown bit.
 pub const UNKNOWN_FEATURES: u32 = 100;
 
-/// What is answered where the bytes reach past the largest offset.
+/// The number of the error for bytes that reach past the largest offset.
 pub const PAST_OFFSETS: u32 = 101;
 
-/// What is answered where a frame more finds no room in the array.
+/// The number of the error for a frame that does not fit in the array.
 pub const NO_ROOM: u32 = 102;
 
-/// What is answered where plain data is not that of a reader of these bytes and frames.
+/// The number of the error for a struct that is not a reader of these bytes and frames.
 pub const NOT_A_READER: u32 = 103;
 
-/// What is answered where no operator with such a list begins at an offset.
+/// The number of the error for an offset at which no operator with such a list starts.
 pub const NO_LIST: u32 = 104;
 
-/// A refusal as plain data: 24 bytes, of which the last four are 0.
+/// An error as a C struct of 24 bytes. The last four bytes are 0.
 #[repr(C)]
 #[derive(Clone, Copy, Debug, PartialEq, Eq)]
 pub struct WasmRefusal {
-    /// The offset of what is refused: with 100, 101 and 103 that of the first byte, with 104 the one that
-    /// was asked for. Where nothing is refused, that of the end of the bytes, that where a reader stands,
-    /// or the one that was asked for.
+    /// The offset of the error: that of the first byte with 100, 101 and 103, and the requested one
+    /// with 104. Without an error, the offset of the end of the bytes, of the reader's position, or
+    /// the requested one.
     pub offset: u64,
-    /// The number of the refusal: from 1 to 25 of what was read, from 100 to 104 of what no reading
-    /// answers; 0 where nothing is refused.
+    /// The number of the error: 1 to 25 for an error in the bytes or of allocation, 100 to 104 for
+    /// an error in the arguments. 0 if there is no error.
     pub number: u32,
-    /// Which name its text tells, counted from 0; 16 times a second one is added.
+    /// The number of the name in the error's text, counted from 0; plus 16 times the number of a
+    /// second name.
     pub name: u32,
-    /// The byte, code or flags that its text tells.
+    /// The byte, code or flags in the error's text.
     pub value: u32,
-    /// 0.
+    /// Always 0.
     pub reserved: u32,
 }
 
 impl WasmRefusal {
-    /// A refusal of these numbers.
+    /// Creates an error from its numbers.
     fn new(offset: u64, number: u32, name: u32, value: u32) -> WasmRefusal
         ensures { result ≡ told offset number name value }
     {
@@ -56,21 +57,21 @@ impl WasmRefusal {
         }
     }
 
-    /// No refusal, at this offset.
+    /// Creates the value for no error, at this offset.
     pub fn none(offset: u64) -> WasmRefusal
         ensures { result ≡ no_refusal offset }
     {
         WasmRefusal::new(offset, 0, 0, 0)
     }
 
-    /// What no reading answers, at this offset.
+    /// Creates an error in the arguments, at this offset.
     pub fn misuse(number: u32, offset: u64) -> WasmRefusal
         ensures { result ≡ misuse number offset }
     {
         WasmRefusal::new(offset, number, 0, 0)
     }
 
-    /// How reading ended: at this offset, where nothing is refused.
+    /// Creates the value for how reading ended. `offset` is used if there is no error.
     pub fn of_end(end: &Result<()>, offset: u64) -> WasmRefusal
         ensures { result ≡ refusal_at end.now offset }
     {
@@ -80,7 +81,7 @@ impl WasmRefusal {
         }
     }
 
-    /// The plain data of a refusal.
+    /// Converts an error to the C struct.
     pub fn of(error: &Error) -> WasmRefusal
         ensures { result ≡ refusal_of error.now }
     {
@@ -95,7 +96,7 @@ impl WasmRefusal {
     }
 }
 
-/// Which name the text of a message tells; of a subopcode, which prefix.
+/// Returns the number of the name in a message's text; for a subopcode, the prefix byte.
 fn told_name(message: &Message) -> u32
     ensures { result ≡ told_name message.now }
 {
@@ -113,7 +114,7 @@ fn told_name(message: &Message) -> u32
     }
 }
 
-/// Which byte, code or flags it tells.
+/// Returns the byte, code or flags in a message's text.
 fn told_value(message: &Message) -> u32
     ensures { result ≡ told_value message.now }
 {
@@ -127,7 +128,7 @@ fn told_value(message: &Message) -> u32
     }
 }
 
-/// The number of the name of an instruction.
+/// Returns the number of an instruction's name.
 fn instruction_number(name: InstructionName) -> u32
     ensures { result ≡ instruction_number name }
 {
@@ -140,7 +141,7 @@ fn instruction_number(name: InstructionName) -> u32
     }
 }
 
-/// The name of an instruction, by its number.
+/// Returns the instruction's name with this number.
 pub fn instruction_name(number: u32) -> Option<InstructionName>
     ensures { result ≡ instruction_told number }
 {
@@ -154,7 +155,7 @@ pub fn instruction_name(number: u32) -> Option<InstructionName>
     }
 }
 
-/// The number of the name of a frame.
+/// Returns the number of a frame's name.
 fn frame_number(name: FrameName) -> u32
     ensures { result ≡ frame_number name }
 {
@@ -164,7 +165,7 @@ fn frame_number(name: FrameName) -> u32
     }
 }
 
-/// The name of a frame, by its number.
+/// Returns the frame's name with this number.
 pub fn frame_name(number: u32) -> Option<FrameName>
     ensures { result ≡ frame_told number }
 {
@@ -175,7 +176,7 @@ pub fn frame_name(number: u32) -> Option<FrameName>
     }
 }
 
-/// The number of the name of a kind of number.
+/// Returns the number of the name of a number format.
 fn number_name_number(name: NumberName) -> u32
     ensures { result ≡ number_name_number name }
 {
@@ -188,7 +189,7 @@ fn number_name_number(name: NumberName) -> u32
     }
 }
 
-/// The name of a kind of number, by its number.
+/// Returns the name of the number format with this number.
 pub fn number_name(number: u32) -> Option<NumberName>
     ensures { result ≡ number_told number }
 {
@@ -202,7 +203,7 @@ pub fn number_name(number: u32) -> Option<NumberName>
     }
 }
 
-/// The number of the name of a list.
+/// Returns the number of a list's name.
 fn size_number(name: SizeName) -> u32
     ensures { result ≡ size_number name }
 {
@@ -214,7 +215,7 @@ fn size_number(name: SizeName) -> u32
     }
 }
 
-/// The name of a list, by its number.
+/// Returns the list's name with this number.
 pub fn size_name(number: u32) -> Option<SizeName>
     ensures { result ≡ size_told number }
 {
@@ -227,7 +228,7 @@ pub fn size_name(number: u32) -> Option<SizeName>
     }
 }
 
-/// The number of the name of what a leading byte begins.
+/// Returns the number of the name of what starts with a leading byte.
 fn leading_number(name: LeadingByteName) -> u32
     ensures { result ≡ leading_number name }
 {
@@ -237,7 +238,7 @@ fn leading_number(name: LeadingByteName) -> u32
     }
 }
 
-/// The name of what a leading byte begins, by its number.
+/// Returns the name of what starts with a leading byte, by its number.
 pub fn leading_name(number: u32) -> Option<LeadingByteName>
     ensures { result ≡ leading_told number }
 {
@@ -248,7 +249,7 @@ pub fn leading_name(number: u32) -> Option<LeadingByteName>
     }
 }
 
-/// The number of the name of a kind of type.
+/// Returns the number of the name of a kind of type.
 fn type_number(name: TypeName) -> u32
     ensures { result ≡ type_number name }
 {
@@ -259,7 +260,7 @@ fn type_number(name: TypeName) -> u32
     }
 }
 
-/// The name of a kind of type, by its number.
+/// Returns the name of the kind of type with this number.
 pub fn type_name(number: u32) -> Option<TypeName>
     ensures { result ≡ type_told number }
 {

@@ -1,4 +1,4 @@
-//! Texts, of refusals among them, written into an array.
+//! Texts, such as those of errors, written to an array.
 ghost use Rattle.std.specs.Prelude.{◌≡◌, ◌+◌, ◌*◌, ◌^◌, ◌<◌, ◌≤◌, [], ◌∷◌, ◌++◌, ◌%◌, length, Some, List, ℕ, false, codes};
 ghost use Rattle.std.specs.Option.{option_map};
 ghost use Rattle.wasm_operators.specs.below.bytes.message.Message.TheVariants as message;
@@ -11,7 +11,7 @@ use crate::refusal::{
 };
 use wasm_operators::FrameName;
 
-/// Puts a byte behind as many as `at`, if there is room for it.
+/// Writes a byte at index `at`, if it fits. Returns the index after it.
 fn put_byte(byte: u8, at: usize, text: &mut [u8]) -> usize
     requires { at < 2 ^ 62 }
     ensures { PutsPiece (byte ∷ []) at text.old result text.new }
@@ -22,7 +22,7 @@ fn put_byte(byte: u8, at: usize, text: &mut [u8]) -> usize
     at + 1
 }
 
-/// Puts a piece behind as many bytes as `at`, as much of it as there is room for.
+/// Writes a piece at index `at`, as much of it as fits. Returns the index after the whole piece.
 fn put(piece: &str, at: usize, text: &mut [u8]) -> usize
     requires { at + length piece.now < 2 ^ 62 }
     ensures { PutsPiece piece.now at text.old result text.new }
@@ -35,7 +35,7 @@ fn put(piece: &str, at: usize, text: &mut [u8]) -> usize
     next
 }
 
-/// The digit of a number below 16.
+/// Returns the hexadecimal digit of a number below 16.
 fn digit(value: u32) -> u8
     requires { value < 16 }
     ensures { result ≡ digit_glyph false value }
@@ -48,7 +48,7 @@ fn digit(value: u32) -> u8
     }
 }
 
-/// Puts a number in lower-case hexadecimal.
+/// Writes a number in lower-case hexadecimal.
 fn put_hexadecimal(value: u32, at: usize, text: &mut [u8]) -> usize
     requires { at < 2 ^ 60 }
     ensures puts { PutsPiece (hexadecimal value) at text.old result text.new }
@@ -61,7 +61,7 @@ fn put_hexadecimal(value: u32, at: usize, text: &mut [u8]) -> usize
     put_byte(digit(value % 16), next, text)
 }
 
-/// Puts a number in decimal.
+/// Writes a number in decimal.
 fn put_decimal(value: u32, at: usize, text: &mut [u8]) -> usize
     requires { at < 2 ^ 60 }
     ensures puts { PutsPiece (decimal value) at text.old result text.new }
@@ -74,7 +74,7 @@ fn put_decimal(value: u32, at: usize, text: &mut [u8]) -> usize
     put_byte(b'0' + (value % 10) as u8, next, text)
 }
 
-/// Puts a binary digit: the lowest of a number.
+/// Writes the lowest binary digit of a number.
 fn put_bit(value: u32, at: usize, text: &mut [u8]) -> usize
     requires { at < 2 ^ 62 }
     ensures { PutsPiece ((48 + value % 2) ∷ []) at text.old result text.new }
@@ -82,7 +82,7 @@ fn put_bit(value: u32, at: usize, text: &mut [u8]) -> usize
     put_byte(b'0' + (value % 2) as u8, at, text)
 }
 
-/// Puts the lowest eight binary digits of a number.
+/// Writes the lowest eight binary digits of a number.
 fn put_binary(value: u32, at: usize, text: &mut [u8]) -> usize
     requires { at < 2 ^ 60 }
     ensures { PutsPiece (eight_digits value) at text.old result text.new }
@@ -97,7 +97,7 @@ fn put_binary(value: u32, at: usize, text: &mut [u8]) -> usize
     put_bit(value, first, text)
 }
 
-/// Writes a text of one piece.
+/// Writes a text of one piece. Returns its whole length.
 pub fn write_one(first: &str, text: &mut [u8]) -> usize
     ensures { AnswersText (Some first.now) text.old result text.new }
 {
@@ -109,7 +109,7 @@ pub fn write_one(first: &str, text: &mut [u8]) -> usize
     bytes.len()
 }
 
-/// Writes a text of two pieces.
+/// Writes a text of two pieces. Returns its whole length.
 fn write_two(first: &str, second: &str, text: &mut [u8]) -> usize
     requires first { length first.now < 2 ^ 16 }
     requires second { length second.now < 2 ^ 16 }
@@ -119,7 +119,7 @@ fn write_two(first: &str, second: &str, text: &mut [u8]) -> usize
     put(second, at, text)
 }
 
-/// Writes a text of three pieces.
+/// Writes a text of three pieces. Returns its whole length.
 fn write_three(first: &str, second: &str, third: &str, text: &mut [u8]) -> usize
     requires first { length first.now < 2 ^ 16 }
     requires second { length second.now < 2 ^ 16 }
@@ -131,7 +131,7 @@ fn write_three(first: &str, second: &str, third: &str, text: &mut [u8]) -> usize
     put(third, behind, text)
 }
 
-/// Writes a text that ends in a number in hexadecimal.
+/// Writes a text that ends with a number in hexadecimal.
 fn write_code(first: &str, code: u32, text: &mut [u8]) -> usize
     requires { length first.now < 2 ^ 16 }
     ensures { AnswersText (Some (first.now ++ hexadecimal code)) text.old result text.new }
@@ -140,7 +140,7 @@ fn write_code(first: &str, code: u32, text: &mut [u8]) -> usize
     put_hexadecimal(code, at, text)
 }
 
-/// Writes the text of an instruction that needs a feature.
+/// Writes the text of the error for an instruction that needs a feature.
 fn write_feature(name: u32, text: &mut [u8]) -> usize
     ensures { AnswersText (option_map message_text (option_map message.FeatureRequired (instruction_told name))) text.old result text.new }
 {
@@ -155,7 +155,7 @@ fn write_feature(name: u32, text: &mut [u8]) -> usize
     }
 }
 
-/// Writes the text of a number that does not fit.
+/// Writes the text of the error for a number that does not fit.
 fn write_integer(name: u32, text: &mut [u8]) -> usize
     ensures { AnswersText (option_map message_text (integer_told name)) text.old result text.new }
 {
@@ -176,7 +176,7 @@ fn write_integer(name: u32, text: &mut [u8]) -> usize
     }
 }
 
-/// Writes the text of a count that is above its limit.
+/// Writes the text of the error for a count above its limit.
 fn write_size(name: u32, text: &mut [u8]) -> usize
     ensures { AnswersText (option_map message_text (option_map message.SizeOutOfBounds (size_told name))) text.old result text.new }
 {
@@ -186,7 +186,7 @@ fn write_size(name: u32, text: &mut [u8]) -> usize
     }
 }
 
-/// The text of the name of a frame.
+/// Returns the name of a frame in an error's text.
 fn frame_text(frame: FrameName) -> &'static str
     ensures { result.now ≡ frame_name_text frame }
 {
@@ -196,7 +196,7 @@ fn frame_text(frame: FrameName) -> &'static str
     }
 }
 
-/// Writes the text of an instruction outside the frame that it needs.
+/// Writes the text of the error for an instruction outside the frame that it needs.
 fn write_frame(instruction: &str, frame: &str, text: &mut [u8]) -> usize
     requires instruction { length instruction.now < 2 ^ 16 }
     requires frame { length frame.now < 2 ^ 16 }
@@ -209,7 +209,7 @@ fn write_frame(instruction: &str, frame: &str, text: &mut [u8]) -> usize
     put("` block", fourth, text)
 }
 
-/// Writes the same of these numbers.
+/// Writes the same text from the numbers of the instruction and the frame.
 fn write_wrong_frame(name: u32, text: &mut [u8]) -> usize
     ensures { AnswersText (option_map message_text (frames_told name)) text.old result text.new }
 {
@@ -222,7 +222,7 @@ fn write_wrong_frame(name: u32, text: &mut [u8]) -> usize
     }
 }
 
-/// Writes the text of a subopcode that no operator has.
+/// Writes the text of the error for an unknown subopcode.
 fn write_subopcode(prefix: u32, code: u32, text: &mut [u8]) -> usize
     ensures { AnswersText (Some (message_text (message.UnknownSubopcode prefix code))) text.old result text.new }
 {
@@ -232,7 +232,7 @@ fn write_subopcode(prefix: u32, code: u32, text: &mut [u8]) -> usize
     put_hexadecimal(code, third, text)
 }
 
-/// Writes the text of a byte that is no ordering, in decimal.
+/// Writes the text of the error for an invalid ordering, with the byte in decimal.
 fn write_decimal_ordering(value: u32, text: &mut [u8]) -> usize
     ensures { AnswersText (Some (message_text (message.InvalidOrdering value false))) text.old result text.new }
 {
@@ -240,7 +240,7 @@ fn write_decimal_ordering(value: u32, text: &mut [u8]) -> usize
     put_decimal(value, at, text)
 }
 
-/// Writes the text of a byte that is no ordering.
+/// Writes the text of the error for an invalid ordering.
 fn write_ordering(name: u32, value: u32, text: &mut [u8]) -> usize
     ensures { AnswersText (option_map message_text (ordering_told name value)) text.old result text.new }
 {
@@ -251,7 +251,7 @@ fn write_ordering(name: u32, value: u32, text: &mut [u8]) -> usize
     }
 }
 
-/// Writes the text of the flags of a cast.
+/// Writes the text of the error for invalid cast flags.
 fn write_flags(value: u32, text: &mut [u8]) -> usize
     ensures { AnswersText (Some (message_text (message.InvalidCastFlags value))) text.old result text.new }
 {
@@ -259,7 +259,7 @@ fn write_flags(value: u32, text: &mut [u8]) -> usize
     put_binary(value, at, text)
 }
 
-/// Writes the text of a leading byte of nothing.
+/// Writes the text of the error for an invalid leading byte.
 fn write_leading(name: &str, value: u32, text: &mut [u8]) -> usize
     requires { length name.now < 2 ^ 16 }
     ensures { AnswersText (Some (codes "invalid leading byte (0x" ++ (hexadecimal value ++ (codes ") for " ++ name.now)))) text.old result text.new }
@@ -270,7 +270,7 @@ fn write_leading(name: &str, value: u32, text: &mut [u8]) -> usize
     put(name, third, text)
 }
 
-/// Writes the same of these numbers.
+/// Writes the same text from the numbers of the name and the byte.
 fn write_leading_byte(name: u32, value: u32, text: &mut [u8]) -> usize
     ensures { AnswersText (option_map message_text (option_map (λ n. message.InvalidLeadingByte value n) (leading_told name))) text.old result text.new }
 {
@@ -280,7 +280,7 @@ fn write_leading_byte(name: u32, value: u32, text: &mut [u8]) -> usize
     }
 }
 
-/// Writes the text of a type that is none.
+/// Writes the text of the error for an invalid type.
 fn write_type(name: u32, text: &mut [u8]) -> usize
     ensures { AnswersText (option_map message_text (option_map message.InvalidType (type_told name))) text.old result text.new }
 {
@@ -290,7 +290,7 @@ fn write_type(name: u32, text: &mut [u8]) -> usize
     }
 }
 
-/// Writes a text that tells nothing.
+/// Writes the text of an error whose text has no name or value.
 fn write_bare(number: u32, text: &mut [u8]) -> usize
     ensures { AnswersText (option_map message_text (bare_told number)) text.old result text.new }
 {
@@ -323,8 +323,8 @@ fn write_bare(number: u32, text: &mut [u8]) -> usize
     }
 }
 
-/// Writes the text of a refusal's numbers, as much of it as there is room for, and answers its whole
-/// length; 0 where the numbers are those of none.
+/// Writes the text of an error, as much of it as fits. Returns the length of the whole text, or 0
+/// if the numbers are those of no error.
 pub fn write_text(number: u32, name: u32, value: u32, text: &mut [u8]) -> usize
     ensures { AnswersText (option_map message_text (message_told number name value)) text.old result text.new }
 {

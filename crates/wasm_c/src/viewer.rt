@@ -1,4 +1,4 @@
-//! The visitor that makes the plain data of an operator, and tells what it does to the frames.
+//! The visitor that makes the C struct of an operator, and finds its effect on the frames.
 ghost use Rattle.std.specs.Prelude.{◌≡◌};
 ghost use Rattle.wasm_operators.specs.grammar.declared.frame_kind.FrameKind.{FrameKind};
 ghost use Rattle.wasm_operators.specs.instr.Roles.{role_of};
@@ -12,8 +12,8 @@ use wasm_operators::{
 };
 use wasm_view::{WasmOperator, view_of};
 
-/// The innermost frame, the offset of the next operator, and of the one that was visited the plain
-/// data and what it does to the frames.
+/// The innermost frame; the offset of the next operator; and, of the visited operator, the C struct
+/// and the effect on the frames.
 #[derive(Debug, Drop)]
 pub struct Viewer {
     pub frame: FrameKind,
@@ -23,7 +23,7 @@ pub struct Viewer {
 }
 
 impl Viewer {
-    /// Before the first operator, in the frame of an expression.
+    /// Creates a visitor for the first operator of an expression.
     pub fn new() -> Viewer
         ensures frame { result.frame ≡ FrameKind.Block }
         ensures offset { result.offset ≡ 0 }
@@ -51,7 +51,7 @@ impl FrameStack for Viewer {
 impl Visitor for Viewer {
     type Output = ();
 
-    // The plain data is that of the operator at this offset.
+    // The C struct is that of the operator at this offset.
     ghost visits = { λ before op answer after. (after.view ≡ view_of (op, before.offset))
         × (after.change ≡ change_of (role_of op)) };
 

@@ -32,7 +32,7 @@ use Rattle.wasm_decode.specs.Reading.{DecodesOperator, DecodesOperatorAt, Decode
 
 -- ---- by a copy of the reader
 
--- a call changes the reader's position alone
+-- a call changes only the reader's position
 position_alone : {V A : Type 0} (visits : V → Operator → A → V → Type 0) (k : FrameKind) (start : ℕ) (result : Result A Error) (old mid : Reader) (v w : V) →
     DecodesAt visits k start result old mid v w → mid ≡ at_position old mid.position
 position_alone visits k start (Ok a) old mid v w (text, op, encodes, takes, visited) =
@@ -40,7 +40,7 @@ position_alone visits k start (Ok a) old mid v w (text, op, encodes, takes, visi
 position_alone visits k start (Err e) old mid v w (same, refuses) = refuses.0 ∙ ap (at_position old) (sym (ap (λ (r : Reader). r.position) refuses.0))
 
 module _ {V A : Type 0} (visits : V → Operator → A → V → Type 0) (k : FrameKind) (start : ℕ) (old lent mid : Reader) (v w : V) (same : lent ≡ old) where
-  -- the copy stands at a byte, or at the end of all
+  -- the position of the copy is at most the length of the bytes
   pub copy_within : (p : Option ℕ) (code : ℕ) (a : A) → StandsBehind start p code old → DecodesAt visits k start (Ok a) lent mid v w → mid.position ≤ length old.buffer
   copy_within p code a b (text, op, encodes, takes, visited) =
       let within = within_behind start p code old b in
@@ -49,7 +49,7 @@ module _ {V A : Type 0} (visits : V → Operator → A → V → Type 0) (k : Fr
       let at : mid.position ≡ start + length text = ap (λ (r : Reader). r.position) t.moved in
       omega (arith, whole, at)
 
-  -- a reader that is set where its copy stands did what that did
+  -- a reader that is set to the position of its copy did what the copy did
   pub by_copy : (result : Result A Error) (new : Reader) (position : ℕ) → DecodesAt visits k start result lent mid v w → position ≡ mid.position →
       new ≡ at_position old position → DecodesAt visits k start result old new v w
   by_copy result new position h at went =
@@ -57,14 +57,14 @@ module _ {V A : Type 0} (visits : V → Operator → A → V → Type 0) (k : Fr
       let e : new ≡ mid = went ∙ ap (at_position old) at ∙ sym (position_alone visits k start result old mid v w read) in
       subst (λ r. DecodesAt visits k start result old r v w) (sym e) read
 
-  -- a copy whose call was refused went back
+  -- a copy whose call failed went back
   pub copy_refused : (e : Error) (new : Reader) → DecodesAt visits k start (Err e) lent mid v w → new ≡ at_position old start →
       DecodesAt visits k start (Err e) old new v w
   copy_refused e new h went = by_copy (Err e) new start h (sym (ap (λ (r : Reader). r.position) h.1.0)) went
 
 -- ---- the first byte
 
--- the reader stands behind the byte that it read
+-- the reader is after the byte that it read
 pub stands : (old mid : Reader) (code start : ℕ) → Reads IsByte (Ok code) old mid → start ≡ old.position → (at_position mid start ≡ old) × StandsBehind start None code mid
 stands old mid code start r same =
     let f = first_byte_read old mid code r in
@@ -82,7 +82,7 @@ no_prefixes : (g : Option Guard) (ks : List Kind) → guarded_entry g ks ≡ pre
 no_prefixes None ks e = cc e
 no_prefixes (Some g) ks e = cc e
 
--- no operator has no bytes
+-- the encoding of an operator is not empty
 none_empty : (f : WasmFeatures) (k : FrameKind) → NoPrefix (EncodesAllowed f k) []
 none_empty f k text left op s eq =
     let some = some_head (prefix_of op) (opcode_of op) s.0.head s.0.code in
@@ -123,7 +123,7 @@ refuses_closed E F e old m at within = (
 
 -- ---- a prefix byte
 
--- the reader stands behind the subopcode that it read
+-- the reader is after the subopcode that it read
 pub stands_behind : (start p code : ℕ) (mid now : Reader) → StandsBehind start None p mid → Reads (EncodesUnsigned 32) (Ok code) mid now →
     (now ≡ at_position mid now.position) × StandsBehind start (Some p) code now
 stands_behind start p code mid now b (number, u, t) = go b.opcode
@@ -164,7 +164,7 @@ begins_prefix f op p text after left is s eq = go (prefix_of op) refl s.code
         let same : p ≡ q = cc first in
         (number, s.behind, e ∙ ap Some (sym same), u, cc first)
 
--- the subopcode is refused
+-- reading the subopcode fails
 pub refuses_subopcode : (k : FrameKind) (start p : ℕ) (e : Error) (mid now new : Reader) → p < 256 → entry_at None p ≡ prefixes → StandsBehind start None p mid →
     (now ≡ mid) × IsRefusal (EncodesUnsigned 32) e mid → U32Fault e.message mid e.offset → new ≡ at_position now start →
     RefusesOperator (EncodesAllowed mid.features k) (OperatorFault mid.features k) e (at_position mid start) new
@@ -194,14 +194,14 @@ refuses_subopcode k start p e mid now new small is b (same, h) fault went = go b
           ),
         )
 
--- what is decoded behind the subopcode is decoded behind the prefix byte
+-- decoding after the subopcode is decoding after the prefix byte
 pub behind_prefix : {V A : Type 0} (visits : V → Operator → A → V → Type 0) (k : FrameKind) (start : ℕ) (mid now new : Reader) (v w : V) (result : Result A Error) →
     now ≡ at_position mid now.position → Decodes visits (EncodesAllowed now.features k) (OperatorFault now.features k) result (at_position now start) new v w →
     Decodes visits (EncodesAllowed mid.features k) (OperatorFault mid.features k) result (at_position mid start) new v w
 behind_prefix visits k start mid now new v w result stays h =
     subst (λ (z : Reader). Decodes visits (EncodesAllowed z.features k) (OperatorFault z.features k) result (at_position z start) new v w) stays h
 
--- ---- scalar visitors
+-- ---- visitors without SIMD operators
 
 pub vector_prefix : (op : Operator) → IsVector op → prefix_of op ≡ Some 0xfd
 vector_prefix (operator.Simd op) h = refl
@@ -215,7 +215,7 @@ pub prefix_vector : (op : Operator) → prefix_of op ≡ Some 0xfd → IsVector 
 prefix_vector (operator.Simd op) e = tt
 prefix_vector op e = absurd (omega (arith, ap number_in e))
 
--- an operator without the prefix byte 0xfd in front is no vector operator
+-- an operator that does not start with the byte 0xfd is not a SIMD operator
 scalar_behind : (f : WasmFeatures) (op : Operator) (code : ℕ) (text after left : List ℕ) → code ≢ 0xfd → EncodesOperator f op text → code ∷ after ≡ text ++ left → ¬ IsVector op
 scalar_behind f op code text after left other s eq h = go (prefix_of op) refl s.code
   where
@@ -242,7 +242,7 @@ refused_scalar f k e old h =
           );
     }
 
--- what is decoded behind another opcode than 0xfd, is by a scalar visitor too
+-- decoding after another opcode than 0xfd is the same for a visitor without SIMD operators
 pub to_scalar : {V A : Type 0} (visits : V → Operator → A → V → Type 0) (k : FrameKind) (start code : ℕ) (mid new : Reader) (v w : V) (result : Result A Error) → code ≢ 0xfd →
     StandsBehind start None code mid → Decodes visits (EncodesAllowed mid.features k) (OperatorFault mid.features k) result (at_position mid start) new v w →
     Decodes visits (EncodesScalar mid.features k) (ScalarOperatorFault mid.features k) result (at_position mid start) new v w
@@ -260,7 +260,7 @@ to_scalar {V} {A} visits k start code mid new v w result other b h = go b.opcode
           (went, refused_scalar mid.features k e (at_position mid start) h, λ some. inr (other_byte code (rest mid) (rest (at_position mid start)) other parts, fault some)),
         )
 
--- no byte is left, of a scalar visitor
+-- no byte is left, for a visitor without SIMD operators
 pub refuses_end_scalar : (k : FrameKind) (e : Error) (old new : Reader) → (new ≡ old) × IsRefusal IsByte e old → IsEndHere e old →
     RefusesOperator (EncodesScalar old.features k) (ScalarOperatorFault old.features k) e old new
 refuses_end_scalar k e old new r end =
@@ -270,7 +270,7 @@ refuses_end_scalar k e old new r end =
     empty : (more : List ℕ) → [] ≡ 0xfd ∷ more → ⊥
     empty more q = cc q
 
--- the byte 0xfd, whatever stands behind it
+-- the byte 0xfd, whatever follows
 pub refuses_vector : (k : FrameKind) (start : ℕ) (e : Error) (mid new : Reader) → entry_at None 0xfd ≡ prefixes → StandsBehind start None 0xfd mid → new ≡ at_position mid start →
     e.message ≡ message.UnexpectedSimd → e.offset ≡ mid.start + start →
     RefusesOperator (EncodesScalar mid.features k) (ScalarOperatorFault mid.features k) e (at_position mid start) new
@@ -297,7 +297,7 @@ refuses_vector k start e mid new is b went m at = go b.opcode
 
 -- ---- the whole call
 
--- from behind the opcode to the operator's start
+-- from the position after the opcode to the operator's start
 pub from_start : {V A : Type 0} (visits : V → Operator → A → V → Type 0) (E : WasmFeatures → FrameKind → List ℕ → Operator → Type 0)
     (F : WasmFeatures → FrameKind → Message → Reader → ℕ → Type 0) (k : FrameKind) (start : ℕ) (old mid new : Reader) (v w : V) (result : Result A Error) → at_position mid start ≡ old →
     Decodes visits (E mid.features k) (F mid.features k) result (at_position mid start) new v w → Decodes visits (E old.features k) (F old.features k) result old new v w
@@ -306,13 +306,13 @@ from_start visits E F k start old mid new v w result back h =
 
 -- ---- reading
 
--- what a visitor that answers the operator decodes is read
+-- decoding by a visitor that returns the operator is reading
 pub as_read : {V : Type 0} (E : List ℕ → Operator → Type 0) (F : Message → Reader → ℕ → Type 0) (old new : Reader) (v w : V) (result : Result Operator Error) →
     Decodes {V = V} (λ before op answer after. answer ≡ op) E F result old new v w → DecodesOperator E F result old new
 as_read E F old new v w (Ok op) (text, it, s, taken, same) = (text, subst (E text) (sym same) s, taken)
 as_read E F old new v w (Err e) (same, h) = h
 
--- and what is read is decoded by it
+-- reading is decoding by such a visitor
 pub as_visited : (E : List ℕ → Operator → Type 0) (F : Message → Reader → ℕ → Type 0) (old new : Reader) (result : Result Operator Error) →
     DecodesOperator E F result old new → Decodes {V = Unit {0}} (λ before op answer after. answer ≡ op) E F result old new tt tt
 as_visited E F old new (Ok op) (text, s, taken) = (text, op, s, taken, refl)
@@ -325,7 +325,7 @@ module _ (k : FrameKind) (start : ℕ) (old lent mid : Reader) (same : lent ≡ 
   visited : (result : Result Operator Error) → DecodesOperatorAt k start result lent mid → DecodesAt AnswersOperator k start result lent mid tt tt
   visited result h = as_visited (EncodesAllowed lent.features k) (OperatorFault lent.features k) (at_position lent start) mid result h
 
-  -- by a copy of the reader too
+  -- the same by a copy of the reader
   pub read_within : (p : Option ℕ) (code : ℕ) (op : Operator) → StandsBehind start p code old → DecodesOperatorAt k start (Ok op) lent mid →
       mid.position ≤ length old.buffer
   read_within p code op b h = copy_within AnswersOperator k start old lent mid tt tt same p code op b (visited (Ok op) h)
@@ -342,9 +342,9 @@ module _ (k : FrameKind) (start : ℕ) (old lent mid : Reader) (same : lent ≡ 
       as_read (EncodesAllowed old.features k) (OperatorFault old.features k) (at_position old start) new tt tt (Err e)
       (copy_refused AnswersOperator k start old lent mid tt tt same e new (visited (Err e) h) went)
 
--- ---- reading what stands behind 0xfb
+-- ---- reading after the prefix byte 0xfb
 
--- the operator of a visit, where that is one behind 0xfb
+-- the operator of a visit, if its prefix byte is 0xfb
 abbrev IsGc : Operator → GcOperator → Type 0
 IsGc op answer = (made : GcOperator) → op ≡ operator.Gc made → answer ≡ made
 
@@ -352,7 +352,7 @@ prefix_gc : (op : Operator) (answer : GcOperator) → prefix_of op ≡ Some 0xfb
 prefix_gc (operator.Gc op) answer e is = ap operator.Gc (sym (is op refl))
 prefix_gc op answer e is = absurd (omega (arith, ap number_in e))
 
--- what a visitor decodes that answers it by itself, from behind the subopcode
+-- decoding by a visitor that returns the GcOperator, after the subopcode
 pub as_gc : {V : Type 0} (k : FrameKind) (start : ℕ) (old mid new : Reader) (v w : V) (result : Result GcOperator Error) → entry_at None 0xfb ≡ prefixes →
     StandsBehind start None 0xfb old → mid ≡ at_position old mid.position → DecodesAt {V = V} (λ before op answer after. IsGc op answer) k start result mid new v w →
     DecodesGcAt k start result old new
@@ -382,7 +382,7 @@ is_prefixes _ = false
 pub prefix_bytes : (code : ℕ) → entry_at None code ≡ prefixes → InRanges code ((0xfb, 0xfe) ∷ [])
 prefix_bytes code e = codes_in is_prefixes ((0xfb, 0xfe) ∷ []) opcode_entries code refl refl (ap is_prefixes e)
 
--- ---- where a frame is open
+-- ---- with an open frame
 
 opened : (E : FrameKind → List ℕ → Operator → Type 0) (k : FrameKind) (e : Error) (old : Reader) → IsRefusedOperator (E k) e old → IsRefusedOperator (EncodesIn E (Some k)) e old
 opened E k e old h =

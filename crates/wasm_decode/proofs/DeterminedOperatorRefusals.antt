@@ -1,4 +1,4 @@
--- What the fault of an operator says determines its refusal.
+-- The fault of an operator determines message and offset of its error.
 use Rattle.std.proofs.Common.{ℕ, List, [], ◌∷◌, Option, Some, None, sym, ◌∙◌}
 use Rattle.wasm_visit.specs.below.bytes.features.WasmFeatures.{WasmFeatures}
 use Rattle.wasm_visit.specs.below.bytes.message.Message.{Message}

@@ -1,5 +1,6 @@
-//! What stands behind an opcode, but for the branch table. Vector operators without immediates are
-//! visited where the call stands. All others behind a prefix byte are decoded out of line.
+//! Decodes the bytes after an opcode, except a branch table. SIMD operators without immediates are
+//! visited inline. All other operators with a prefix byte are decoded by a call that is not
+//! inlined.
 ghost use Rattle.std.specs.Prelude.{◌≡◌, ◌≢◌, [], Some, None, IfOk, IfErr};
 ghost use Rattle.wasm_visit.specs.below.Source.{at_position};
 ghost use Rattle.wasm_visit.specs.grammar.declared.frame_kind.FrameKind.{FrameKind};
@@ -16,8 +17,8 @@ use wasm_visit::grammar::FrameKind;
 use wasm_visit::instr::SimdOperator;
 use wasm_visit::{VisitGroups, VisitSimdOperator, decode};
 
-/// The subopcode behind a prefix byte that was read at the position `start`: a LEB128 number of 32
-/// bits, overlong ones too. Where it is refused the reader goes back.
+/// Reads the subopcode after a prefix byte at the position `start`: a LEB128 number of 32 bits,
+/// which may be overlong. On an error the reader goes back to `start`.
 #[inline(always)]
 pub fn subopcode(reader: &mut BinaryReader<'_>, start: usize, prefix: u8) -> Result<u32>
     requires behind { StandsBehind start None prefix reader.old }
@@ -35,7 +36,7 @@ pub fn subopcode(reader: &mut BinaryReader<'_>, start: usize, prefix: u8) -> Res
     }
 }
 
-/// An operator that is neither a branch table nor a vector operator, behind its opcode.
+/// Visits an operator that is neither a branch table nor a SIMD operator, after its opcode.
 #[inline(always)]
 pub fn group_behind<V: VisitGroups>(
     v: &mut V,
@@ -59,7 +60,7 @@ pub fn group_behind<V: VisitGroups>(
     }
 }
 
-/// A vector operator, behind the byte 0xfd.
+/// Visits a SIMD operator, after the prefix byte 0xfd.
 #[inline(always)]
 pub fn simd_behind<V: VisitSimdOperator>(
     v: &mut V,
@@ -75,7 +76,7 @@ pub fn simd_behind<V: VisitSimdOperator>(
     }
 }
 
-/// The vector operator of a subopcode.
+/// Visits the SIMD operator with this subopcode, after the subopcode.
 #[inline(always)]
 pub fn simd_of<V: VisitSimdOperator>(
     v: &mut V,
@@ -92,7 +93,7 @@ pub fn simd_of<V: VisitSimdOperator>(
     visit_behind_prefix(v, reader, start, Simd { code })
 }
 
-/// The vector operator without immediates of a subopcode.
+/// Returns the SIMD operator without immediates that has this subopcode.
 #[inline(always)]
 pub fn vector_without_immediates(code: u32) -> SimdOperator
     requires { entry_at (Some 0xfd) code ≡ free [] }
@@ -104,7 +105,7 @@ pub fn vector_without_immediates(code: u32) -> SimdOperator
     }
 }
 
-/// Visits the vector operator without immediates of a subopcode, from the operator.
+/// Makes the SIMD operator without immediates that has this subopcode, and visits it.
 #[inline(always)]
 fn visit_without_immediates<V: VisitSimdOperator>(v: &mut V, code: u32) -> V::Output
     requires { entry_at (Some 0xfd) code ≡ free [] }

@@ -1,4 +1,4 @@
-//! A visitor that answers an operator behind 0xfb by itself.
+//! A visitor that returns a `GcOperator`.
 ghost use Rattle.std.specs.Prelude.{◌≡◌};
 ghost use Rattle.wasm_visit.specs.instr.declared.operator.Operator.{Operator};
 ghost use Rattle.wasm_visit.specs.instr.ops.gc.GcOperator.{GcOperator};
@@ -6,17 +6,19 @@ ghost use Rattle.wasm_visit.specs.instr.ops.gc.GcOperator.{GcOperator};
 use wasm_visit::instr::{GcOperator, Operator};
 use wasm_visit::{VisitGc, Visitor};
 
-/// Answers the operator behind 0xfb, and not the `Operator` that it is: of that all other bytes are
-/// zero, and each call on the way back would copy them.
+/// A visitor that returns an operator with the prefix byte 0xfb as a `GcOperator`, not as an
+/// `Operator`. All other bytes of the `Operator` would be zero, and every call that returns it
+/// would copy them.
 ///
-/// It is handed no other operator: of one its relation says nothing, and it answers any.
+/// It is used for no other operator. For one its relation says nothing, and it returns an arbitrary
+/// value.
 #[derive(Drop)]
 pub struct GcFactory;
 
 impl Visitor for GcFactory {
     type Output = GcOperator;
 
-    // Where the operator is one behind 0xfb, that is answered.
+    // An operator with the prefix byte 0xfb is returned.
     ghost visits = { λ before op answer after. (made : GcOperator) → op ≡ Operator.Gc made → answer ≡ made };
 
     #[inline(always)]

@@ -1,12 +1,13 @@
-//! Laws on operators, each the contract of a function that does nothing.
+//! Laws about operators. Each law is the contract of a function with an empty body.
 ghost use Rattle.wasm_visit.specs.below.Fault.{DeterminesRefusal};
 ghost use Rattle.wasm_visit.specs.opcodes.OperatorFaults.{OperatorFault, ScalarOperatorFault, FaultIn};
 
 use wasm_visit::below::WasmFeatures;
 use wasm_visit::grammar::FrameKind;
 
-/// What the fault of an operator says determines its refusal, message and offset: so the same bytes,
-/// under the same features and in the same frame, are refused in one way, allocation failure aside.
+/// States that the fault of an operator determines message and offset of its error. So the same
+/// bytes, under the same features and in the same frame, give the same error, unless allocation
+/// fails.
 pub fn operator_refusals(features: WasmFeatures, frame: Option<FrameKind>)
     ensures any { DeterminesRefusal (FaultIn (OperatorFault features) frame) }
     ensures scalar { DeterminesRefusal (FaultIn (ScalarOperatorFault features) frame) }

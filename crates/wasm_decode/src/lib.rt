@@ -1,8 +1,8 @@
-//! One operator, from its bytes to its visit: the direct path, by which operators are read too.
+//! The decoder of one operator, from its bytes to its visit. Operators are read in the same way.
 //!
-//! The opcode is read, and what stands behind it by the call of the visitor for its group, so that
-//! no `Operator` is built but by a visitor that makes one. What these calls promise stands in
-//! `specs/` of `wasm_decode_opcodes`: `Decodes`, `EncodesAllowed` and `OperatorFault`.
+//! The decoder reads the opcode, and calls the visitor's method for the group of the operator. So
+//! only a visitor that makes operators builds an `Operator`. The contracts are defined in `specs/`
+//! of `wasm_decode_opcodes`: `Decodes`, `EncodesAllowed` and `OperatorFault`.
 #![tactic(auto)]
 
 mod behind;
@@ -21,7 +21,7 @@ pub use visit::{
 };
 pub use wasm_visit::{below, grammar, imm, instr};
 
-/// Visitors: what they have, and the calls that reach their visits.
+/// Visitors: their traits, and the functions that call their visits.
 pub mod visitors {
     pub use wasm_visit::{
         HoldOperator, HoldTable, IsEndOperatorVisitor, OperatorFactory, OperatorMaker, VisitAtomic,

@@ -1,9 +1,9 @@
-//! What stands behind a prefix byte and is decoded out of line, so that the code for operators of one
-//! byte stays small.
+//! Decodes the bytes after a prefix byte by a call that is not inlined, so that the code for
+//! operators of one byte stays small.
 //!
-//! The call is lent a copy of the reader and a place for a refusal, so that a caller's reader stays in
-//! registers, and so does what the visit answers. It is marked cold, so that what is done for it stands
-//! behind the loop that makes it, and not within.
+//! The call borrows a copy of the reader and a place for an error. So the caller's reader and the
+//! result of the visit stay in registers. It is marked cold, so that the compiler places the code
+//! around the call after the loop that contains it.
 ghost use Rattle.std.specs.Prelude.{◌≡◌, ℕ, Option, Ok, Err, IfSome, IfNone};
 ghost use Rattle.wasm_visit.specs.grammar.declared.frame_kind.FrameKind.{FrameKind};
 ghost use Rattle.wasm_visit.specs.opcodes.Decoding.{StandsBehind, DecodesAt};
@@ -11,27 +11,28 @@ ghost use Rattle.wasm_visit.specs.opcodes.Decoding.{StandsBehind, DecodesAt};
 use wasm_visit::Visitor;
 use wasm_visit::below::{BinaryReader, Error, Message, Result};
 
-/// What stands behind a prefix byte, or behind the subopcode that follows it, as `V` visits it.
+/// A decoder that starts after a prefix byte, or after the subopcode that follows it, for the
+/// visitor `V`.
 pub trait BehindPrefix<V: Visitor> {
-    // The prefix byte where a subopcode was read, too,
+    // The prefix byte if a subopcode was read too, else `None`.
     ghost prefix: { Self → Option ℕ };
 
-    // and what was read last.
+    // The code that was read last: the prefix byte or the subopcode.
     ghost code: { Self → ℕ };
 
-    /// Reads what stands there, and visits the operator.
+    /// Reads the rest of the operator and visits it.
     fn decode(self, v: &mut V, reader: &mut BinaryReader<'_>, start: usize) -> Result<V::Output>
         requires { StandsBehind start (prefix self) (code self) reader.old }
         ensures { (frame : FrameKind) → DecodesAt V.visits frame start result reader.old reader.new v.old v.new };
 }
 
-/// A place for a refusal.
+/// Returns an error to be overwritten.
 #[inline(always)]
 pub fn place() -> Error {
     Error::new(Message::EndOfData, 0)
 }
 
-/// Decodes and visits it by a call out of line.
+/// Decodes and visits the operator by a call that is not inlined.
 #[inline(always)]
 pub fn visit_behind_prefix<V: Visitor, B: BehindPrefix<V>>(
     v: &mut V,
@@ -56,7 +57,7 @@ pub fn visit_behind_prefix<V: Visitor, B: BehindPrefix<V>>(
     }
 }
 
-/// The call: the answer of the visit, else the refusal in the place for it.
+/// Returns the result of the visit, or writes the error to `refusal`.
 #[cold]
 #[inline(never)]
 fn out_of_line<V: Visitor, B: BehindPrefix<V>>(

@@ -1,4 +1,4 @@
-//! What stands behind each prefix byte, as a visitor's groups decode it.
+//! Decoders that start after a prefix byte, by the methods of a visitor.
 ghost use Rattle.std.specs.Prelude.{Some, None};
 
 use crate::behind::subopcode;
@@ -6,7 +6,7 @@ use crate::out_of_line::BehindPrefix;
 use wasm_visit::below::{BinaryReader, Result};
 use wasm_visit::{VisitGroups, VisitSimdOperator};
 
-/// A subopcode behind the byte 0xfb.
+/// The decoder after the prefix byte 0xfb.
 #[derive(Drop)]
 pub struct Gc;
 
@@ -24,7 +24,7 @@ impl<V: VisitGroups> BehindPrefix<V> for Gc {
     }
 }
 
-/// A subopcode behind the byte 0xfc.
+/// The decoder after the prefix byte 0xfc.
 #[derive(Drop)]
 pub struct Misc;
 
@@ -42,7 +42,7 @@ impl<V: VisitGroups> BehindPrefix<V> for Misc {
     }
 }
 
-/// A subopcode behind the byte 0xfe.
+/// The decoder after the prefix byte 0xfe.
 #[derive(Drop)]
 pub struct Atomic;
 
@@ -60,7 +60,7 @@ impl<V: VisitGroups> BehindPrefix<V> for Atomic {
     }
 }
 
-/// This subopcode behind the byte 0xfd, which was read.
+/// The decoder after the prefix byte 0xfd and this subopcode.
 #[derive(Drop)]
 pub struct Simd {
     pub code: u32,

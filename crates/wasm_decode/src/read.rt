@@ -1,4 +1,4 @@
-//! An operator is read, by the visitor that makes it in place, or the one that makes what stands behind 0xfb.
+//! Reads an operator, by the visitor `Factory` or, with the prefix byte 0xfb, by `GcFactory`.
 ghost use Rattle.std.specs.Prelude.{◌≡◌, ◌≢◌, None, Some, Ok, Err, IfSome, IfNone};
 ghost use Rattle.wasm_decode.specs.Reading.{DecodesOperatorIn, DecodesOperatorAt, DecodesGcAt};
 ghost use Rattle.wasm_visit.specs.grammar.declared.frame_kind.FrameKind.{FrameKind};
@@ -16,10 +16,10 @@ use wasm_visit::instr::{GcOperator, Operator};
 use wasm_visit::layer_factory::Factory;
 use wasm_visit::opcodes::immediates;
 
-/// The operator at the start of the rest, a vector operator too, where `frame` is the innermost
-/// frame: what a visit by `OperatorFactory` answers.
+/// Reads the operator at the start of the rest, which may be a SIMD operator. `frame` is the
+/// innermost frame. The result is that of a visit by `OperatorFactory`.
 ///
-/// Refusals are those of `visit_operator_simd`.
+/// Fails like `visit_operator_simd`.
 #[inline(always)]
 pub fn read_operator<'a>(
     alloc: Global,
@@ -38,9 +38,9 @@ pub fn read_operator<'a>(
     }
 }
 
-/// The operator of this opcode, which was read at the position `start`.
+/// Reads the rest of the operator with this opcode, which was read at the position `start`.
 ///
-/// Refusals are those of `visit_behind_simd`.
+/// Fails like `visit_behind_simd`.
 #[inline(always)]
 pub fn read_behind<'a>(
     alloc: Global,
@@ -60,7 +60,7 @@ pub fn read_behind<'a>(
     }
 }
 
-/// A branch table, the one operator that borrows.
+/// Reads the rest of a branch table, the only operator that borrows.
 #[inline(always)]
 fn read_table<'a>(reader: &mut BinaryReader<'a>, start: usize) -> Result<Operator<'a>>
     requires { StandsBehind start None 0x0e reader.old }
@@ -72,7 +72,8 @@ fn read_table<'a>(reader: &mut BinaryReader<'a>, start: usize) -> Result<Operato
     }
 }
 
-/// An operator behind the byte 0xfb: by a copy of the reader, which is lent out of line.
+/// Reads an operator after the prefix byte 0xfb. The call that is not inlined borrows a copy of the
+/// reader.
 #[inline(always)]
 fn read_gc(reader: &mut BinaryReader<'_>, start: usize) -> Result<Operator<'static>>
     requires { StandsBehind start None 0xfb reader.old }
@@ -92,8 +93,8 @@ fn read_gc(reader: &mut BinaryReader<'_>, start: usize) -> Result<Operator<'stat
     }
 }
 
-/// The operator of the subopcode behind the byte 0xfb; else the refusal in the place for it. The
-/// `Operator` is made here, at an end of the call that no refusal comes to.
+/// Returns the operator after the prefix byte 0xfb, or writes the error to `refusal`. The
+/// `Operator` is made here, at an exit of the function that no error reaches.
 #[cold]
 #[inline(never)]
 fn gc_out_of_line(
@@ -117,7 +118,7 @@ fn gc_out_of_line(
     Some(Operator::Gc(op))
 }
 
-/// The same inline, by itself.
+/// Reads an operator after the prefix byte 0xfb, as a `GcOperator`.
 #[inline(always)]
 fn gc_of(reader: &mut BinaryReader<'_>, start: usize) -> Result<GcOperator>
     requires { StandsBehind start None 0xfb reader.old }
@@ -129,7 +130,7 @@ fn gc_of(reader: &mut BinaryReader<'_>, start: usize) -> Result<GcOperator>
     }
 }
 
-/// A vector operator, behind the byte 0xfd.
+/// Reads a SIMD operator after the prefix byte 0xfd.
 #[inline(always)]
 fn read_simd(reader: &mut BinaryReader<'_>, start: usize) -> Result<Operator<'static>>
     requires { StandsBehind start None 0xfd reader.old }
@@ -141,8 +142,8 @@ fn read_simd(reader: &mut BinaryReader<'_>, start: usize) -> Result<Operator<'st
     }
 }
 
-/// The vector operator of a subopcode. One without immediates is made here, and not by the factory's
-/// call, which would answer it through memory.
+/// Reads the SIMD operator with this subopcode. Without immediates it is made here, not by the
+/// factory's method, which would return it through memory.
 #[inline(always)]
 fn read_simd_of(reader: &mut BinaryReader<'_>, start: usize, code: u32) -> Result<Operator<'static>>
     requires { StandsBehind start (Some 0xfd) code reader.old }
@@ -154,7 +155,7 @@ fn read_simd_of(reader: &mut BinaryReader<'_>, start: usize, code: u32) -> Resul
     simd_of(&mut Factory, reader, start, code)
 }
 
-/// An operator that is neither a branch table nor a vector operator, behind its opcode.
+/// Reads an operator that is neither a branch table nor a SIMD operator, after its opcode.
 #[inline(always)]
 fn read_group(
     alloc: Global,

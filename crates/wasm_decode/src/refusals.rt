@@ -1,4 +1,4 @@
-//! Refusals at the start of an operator.
+//! Errors at the start of an operator.
 ghost use Rattle.std.specs.Prelude.{◌≡◌, ◌≤◌, None};
 ghost use Rattle.wasm_visit.specs.below.Source.{offset_of, end_of};
 ghost use Rattle.wasm_visit.specs.grammar.declared.frame_kind.FrameKind.{FrameKind};
@@ -6,7 +6,7 @@ ghost use Rattle.wasm_visit.specs.opcodes.Decoding.{StandsBehind, RefusesScalarA
 
 use wasm_visit::below::{BinaryReader, Error, Message};
 
-/// The refusal where no frame is open, so that no operator may stand there: `OperatorsRemaining` at
+/// Returns the error of an operator without an open frame: `OperatorsRemaining` at the offset of
 /// the position.
 #[inline(always)]
 pub fn no_frame(reader: &BinaryReader<'_>) -> Error
@@ -18,7 +18,8 @@ pub fn no_frame(reader: &BinaryReader<'_>) -> Error
     Error::new(Message::OperatorsRemaining, reader.original_position())
 }
 
-/// The byte 0xfd, at which a scalar visitor is refused, whatever stands behind it.
+/// Returns the error of a visitor without SIMD operators at the byte 0xfd, whatever follows. The
+/// reader goes back to `start`.
 #[inline(always)]
 pub fn unexpected_simd(reader: &mut BinaryReader<'_>, start: usize) -> Error
     requires { StandsBehind start None 0xfd reader.old }

@@ -1,4 +1,4 @@
-//! An operator is read and visited.
+//! Reads and visits an operator.
 ghost use Rattle.std.specs.Prelude.{◌≡◌, ◌<◌, ◌≤◌, [], ◌∷◌, false, None};
 ghost use Rattle.wasm_visit.specs.grammar.declared.frame_kind.FrameKind.{FrameKind};
 ghost use Rattle.wasm_visit.specs.instr.Immediate.{branch_table, is_branch_table};
@@ -13,13 +13,13 @@ use wasm_visit::imm::BrTable;
 use wasm_visit::opcodes::immediates;
 use wasm_visit::{VisitOperator, VisitSimdOperator};
 
-/// Visits the operator at the start of the rest, a vector operator too, where `frame` is the
-/// innermost frame.
+/// Reads and visits the operator at the start of the rest, which may be a SIMD operator. `frame` is
+/// the innermost frame.
 ///
-/// `OperatorsRemaining` at the position where no frame is open. Else as
-/// `docs/REFUSALS.md` says of operators: `EndOfData`, `FeatureRequired`, `WrongFrame`,
-/// `IllegalOpcode`, `UnknownSubopcode`, and those of the immediates. `OutOfMemory` where the
-/// operator begins, and only of one that owns a list.
+/// Fails with `OperatorsRemaining` at the offset of the position if no frame is open. Other errors
+/// are those of operators in `docs/ERRORS-AND-FEATURES.md`: `EndOfData`, `FeatureRequired`,
+/// `WrongFrame`, `IllegalOpcode`, `UnknownSubopcode`, and the errors of immediates. `OutOfMemory`
+/// has the offset of the operator's start, and occurs only for an operator that owns a list.
 #[inline(always)]
 pub fn visit_operator_simd<'a, V>(
     v: &mut V,
@@ -41,10 +41,10 @@ where
     }
 }
 
-/// Visits the operator of this opcode, which was read at the position `start`: what stands behind it
-/// is read, and where that is refused the reader goes back to `start`.
+/// Reads the rest of the operator with this opcode, which was read at the position `start`, and
+/// visits it. On an error the reader goes back to `start`.
 ///
-/// Refusals are those of `visit_operator_simd`, behind its first two.
+/// Fails like `visit_operator_simd`, but never for a missing frame or a missing opcode.
 #[inline(always)]
 pub fn visit_behind_simd<'a, V>(
     v: &mut V,
@@ -66,10 +66,11 @@ where
     }
 }
 
-/// Visits the operator at the start of the rest, which is no vector operator, where `frame` is the
-/// innermost frame.
+/// Reads and visits the operator at the start of the rest, for a visitor without SIMD operators.
+/// `frame` is the innermost frame.
 ///
-/// `UnexpectedSimd` at the byte 0xfd, whatever stands behind it; else as `visit_operator_simd`.
+/// Fails with `UnexpectedSimd` at the byte 0xfd, whatever follows, and otherwise like
+/// `visit_operator_simd`.
 #[inline(always)]
 pub fn visit_operator<'a, V: VisitOperator<'a>>(
     v: &mut V,
@@ -89,10 +90,11 @@ pub fn visit_operator<'a, V: VisitOperator<'a>>(
     }
 }
 
-/// Visits the operator of this opcode, which was read at the position `start` and is no vector
-/// operator's.
+/// Reads the rest of the operator with this opcode, which was read at the position `start`, and
+/// visits it, for a visitor without SIMD operators.
 ///
-/// `UnexpectedSimd` at `start` where the opcode is 0xfd; else as `visit_behind_simd`.
+/// Fails with `UnexpectedSimd` at `start` if the opcode is 0xfd, and otherwise like
+/// `visit_behind_simd`.
 #[inline(always)]
 pub fn visit_behind<'a, V: VisitOperator<'a>>(
     v: &mut V,
@@ -112,10 +114,10 @@ pub fn visit_behind<'a, V: VisitOperator<'a>>(
     }
 }
 
-/// Visits the operator of this opcode below 0x20, which was read at the position `start`: of one of the
-/// control and parametric instructions.
+/// Reads the rest of a control or parametric instruction, whose opcode below 0x20 was read at the
+/// position `start`, and visits it.
 ///
-/// Refusals are those of `visit_behind_simd`.
+/// Fails like `visit_behind_simd`.
 #[inline(always)]
 pub fn visit_below_0x20<'a, V: VisitOperator<'a>>(
     v: &mut V,
@@ -136,7 +138,7 @@ pub fn visit_below_0x20<'a, V: VisitOperator<'a>>(
     }
 }
 
-/// A branch table, the one operator that borrows.
+/// Reads and visits a branch table, the only operator that borrows, after its opcode.
 #[inline(always)]
 fn table_behind<'a, V: VisitOperator<'a>>(
     v: &mut V,
@@ -152,7 +154,7 @@ fn table_behind<'a, V: VisitOperator<'a>>(
     }
 }
 
-/// The targets, read out of line by a copy of the reader, which is lent.
+/// Reads the targets of a branch table. The call that is not inlined borrows a copy of the reader.
 #[inline(always)]
 fn branch_table<'a>(reader: &mut BinaryReader<'a>, start: usize) -> Result<BrTable<'a>>
     requires { start ≤ reader.old.position }

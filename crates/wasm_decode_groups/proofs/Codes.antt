@@ -1,5 +1,5 @@
 -- Written by tools/lists.py from tools/operators.tsv.
--- Where the entries of some kinds stand, by the groups of visits.
+-- The codes of the entries of some kinds, by groups of visits.
 use Rattle.std.proofs.Common.{◌≡◌, ℕ, ◌<◌, ◌≤◌, Bool, true, false, List, [], ◌∷◌, Some, None, refl, ap, arith}
 use Rattle.wasm_visit_groups.specs.imm.declared.memory_argument.MemArgKind.TheVariants as kind
 use Rattle.wasm_visit_groups.specs.instr.Immediate.{is_unsigned_32, is_one_lane, is_memory_index, is_order, is_heap_type, is_cast, is_block_type, is_memory_argument}

@@ -1,9 +1,9 @@
--- Where in a list of entries some stand.
+-- The places of some entries in a list.
 use Rattle.std.proofs.Common.{◌≡◌, ℕ, zero, suc, ◌+◌, ◌<◌, ◌≤◌, Bool, true, false, cond, List, [], ◌∷◌, ◌⊎◌, inl, inr, get_or, leb, refl, subst, ap, arith}
 use Rattle.std.proofs.lemmas.Bool.{leb-true, cases_lt}
 use Rattle.wasm_decode_opcodes.specs.Entry.{Entry, unknown, prefixes, free, guarded}
 
--- Within one of these ranges.
+-- The code is in one of these ranges.
 abbrev pub InRanges : ℕ → List (ℕ × ℕ) → Type 0
 InRanges c [] = ⊥
 InRanges c (r ∷ rs) = ((r.0 ≤ c) × (c ≤ r.1)) ⊎ InRanges c rs
@@ -12,7 +12,7 @@ abbrev in_ranges : List (ℕ × ℕ) → ℕ → Bool
 in_ranges [] c = false
 in_ranges (r ∷ rs) c = cond (leb r.0 c) (cond (leb c r.1) true (in_ranges rs c)) (in_ranges rs c)
 
--- Each entry of the list that has the property stands within the ranges.
+-- Each entry of the list with the property is at a code in the ranges.
 abbrev pub covers : (Entry → Bool) → List (ℕ × ℕ) → ℕ → List Entry → Bool
 covers t rs i [] = true
 covers t rs i (e ∷ es) = cond (t e) (cond (in_ranges rs i) (covers t rs (suc i) es) false) (covers t rs (suc i) es)
@@ -44,7 +44,7 @@ covered t rs i (x ∷ es) (suc c) d f h e =
     go true false h = absurd (cc h)
     go false b h = h
 
--- what has the property stands within the ranges
+-- a code with the property is in the ranges
 pub codes_in : (t : Entry → Bool) (rs : List (ℕ × ℕ)) (es : List Entry) (c : ℕ) → t unknown ≡ false → covers t rs 0 es ≡ true → t (get_or es c unknown) ≡ true →
     InRanges c rs
 codes_in t rs es c f h e =
@@ -55,7 +55,7 @@ abbrev pub is_known : Entry → Bool
 is_known unknown = false
 is_known _ = true
 
--- outside of the ranges no operator stands
+-- no operator has a code outside of the ranges
 pub unknown_outside : (rs : List (ℕ × ℕ)) (es : List Entry) (c : ℕ) → covers is_known rs 0 es ≡ true → (InRanges c rs → ⊥) → get_or es c unknown ≡ unknown
 unknown_outside rs es c h outside = go (get_or es c unknown) refl
   where
@@ -70,7 +70,7 @@ is_operator unknown = false
 is_operator prefixes = false
 is_operator _ = true
 
--- nor outside of those of one byte, but for the prefix bytes
+-- no operator of one byte has an opcode outside of the ranges, except prefix bytes
 pub unknown_byte : (rs : List (ℕ × ℕ)) (es : List Entry) (c : ℕ) → covers is_operator rs 0 es ≡ true → (get_or es c unknown ≡ prefixes → ⊥) → (InRanges c rs → ⊥) →
     get_or es c unknown ≡ unknown
 unknown_byte rs es c h apart outside = go (get_or es c unknown) refl
@@ -81,7 +81,7 @@ unknown_byte rs es c h apart outside = go (get_or es c unknown) refl
     go (free ks) q = absurd (outside (codes_in is_operator rs es c refl h (ap is_operator q)))
     go (guarded g ks) q = absurd (outside (codes_in is_operator rs es c refl h (ap is_operator q)))
 
--- So many codes from one on have a property.
+-- This many codes, from a given one on, have a property.
 abbrev pub Run : (ℕ → Type 0) → ℕ → ℕ → Type 0
 Run P low zero = Unit {0}
 Run P low (suc n) = P low × Run P (suc low) n
@@ -94,7 +94,7 @@ in_run P (suc n) low c r from to =
       | inr le ↦ (let same : low ≡ c = omega arith in subst P same r.0)
     ]
 
--- Entries of operators that have immediates.
+-- Entries of operators with immediates.
 abbrev pub is_other : Entry → Bool
 is_other unknown = false
 is_other (free []) = false

@@ -1,4 +1,4 @@
--- Vector operators without immediates, and those that have some.
+-- SIMD operators without immediates, and those with immediates.
 use Rattle.std.proofs.Common.{◌≡◌, ℕ, ◌<◌, ◌≤◌, true, false, [], ◌∷◌, Some, refl, arith}
 use Rattle.wasm_decode_opcodes.specs.Entry.{Entry, unknown, prefixes, free, guarded}
 use Rattle.wasm_decode_opcodes.specs.Entries.{entry_at}
@@ -27,10 +27,10 @@ unknown_of (free []) h never = absurd (cc h)
 unknown_of (free (x ∷ xs)) h never = absurd (never refl)
 unknown_of (guarded g ks) h never = absurd (never refl)
 
--- Below 80 all others have immediates,
+-- Below 0x80 all other SIMD operators have immediates.
 pub others : (code : ℕ) → code < 0x80 → is_without_immediates (entry_at (Some 0xfd) code) ≡ false → InRanges code simd_other_codes
 others code low h = simd_others code (other_of (entry_at (Some 0xfd) code) h (simd_low_known code low))
 
--- and from there on no other has.
+-- From 0x80 on no operator has another subopcode.
 pub no_operator : (code : ℕ) → 0x80 ≤ code → is_without_immediates (entry_at (Some 0xfd) code) ≡ false → entry_at (Some 0xfd) code ≡ unknown
 no_operator code high h = unknown_of (entry_at (Some 0xfd) code) h (λ other. let r = simd_others code other in grind (arith, r))

@@ -4,11 +4,11 @@ use Rattle.wasm_decode_opcodes.specs.Entry.{Entry, free}
 use Rattle.wasm_visit_groups.specs.instr.simd.simd.SimdOperator.{SimdOperator}
 use Rattle.wasm_visit_groups.specs.instr.Simd.{simd_subopcode, simd_immediates}
 
--- Whether an opcode's entry is that of an operator that has no immediates and no guard.
+-- Whether the entry belongs to an operator without immediates and without a guard.
 abbrev pub is_without_immediates : Entry → Bool
 is_without_immediates (free []) = true
 is_without_immediates _ = false
 
--- A vector operator that has this subopcode and no immediates.
+-- The SIMD operator has this subopcode and no immediates.
 abbrev pub IsVectorWithoutImmediates : ℕ → SimdOperator → Type 0
 IsVectorWithoutImmediates code op = (simd_subopcode op ≡ code) × (simd_immediates op ≡ [])

@@ -1,4 +1,4 @@
-//! Decoding of the operators behind 0xfe. Written by tools/lists.py from tools/operators.tsv.
+//! Decoding of the operators with prefix 0xfe. Written by tools/lists.py from tools/operators.tsv.
 ghost use Rattle.std.specs.Prelude.{◌≡◌, ◌<◌, [], ◌∷◌, Some, None};
 ghost use Rattle.wasm_visit_groups.specs.grammar.declared.frame_kind.FrameKind.{FrameKind};
 ghost use Rattle.wasm_visit_groups.specs.instr.Immediate.{unsigned_32, memory_argument, order, is_unsigned_32, is_order, is_memory_argument};
@@ -11,7 +11,7 @@ use wasm_visit_groups::VisitAtomic;
 use wasm_visit_groups::below::{BinaryReader, Result};
 use wasm_visit_groups::imm::{MemArg, MemArgKind, Ordering};
 
-/// Reads what stands behind the subopcode of one of the operators behind 0xfe, and visits the operator.
+/// Reads the immediates of an operator with prefix 0xfe and visits it.
 #[inline(always)]
 pub fn atomic<V: VisitAtomic>(
     v: &mut V,
@@ -36,7 +36,7 @@ pub fn atomic<V: VisitAtomic>(
     }
 }
 
-/// The operators whose immediates `memory` reads.
+/// Reads immediates by `memory` and visits the operator.
 #[inline(always)]
 fn memory<V: VisitAtomic>(
     v: &mut V,
@@ -55,7 +55,7 @@ fn memory<V: VisitAtomic>(
     }
 }
 
-/// The exponent of an operator's own alignment.
+/// Returns the exponent of the operator's natural alignment.
 #[inline(always)]
 fn align_of_memory(code: u32) -> u8
     requires { entry_at (Some 0xfe) code ≡ free (is_memory_argument MemArgKind.Plain (align_at (Some 0xfe) code) ∷ []) }
@@ -68,7 +68,7 @@ fn align_of_memory(code: u32) -> u8
     }
 }
 
-/// Their visits, by their codes.
+/// Calls the visit of the operator with this code.
 #[inline(always)]
 fn visit_memory<V: VisitAtomic>(v: &mut V, code: u32, it: MemArg) -> V::Output
     requires { entry_at (Some 0xfe) code ≡ free (is_memory_argument MemArgKind.Plain (align_at (Some 0xfe) code) ∷ []) }
@@ -82,7 +82,7 @@ fn visit_memory<V: VisitAtomic>(v: &mut V, code: u32, it: MemArg) -> V::Output
     }
 }
 
-/// `AtomicFence`.
+/// Reads the immediates of `AtomicFence` and visits it.
 #[inline(always)]
 fn atomic_fence<V: VisitAtomic>(
     v: &mut V,
@@ -98,7 +98,7 @@ fn atomic_fence<V: VisitAtomic>(
     }
 }
 
-/// The operators whose immediates `memory` reads.
+/// Reads immediates by `memory` and visits the operator.
 #[inline(always)]
 fn memory_op<V: VisitAtomic>(
     v: &mut V,
@@ -117,7 +117,7 @@ fn memory_op<V: VisitAtomic>(
     }
 }
 
-/// The exponent of an operator's own alignment.
+/// Returns the exponent of the operator's natural alignment.
 #[inline(always)]
 fn align_of_memory_op(code: u32) -> u8
     requires { entry_at (Some 0xfe) code ≡ free (is_memory_argument MemArgKind.Op (align_at (Some 0xfe) code) ∷ []) }
@@ -141,7 +141,7 @@ fn align_of_memory_op(code: u32) -> u8
     }
 }
 
-/// Their visits, by their codes.
+/// Calls the visit of the operator with this code.
 #[inline(always)]
 fn visit_memory_op<V: VisitAtomic>(v: &mut V, code: u32, it: MemArg) -> V::Output
     requires { entry_at (Some 0xfe) code ≡ free (is_memory_argument MemArgKind.Op (align_at (Some 0xfe) code) ∷ []) }
@@ -166,7 +166,7 @@ fn visit_memory_op<V: VisitAtomic>(v: &mut V, code: u32, it: MemArg) -> V::Outpu
     }
 }
 
-/// The operators whose immediates `memory` reads.
+/// Reads immediates by `memory` and visits the operator.
 #[inline(always)]
 fn memory_rmw<V: VisitAtomic>(
     v: &mut V,
@@ -185,7 +185,7 @@ fn memory_rmw<V: VisitAtomic>(
     }
 }
 
-/// The exponent of an operator's own alignment.
+/// Returns the exponent of the operator's natural alignment.
 #[inline(always)]
 fn align_of_memory_rmw(code: u32) -> u8
     requires { entry_at (Some 0xfe) code ≡ free (is_memory_argument MemArgKind.Rmw (align_at (Some 0xfe) code) ∷ []) }
@@ -244,7 +244,7 @@ fn align_of_memory_rmw(code: u32) -> u8
     }
 }
 
-/// Their visits, by their codes.
+/// Calls the visit of the operator with this code.
 #[inline(always)]
 fn visit_memory_rmw<V: VisitAtomic>(v: &mut V, code: u32, it: MemArg) -> V::Output
     requires { entry_at (Some 0xfe) code ≡ free (is_memory_argument MemArgKind.Rmw (align_at (Some 0xfe) code) ∷ []) }
@@ -304,7 +304,7 @@ fn visit_memory_rmw<V: VisitAtomic>(v: &mut V, code: u32, it: MemArg) -> V::Outp
     }
 }
 
-/// The operators whose immediates `ordered` reads.
+/// Reads immediates by `ordered` and visits the operator.
 #[inline(always)]
 fn ordered<V: VisitAtomic>(
     v: &mut V,
@@ -322,7 +322,7 @@ fn ordered<V: VisitAtomic>(
     }
 }
 
-/// Their visits, by their codes.
+/// Calls the visit of the operator with this code.
 #[inline(always)]
 fn visit_ordered<V: VisitAtomic>(v: &mut V, code: u32, it: (Ordering, u32)) -> V::Output
     requires { entry_at (Some 0xfe) code ≡ free (is_order ∷ is_unsigned_32 ∷ []) }
@@ -356,7 +356,7 @@ fn visit_ordered<V: VisitAtomic>(v: &mut V, code: u32, it: (Ordering, u32)) -> V
     }
 }
 
-/// The operators whose immediates `ordered_two` reads.
+/// Reads immediates by `ordered_two` and visits the operator.
 #[inline(always)]
 fn ordered_two<V: VisitAtomic>(
     v: &mut V,
@@ -374,7 +374,7 @@ fn ordered_two<V: VisitAtomic>(
     }
 }
 
-/// Their visits, by their codes.
+/// Calls the visit of the operator with this code.
 #[inline(always)]
 fn visit_ordered_two<V: VisitAtomic>(v: &mut V, code: u32, it: (Ordering, (u32, u32))) -> V::Output
     requires { entry_at (Some 0xfe) code ≡ free (is_order ∷ is_unsigned_32 ∷ is_unsigned_32 ∷ []) }
@@ -396,7 +396,7 @@ fn visit_ordered_two<V: VisitAtomic>(v: &mut V, code: u32, it: (Ordering, (u32, 
     }
 }
 
-/// The operators without immediates.
+/// Visits an operator without immediates.
 #[inline(always)]
 fn without_immediates<V: VisitAtomic>(
     v: &mut V,
@@ -411,7 +411,7 @@ fn without_immediates<V: VisitAtomic>(
     Ok(visit_without_immediates(v, code))
 }
 
-/// Their visits, by their codes.
+/// Calls the visit of the operator with this code.
 #[inline(always)]
 fn visit_without_immediates<V: VisitAtomic>(v: &mut V, code: u32) -> V::Output
     requires { entry_at (Some 0xfe) code ≡ free ([]) }

@@ -1,4 +1,4 @@
-//! Decoding of the operators behind 0xfb. Written by tools/lists.py from tools/operators.tsv.
+//! Decoding of the operators with prefix 0xfb. Written by tools/lists.py from tools/operators.tsv.
 ghost use Rattle.std.specs.Prelude.{◌≡◌, ◌<◌, [], ◌∷◌, Some, None};
 ghost use Rattle.wasm_visit_groups.specs.grammar.declared.frame_kind.FrameKind.{FrameKind};
 ghost use Rattle.wasm_visit_groups.specs.instr.Immediate.{unsigned_32, heap_type, cast, is_unsigned_32, is_heap_type, is_cast};
@@ -11,7 +11,7 @@ use wasm_visit_groups::VisitGc;
 use wasm_visit_groups::below::{BinaryReader, HeapType, Result};
 use wasm_visit_groups::imm::Cast;
 
-/// Reads what stands behind the subopcode of one of the operators behind 0xfb, and visits the operator.
+/// Reads the immediates of an operator with prefix 0xfb and visits it.
 #[inline(always)]
 pub fn gc<V: VisitGc>(
     v: &mut V,
@@ -41,7 +41,7 @@ pub fn gc<V: VisitGc>(
     }
 }
 
-/// The operators whose immediates `unsigned` reads.
+/// Reads immediates by `unsigned` and visits the operator.
 #[inline(always)]
 fn unsigned<V: VisitGc>(
     v: &mut V,
@@ -59,7 +59,7 @@ fn unsigned<V: VisitGc>(
     }
 }
 
-/// Their visits, by their codes.
+/// Calls the visit of the operator with this code.
 #[inline(always)]
 fn visit_unsigned<V: VisitGc>(v: &mut V, code: u32, it: u32) -> V::Output
     requires { entry_at (Some 0xfb) code ≡ free (is_unsigned_32 ∷ []) }
@@ -81,7 +81,7 @@ fn visit_unsigned<V: VisitGc>(v: &mut V, code: u32, it: u32) -> V::Output
     }
 }
 
-/// The operators whose immediates `two_unsigned` reads.
+/// Reads immediates by `two_unsigned` and visits the operator.
 #[inline(always)]
 fn two_unsigned<V: VisitGc>(
     v: &mut V,
@@ -99,7 +99,7 @@ fn two_unsigned<V: VisitGc>(
     }
 }
 
-/// Their visits, by their codes.
+/// Calls the visit of the operator with this code.
 #[inline(always)]
 fn visit_two_unsigned<V: VisitGc>(v: &mut V, code: u32, it: (u32, u32)) -> V::Output
     requires { entry_at (Some 0xfb) code ≡ free (is_unsigned_32 ∷ is_unsigned_32 ∷ []) }
@@ -119,7 +119,7 @@ fn visit_two_unsigned<V: VisitGc>(v: &mut V, code: u32, it: (u32, u32)) -> V::Ou
     }
 }
 
-/// The operators without immediates.
+/// Visits an operator without immediates.
 #[inline(always)]
 fn without_immediates<V: VisitGc>(
     v: &mut V,
@@ -134,7 +134,7 @@ fn without_immediates<V: VisitGc>(
     Ok(visit_without_immediates(v, code))
 }
 
-/// Their visits, by their codes.
+/// Calls the visit of the operator with this code.
 #[inline(always)]
 fn visit_without_immediates<V: VisitGc>(v: &mut V, code: u32) -> V::Output
     requires { entry_at (Some 0xfb) code ≡ free ([]) }
@@ -150,7 +150,7 @@ fn visit_without_immediates<V: VisitGc>(v: &mut V, code: u32) -> V::Output
     }
 }
 
-/// The operators whose immediates `heap_type` reads.
+/// Reads immediates by `heap_type` and visits the operator.
 #[inline(always)]
 fn heap_type<V: VisitGc>(
     v: &mut V,
@@ -168,7 +168,7 @@ fn heap_type<V: VisitGc>(
     }
 }
 
-/// Their visits, by their codes.
+/// Calls the visit of the operator with this code.
 #[inline(always)]
 fn visit_heap_type<V: VisitGc>(v: &mut V, code: u32, it: HeapType) -> V::Output
     requires { entry_at (Some 0xfb) code ≡ free (is_heap_type ∷ []) }
@@ -184,7 +184,7 @@ fn visit_heap_type<V: VisitGc>(v: &mut V, code: u32, it: HeapType) -> V::Output
     }
 }
 
-/// The operators whose immediates `cast` reads.
+/// Reads immediates by `cast` and visits the operator.
 #[inline(always)]
 fn cast<V: VisitGc>(
     v: &mut V,
@@ -202,7 +202,7 @@ fn cast<V: VisitGc>(
     }
 }
 
-/// Their visits, by their codes.
+/// Calls the visit of the operator with this code.
 #[inline(always)]
 fn visit_cast<V: VisitGc>(v: &mut V, code: u32, it: Cast) -> V::Output
     requires { entry_at (Some 0xfb) code ≡ free (is_cast ∷ []) }

@@ -1,4 +1,5 @@
-//! Decoding of the operators of one byte whose feature and frame are looked at, or that may own a list.
+//! Decoding of the operators of one byte whose feature and frame are checked, or that may own a
+//! list.
 ghost use Rattle.std.specs.Prelude.{None};
 ghost use Rattle.wasm_visit_groups.specs.grammar.declared.frame_kind.FrameKind.{FrameKind};
 ghost use Rattle.wasm_decode_opcodes.specs.Decoding.{StandsBehind, DecodesAt};
@@ -10,7 +11,7 @@ use wasm_visit_groups::below::{BinaryReader, Result};
 use wasm_visit_groups::grammar::FrameKind;
 use wasm_visit_groups::imm::Select;
 
-/// `else`.
+/// Checks the frame of `else` and visits it.
 #[inline(always)]
 pub fn else_in_if<V: VisitOneByte>(
     v: &mut V,
@@ -27,7 +28,7 @@ pub fn else_in_if<V: VisitOneByte>(
     }
 }
 
-/// `try` of the legacy exceptions.
+/// Checks feature and frame of the legacy `try`, reads its block type and visits it.
 #[inline(always)]
 pub fn legacy_try<V: VisitOneByte>(
     v: &mut V,
@@ -47,7 +48,7 @@ pub fn legacy_try<V: VisitOneByte>(
     }
 }
 
-/// `catch` of the legacy exceptions.
+/// Checks feature and frame of the legacy `catch`, reads its tag index and visits it.
 #[inline(always)]
 pub fn legacy_catch<V: VisitOneByte>(
     v: &mut V,
@@ -67,7 +68,7 @@ pub fn legacy_catch<V: VisitOneByte>(
     }
 }
 
-/// `delegate` of the legacy exceptions.
+/// Checks the frame of the legacy `delegate`, reads its label and visits it.
 #[inline(always)]
 pub fn legacy_delegate<V: VisitOneByte>(
     v: &mut V,
@@ -87,7 +88,7 @@ pub fn legacy_delegate<V: VisitOneByte>(
     }
 }
 
-/// `catch_all` of the legacy exceptions.
+/// Checks feature and frame of the legacy `catch_all` and visits it.
 #[inline(always)]
 pub fn legacy_catch_all<V: VisitOneByte>(
     v: &mut V,
@@ -104,7 +105,7 @@ pub fn legacy_catch_all<V: VisitOneByte>(
     }
 }
 
-/// `select` with types.
+/// Reads the types of a typed `select` and visits it.
 #[inline(always)]
 pub fn typed_select<V: VisitOneByte>(
     v: &mut V,
@@ -122,7 +123,7 @@ pub fn typed_select<V: VisitOneByte>(
     }
 }
 
-/// `try_table`.
+/// Reads the block type and the catches of `try_table` and visits it.
 #[inline(always)]
 pub fn try_table<V: VisitOneByte>(
     v: &mut V,
@@ -139,7 +140,7 @@ pub fn try_table<V: VisitOneByte>(
     }
 }
 
-/// `resume`. Proposal stack switching.
+/// Reads the immediates of `resume` and visits it. Proposal stack switching.
 #[inline(always)]
 pub fn resume<V: VisitOneByte>(
     v: &mut V,
@@ -156,7 +157,7 @@ pub fn resume<V: VisitOneByte>(
     }
 }
 
-/// `resume_throw`. Proposal stack switching.
+/// Reads the immediates of `resume_throw` and visits it. Proposal stack switching.
 #[inline(always)]
 pub fn resume_throw<V: VisitOneByte>(
     v: &mut V,
@@ -173,7 +174,7 @@ pub fn resume_throw<V: VisitOneByte>(
     }
 }
 
-/// `resume_throw_ref`. Proposal stack switching.
+/// Reads the immediates of `resume_throw_ref` and visits it. Proposal stack switching.
 #[inline(always)]
 pub fn resume_throw_ref<V: VisitOneByte>(
     v: &mut V,

@@ -1,5 +1,5 @@
-//! The decoding of each group of visits: from an opcode or a subopcode that was read, over the
-//! immediates behind it, to the visitor's own visit.
+//! The decoders of the groups of visits. Each starts after an opcode or subopcode, reads the
+//! immediates, and calls the visit.
 #![tactic(auto)]
 
 mod atomic_operators;
@@ -34,7 +34,7 @@ pub mod groups {
     };
 }
 
-/// What stands behind an opcode.
+/// The readers of immediates.
 pub mod opcodes {
     pub use wasm_decode_opcodes::immediates;
 }

@@ -1,4 +1,4 @@
-//! Decoding of the operators behind 0xfc. Written by tools/lists.py from tools/operators.tsv.
+//! Decoding of the operators with prefix 0xfc. Written by tools/lists.py from tools/operators.tsv.
 ghost use Rattle.std.specs.Prelude.{◌≡◌, ◌<◌, [], ◌∷◌, Some, None};
 ghost use Rattle.wasm_visit_groups.specs.grammar.declared.frame_kind.FrameKind.{FrameKind};
 ghost use Rattle.wasm_visit_groups.specs.instr.Immediate.{unsigned_32, is_unsigned_32};
@@ -10,7 +10,7 @@ use wasm_decode_opcodes::{immediates, unknown_subopcode};
 use wasm_visit_groups::VisitMisc;
 use wasm_visit_groups::below::{BinaryReader, Result};
 
-/// Reads what stands behind the subopcode of one of the operators behind 0xfc, and visits the operator.
+/// Reads the immediates of an operator with prefix 0xfc and visits it.
 #[inline(always)]
 pub fn misc<V: VisitMisc>(
     v: &mut V,
@@ -36,7 +36,7 @@ pub fn misc<V: VisitMisc>(
     }
 }
 
-/// The operators without immediates.
+/// Visits an operator without immediates.
 #[inline(always)]
 fn without_immediates<V: VisitMisc>(
     v: &mut V,
@@ -51,7 +51,7 @@ fn without_immediates<V: VisitMisc>(
     Ok(visit_without_immediates(v, code))
 }
 
-/// Their visits, by their codes.
+/// Calls the visit of the operator with this code.
 #[inline(always)]
 fn visit_without_immediates<V: VisitMisc>(v: &mut V, code: u32) -> V::Output
     requires { entry_at (Some 0xfc) code ≡ free ([]) }
@@ -73,7 +73,7 @@ fn visit_without_immediates<V: VisitMisc>(v: &mut V, code: u32) -> V::Output
     }
 }
 
-/// The operators whose immediates `two_unsigned` reads.
+/// Reads immediates by `two_unsigned` and visits the operator.
 #[inline(always)]
 fn two_unsigned<V: VisitMisc>(
     v: &mut V,
@@ -91,7 +91,7 @@ fn two_unsigned<V: VisitMisc>(
     }
 }
 
-/// Their visits, by their codes.
+/// Calls the visit of the operator with this code.
 #[inline(always)]
 fn visit_two_unsigned<V: VisitMisc>(v: &mut V, code: u32, it: (u32, u32)) -> V::Output
     requires { entry_at (Some 0xfc) code ≡ free (is_unsigned_32 ∷ is_unsigned_32 ∷ []) }
@@ -105,7 +105,7 @@ fn visit_two_unsigned<V: VisitMisc>(v: &mut V, code: u32, it: (u32, u32)) -> V::
     }
 }
 
-/// The operators whose immediates `unsigned` reads.
+/// Reads immediates by `unsigned` and visits the operator.
 #[inline(always)]
 fn unsigned<V: VisitMisc>(
     v: &mut V,
@@ -123,7 +123,7 @@ fn unsigned<V: VisitMisc>(
     }
 }
 
-/// Their visits, by their codes.
+/// Calls the visit of the operator with this code.
 #[inline(always)]
 fn visit_unsigned<V: VisitMisc>(v: &mut V, code: u32, it: u32) -> V::Output
     requires { entry_at (Some 0xfc) code ≡ free (is_unsigned_32 ∷ []) }

@@ -4,7 +4,7 @@ ghost use Rattle.wasm_decode_opcodes.specs.Decoding.{VisitsRow};
 
 use wasm_visit_groups::VisitNumeric;
 
-/// Visits the numeric operator of this opcode.
+/// Visits the numeric operator with this opcode.
 #[inline(always)]
 pub fn numeric<V: VisitNumeric>(v: &mut V, code: u8) -> V::Output
     requires from { 0x45 ≤ code }

@@ -19,7 +19,7 @@ use wasm_visit_groups::below::{BinaryReader, Result};
 use wasm_visit_groups::grammar::FrameKind;
 use wasm_visit_groups::imm::{BlockType, MemArg, MemArgKind};
 
-/// Reads what stands behind the opcode of one of the operators of one byte, and visits the operator. Common ones inline, the others out of line.
+/// Reads the immediates of an operator of one byte and visits it. Common operators are inlined.
 #[inline(always)]
 pub fn one_byte<V: VisitOneByte>(
     v: &mut V,
@@ -39,7 +39,9 @@ pub fn one_byte<V: VisitOneByte>(
     }
 }
 
-/// Reads what stands behind the opcode of a common one of the operators of one byte, and visits the operator. `None` of another opcode, and nothing changes.
+/// Reads the immediates of an operator of one byte and visits it, if its opcode is a common one.
+///
+/// Returns `None` for other opcodes. Then nothing changes.
 #[inline(always)]
 pub fn common_one_byte<V: VisitOneByte>(
     v: &mut V,
@@ -72,7 +74,7 @@ pub fn common_one_byte<V: VisitOneByte>(
     }
 }
 
-/// Reads what stands behind the opcode of one of the operators of one byte, and visits the operator. Each of them is an arm here.
+/// Reads the immediates of an operator of one byte and visits it. Every operator has an arm here.
 #[inline(always)]
 pub fn any_one_byte<V: VisitOneByte>(
     v: &mut V,
@@ -129,7 +131,7 @@ pub fn any_one_byte<V: VisitOneByte>(
     }
 }
 
-/// The operators without immediates.
+/// Visits an operator without immediates.
 #[inline(always)]
 fn without_immediates<V: VisitOneByte>(
     v: &mut V,
@@ -145,7 +147,7 @@ fn without_immediates<V: VisitOneByte>(
     Ok(visit_without_immediates(v, code))
 }
 
-/// Their visits, by their codes.
+/// Calls the visit of the operator with this code.
 #[inline(always)]
 fn visit_without_immediates<V: VisitOneByte>(v: &mut V, code: u8) -> V::Output
     requires kinds { entry_at None code ≡ free ([]) }
@@ -166,7 +168,7 @@ fn visit_without_immediates<V: VisitOneByte>(v: &mut V, code: u8) -> V::Output
     }
 }
 
-/// The operators whose immediates `block_type` reads.
+/// Reads immediates by `block_type` and visits the operator.
 #[inline(always)]
 fn block_type<V: VisitOneByte>(
     v: &mut V,
@@ -184,7 +186,7 @@ fn block_type<V: VisitOneByte>(
     }
 }
 
-/// Their visits, by their codes.
+/// Calls the visit of the operator with this code.
 #[inline(always)]
 fn visit_block_type<V: VisitOneByte>(v: &mut V, code: u8, it: BlockType) -> V::Output
     requires { entry_at None code ≡ free (is_block_type ∷ []) }
@@ -197,7 +199,7 @@ fn visit_block_type<V: VisitOneByte>(v: &mut V, code: u8, it: BlockType) -> V::O
     }
 }
 
-/// The operators whose immediates `unsigned` reads.
+/// Reads immediates by `unsigned` and visits the operator.
 #[inline(always)]
 fn unsigned<V: VisitOneByte>(
     v: &mut V,
@@ -215,7 +217,7 @@ fn unsigned<V: VisitOneByte>(
     }
 }
 
-/// Their visits, by their codes.
+/// Calls the visit of the operator with this code.
 #[inline(always)]
 fn visit_unsigned<V: VisitOneByte>(v: &mut V, code: u8, it: u32) -> V::Output
     requires { entry_at None code ≡ free (is_unsigned_32 ∷ []) }
@@ -245,7 +247,7 @@ fn visit_unsigned<V: VisitOneByte>(v: &mut V, code: u8, it: u32) -> V::Output
     }
 }
 
-/// `CallIndirect`.
+/// Reads the immediates of `CallIndirect` and visits it.
 #[inline(always)]
 fn call_indirect<V: VisitOneByte>(
     v: &mut V,
@@ -261,7 +263,7 @@ fn call_indirect<V: VisitOneByte>(
     }
 }
 
-/// The operators whose immediates `memory` reads.
+/// Reads immediates by `memory` and visits the operator.
 #[inline(always)]
 fn memory<V: VisitOneByte>(
     v: &mut V,
@@ -279,7 +281,7 @@ fn memory<V: VisitOneByte>(
     }
 }
 
-/// The exponent of an operator's own alignment.
+/// Returns the exponent of the operator's natural alignment.
 #[inline(always)]
 fn align_of_memory(code: u8) -> u8
     requires { entry_at None code ≡ free (is_memory_argument MemArgKind.Plain (align_at None code) ∷ []) }
@@ -312,7 +314,7 @@ fn align_of_memory(code: u8) -> u8
     }
 }
 
-/// Their visits, by their codes.
+/// Calls the visit of the operator with this code.
 #[inline(always)]
 fn visit_memory<V: VisitOneByte>(v: &mut V, code: u8, it: MemArg) -> V::Output
     requires { entry_at None code ≡ free (is_memory_argument MemArgKind.Plain (align_at None code) ∷ []) }
@@ -346,7 +348,7 @@ fn visit_memory<V: VisitOneByte>(v: &mut V, code: u8, it: MemArg) -> V::Output
     }
 }
 
-/// The operators whose immediates `memory_index` reads.
+/// Reads immediates by `memory_index` and visits the operator.
 #[inline(always)]
 fn memory_index<V: VisitOneByte>(
     v: &mut V,
@@ -364,7 +366,7 @@ fn memory_index<V: VisitOneByte>(
     }
 }
 
-/// Their visits, by their codes.
+/// Calls the visit of the operator with this code.
 #[inline(always)]
 fn visit_memory_index<V: VisitOneByte>(v: &mut V, code: u8, it: u32) -> V::Output
     requires { entry_at None code ≡ free (is_memory_index ∷ []) }
@@ -376,7 +378,7 @@ fn visit_memory_index<V: VisitOneByte>(v: &mut V, code: u8, it: u32) -> V::Outpu
     }
 }
 
-/// `I32Const`.
+/// Reads the immediates of `I32Const` and visits it.
 #[inline(always)]
 fn i32_const<V: VisitOneByte>(
     v: &mut V,
@@ -392,7 +394,7 @@ fn i32_const<V: VisitOneByte>(
     }
 }
 
-/// `I64Const`.
+/// Reads the immediates of `I64Const` and visits it.
 #[inline(always)]
 fn i64_const<V: VisitOneByte>(
     v: &mut V,
@@ -408,7 +410,7 @@ fn i64_const<V: VisitOneByte>(
     }
 }
 
-/// `F32Const`.
+/// Reads the immediates of `F32Const` and visits it.
 #[inline(always)]
 fn f32_const<V: VisitOneByte>(
     v: &mut V,
@@ -424,7 +426,7 @@ fn f32_const<V: VisitOneByte>(
     }
 }
 
-/// `F64Const`.
+/// Reads the immediates of `F64Const` and visits it.
 #[inline(always)]
 fn f64_const<V: VisitOneByte>(
     v: &mut V,
@@ -440,7 +442,7 @@ fn f64_const<V: VisitOneByte>(
     }
 }
 
-/// `RefNull`.
+/// Reads the immediates of `RefNull` and visits it.
 #[inline(always)]
 fn ref_null<V: VisitOneByte>(
     v: &mut V,
@@ -456,7 +458,7 @@ fn ref_null<V: VisitOneByte>(
     }
 }
 
-/// The operators whose immediates `two_unsigned` reads.
+/// Reads immediates by `two_unsigned` and visits the operator.
 #[inline(always)]
 fn two_unsigned<V: VisitOneByte>(
     v: &mut V,
@@ -474,7 +476,7 @@ fn two_unsigned<V: VisitOneByte>(
     }
 }
 
-/// Their visits, by their codes.
+/// Calls the visit of the operator with this code.
 #[inline(always)]
 fn visit_two_unsigned<V: VisitOneByte>(v: &mut V, code: u8, it: (u32, u32)) -> V::Output
     requires { entry_at None code ≡ free (is_unsigned_32 ∷ is_unsigned_32 ∷ []) }
@@ -487,7 +489,7 @@ fn visit_two_unsigned<V: VisitOneByte>(v: &mut V, code: u8, it: (u32, u32)) -> V
     }
 }
 
-/// `Unreachable`.
+/// Visits `Unreachable`.
 #[inline(always)]
 fn unreachable_alone<V: VisitOneByte>(
     v: &mut V,
@@ -500,7 +502,7 @@ fn unreachable_alone<V: VisitOneByte>(
     Ok(v.visit_unreachable())
 }
 
-/// `Nop`.
+/// Visits `Nop`.
 #[inline(always)]
 fn nop_alone<V: VisitOneByte>(
     v: &mut V,
@@ -513,7 +515,7 @@ fn nop_alone<V: VisitOneByte>(
     Ok(v.visit_nop())
 }
 
-/// `End`.
+/// Visits `End`.
 #[inline(always)]
 fn end_alone<V: VisitOneByte>(
     v: &mut V,
@@ -526,7 +528,7 @@ fn end_alone<V: VisitOneByte>(
     Ok(v.visit_end())
 }
 
-/// `Br`.
+/// Reads the immediates of `Br` and visits it.
 #[inline(always)]
 fn br_alone<V: VisitOneByte>(
     v: &mut V,
@@ -542,7 +544,7 @@ fn br_alone<V: VisitOneByte>(
     }
 }
 
-/// `BrIf`.
+/// Reads the immediates of `BrIf` and visits it.
 #[inline(always)]
 fn br_if_alone<V: VisitOneByte>(
     v: &mut V,
@@ -558,7 +560,7 @@ fn br_if_alone<V: VisitOneByte>(
     }
 }
 
-/// `Return`.
+/// Visits `Return`.
 #[inline(always)]
 fn return_alone<V: VisitOneByte>(
     v: &mut V,
@@ -571,7 +573,7 @@ fn return_alone<V: VisitOneByte>(
     Ok(v.visit_return())
 }
 
-/// `Call`.
+/// Reads the immediates of `Call` and visits it.
 #[inline(always)]
 fn call_alone<V: VisitOneByte>(
     v: &mut V,
@@ -587,7 +589,7 @@ fn call_alone<V: VisitOneByte>(
     }
 }
 
-/// `Drop`.
+/// Visits `Drop`.
 #[inline(always)]
 fn drop_alone<V: VisitOneByte>(
     v: &mut V,
@@ -600,7 +602,7 @@ fn drop_alone<V: VisitOneByte>(
     Ok(v.visit_drop())
 }
 
-/// `Select`.
+/// Visits `Select`.
 #[inline(always)]
 fn select_alone<V: VisitOneByte>(
     v: &mut V,

@@ -1,7 +1,7 @@
-//! The operators of one byte that bodies are not full of, by one call that stays a call.
+//! The less frequent operators of one byte, decoded by one call that is not inlined.
 //!
-//! That call is lent a copy of the reader and a place for a refusal, so that a caller's reader stays in
-//! registers, and so does what a call answers that visits.
+//! The call borrows a copy of the reader and a place for an error. So the caller's reader and the
+//! result of a visit stay in registers.
 ghost use Rattle.std.specs.Prelude.{◌≡◌, None, Ok, Err, IfSome, IfNone};
 ghost use Rattle.wasm_decode_groups.specs.OneByte.{IsOneByteCode};
 ghost use Rattle.wasm_decode_opcodes.specs.Decoding.{DecodesAt, StandsBehind};
@@ -12,7 +12,7 @@ use wasm_visit_groups::VisitOneByte;
 use wasm_visit_groups::below::{BinaryReader, Error, Message, Result};
 use wasm_visit_groups::grammar::FrameKind;
 
-/// Reads what stands behind the opcode of one of the operators of one byte, and visits the operator.
+/// Reads the immediates of an operator of one byte and visits it.
 #[inline(always)]
 pub fn other_one_byte<V: VisitOneByte>(
     v: &mut V,
@@ -36,7 +36,8 @@ pub fn other_one_byte<V: VisitOneByte>(
     }
 }
 
-/// The same out of line: the answer of the visit, else the refusal in the place for it.
+/// Decodes the operator, without being inlined. Returns the result of the visit, or writes the
+/// error to `refusal`.
 #[inline(never)]
 fn out_of_line<V: VisitOneByte>(
     v: &mut V,

@@ -1,4 +1,4 @@
-//! Decoding of the vector operators from 0x80 on. Written by tools/lists.py from tools/operators.tsv.
+//! Decoding of the SIMD operators from 0x80 on. Written by tools/lists.py from tools/operators.tsv.
 ghost use Rattle.std.specs.Prelude.{◌≡◌, ◌≤◌, ◌<◌, [], ◌∷◌, Some, None};
 ghost use Rattle.wasm_visit_groups.specs.grammar.declared.frame_kind.FrameKind.{FrameKind};
 ghost use Rattle.wasm_visit_groups.specs.instr.Immediate.{vector};
@@ -11,7 +11,7 @@ use wasm_decode_opcodes::{immediates, unknown_subopcode};
 use wasm_visit_groups::VisitSimdHigh;
 use wasm_visit_groups::below::{BinaryReader, Result};
 
-/// Reads what stands behind the subopcode of one of the vector operators from 0x80 on, and visits the operator.
+/// Reads the immediates of a SIMD operator from 0x80 on and visits it.
 #[inline(always)]
 pub fn simd_high<V: VisitSimdHigh>(
     v: &mut V,
@@ -29,7 +29,7 @@ pub fn simd_high<V: VisitSimdHigh>(
     Err(unknown_subopcode(reader, start, 0xfd, code))
 }
 
-/// The operators without immediates.
+/// Visits an operator without immediates.
 #[inline(always)]
 pub fn without_immediates<V: VisitSimdHigh>(
     v: &mut V,
@@ -45,7 +45,7 @@ pub fn without_immediates<V: VisitSimdHigh>(
     Ok(visit_without_immediates(v, code))
 }
 
-/// Their visits, by their codes.
+/// Calls the visit of the operator with this code.
 #[inline(always)]
 fn visit_without_immediates<V: VisitSimdHigh>(v: &mut V, code: u32) -> V::Output
     requires kinds { entry_at (Some 0xfd) code ≡ free ([]) }

@@ -1,4 +1,4 @@
-//! Decoding of the vector operators below 0x80. Written by tools/lists.py from tools/operators.tsv.
+//! Decoding of the SIMD operators below 0x80. Written by tools/lists.py from tools/operators.tsv.
 ghost use Rattle.std.specs.Prelude.{◌≡◌, ◌<◌, [], ◌∷◌, Some, None};
 ghost use Rattle.wasm_visit_groups.specs.grammar.declared.frame_kind.FrameKind.{FrameKind};
 ghost use Rattle.wasm_visit_groups.specs.instr.Immediate.{vector, one_lane, memory_argument, is_one_lane, is_memory_argument};
@@ -12,7 +12,7 @@ use wasm_visit_groups::VisitSimdLow;
 use wasm_visit_groups::below::{BinaryReader, Result};
 use wasm_visit_groups::imm::{MemArg, MemArgKind, V128};
 
-/// Reads what stands behind the subopcode of one of the vector operators below 0x80, and visits the operator.
+/// Reads the immediates of a SIMD operator below 0x80 and visits it.
 #[inline(always)]
 pub fn simd_low<V: VisitSimdLow>(
     v: &mut V,
@@ -37,7 +37,7 @@ pub fn simd_low<V: VisitSimdLow>(
     }
 }
 
-/// The operators whose immediates `memory` reads.
+/// Reads immediates by `memory` and visits the operator.
 #[inline(always)]
 fn memory<V: VisitSimdLow>(
     v: &mut V,
@@ -56,7 +56,7 @@ fn memory<V: VisitSimdLow>(
     }
 }
 
-/// The exponent of an operator's own alignment.
+/// Returns the exponent of the operator's natural alignment.
 #[inline(always)]
 fn align_of_memory(code: u32) -> u8
     requires { entry_at (Some 0xfd) code ≡ free (is_memory_argument MemArgKind.Plain (align_at (Some 0xfd) code) ∷ []) }
@@ -80,7 +80,7 @@ fn align_of_memory(code: u32) -> u8
     }
 }
 
-/// Their visits, by their codes.
+/// Calls the visit of the operator with this code.
 #[inline(always)]
 fn visit_memory<V: VisitSimdLow>(v: &mut V, code: u32, it: MemArg) -> V::Output
     requires { entry_at (Some 0xfd) code ≡ free (is_memory_argument MemArgKind.Plain (align_at (Some 0xfd) code) ∷ []) }
@@ -105,7 +105,7 @@ fn visit_memory<V: VisitSimdLow>(v: &mut V, code: u32, it: MemArg) -> V::Output
     }
 }
 
-/// The operators whose immediates `memory_lane` reads.
+/// Reads immediates by `memory_lane` and visits the operator.
 #[inline(always)]
 fn memory_lane<V: VisitSimdLow>(
     v: &mut V,
@@ -124,7 +124,7 @@ fn memory_lane<V: VisitSimdLow>(
     }
 }
 
-/// The exponent of an operator's own alignment.
+/// Returns the exponent of the operator's natural alignment.
 #[inline(always)]
 fn align_of_memory_lane(code: u32) -> u8
     requires { entry_at (Some 0xfd) code
@@ -143,7 +143,7 @@ fn align_of_memory_lane(code: u32) -> u8
     }
 }
 
-/// Their visits, by their codes.
+/// Calls the visit of the operator with this code.
 #[inline(always)]
 fn visit_memory_lane<V: VisitSimdLow>(v: &mut V, code: u32, it: (MemArg, u8)) -> V::Output
     requires { entry_at (Some 0xfd) code
@@ -163,7 +163,7 @@ fn visit_memory_lane<V: VisitSimdLow>(v: &mut V, code: u32, it: (MemArg, u8)) ->
     }
 }
 
-/// `V128Const`.
+/// Reads the immediates of `V128Const` and visits it.
 #[inline(always)]
 fn v128_const<V: VisitSimdLow>(
     v: &mut V,
@@ -179,7 +179,7 @@ fn v128_const<V: VisitSimdLow>(
     }
 }
 
-/// `I8x16Shuffle`.
+/// Reads the immediates of `I8x16Shuffle` and visits it.
 #[inline(always)]
 fn i8x16_shuffle<V: VisitSimdLow>(
     v: &mut V,
@@ -195,7 +195,7 @@ fn i8x16_shuffle<V: VisitSimdLow>(
     }
 }
 
-/// The operators whose immediates `lane` reads.
+/// Reads immediates by `lane` and visits the operator.
 #[inline(always)]
 fn lane<V: VisitSimdLow>(
     v: &mut V,
@@ -213,7 +213,7 @@ fn lane<V: VisitSimdLow>(
     }
 }
 
-/// Their visits, by their codes.
+/// Calls the visit of the operator with this code.
 #[inline(always)]
 fn visit_lane<V: VisitSimdLow>(v: &mut V, code: u32, it: u8) -> V::Output
     requires { entry_at (Some 0xfd) code ≡ free (is_one_lane ∷ []) }
@@ -237,7 +237,7 @@ fn visit_lane<V: VisitSimdLow>(v: &mut V, code: u32, it: u8) -> V::Output
     }
 }
 
-/// The operators without immediates.
+/// Visits an operator without immediates.
 #[inline(always)]
 pub fn without_immediates<V: VisitSimdLow>(
     v: &mut V,
@@ -253,7 +253,7 @@ pub fn without_immediates<V: VisitSimdLow>(
     Ok(visit_without_immediates(v, code))
 }
 
-/// Their visits, by their codes.
+/// Calls the visit of the operator with this code.
 #[inline(always)]
 fn visit_without_immediates<V: VisitSimdLow>(v: &mut V, code: u32) -> V::Output
     requires kinds { entry_at (Some 0xfd) code ≡ free ([]) }

@@ -1,4 +1,4 @@
-//! Which vector operators have no immediates, and these by their subopcodes. Written by tools/lists.py from tools/operators.tsv.
+//! The SIMD operators without immediates, by subopcode. Written by tools/lists.py from tools/operators.tsv.
 ghost use Rattle.std.specs.Prelude.{◌≡◌, ◌<◌, ◌≤◌, [], true, Some, map};
 ghost use Rattle.wasm_decode_opcodes.specs.Entries.{entry_at, simd_entries};
 ghost use Rattle.wasm_decode_opcodes.specs.Entry.{free};
@@ -6,7 +6,7 @@ ghost use Rattle.wasm_decode_groups.specs.WithoutImmediates.{IsVectorWithoutImme
 
 use wasm_visit_groups::instr::SimdOperator;
 
-/// Of each subopcode behind the byte 0xfd, whether it is that of an operator without immediates.
+/// For each subopcode after the prefix byte 0xfd, whether an operator without immediates has it.
 static WITHOUT_IMMEDIATES: [bool; 276] = [
     false, false, false, false, false, false, false, false, false, false, false, false, false,
     false, true, true, true, true, true, true, true, false, false, false, false, false, false,
@@ -29,7 +29,7 @@ static WITHOUT_IMMEDIATES: [bool; 276] = [
     true, true, true,
 ];
 
-/// What a table of them says of a subopcode.
+/// Returns the element of the table for a subopcode, and `false` after its end.
 #[inline(always)]
 fn is_marked(marks: &[bool; 276], code: u32) -> bool
     requires { marks.now ≡ map is_without_immediates simd_entries }
@@ -42,7 +42,7 @@ fn is_marked(marks: &[bool; 276], code: u32) -> bool
     marks[place]
 }
 
-/// Whether an operator without immediates has this subopcode behind the byte 0xfd.
+/// Returns whether an operator without immediates has this subopcode after the prefix byte 0xfd.
 #[inline(always)]
 pub fn has_no_immediates(code: u32) -> bool
     ensures exact { result ≡ is_without_immediates (entry_at (Some 0xfd) code) }
@@ -51,7 +51,7 @@ pub fn has_no_immediates(code: u32) -> bool
     is_marked(&WITHOUT_IMMEDIATES, code)
 }
 
-/// The vector operator without immediates of this subopcode below 0x80.
+/// Returns the SIMD operator without immediates that has this subopcode, which is below 0x80.
 #[inline(always)]
 pub fn simd_low_without_immediates(code: u32) -> SimdOperator
     requires without { entry_at (Some 0xfd) code ≡ free [] }
@@ -152,7 +152,7 @@ pub fn simd_low_without_immediates(code: u32) -> SimdOperator
     }
 }
 
-/// The vector operator without immediates of this subopcode from 0x80 on.
+/// Returns the SIMD operator without immediates that has this subopcode, which is at least 0x80.
 #[inline(always)]
 pub fn simd_high_without_immediates(code: u32) -> SimdOperator
     requires without { entry_at (Some 0xfd) code ≡ free [] }

@@ -1,4 +1,4 @@
--- Operators whose feature and frame are looked at first.
+-- Operators whose feature and frame are checked first.
 use Rattle.std.proofs.Common.{◌≡◌, ℕ, ◌+◌, ◌≤◌, ◌<◌, inl, inr, Bool, true, false, List, [], ◌∷◌, ◌++◌, Option, Some, None, Ok, Err, refl, sym, subst, ap, ◌∙◌, append_assoc, arith}
 use Rattle.wasm_instr.specs.below.bytes.error.Error.{Error}
 use Rattle.wasm_instr.specs.below.bytes.features.WasmFeatures.{WasmFeatures}
@@ -31,7 +31,7 @@ use Rattle.wasm_decode_opcodes.specs.Refused.{IsRefusedOperator}
 use Rattle.wasm_decode_opcodes.proofs.KindLemmas.{RefusesKinds}
 use Rattle.wasm_decode_opcodes.proofs.OperatorLemmas.{IsCode, Own, own, same_entry, refused_operator, opcode_fault, reads_visited, none_unknown, subopcode_fault, within_behind}
 
--- ---- the roles of guarded operators, whatever they carry
+-- ---- the roles of guarded operators, for any immediates
 
 else_alike : (A B : Type 0) (k : FrameKind) → Allows {A = A} k turns_else → Allows {A = B} k turns_else
 else_alike A B frame.If h = refl
@@ -54,7 +54,7 @@ delegate_alike A B k m n h = absurd (cc h)
 some_guard : (a g : Guard) → Some a ≡ Some g → a ≡ g
 some_guard a g e = cc e
 
--- a frame allows the operator where it allows what it is guarded as
+-- if a frame allows the operator, it allows the role of its guard
 pub allows_guard : (k : FrameKind) (op : Operator) (g : Guard) → guard_of op ≡ Some g → Allows k (role_of op) → Allows k (role_behind g)
 allows_guard k operator.Else g e h = subst (λ z. Allows k (role_behind z)) (some_guard guard.Else g e) (else_alike Operator ℕ k h)
 allows_guard k (operator.Try ty) g e h = subst (λ z. Allows k (role_behind z)) (some_guard guard.Try g e) refl
@@ -71,7 +71,7 @@ guard_allows k operator.CatchAll g e h = catch_all_alike ℕ Operator k (subst (
 guard_allows k (operator.Delegate depth) g e h = delegate_alike ℕ Operator k 0 depth (subst (λ z. Allows k (role_behind z)) (sym (some_guard guard.Delegate g e)) h)
 guard_allows k op g e h = absurd (cc e)
 
--- it is encoded with its feature alone
+-- an operator with an encoding has its feature enabled
 pub enabled_needs : (f : WasmFeatures) (op : Operator) (g : Guard) → guard_of op ≡ Some g → NeedsLegacy g → IsEnabled f op → HasFeature legacy_exceptions f
 enabled_needs f operator.Else g e n h = absurd (subst NeedsLegacy (sym (some_guard guard.Else g e)) n)
 enabled_needs f (operator.Try ty) g e n h = h
@@ -92,14 +92,14 @@ guard_in : (own : Option Guard) (g : Guard) (own_kinds ks : List Kind) → guard
 guard_in None g own_kinds ks e = absurd (cc e)
 guard_in (Some h) g own_kinds ks e = let same : h ≡ g = cc e in ap Some same
 
--- an operator of a guarded opcode has that guard
+-- an operator with a guarded opcode has that guard
 pub guard_behind : (op : Operator) (code : ℕ) (g : Guard) (ks : List Kind) → prefix_of op ≡ None → opcode_of op ≡ code → entry_at None code ≡ guarded g ks →
     guard_of op ≡ Some g
 guard_behind op code g ks prefix opcode e = guard_in (guard_of op) g (kinds_of op) ks (sym (same_entry op None code prefix opcode) ∙ e)
 
--- ---- refusals before the immediates
+-- ---- errors before the immediates
 
--- a refusal that was said behind the operator's start, of what begins with this opcode however it goes on
+-- an error after the operator's start, if no bytes after this opcode make it an operator
 pub refuses_opcode : (k : FrameKind) (p : Option ℕ) (code start : ℕ) (e : Error) (mid new : Reader) → IsCode p code → StandsBehind start p code mid →
     ((head after : List ℕ) → EncodesOpcode p code head → NoPrefix (EncodesAllowed mid.features k) (head ++ after)) → new ≡ at_position mid start →
     IsReadFault e.message → mid.start + start ≤ e.offset → e.offset ≤ offset_of mid → (HasFault (OperatorFault mid.features k) e (at_position mid start)) →
@@ -122,14 +122,14 @@ refuses_opcode k p code start e mid new c b none went readable from to fault = g
 not_prefix : (code : ℕ) (g : Guard) (ks : List Kind) → entry_at None code ≡ guarded g ks → entry_at None code ≡ prefixes → ⊥
 not_prefix code g ks e h = cc (sym e ∙ h)
 
--- no operator of this opcode is read without its feature
+-- without its feature, no operator with this opcode has an encoding
 pub none_enabled : (f : WasmFeatures) (k : FrameKind) (code : ℕ) (g : Guard) (ks : List Kind) (head after : List ℕ) → IsCode None code → entry_at None code ≡ guarded g ks →
     LacksFeature f g → EncodesOpcode None code head → NoPrefix (EncodesAllowed f k) (head ++ after)
 none_enabled f k code g ks head after c is (needs, without) h text left op s eq =
     let o = own f None code head after text left op c h s.0 eq in
     without (enabled_needs f op g (guard_behind op code g ks o.same_prefix o.same_code is) needs s.0.enabled)
 
--- none is allowed in another frame
+-- no operator with this opcode is allowed in another frame
 pub none_allowed : (f : WasmFeatures) (k : FrameKind) (code : ℕ) (g : Guard) (ks : List Kind) (head after : List ℕ) → IsCode None code → entry_at None code ≡ guarded g ks →
     (Allows k (role_behind g) → ⊥) → EncodesOpcode None code head → NoPrefix (EncodesAllowed f k) (head ++ after)
 none_allowed f k code g ks head after c is without h text left op s eq =
@@ -143,7 +143,7 @@ guarded_fault : (k : FrameKind) (code start : ℕ) (g : Guard) (ks : List Kind) 
 guarded_fault k code start g ks m mid offset small is b fault =
     opcode_fault k code start m mid offset small b (subst (λ z. EntryFault mid.features k (mid.start + start) code z m mid offset) (sym is) fault)
 
--- the feature is wanting
+-- the feature is off
 pub lacks_feature : (k : FrameKind) (code start : ℕ) (g : Guard) (ks : List Kind) (e : Error) (mid new : Reader) → code < 256 → entry_at None code ≡ guarded g ks →
     StandsBehind start None code mid → LacksFeature mid.features g → new ≡ at_position mid start → e.message ≡ message.FeatureRequired (instruction_behind g) →
     e.offset ≡ mid.start + start →
@@ -153,7 +153,7 @@ lacks_feature k code start g ks e mid new small is b lacks went m at =
     (λ head after. none_enabled mid.features k code g ks head after (not_prefix code g ks is, small) is lacks) went (subst IsReadFault (sym m) tt) (omega (arith, at))
     (omega (arith, at, b.begun)) (λ some. guarded_fault k code start g ks e.message mid e.offset small is b (inl (lacks, m, at)))
 
--- the frame is another
+-- the frame does not allow the operator
 pub wrong_frame : (k : FrameKind) (code start : ℕ) (g : Guard) (ks : List Kind) (e : Error) (mid new : Reader) → code < 256 → entry_at None code ≡ guarded g ks →
     StandsBehind start None code mid → ¬ LacksFeature mid.features g → (Allows k (role_behind g) → ⊥) → new ≡ at_position mid start →
     e.message ≡ message.WrongFrame (instruction_behind g) (frame_behind g) → e.offset ≡ offset_of mid →
@@ -163,12 +163,12 @@ wrong_frame k code start g ks e mid new small is b has without went m at =
     (λ head after. none_allowed mid.features k code g ks head after (not_prefix code g ks is, small) is without) went (subst IsReadFault (sym m) tt)
     (omega (arith, at, b.begun)) (omega (arith, at)) (λ some. guarded_fault k code start g ks e.message mid e.offset small is b (inr (has, inl (without, m, at))))
 
--- ---- behind the guard
+-- ---- after the guard
 
 guarded_kinds : (code : ℕ) (g : Guard) (ks : List Kind) → entry_at None code ≡ guarded g ks → HasKinds (entry_at None code) ks
 guarded_kinds code g ks is = subst (λ z. HasKinds z ks) (sym is) refl
 
--- immediates are refused
+-- reading the immediates fails
 pub refuses_guarded : {V A : Type 0} (visits : V → Operator → A → V → Type 0) (k : FrameKind) (code : ℕ) (g : Guard) (ks : List Kind) (start : ℕ) (e : Error) (mid new : Reader)
     (v : V) → code < 256 → entry_at None code ≡ guarded g ks → StandsBehind start None code mid → ¬ LacksFeature mid.features g → Allows k (role_behind g) →
     RefusesKinds ks false start e mid new →
@@ -192,7 +192,7 @@ visited_guarded visits Fault k code g ks is start mid new v w a e b has allows v
     reads_visited visits Fault k None code ks is start mid new v w a b vis i
     (λ op prefix opcode. let h = guard_behind op code g ks prefix opcode e in (guard_enables mid.features op g h has, guard_allows k op g h allows))
 
--- ---- what no operator has
+-- ---- unknown opcodes
 
 pub refuses_unknown : (k : FrameKind) (p : Option ℕ) (code start : ℕ) (e : Error) (mid new : Reader) → IsCode p code → entry_at p code ≡ unknown → StandsBehind start p code mid →
     new ≡ at_position mid start → IsReadFault e.message → e.offset ≡ mid.start + start → HasFault (OperatorFault mid.features k) e (at_position mid start) →
@@ -201,7 +201,7 @@ refuses_unknown k p code start e mid new c is b went readable at fault =
     refuses_opcode k p code start e mid new c b (λ head after. none_unknown mid.features k p code head after c is) went readable (omega (arith, at))
     (omega (arith, at, b.begun)) fault
 
--- ---- the same, behind a check that took nothing
+-- ---- the same, after a check that read nothing
 
 lacks_not : (f : WasmFeatures) (g : Guard) → (NeedsLegacy g → HasFeature legacy_exceptions f) → ¬ LacksFeature f g
 lacks_not f g has (needs, without) = without (has needs)

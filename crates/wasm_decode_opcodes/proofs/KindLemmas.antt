@@ -1,4 +1,4 @@
--- Immediates of given kinds, one behind the other.
+-- Sequences of immediates of given kinds.
 use Rattle.std.proofs.Common.{◌≡◌, ◌≢◌, ℕ, ◌+◌, ◌≤◌, ◌⊎◌, inl, inr, Bool, true, false, List, [], ◌∷◌, ◌++◌, length, Ok, Err, map, refl, sym, subst, ap, ◌∙◌, append_assoc, arith}
 use Rattle.std.proofs.lemmas.List.{append-nil}
 use Rattle.std.specs.Int.{w32, w64}
@@ -32,7 +32,7 @@ use Rattle.wasm_decode_opcodes.specs.Decoding.{IsRefusedBehind}
 use Rattle.wasm_decode_opcodes.specs.Kinds.{EncodesKind, EncodesKinds}
 use Rattle.wasm_decode_opcodes.specs.OperatorFaults.{KindFault, KindsFault}
 
--- The texts of a reading are those of the immediates of a kind.
+-- A reader reads the texts of the immediates of a kind.
 pub record OfKind {X : Type 0} (P : List ℕ → X → Type 0) (f : WasmFeatures) (k : Kind) (immediate : X → Immediate) : Type 0 where
   pub kind : (x : X) → kind_of (immediate x) ≡ k
   pub encodes : (text : List ℕ) (x : X) → P text x → EncodesImmediate f (immediate x) text
@@ -183,13 +183,13 @@ of_resume_table f = record { kind = λ x. refl; encodes = λ text x p. p; throug
 pub kind_prefix_code : (f : WasmFeatures) (k : Kind) → PrefixCode (EncodesKind f k)
 kind_prefix_code f k a b x y i j (ki, p) (kj, q) e = let h = immediate_prefix_code f i j a b x y (ki ∙ sym kj) p q e in (h.1, h.0)
 
--- ---- one behind the other
+-- ---- sequences
 
 pub kinds_cons : (f : WasmFeatures) (k : Kind) (ks : List Kind) (first more : List ℕ) (i : Immediate) (is : List Immediate) → EncodesKind f k first i →
     EncodesKinds f ks more is → EncodesKinds f (k ∷ ks) (first ++ more) (i ∷ is)
 kinds_cons f k ks first more i is (p, q) (ps, qs) = (cc (p, ps), (first, more, refl, q, qs))
 
--- The first of several, and those behind it.
+-- The first of several immediates, and the ones after it.
 pub record Parted (f : WasmFeatures) (k : Kind) (ks : List Kind) (text : List ℕ) : Type 0 where
   pub first : List ℕ
   pub more : List ℕ
@@ -204,7 +204,7 @@ parted f k ks text [] (e, p) = absurd (cc e)
 parted f k ks text (i ∷ is) (e, (first, more, parts, p, q)) =
     record { first = first; more = more; i = i; is = is; parts = parts; head = (cc e, p); tail = (cc e, q) }
 
--- where none is the first, none are all
+-- if the first immediate does not follow, the sequence does not
 pub none_first : {X : Type 0} (P : List ℕ → X → Type 0) (f : WasmFeatures) (k : Kind) (ks : List Kind) (immediate : X → Immediate) → OfKind P f k immediate →
     (bytes : List ℕ) → NoPrefix P bytes → NoPrefix (EncodesKinds f (k ∷ ks)) bytes
 none_first P f k ks immediate o bytes none text left is h eq =
@@ -216,12 +216,12 @@ none_kind : {X : Type 0} (P : List ℕ → X → Type 0) (f : WasmFeatures) (k :
     NoPrefix P bytes → NoPrefix (EncodesKind f k) bytes
 none_kind P f k immediate o bytes none text left i h eq = let x = o.through text i h in none text left x.0 x.1 eq
 
--- What a refused call says: the reader went back, the refusal is none of the encodings, and its fault.
+-- The claims of a failed call: the reader went back, no such immediates follow, and the fault.
 abbrev pub RefusesKinds : List Kind → Bool → ℕ → Error → Reader → Reader → Type 0
 RefusesKinds ks takes start e old new =
     (new ≡ at_position old start) × IsRefusedBehind (EncodesKinds old.features ks) takes start e old × HasFault (KindsFault old.features (old.start + start) ks) e old
 
--- the first is refused, and the call went back
+-- reading the first immediate fails, and the call went back
 pub first_refused : {X : Type 0} (P : List ℕ → X → Type 0) (k : Kind) (ks : List Kind) (immediate : X → Immediate) (takes : Bool) (start : ℕ) (e told : Error)
     (old mid new : Reader) → OfKind P old.features k immediate → start ≤ old.position → (mid ≡ old) × IsRefusal P e old →
     KindFault old.features (old.start + start) k e.message old e.offset → new ≡ at_position mid start → told ≡ e → RefusesKinds (k ∷ ks) takes start told old new
@@ -242,7 +242,7 @@ moved_features old mid text t = ap (λ (r : Reader). r.features) t.moved
 moved_start : (old mid : Reader) (text : List ℕ) → Takes old mid text → mid.start ≡ old.start
 moved_start old mid text t = ap (λ (r : Reader). r.start) t.moved
 
--- those behind the first are refused
+-- reading an immediate after the first one fails
 pub later_refused : {X : Type 0} (P : List ℕ → X → Type 0) (k : Kind) (ks : List Kind) (immediate : X → Immediate) (takes : Bool) (start : ℕ) (e : Error)
     (old mid new : Reader) (x : X) → OfKind P old.features k immediate → Reads P (Ok x) old mid → RefusesKinds ks takes start e mid new →
     RefusesKinds (k ∷ ks) takes start e old new
@@ -294,9 +294,9 @@ later_read P k ks immediate old mid new x is o (first, p, t) (more, q, u) = (
   takes_then old mid new first more t u,
 )
 
--- ---- what may take memory
+-- ---- immediates that may allocate
 
--- such an immediate is refused, and allocation failure is said where the operator began
+-- reading such an immediate fails, and allocation failure is reported at the operator's start
 pub memory_refused : {X : Type 0} (P : List ℕ → X → Type 0) (k : Kind) (immediate : X → Immediate) (start : ℕ) (e told : Error) (old mid new : Reader) →
     OfKind P old.features k immediate → start ≤ old.position → offset_of old ≤ end_of old → (mid ≡ old) × IsRefused P true e old →
     HasFault (KindFault old.features (old.start + start) k) e old → new ≡ at_position mid start → IsRefusedFrom (mid.start + start) e told →
@@ -333,7 +333,7 @@ memory_refused P k immediate start e told old mid new o begun within (same, h) f
               (subst (λ z. KindFault old.features (old.start + start) k e.message old z) (sym s.1) (fault s.0)),
         )
 
--- ---- the byte of a fence, which may be refused where the operator began
+-- ---- the byte of a fence, whose error may be at the operator's start
 
 pub fence_refused : (start begun : ℕ) (e told : Error) (old mid new : Reader) → begun ≡ old.start + start → start ≤ old.position →
     ReadsFrom begun (EncodesFence old.features) (Err e) old mid → FenceFault old.features begun e.message old e.offset → new ≡ at_position mid start → told ≡ e →

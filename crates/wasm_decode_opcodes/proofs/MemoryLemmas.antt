@@ -1,4 +1,4 @@
--- The operators that own a list, which reading may have no memory for.
+-- The operators that own a list, for which reading may fail to allocate.
 use Rattle.std.proofs.Common.{◌≡◌, ℕ, ◌+◌, inl, inr, Bool, true, false, List, [], ◌∷◌, ◌++◌, length, Option, Some, None, Ok, Err, refl, sym, subst, ap, ◌∙◌, append_assoc}
 use Rattle.wasm_instr.specs.below.bytes.error.Error.{Error}
 use Rattle.wasm_instr.specs.below.bytes.features.WasmFeatures.{WasmFeatures}
@@ -21,7 +21,7 @@ use Rattle.wasm_decode_opcodes.specs.Refused.{LeadsList, MayAllocate}
 use Rattle.wasm_decode_opcodes.proofs.KindLemmas.{RefusesKinds}
 use Rattle.wasm_decode_opcodes.proofs.OperatorLemmas.{IsCode, own, kinds_behind, has_kinds, refused_operator, free_fault}
 
--- ---- what such an operator owns
+-- ---- the lists of these operators
 
 pub owns_try : (op : Operator) → prefix_of op ≡ None → kinds_of op ≡ is_try_clauses ∷ [] → HoldsList op
 owns_try (operator.TryTable t) p k = tt
@@ -48,7 +48,7 @@ owns_throw (operator.Simd op) p k = absurd (cc p)
 owns_throw (operator.Atomic op) p k = absurd (cc p)
 owns_throw op p k = absurd (cc k)
 
--- The number 1 stands first.
+-- The number 1 is first.
 abbrev pub BeginsOne : List ℕ → Type 0
 BeginsOne text = (first more : List ℕ) × (n : ℕ) × (text ≡ first ++ more) × EncodesOne first n
 
@@ -64,9 +64,9 @@ one_type f (operator.Simd op) text p k without i = absurd (cc p)
 one_type f (operator.Atomic op) text p k without i = absurd (cc p)
 one_type f op text p k without i = absurd (cc k)
 
--- ---- what a call without memory says
+-- ---- allocation failure
 
--- no operator stands there that owns no list
+-- no operator that owns no list begins there
 pub needs_memory : (k : FrameKind) (code start : ℕ) (ks : List Kind) (mid : Reader) → IsCode None code → entry_at None code ≡ free ks → LeadsList code →
     StandsBehind start None code mid →
     ((op : Operator) (text left : List ℕ) → prefix_of op ≡ None → kinds_of op ≡ ks → (HoldsList op → ⊥) → EncodesImmediates mid.features (immediates_of op) text →
@@ -99,7 +99,7 @@ needs_types k code start mid c is leads b lone = needs_memory k code start (is_s
         let o = one_type mid.features op text p q without i in
         lone o.0 (o.1 ++ left) o.2 o.4 (eq ∙ ap (λ z. z ++ left) o.3 ∙ append_assoc o.0 o.1 left)
 
--- immediates are refused behind an opcode whose operators may own a list
+-- reading the immediates fails, after an opcode whose operators may own a list
 pub refuses_list : {V A : Type 0} (visits : V → Operator → A → V → Type 0) (k : FrameKind) (code : ℕ) (ks : List Kind) (start : ℕ) (e : Error) (mid new : Reader) (v : V) →
     IsCode None code → entry_at None code ≡ free ks → StandsBehind start None code mid → RefusesKinds ks true start e mid new →
     (e.message ≡ message.OutOfMemory → MayAllocate (EncodesAllowed mid.features k) (at_position mid start)) →

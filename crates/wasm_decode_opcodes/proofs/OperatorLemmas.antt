@@ -1,4 +1,4 @@
--- From what stands behind an opcode to the operator.
+-- From the immediates after an opcode to the operator.
 use Rattle.std.proofs.Common.{◌≡◌, ℕ, suc, ◌+◌, ◌-◌, ◌≤◌, ◌<◌, inl, inr, Bool, true, false, List, [], ◌∷◌, ◌++◌, length, length-append, length-drop, drop, Option, Some, None, Ok, Err, map, refl, sym, subst, ap, ◌∙◌, append_assoc, arith}
 use Rattle.std.proofs.lemmas.List.{drop-drop}
 use Rattle.wasm_instr.specs.below.bytes.error.Error.{Error}
@@ -29,7 +29,7 @@ use Rattle.wasm_decode_opcodes.specs.Refused.{IsRefusedOperator, MayAllocate}
 use Rattle.wasm_decode_opcodes.proofs.KindLemmas.{RefusesKinds}
 use Rattle.wasm_decode_opcodes.proofs.Told.{told, prefix_told}
 
--- An opcode that is no prefix byte; or a prefix byte, before a subopcode.
+-- The code is an opcode that is not a prefix byte, or a subopcode after a prefix byte.
 abbrev pub IsCode : Option ℕ → ℕ → Type 0
 IsCode None code = (entry_at None code ≡ prefixes → ⊥) × (code < 256)
 IsCode (Some p) code = (entry_at None p ≡ prefixes) × (p < 256)
@@ -38,7 +38,7 @@ no_prefixes : (g : Option Guard) (ks : List Kind) → guarded_entry g ks ≡ pre
 no_prefixes None ks e = cc e
 no_prefixes (Some g) ks e = cc e
 
--- an operator that begins with this opcode, or with this prefix byte and subopcode, has it
+-- an operator whose encoding begins with this opcode, or this prefix byte and subopcode, has it
 agrees : (p q : Option ℕ) (op : Operator) (code : ℕ) (head other x y : List ℕ) → prefix_of op ≡ q → IsCode p code → EncodesOpcode p code head →
     EncodesOpcode q (opcode_of op) other → head ++ x ≡ other ++ y → (q ≡ p) × (opcode_of op ≡ code) × (head ≡ other)
 agrees None None op code head other x y e c h k eq =
@@ -60,7 +60,7 @@ agrees (Some p) (Some q) op code head other x y e c (number, h, u) (more, k, v) 
     let n = unsigned_prefix_code number more 32 x y code (opcode_of op) u v (cc whole) in
     (ap Some (sym same), sym n.1, h ∙ cc (same, n.0) ∙ sym k)
 
--- What an operator says that begins with what was read.
+-- The parts of an operator whose encoding begins with the bytes that were read.
 pub record Own (f : WasmFeatures) (p : Option ℕ) (code : ℕ) (head after text left : List ℕ) (op : Operator) : Type 0 where
   pub same_prefix : prefix_of op ≡ p
   pub same_code : opcode_of op ≡ code
@@ -90,12 +90,12 @@ kinds_in : (g : Option Guard) (own_kinds ks : List Kind) → HasKinds (guarded_e
 kinds_in None own_kinds ks h = h
 kinds_in (Some g) own_kinds ks h = h
 
--- the kinds behind an opcode are those of its operators
+-- the kinds in the entry of an opcode are those of its operators
 pub kinds_behind : (op : Operator) (p : Option ℕ) (code : ℕ) (ks : List Kind) → prefix_of op ≡ p → opcode_of op ≡ code → HasKinds (entry_at p code) ks → kinds_of op ≡ ks
 kinds_behind op p code ks prefix opcode h =
     kinds_in (guard_of op) (kinds_of op) ks (subst (λ z. HasKinds z ks) (same_entry op p code prefix opcode) h)
 
--- so is the guard
+-- the guard in the entry of an opcode is that of its operators
 guard_in : (g : Option Guard) (own_kinds ks : List Kind) → guarded_entry g own_kinds ≡ free ks → g ≡ None
 guard_in None own_kinds ks e = refl
 guard_in (Some g) own_kinds ks e = absurd (cc e)
@@ -103,7 +103,7 @@ guard_in (Some g) own_kinds ks e = absurd (cc e)
 pub unguarded : (op : Operator) (p : Option ℕ) (code : ℕ) (ks : List Kind) → prefix_of op ≡ p → opcode_of op ≡ code → entry_at p code ≡ free ks → guard_of op ≡ None
 unguarded op p code ks prefix opcode e = guard_in (guard_of op) (kinds_of op) ks (sym (same_entry op p code prefix opcode) ∙ e)
 
--- an operator without a guard is allowed in each frame, under all features
+-- an operator without a guard is allowed in every frame, under all features
 pub allowed_free : (k : FrameKind) (op : Operator) → guard_of op ≡ None → Allows k (role_of op)
 allowed_free k operator.Else e = absurd (cc e)
 allowed_free k (operator.Try _) e = absurd (cc e)
@@ -118,13 +118,13 @@ enabled_free f (operator.Catch _) e = absurd (cc e)
 enabled_free f operator.CatchAll e = absurd (cc e)
 enabled_free f op e = tt
 
--- ---- refusals
+-- ---- errors
 
 some_head : (p : Option ℕ) (code : ℕ) (head : List ℕ) → EncodesOpcode p code head → 0 < length head
 some_head None code head h = let n : length head ≡ 1 = ap length h in omega arith
 some_head (Some p) code head (number, h, u) = let n : length head ≡ suc (length number) = ap length h in omega arith
 
--- the reader stands within its bytes
+-- the position is at most the length of the bytes
 pub within_behind : (start : ℕ) (p : Option ℕ) (code : ℕ) (mid : Reader) → StandsBehind start p code mid → offset_of mid ≤ end_of mid
 within_behind start p code mid b = go b.opcode
   where
@@ -135,7 +135,7 @@ within_behind start p code mid b = go b.opcode
         let left : length mid.buffer - start ≡ length head + length (rest mid) = sym (length-drop start mid.buffer) ∙ ap length t.parts ∙ length-append head (rest mid) in
         omega arith
 
--- where no immediates of the kinds stand behind the opcode, no operator stands at its start
+-- if no immediates of the kinds follow the opcode, no operator begins at its start
 pub none_behind : (f : WasmFeatures) (k : FrameKind) (p : Option ℕ) (code : ℕ) (ks : List Kind) (head after : List ℕ) → IsCode p code → HasKinds (entry_at p code) ks →
     EncodesOpcode p code head → NoPrefix (EncodesKinds f ks) after → NoPrefix (EncodesAllowed f k) (head ++ after)
 none_behind f k p code ks head after c has h none text left op s eq =
@@ -159,7 +159,7 @@ refused_operator k p code ks takes start e mid c has b h memory = go b.opcode
 
 -- ---- faults
 
--- a byte, and what was taken behind it
+-- a byte, and the text that was taken after it
 byte_before : (old mid : Reader) (p : ℕ) (number : List ℕ) → Takes old mid (p ∷ number) → (now : Reader) × Takes old now (p ∷ []) × Takes now mid number
 byte_before old mid p number t =
     let now = at_position old (old.position + 1) in
@@ -188,7 +188,7 @@ subopcode_fault k p code start m mid offset small is b fault = go b.opcode
           subst (λ z. EntryFault mid.features k (mid.start + start) p z m s.0 offset) (sym is) (inr (code, mid, (number, u, s.2), fault)),
         )
 
--- the fault of immediates behind an opcode that has no guard
+-- the fault of immediates after an opcode without a guard
 pub free_fault : (k : FrameKind) (p : Option ℕ) (code : ℕ) (ks : List Kind) (start : ℕ) (e : Error) (mid : Reader) → IsCode p code → entry_at p code ≡ free ks →
     StandsBehind start p code mid → HasFault (KindsFault mid.features (mid.start + start) ks) e mid → HasFault (OperatorFault mid.features k) e (at_position mid start)
 free_fault k None code ks start e mid c is b fault some =
@@ -203,7 +203,7 @@ free_fault k (Some p) code ks start e mid c is b fault some =
 pub has_kinds : (p : Option ℕ) (code : ℕ) (ks : List Kind) → entry_at p code ≡ free ks → HasKinds (entry_at p code) ks
 has_kinds p code ks is = subst (λ z. HasKinds z ks) (sym is) refl
 
--- immediates are refused behind an opcode that has no guard
+-- reading the immediates fails, after an opcode without a guard
 pub refuses_free : {V A : Type 0} (visits : V → Operator → A → V → Type 0) (k : FrameKind) (p : Option ℕ) (code : ℕ) (ks : List Kind) (start : ℕ) (e : Error) (mid new : Reader)
     (v : V) → IsCode p code → entry_at p code ≡ free ks → StandsBehind start p code mid → RefusesKinds ks false start e mid new →
     Decodes visits (EncodesAllowed mid.features k) (OperatorFault mid.features k) (Err e) (at_position mid start) new v v
@@ -229,7 +229,7 @@ encodes_read f op p code is head text h i prefix opcode immediates enabled =
       enabled = enabled;
     }
 
--- immediates were read behind an opcode, and the visit was made
+-- the immediates after an opcode were read, and the visit was made
 pub reads_visited : {V A : Type 0} (visits : V → Operator → A → V → Type 0) (Fault : Message → Reader → ℕ → Type 0) (k : FrameKind) (p : Option ℕ) (code : ℕ) (ks : List Kind)
     (is : List Immediate) (start : ℕ) (mid new : Reader) (v w : V) (a : A) → StandsBehind start p code mid → VisitsRow visits p code is v a w →
     (text : List ℕ) × EncodesKinds mid.features ks text is × Takes mid new text →
@@ -262,9 +262,9 @@ pub visited_without_immediates : {V A : Type 0} (visits : V → Operator → A �
     Decodes visits (EncodesAllowed mid.features k) Fault (Ok a) (at_position mid start) mid v w
 visited_without_immediates visits Fault k p code start mid v w a e b vis = visited_free visits Fault k p code [] [] start mid mid v w a e b vis ([], (refl, refl), takes_none mid)
 
--- ---- what is no opcode
+-- ---- unknown opcodes
 
--- no operator has it
+-- no operator has an unknown code
 no_entry : (g : Option Guard) (ks : List Kind) → guarded_entry g ks ≡ unknown → ⊥
 no_entry None ks e = cc e
 no_entry (Some g) ks e = cc e

@@ -1,5 +1,5 @@
 -- Written by tools/lists.py from tools/operators.tsv.
--- The entries are those of the operators' rows.
+-- The entries agree with the rows of the operators.
 use Rattle.std.proofs.Common.{◌≡◌, ℕ, Option, Some, None, map, refl, sym, ap}
 use Rattle.wasm_instr.specs.declared.operator.Operator.{Operator}
 use Rattle.wasm_instr.specs.declared.operator.Operator.TheVariants as operator
@@ -43,7 +43,7 @@ atomic_told : (op : AtomicOperator) → entry_at (Some 0xfe) (atomic_subopcode o
 atomic_told (atomic.MemoryAtomicNotify memarg) = refl
 atomic_told op = refl
 
--- the entry of an operator's opcode is the operator's
+-- the entry of an operator's opcode has the kinds of the operator's immediates
 pub told : (op : Operator) → entry_at (prefix_of op) (opcode_of op) ≡ entry_of op
 told (operator.Numeric op) = numeric_told op
 told (operator.Gc op) = gc_told op
@@ -52,7 +52,7 @@ told (operator.Simd op) = simd_told op
 told (operator.Atomic op) = atomic_told op
 told op = refl
 
--- a byte before a subopcode is a prefix byte
+-- the entry of a prefix byte is `prefixes`
 pub prefix_told : (op : Operator) (p : ℕ) → prefix_of op ≡ Some p → entry_at None p ≡ prefixes
 prefix_told (operator.Gc op) p e = let h : 0xfb ≡ p = cc e in ap (entry_at None) (sym h)
 prefix_told (operator.Misc op) p e = let h : 0xfc ≡ p = cc e in ap (entry_at None) (sym h)

@@ -15,59 +15,59 @@ use Rattle.wasm_decode_opcodes.specs.Kinds.{EncodesKinds}
 use Rattle.wasm_decode_opcodes.specs.OperatorFaults.{KindsFault, OperatorFault, ScalarOperatorFault, FaultIn}
 use Rattle.wasm_decode_opcodes.specs.Refused.{IsRefusedOperator}
 
--- The call refuses what stands there: nothing is taken, and the refusal is one of this fault.
+-- The call fails: the reader is unchanged, no such operator follows, and the error is one of this fault.
 abbrev pub RefusesOperator : (List ℕ → Operator → Type 0) → (Message → Reader → ℕ → Type 0) → Error → Reader → Reader → Type 0
 RefusesOperator Encodes Fault e old new = (new ≡ old) × IsRefusedOperator Encodes e old × HasFault Fault e old
 
--- The call answers Ok exactly where a prefix of the rest encodes an operator, memory aside: it then takes that prefix, and the answer is that of a visit at the operator. Else nothing changes, and the refusal is one of this fault.
+-- The call returns Ok if and only if a prefix of the rest encodes an operator, unless allocation fails. On Ok it takes that prefix, and the result is that of a visit of the operator. On Err reader and visitor are unchanged, and the error is one of this fault.
 abbrev pub Decodes : {V A : Type 0} → (V → Operator → A → V → Type 0) → (List ℕ → Operator → Type 0) → (Message → Reader → ℕ → Type 0) → Result A Error → Reader → Reader → V → V → Type 0
 Decodes visits Encodes Fault (Ok a) old new v w = (text : List ℕ) × (op : Operator) × Encodes text op × Takes old new text × visits v op a w
 Decodes visits Encodes Fault (Err e) old new v w = (w ≡ v) × RefusesOperator Encodes Fault e old new
 
--- The call has an operator visited that a frame of this kind allows and that began at the position `start`, behind the opcode of which it was made. A refused reader goes back there.
+-- The same for a call after the opcode of an operator that began at the position `start`, in a frame of this kind. On Err the reader goes back to `start`.
 abbrev pub DecodesAt : {V A : Type 0} → (V → Operator → A → V → Type 0) → FrameKind → ℕ → Result A Error → Reader → Reader → V → V → Type 0
 DecodesAt visits frame start result old new v w =
     Decodes visits (EncodesAllowed old.features frame) (OperatorFault old.features frame) result (at_position old start) new v w
 
--- The same of a visitor that takes no vector operator.
+-- The same for a visitor without SIMD operators.
 abbrev pub DecodesScalarAt : {V A : Type 0} → (V → Operator → A → V → Type 0) → FrameKind → ℕ → Result A Error → Reader → Reader → V → V → Type 0
 DecodesScalarAt visits frame start result old new v w =
     Decodes visits (EncodesScalar old.features frame) (ScalarOperatorFault old.features frame) result (at_position old start) new v w
 
--- The call has the operator at the start of the rest visited, where this frame is the innermost, or none is open.
+-- The same for the operator at the start of the rest, if this frame is the innermost one, or none is open.
 abbrev pub DecodesIn : {V A : Type 0} → (V → Operator → A → V → Type 0) → Option FrameKind → Result A Error → Reader → Reader → V → V → Type 0
 DecodesIn visits frame result old new v w =
     Decodes visits (EncodesIn (EncodesAllowed old.features) frame) (FaultIn (OperatorFault old.features) frame) result old new v w
 
--- The same of a visitor that takes no vector operator.
+-- The same for a visitor without SIMD operators.
 abbrev pub DecodesScalarIn : {V A : Type 0} → (V → Operator → A → V → Type 0) → Option FrameKind → Result A Error → Reader → Reader → V → V → Type 0
 DecodesScalarIn visits frame result old new v w =
     Decodes visits (EncodesIn (EncodesScalar old.features) frame) (FaultIn (ScalarOperatorFault old.features) frame) result old new v w
 
--- What began at the position `start` is refused, and the reader goes back there.
+-- The call fails for an operator that began at the position `start`, and the reader goes back there.
 abbrev pub RefusesAt : FrameKind → ℕ → Error → Reader → Reader → Type 0
 RefusesAt frame start e old new = RefusesOperator (EncodesAllowed old.features frame) (OperatorFault old.features frame) e (at_position old start) new
 
--- The same where no vector operator is taken.
+-- The same for a visitor without SIMD operators.
 abbrev pub RefusesScalarAt : FrameKind → ℕ → Error → Reader → Reader → Type 0
 RefusesScalarAt frame start e old new = RefusesOperator (EncodesScalar old.features frame) (ScalarOperatorFault old.features frame) e (at_position old start) new
 
--- The reader stands behind this opcode, or behind this prefix byte and subopcode, which were read from the position `start` on.
+-- The reader is directly after this opcode, or after this prefix byte and subopcode, which were read from the position `start` on.
 pub record StandsBehind (start : ℕ) (prefix : Option ℕ) (code : ℕ) (r : Reader) : Type 0 where
   pub begun : start ≤ r.position
   pub opcode : Reads (λ text c. EncodesOpcode prefix c text) (Ok code) (at_position r start) r
 
--- The answer is that of a visit at an operator of this opcode, or of this prefix byte and subopcode, with these immediates.
+-- The result is that of a visit of an operator with this opcode, or this prefix byte and subopcode, and these immediates.
 abbrev pub VisitsRow : {V A : Type 0} → (V → Operator → A → V → Type 0) → Option ℕ → ℕ → List Immediate → V → A → V → Type 0
 VisitsRow visits prefix code is v a w = (op : Operator) × (prefix_of op ≡ prefix) × (opcode_of op ≡ code) × (immediates_of op ≡ is) × visits v op a w
 
--- A refusal of what stands behind an opcode, of an operator that began at the position `start`.
+-- The bytes after an opcode do not encode a value, so the call fails, for an operator that began at the position `start`.
 pub record IsRefusedBehind {X : Type 0} (Encodes : List ℕ → X → Type 0) (takes_memory : Bool) (start : ℕ) (e : Error) (old : Reader) : Type 0 where
   pub refuses : Refuses Encodes (rest old) e.message
   pub ahead : IsAhead (at_position old start) e.offset
   pub memory : e.message ≡ message.OutOfMemory → (takes_memory ≡ true) × (e.offset ≡ old.start + start)
 
--- The call answers Ok exactly where immediates of these kinds stand behind the opcode, memory aside: it then takes them. Else the reader goes back to where the operator began, and the refusal is that of the first immediate that is none.
+-- The call returns Ok if and only if immediates of these kinds follow the opcode, unless allocation fails. On Ok it takes them. On Err the reader goes back to the start of the operator, and the error is that of the first immediate that cannot be read.
 abbrev pub ReadsKinds : {X : Type 0} → List Kind → (X → List Immediate) → Bool → ℕ → Result X Error → Reader → Reader → Type 0
 ReadsKinds ks immediates takes_memory start (Ok x) old new = (text : List ℕ) × EncodesKinds old.features ks text (immediates x) × Takes old new text
 ReadsKinds ks immediates takes_memory start (Err e) old new = (new ≡ at_position old start) × IsRefusedBehind (EncodesKinds old.features ks) takes_memory start e old × HasFault (KindsFault old.features (old.start + start) ks) e old

@@ -1,5 +1,5 @@
 -- Written by tools/lists.py from tools/operators.tsv.
--- What stands behind each opcode and each subopcode.
+-- The kinds of the immediates after each opcode and each subopcode.
 -- WebAssembly Core Specification 3.0: Binary Format, Instructions; Appendix, Index of Instructions.
 use Rattle.std.specs.Prelude.{ℕ, ◌==◌, if◌then◌else◌, List, [], ◌∷◌, slice_index_or, Option, Some, None}
 use Rattle.wasm_instr.specs.imm.declared.memory_argument.MemArgKind.TheVariants as kind
@@ -7,7 +7,7 @@ use Rattle.wasm_instr.specs.Immediate.{is_unsigned_32, is_signed_32, is_signed_6
 use Rattle.wasm_decode_opcodes.specs.declared.guard.Guard.TheVariants as guard
 use Rattle.wasm_decode_opcodes.specs.Entry.{Entry, unknown, prefixes, free, guarded, align_in}
 
--- Behind an opcode.
+-- The entries of the opcodes, by code.
 abbrev pub opcode_entries : List Entry
 opcode_entries =
     (free []) ∷
@@ -267,7 +267,7 @@ opcode_entries =
     prefixes ∷
     []
 
--- Behind the byte 0xfb and a subopcode.
+-- The entries of the subopcodes after the prefix byte 0xfb, by code.
 abbrev pub gc_entries : List Entry
 gc_entries =
     (free (is_unsigned_32 ∷ [])) ∷
@@ -311,7 +311,7 @@ gc_entries =
     (free (is_cast ∷ [])) ∷
     []
 
--- Behind the byte 0xfc and a subopcode.
+-- The entries of the subopcodes after the prefix byte 0xfc, by code.
 abbrev pub misc_entries : List Entry
 misc_entries =
     (free []) ∷
@@ -339,7 +339,7 @@ misc_entries =
     (free []) ∷
     []
 
--- Behind the byte 0xfd and a subopcode.
+-- The entries of the subopcodes after the prefix byte 0xfd, by code.
 abbrev pub simd_entries : List Entry
 simd_entries =
     (free (is_memory_argument kind.Plain 4 ∷ [])) ∷
@@ -620,7 +620,7 @@ simd_entries =
     (free []) ∷
     []
 
--- Behind the byte 0xfe and a subopcode.
+-- The entries of the subopcodes after the prefix byte 0xfe, by code.
 abbrev pub atomic_entries : List Entry
 atomic_entries =
     (free (is_memory_argument kind.Plain 2 ∷ [])) ∷
@@ -740,7 +740,7 @@ atomic_entries =
     (free []) ∷
     []
 
--- The entries behind a prefix byte.
+-- The entries of the subopcodes after a prefix byte.
 abbrev pub entries_behind : ℕ → List Entry
 entries_behind prefix =
     if prefix == 0xfb then gc_entries else (
@@ -749,11 +749,11 @@ entries_behind prefix =
     if prefix == 0xfe then atomic_entries else (
     []))))
 
--- What stands behind an opcode, or behind a prefix byte and a subopcode.
+-- The entry of an opcode, or of a subopcode after a prefix byte: the kinds of the immediates, if an operator has it.
 abbrev pub entry_at : Option ℕ → ℕ → Entry
 entry_at None code = slice_index_or opcode_entries code unknown
 entry_at (Some prefix) code = slice_index_or (entries_behind prefix) code unknown
 
--- The exponent of the alignment of the operator that has it, where that has a memory argument.
+-- The exponent of the natural alignment of the operator with this code, if it has a memory argument.
 abbrev pub align_at : Option ℕ → ℕ → ℕ
 align_at prefix code = align_in (entry_at prefix code)

@@ -1,4 +1,4 @@
--- What stands behind an opcode, or behind a prefix byte and a subopcode.
+-- The entry of an opcode, or of a prefix byte and a subopcode: what follows it.
 -- WebAssembly Core Specification 3.0: Binary Format, Instructions; Appendix, Index of Instructions.
 use Rattle.std.specs.Prelude.{◌≡◌, ℕ, List, ◌∷◌, Option, Some, None, map}
 use Rattle.wasm_instr.specs.below.bytes.message.InstructionName.{InstructionName}
@@ -13,7 +13,7 @@ use Rattle.wasm_instr.specs.declared.operator.Operator.TheVariants as operator
 use Rattle.wasm_instr.specs.Row.{immediates_of}
 use Rattle.wasm_instr.specs.Immediate.{Kind, kind_of, is_memory_argument}
 
--- No operator; a subopcode; immediates of these kinds, of an operator that every frame allows under all features; or those of an operator that is guarded so.
+-- What follows a code. Unknown: no operator has the code. Prefixes: a subopcode follows. Free: immediates of these kinds, and every frame allows the operator under all features. Guarded: immediates of these kinds, after the checks of this guard.
 pub data Entry : Type 0 where
   unknown : Entry
   prefixes : Entry
@@ -24,7 +24,7 @@ pub data Entry : Type 0 where
 abbrev pub kinds_of : Operator → List Kind
 kinds_of op = map kind_of (immediates_of op)
 
--- The guard of an operator, where it has one.
+-- The guard of an operator, if it has one.
 abbrev pub guard_of : Operator → Option Guard
 guard_of operator.Else = Some guard.Else
 guard_of (operator.Try _) = Some guard.Try
@@ -33,15 +33,16 @@ guard_of operator.CatchAll = Some guard.CatchAll
 guard_of (operator.Delegate _) = Some guard.Delegate
 guard_of _ = None
 
+-- The entry with these kinds, and with the guard if there is one.
 abbrev pub guarded_entry : Option Guard → List Kind → Entry
 guarded_entry None ks = free ks
 guarded_entry (Some g) ks = guarded g ks
 
--- What has to stand behind an operator's opcode.
+-- The entry that an operator's opcode must have.
 abbrev pub entry_of : Operator → Entry
 entry_of op = guarded_entry (guard_of op) (kinds_of op)
 
--- The role that a guarded operator plays, whatever else it carries.
+-- The role of a guarded operator, with 0 as its immediate.
 abbrev pub role_behind : Guard → Role ℕ
 role_behind guard.Else = turns_else
 role_behind guard.Try = opens_try 0
@@ -49,7 +50,7 @@ role_behind guard.Catch = turns_catch 0
 role_behind guard.CatchAll = turns_catch_all
 role_behind guard.Delegate = delegates 0
 
--- Its name, and that of the frame that it wants, in the texts of its refusals.
+-- The name of a guarded operator in messages.
 abbrev pub instruction_behind : Guard → InstructionName
 instruction_behind guard.Else = instruction_name.Else
 instruction_behind guard.Try = instruction_name.Try
@@ -57,23 +58,24 @@ instruction_behind guard.Catch = instruction_name.Catch
 instruction_behind guard.CatchAll = instruction_name.CatchAll
 instruction_behind guard.Delegate = instruction_name.Delegate
 
+-- The name of the frame that a guarded operator needs, in messages.
 abbrev pub frame_behind : Guard → FrameName
 frame_behind guard.Else = frame_name.If
 frame_behind _ = frame_name.LegacyTry
 
--- The operators that are read only with legacy_exceptions.
+-- The operator needs the feature legacy_exceptions.
 abbrev pub NeedsLegacy : Guard → Type 0
 NeedsLegacy guard.Else = ⊥
 NeedsLegacy guard.Delegate = ⊥
 NeedsLegacy _ = Unit {0}
 
--- Immediates of these kinds stand behind it.
+-- The entry has immediates of these kinds.
 abbrev pub HasKinds : Entry → List Kind → Type 0
 HasKinds (free own) ks = own ≡ ks
 HasKinds (guarded _ own) ks = own ≡ ks
 HasKinds _ ks = ⊥
 
--- The exponent of the alignment in it.
+-- The exponent of the natural alignment in the entry, or 0 without a memory argument.
 abbrev pub align_in : Entry → ℕ
 align_in (free (is_memory_argument kind align ∷ ks)) = align
 align_in _ = 0

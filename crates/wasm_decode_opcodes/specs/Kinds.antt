@@ -7,6 +7,6 @@ use Rattle.wasm_instr.specs.Immediate.{Immediate, Kind, kind_of, EncodesImmediat
 abbrev pub EncodesKind : WasmFeatures → Kind → List ℕ → Immediate → Type 0
 EncodesKind f k text i = (kind_of i ≡ k) × EncodesImmediate f i text
 
--- The text encodes the immediates, one behind the other, which are of these kinds.
+-- The text encodes the immediates in order, which are of these kinds.
 abbrev pub EncodesKinds : WasmFeatures → List Kind → List ℕ → List Immediate → Type 0
 EncodesKinds f ks text is = (map kind_of is ≡ ks) × EncodesImmediates f is text

@@ -1,4 +1,4 @@
--- Which refusal an operator has: the checks in the order in which they are made, and then its immediates from left to right.
+-- The error of an operator: first the checks in their order, then the immediates from left to right.
 -- WebAssembly Core Specification 3.0, Binary Format, Instructions; proposal legacy exception handling.
 use Rattle.std.specs.Prelude.{◌≡◌, ℕ, ◌⊎◌, List, [], ◌∷◌, Option, Some, None}
 use Rattle.wasm_instr.specs.below.bytes.features.WasmFeatures.{WasmFeatures}
@@ -25,7 +25,7 @@ use Rattle.wasm_decode_opcodes.specs.Entry.{Entry, unknown, prefixes, free, guar
 use Rattle.wasm_decode_opcodes.specs.Entries.{entry_at}
 use Rattle.wasm_decode_opcodes.specs.Kinds.{EncodesKind}
 
--- Of an immediate of this kind, of an operator that began at `start`.
+-- The error of an immediate of this kind, of an operator that began at `start`.
 abbrev pub KindFault : WasmFeatures → ℕ → Kind → Message → Reader → ℕ → Type 0
 KindFault f start is_unsigned_32 = U32Fault
 KindFault f start is_signed_32 = I32Fault
@@ -48,53 +48,53 @@ KindFault f start is_select_types = SelectFault
 KindFault f start is_try_clauses = TryTableFault
 KindFault f start is_resume_clauses = ResumeTableFault
 
--- Of immediates of these kinds, one behind the other: that of the first that is none.
+-- The error of the first immediate that cannot be read, in a sequence of these kinds.
 abbrev pub KindsFault : WasmFeatures → ℕ → List Kind → Message → Reader → ℕ → Type 0
 KindsFault f start [] m r offset = ⊥
 KindsFault f start (k ∷ ks) m r offset = ThenFault (EncodesKind f k) (KindFault f start k) (λ i. KindsFault f start ks) m r offset
 
--- No operator has this opcode, or this subopcode behind its prefix byte.
+-- The message if no operator has this opcode, or this subopcode after its prefix byte.
 abbrev pub unknown_message : Option ℕ → ℕ → Message
 unknown_message None code = message.IllegalOpcode code
 unknown_message (Some prefix) code = message.UnknownSubopcode prefix code
 
--- Behind an opcode or a subopcode that has no guard.
+-- The error after an opcode or a subopcode without a guard.
 abbrev pub FreeFault : WasmFeatures → ℕ → Option ℕ → ℕ → Entry → Message → Reader → ℕ → Type 0
 FreeFault f start prefix code unknown m r offset = (m ≡ unknown_message prefix code) × (offset ≡ start)
 FreeFault f start prefix code (free ks) m r offset = KindsFault f start ks m r offset
 FreeFault f start prefix code _ m r offset = ⊥
 
--- Behind a prefix byte and a subopcode of an operator that began at `start`.
+-- The error after a prefix byte and a subopcode, of an operator that began at `start`.
 abbrev pub SubopcodeFault : WasmFeatures → ℕ → ℕ → ℕ → Message → Reader → ℕ → Type 0
 SubopcodeFault f start prefix code = FreeFault f start (Some prefix) code (entry_at (Some prefix) code)
 
--- The feature is wanting that this operator is read with.
+-- This operator needs a feature that is off.
 abbrev pub LacksFeature : WasmFeatures → Guard → Type 0
 LacksFeature f g = NeedsLegacy g × ¬ HasFeature legacy_exceptions f
 
--- The feature first, said where the operator begins; then the frame, said behind the opcode; then the immediates.
+-- The error of a guarded operator: first the feature, reported at the operator's start; then the frame, reported after the opcode; then the immediates.
 abbrev pub GuardFault : WasmFeatures → FrameKind → ℕ → Guard → (Message → Reader → ℕ → Type 0) → Message → Reader → ℕ → Type 0
 GuardFault f k start g Later = CheckFault (LacksFeature f g) (message.FeatureRequired (instruction_behind g)) start (λ m r. CheckFault (¬ Allows k (role_behind g)) (message.WrongFrame (instruction_behind g) (frame_behind g)) (offset_of r) Later m r)
 
--- Behind this opcode.
+-- The error after an opcode with this entry.
 abbrev pub EntryFault : WasmFeatures → FrameKind → ℕ → ℕ → Entry → Message → Reader → ℕ → Type 0
 EntryFault f k start code prefixes m r offset = ThenFault (EncodesUnsigned 32) U32Fault (SubopcodeFault f start code) m r offset
 EntryFault f k start code (guarded g ks) m r offset = GuardFault f k start g (KindsFault f start ks) m r offset
 EntryFault f k start code entry m r offset = FreeFault f start None code entry m r offset
 
--- Behind the opcode of an operator that began at `start`, in a frame of this kind.
+-- The error after the opcode of an operator that began at `start`, in a frame of this kind.
 abbrev pub OpcodeFault : WasmFeatures → FrameKind → ℕ → ℕ → Message → Reader → ℕ → Type 0
 OpcodeFault f k start code = EntryFault f k start code (entry_at None code)
 
--- Of an operator, in a frame of this kind.
+-- The error of an operator, in a frame of this kind.
 abbrev pub OperatorFault : WasmFeatures → FrameKind → Message → Reader → ℕ → Type 0
 OperatorFault f k m r offset = ThenFault IsByte EndFault (OpcodeFault f k (offset_of r)) m r offset
 
--- Of an operator that is no vector operator: these are refused at their prefix byte, whatever stands behind it.
+-- The error of an operator for a visitor without SIMD operators: UnexpectedSimd at the prefix byte 0xfd, whatever follows.
 abbrev pub ScalarOperatorFault : WasmFeatures → FrameKind → Message → Reader → ℕ → Type 0
 ScalarOperatorFault f k m r offset = CheckFault (BeginsWith 0xfd (rest r)) message.UnexpectedSimd (offset_of r) (OperatorFault f k) m r offset
 
--- Where a frame is open that is the innermost, or none is.
+-- The error if this frame is the innermost one, or OperatorsRemaining if none is open.
 abbrev pub FaultIn : (FrameKind → Message → Reader → ℕ → Type 0) → Option FrameKind → Message → Reader → ℕ → Type 0
 FaultIn Fault None m r offset = (m ≡ message.OperatorsRemaining) × (offset ≡ offset_of r)
 FaultIn Fault (Some k) m r offset = Fault k m r offset

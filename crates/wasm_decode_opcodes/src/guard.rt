@@ -1,4 +1,4 @@
-//! The operators that are looked at before their immediates: `else`, and those of the legacy exceptions.
+//! The operators whose feature and frame are checked: `else`, and those of the legacy exceptions.
 ghost use Rattle.std.specs.Prelude.{◌≡◌, ◌≤◌, ◌<◌, ◌+◌, ℕ, List, IsTrue, ◌↔◌, false, None, IfOk, IfErr};
 ghost use Rattle.wasm_instr.specs.below.Features.{HasFeature, legacy_exceptions};
 ghost use Rattle.wasm_instr.specs.below.Source.{at_position};
@@ -14,26 +14,26 @@ use wasm_instr::below::{
 };
 use wasm_instr::grammar::FrameKind;
 
-/// An operator whose feature and frame are looked at before its immediates.
+/// An operator whose feature and frame are checked before its immediates.
 #[derive(Clone, Copy, Debug, PartialEq, Eq)]
 pub enum Guard {
-    /// `else`, in an `if` alone.
+    /// `else`, allowed only in an `if`.
     Else,
-    /// `try` of the legacy exceptions, in any frame.
+    /// `try` of the legacy exceptions, allowed in any frame.
     Try,
-    /// `catch`, in a `try` or behind another `catch`.
+    /// `catch`, allowed in a `try` or after another `catch`.
     Catch,
-    /// `catch_all`, likewise.
+    /// `catch_all`, allowed in a `try` or after a `catch`.
     CatchAll,
-    /// `delegate`, in a `try` alone. No feature is asked for.
+    /// `delegate`, allowed only in a `try`. It needs no feature.
     Delegate,
 }
 
 impl Guard {
-    /// Looks at the feature and at the frame, and takes nothing.
+    /// Checks the feature and then the frame, without reading.
     ///
-    /// `FeatureRequired` at the operator's start; `WrongFrame` behind its opcode. The reader then
-    /// goes back to the position `start`.
+    /// Fails with `FeatureRequired` at the operator's start, or with `WrongFrame` at the offset
+    /// after its opcode. On an error the reader goes back to the position `start`.
     #[inline(always)]
     pub fn check(self, reader: &mut BinaryReader<'_>, start: usize, frame: FrameKind) -> Result<()>
         requires { start ≤ reader.old.position }
@@ -58,7 +58,7 @@ impl Guard {
         Ok(())
     }
 
-    /// Whether the feature is wanting that the operator is read with.
+    /// Returns whether the operator needs a feature that is off.
     #[inline(always)]
     fn lacks_feature(self, reader: &BinaryReader<'_>) -> bool
         ensures lacks { IsTrue result → LacksFeature reader.now.features self }
@@ -72,7 +72,7 @@ impl Guard {
         }
     }
 
-    /// Whether this frame allows it.
+    /// Returns whether this frame allows the operator.
     #[inline(always)]
     fn allows(self, frame: FrameKind) -> bool
         ensures { IsTrue result ↔ Allows frame (role_behind self) }
@@ -87,7 +87,8 @@ impl Guard {
         }
     }
 
-    /// The frame does not allow it: said behind the opcode, and the reader goes back.
+    /// Returns the error of a frame that does not allow the operator, at the offset after the
+    /// opcode. The reader goes back to `start`.
     #[cold]
     #[inline(never)]
     fn wrong_frame(self, reader: &mut BinaryReader<'_>, start: usize) -> Error
@@ -102,7 +103,7 @@ impl Guard {
         Error::new(message, offset)
     }
 
-    /// Its name in the texts of refusals.
+    /// Returns the name of the operator in messages.
     fn instruction(self) -> InstructionName
         ensures { result ≡ instruction_behind self }
     {
@@ -115,7 +116,7 @@ impl Guard {
         }
     }
 
-    /// The frame that it wants, in the texts of refusals.
+    /// Returns the name of the frame that the operator needs, in messages.
     fn wanted(self) -> FrameName
         ensures { result ≡ frame_behind self }
     {

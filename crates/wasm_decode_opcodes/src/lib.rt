@@ -1,8 +1,8 @@
-//! What stands behind the opcodes: the kinds of their immediates, the calls that read these, and
-//! which refusal an operator has.
+//! Opcodes: the kinds of their immediates, the functions that read immediates, and the errors of
+//! operators.
 //!
-//! The table of all opcodes and subopcodes stands in `specs/Entries.antt`, and the refusals of
-//! operators in `specs/OperatorFaults.antt`.
+//! `specs/Entries.antt` lists all opcodes and subopcodes. `specs/OperatorFaults.antt` defines the
+//! errors.
 #![tactic(auto)]
 
 mod guard;

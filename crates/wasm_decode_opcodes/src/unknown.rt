@@ -7,8 +7,8 @@ ghost use Rattle.wasm_decode_opcodes.specs.Entry.{prefixes, unknown};
 
 use wasm_instr::below::{BinaryReader, Error, Message};
 
-/// Refuses an opcode that no operator has, where it stands: the reader goes back to the position
-/// `start`.
+/// Returns the error `IllegalOpcode` at the offset of the opcode. The reader goes back to the
+/// position `start`.
 #[cold]
 #[inline(never)]
 pub fn unknown_opcode(reader: &mut BinaryReader<'_>, start: usize, code: u8) -> Error
@@ -19,8 +19,8 @@ pub fn unknown_opcode(reader: &mut BinaryReader<'_>, start: usize, code: u8) -> 
     reader.refuse(start, Message::IllegalOpcode(code))
 }
 
-/// Refuses a subopcode that no operator has behind this prefix byte, at the prefix byte: the reader
-/// goes back to the position `start`.
+/// Returns the error `UnknownSubopcode` at the offset of the prefix byte. The reader goes back to
+/// the position `start`.
 #[cold]
 #[inline(never)]
 pub fn unknown_subopcode(

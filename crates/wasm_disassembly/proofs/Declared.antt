@@ -1,4 +1,4 @@
--- Declarations of locals that were read, one after another, and their lines.
+-- Declarations of locals that are read one after another, and their lines.
 use Rattle.std.proofs.Common.{◌≡◌, ◌≢◌, ℕ, ◌+◌, ◌^◌, ◌<◌, ◌≤◌, List, [], ◌∷◌, ◌++◌, length, Option, Ok, Err, refl, sym, subst, ap, ◌∙◌, append_assoc, append-nil, length-append, arith}
 use Rattle.std.proofs.lemmas.List.{append_cancel_left}
 use Rattle.std.specs.Io.KnownBytes.{Appends}
@@ -29,7 +29,7 @@ takes_none r =
     let place : r.position ≡ r.position + 0 = omega arith in
     record { moved = ap (at_position r) place; parts = refl }
 
--- ---- one declaration more
+-- ---- one more declaration
 
 laid_more : (offset : ℕ) (placed : PlacedLocals) (a : List ℕ) (d : Declaration) (b : List ℕ) (at : ℕ) → at ≡ offset + length a →
     LaidOutLocals offset placed a → EncodesDeclaration b d → LaidOutLocals offset (placed ++ (d, at) ∷ []) (a ++ b)
@@ -69,7 +69,7 @@ lines_more start bytes end first (p ∷ ps) d at =
 
 -- ---- along the loop
 
--- So many declarations were read, and this is the index of the next local.
+-- The loop's invariant: `many` declarations are read and written, and `first` is the index of the next local.
 pub record IsOnTheWay (start : ℕ) (bytes : List ℕ) (parameters many first : ℕ) (old now : Locals) (before after : Option (List ℕ)) : Type 0 where
   pub placed : PlacedLocals
   pub so_many : length placed ≡ many
@@ -151,14 +151,14 @@ way_stops start bytes parameters many first old mid new before after e more way 
   subst (λ z. ReadsDeclaration (Err e) z new) (sym refused.0) refused,
 )
 
--- ---- where the declarations stand, none is refused
+-- ---- if the declarations are encoded, reading none of them fails
 
 pub ends_here : (m : Message) → m ≢ message.OutOfMemory → MayFollow m []
 ends_here message.EndOfData other = refl
 ends_here message.OutOfMemory other = absurd (other refl)
 ends_here _ other = tt
 
--- Of declarations of which some were read, the next stands behind these.
+-- The next declaration, after `many`, is encoded at the start of what is left.
 record NextStands (many total : ℕ) (left : List ℕ) : Type 0 where
   declaration : Declaration
   text : List ℕ
@@ -185,7 +185,7 @@ next_stands offset (p ∷ ps) (d ∷ ds) a b x y code (is, t, m, parts, encodes,
     let few : p.0.0 + locals_in (declarations_of ps) + h.declaration.0 ≤ d.0 + locals_in ds = let f = h.few in omega (arith, f, number) in
     record { declaration = h.declaration; text = h.text; more = h.more; encodes = h.encodes; stands = h.stands; few = few }
 
--- So the next read is not refused.
+-- So the next read does not fail.
 pub none_refused : (P : Type 0) (start : ℕ) (bytes : List ℕ) (parameters many first : ℕ) (old mid new : Locals) (before after : Option (List ℕ)) (e : Error)
     (ds : List Declaration) (text more : List ℕ) → PrefixCode EncodesDeclaration → many < old.count →
     IsOnTheWay start bytes parameters many first old mid before after → ReadsDeclaration (Err e) mid new →

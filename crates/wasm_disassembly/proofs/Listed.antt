@@ -1,4 +1,4 @@
--- How the text of a function is put together, and where only memory is refused.
+-- How the text of a function is composed, and when only allocation and the writer can fail.
 use Rattle.std.proofs.Common.{◌≡◌, ◌≢◌, ℕ, ◌+◌, inl, inr, List, [], ◌∷◌, ◌++◌, length, Option, Result, Ok, Err, refl, sym, subst, ap, ◌∙◌, append_assoc, append-nil, length-append, arith}
 use Rattle.std.proofs.lemmas.List.{append_cancel_left, length-map}
 use Rattle.std.specs.Io.KnownBytes.{Appends}
@@ -24,7 +24,7 @@ laid_each : (offset : ℕ) (placed : PlacedLocals) (text : List ℕ) → LaidOut
 laid_each offset [] text none = none
 laid_each offset (p ∷ ps) text (is, t, m, parts, encodes, laid) = (t, m, parts, encodes, laid_each (offset + length t) ps m laid)
 
--- All declarations that were announced were read: the reader stands behind the locals.
+-- If all announced declarations are read, the reader is after the locals.
 pub locals_past : (body : Reader) (unread read : Locals) (locals : PlacedLocals) → ReadsLocals body unread read locals → length locals ≡ unread.count →
     IsPastLocals (declarations_of locals) body read.reader
 locals_past body unread read locals h all =
@@ -42,7 +42,7 @@ locals_past body unread read locals h all =
       takes_both body unread.reader read.reader o.0 t.text o.2 t.takes,
     )
 
--- What stands before the operators was written.
+-- The header and the lines of all locals are written.
 pub record IsListedTo (h : Heading) (body reader : Reader) (before listed : Option (List ℕ)) : Type 0 where
   pub unread : Locals
   pub read : Locals
@@ -66,17 +66,17 @@ listed_to h x body reader unread read before headed listed opens stands begins (
       is = appends_both before headed listed (header h (source_of body)) (local_lines h (source_of body) placed (offset_of read.reader)) begins writes.written;
     }
 
--- What is so of the offset of a body and of its bytes.
+-- A fact about the offset and the bytes of a body.
 pub at_body : (P : ℕ → List ℕ → Type 0) (start : ℕ) (bytes : List ℕ) (body : Reader) → start ≡ offset_of body → bytes ≡ rest body → P start bytes →
     P (offset_of body) (rest body)
 at_body P start bytes body s b h = subst (λ n. P n (rest body)) s (subst (λ t. P start t) b h)
 
--- Nothing but the header was written,
+-- Only the header is written.
 pub stopped_at_count : (h : Heading) (e : Error) (body : Reader) (before headed : Option (List ℕ)) → OpensLocals (Err e) body →
     Appends before headed (header h (source_of body)) → Disassembles {X = Unit {0}} h (Err (fault.Refused e)) body before headed
 stopped_at_count h e body before headed opens begins = (header h (source_of body), begins, inl (opens, refl))
 
--- or some declarations were.
+-- The header and some declarations are written.
 stopped_at_locals : (h : Heading) (e : Error) (body : Reader) (unread read : Locals) (before headed listed : Option (List ℕ)) →
     OpensLocals (Ok unread) body → Appends before headed (header h (source_of body)) →
     ListsDeclarations {X = Unit {0}} (offset_of body) (rest body) h.parameters (Err (fault.Refused e)) unread read headed listed →
@@ -96,7 +96,7 @@ stopped_at_locals h e body unread read before headed listed opens begins (placed
       })),
     )
 
--- However the declarations ended.
+-- The two cases together, for any fault in the locals.
 pub stopped_in_locals : (h : Heading) (f : DisassemblyFault) (body : Reader) (unread read : Locals) (before headed listed : Option (List ℕ)) →
     OpensLocals (Ok unread) body → Appends before headed (header h (source_of body)) →
     ListsDeclarations {X = Unit {0}} (offset_of body) (rest body) h.parameters (Err f) unread read headed listed →
@@ -106,7 +106,7 @@ stopped_in_locals h (fault.Refused e) body unread read before headed listed open
 stopped_in_locals h fault.Memory body unread read before headed listed opens begins lists = tt
 stopped_in_locals h fault.Writing body unread read before headed listed opens begins lists = tt
 
--- What the law `past_locals` says of the locals of a body and an expression behind them.
+-- The statement of the law `past_locals`: a body is its locals, followed by an expression.
 abbrev pub IsBodyBehind : Type 0
 IsBodyBehind = (body r : Reader) (declarations : List Declaration) (placed : Placed) → IsPastLocals declarations body r → EncodesExpression (source_of r) placed →
     EncodesBody (source_of body) declarations placed
@@ -117,7 +117,7 @@ same_end a b text t =
     let place : offset_of b ≡ offset_of a + length text = ap offset_of t.moved ∙ omega arith in
     omega (arith, long, place)
 
--- The operators were read to their end, or not.
+-- The operators are read to the end of the expression, or up to an error.
 pub operators_ended : (h : Heading) (r : Result (Unit {0}) DisassemblyFault) (body reader : Reader) (before listed after : Option (List ℕ)) → IsBodyBehind →
     IsListedTo h body reader before listed → ListsOperators (offset_of body) (rest body) r reader listed after → Disassembles h r body before after
 operators_ended h (Ok x) body reader before listed after law to (placed, encodes, is) =
@@ -169,9 +169,9 @@ operators_ended h (Err (fault.Refused e)) body reader before listed after law to
 operators_ended h (Err fault.Memory) body reader before listed after law to lists = tt
 operators_ended h (Err fault.Writing) body reader before listed after law to lists = tt
 
--- ---- where the bytes encode a body
+-- ---- if the bytes encode a body
 
--- The number of the declarations is not refused,
+-- The number of the declarations is not an error.
 pub count_stands : (P : Type 0) (e : Error) (body : Reader) (declarations : List Declaration) (placed : Placed) → OpensLocals (Err e) body →
     EncodesBody (source_of body) declarations placed → P
 count_stands P e body declarations placed (refused, fault) h =
@@ -180,7 +180,7 @@ count_stands P e body declarations placed (refused, fault) h =
     let there : rest body ≡ l.0 ++ (l.1 ++ h.expression) = h.parts ∙ ap (λ z. z ++ h.expression) l.3 ∙ append_assoc l.0 l.1 h.expression in
     absurd (refused.refuses [] (ends_here e.message other) l.0 (l.1 ++ h.expression) l.2 l.4 (append-nil (rest body) ∙ there))
 
--- and behind it as many stand.
+-- As many declarations as this number are encoded after it.
 pub record AreAnnounced (unread : Locals) (declarations : List Declaration) : Type 0 where
   pub text : List ℕ
   pub more : List ℕ

@@ -1,4 +1,4 @@
--- Operators that were read one after another, and the lines of each that were written before the next was read.
+-- Operators that are read one after another, and whose lines are written before the next read.
 use Rattle.std.proofs.Common.{◌≡◌, ◌≢◌, ℕ, ◌+◌, ◌-◌, ◌<◌, ◌≤◌, Bool, true, false, cond, List, [], ◌∷◌, ◌++◌, length, Option, Ok, Err, refl, sym, subst, ap, ◌∙◌, append_assoc, append-nil, length-append, arith}
 use Rattle.std.specs.Prelude.{slice_index}
 use Rattle.std.specs.Io.KnownBytes.{Appends}
@@ -21,7 +21,7 @@ use Rattle.wasm_disassembly.proofs.Written.{appends_none, appends_both}
 
 -- ---- along the loop
 
--- These operators were read, and their lines written: whatever follows them, its lines stand behind.
+-- These operators are read and their lines written; the lines of whatever follows come after them.
 pub record AreListed (start : ℕ) (bytes : List ℕ) (opened now : State) (depth : ℕ) (before after : Option (List ℕ)) : Type 0 where
   pub placed : Placed
   pub ran : TakesOperators opened now placed
@@ -75,7 +75,7 @@ listed_more start depth deeper at bytes shown opened mid new before between_line
       few = let f = l.few in omega (arith, f, on, most, goes);
     }
 
--- Fewer bytes are left.
+-- Each read leaves fewer bytes.
 pub fewer_left : (op : Operator) (old new : State) → TakesBytes → TakesOperator EncodesAllowed op old new → length (rest new.reader) < length (rest old.reader)
 fewer_left op old new progresses t =
     let on = progresses op old new t in
@@ -83,7 +83,7 @@ fewer_left op old new progresses t =
     let sum : length (rest old.reader) ≡ length t.text + length (rest new.reader) = ap length t.takes.parts ∙ length-append t.text (rest new.reader) in
     omega (arith, on, place, sum)
 
--- All that were read have their lines.
+-- All operators that are read have their lines.
 all_listed : (start : ℕ) (bytes : List ℕ) (opened now : State) (depth end : ℕ) (before after : Option (List ℕ))
     (l : AreListed start bytes opened now depth before after) → end ≡ offset_of now.reader →
     Appends before after (lines_of text_of start bytes end l.placed)
@@ -94,7 +94,7 @@ all_listed start bytes opened now depth end before after l stands =
 
 -- ---- at the end
 
--- All was read, and all frames are closed.
+-- All bytes are read, and all frames are closed.
 pub listed_whole : (x : Unit {0}) (start depth : ℕ) (bytes : List ℕ) (reader : Reader) (opened now : State) (before after : Option (List ℕ))
     (l : AreListed start bytes opened now depth before after) → opened.reader ≡ reader → ReadsTree [] opened now l.placed →
     ListsOperators start bytes (Ok x) reader before after
@@ -107,7 +107,7 @@ listed_whole x start depth bytes reader opened now before after l same tree =
       all_listed start bytes opened now depth (offset_of reader + length (rest reader)) before after l end,
     )
 
--- Reading was refused, or frames are left at the end of the data.
+-- A read failed, or frames are open at the end of the data.
 pub listed_part : (start depth : ℕ) (bytes : List ℕ) (reader : Reader) (e : Error) (opened now stopped : State) (before after : Option (List ℕ))
     (l : AreListed start bytes opened now depth before after) → opened.reader ≡ reader → IsFresh opened → stopped.reader ≡ now.reader →
     ReadsBeginning IsAny EncodesAllowed OperatorFault Anywhere [] e opened stopped l.placed → e.message ≢ message.OutOfMemory →

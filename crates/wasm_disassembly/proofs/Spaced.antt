@@ -8,7 +8,7 @@ use Rattle.wasm_operators.specs.below.declared.types.ValType.{ValType}
 use Rattle.wasm_operators.specs.below.declared.types.ValType.TheVariants as value
 use Rattle.wasm_lines.specs.text.Values.{heap_type_text, reference_words, reference_text, value_type_text}
 
--- The text begins with a space.
+-- The text starts with a space.
 abbrev pub IsSpaced : List ℕ → Type 0
 IsSpaced text = (more : List ℕ) × (text ≡ 32 ∷ more)
 

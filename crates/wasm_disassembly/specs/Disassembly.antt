@@ -18,7 +18,8 @@ use Rattle.wasm_disassembly.specs.declared.fault.DisassemblyFault.{DisassemblyFa
 use Rattle.wasm_disassembly.specs.declared.fault.DisassemblyFault.TheVariants as fault
 use Rattle.wasm_disassembly.specs.LocalLines.{PlacedLocals, declarations_of, TakesDeclarations, declaration_lines}
 
--- What is told of a function beside its body: its index, its name, which is empty where it has none, and how many parameters it has: they are its first locals.
+-- What is known of a function besides its body: its index, its name and the number of its parameters. The name may be empty; the parameters are the first
+-- locals.
 pub record Heading : Type 0 where
   pub index : ℕ
   pub name : List ℕ
@@ -27,20 +28,20 @@ pub record Heading : Type 0 where
 abbrev pub header : Heading → Source → List ℕ
 header h body = header_of body.offset h.index h.name
 
--- The lines of the locals of a body, the last of which ends at `behind`,
+-- The lines of the locals of a body, the last of which ends at the offset `behind`.
 abbrev pub local_lines : Heading → Source → PlacedLocals → ℕ → List ℕ
 local_lines h body locals behind = declaration_lines body.offset body.bytes behind h.parameters locals
 
--- and those of its operators, the last of which ends at `end`.
+-- The lines of the operators of a body, the last of which ends at the offset `end`.
 abbrev pub operator_lines : Source → Placed → ℕ → List ℕ
 operator_lines body placed end = lines_of text_of body.offset body.bytes end placed
 
--- These declarations of a body were read of those that it announces.
+-- Some of the declarations that a body announces are read.
 pub record ReadsLocals (body : Reader) (unread read : Locals) (locals : PlacedLocals) : Type 0 where
   pub opens : OpensLocals (Ok unread) body
   pub takes : TakesDeclarations unread read locals
 
--- The text of a body that the bytes encode.
+-- The text of a function whose bytes encode a body.
 pub record IsWhole (h : Heading) (body : Reader) (text : List ℕ) : Type 0 where
   pub unread : Locals
   pub read : Locals
@@ -52,11 +53,11 @@ pub record IsWhole (h : Heading) (body : Reader) (text : List ℕ) : Type 0 wher
   pub is : text ≡ header h (source_of body) ++ (local_lines h (source_of body) locals (offset_of read.reader) ++
       operator_lines (source_of body) placed (offset_of body + length (rest body)))
 
--- The number of the declarations is refused: the header stands alone.
+-- The number of the declarations is an error: only the header is written.
 abbrev pub StopsAtCount : Heading → Error → Reader → List ℕ → Type 0
 StopsAtCount h e body text = OpensLocals (Err e) body × (text ≡ header h (source_of body))
 
--- A declaration is refused, behind these: it is none, or with it there are too many locals.
+-- The declaration after these is an error: it is not encoded there, or with it there are too many locals.
 pub record StopsAtLocals (h : Heading) (e : Error) (body : Reader) (text : List ℕ) : Type 0 where
   pub unread : Locals
   pub read : Locals
@@ -66,7 +67,7 @@ pub record StopsAtLocals (h : Heading) (e : Error) (body : Reader) (text : List 
   pub refused : ReadsDeclaration (Err e) read read
   pub is : text ≡ header h (source_of body) ++ local_lines h (source_of body) locals (offset_of read.reader)
 
--- Behind the locals stands no expression: these operators are the longest beginning of one, and what stands behind it is refused. Memory was not.
+-- No expression follows the locals: these operators are the longest prefix of one, and what follows them is an error other than `OutOfMemory`.
 pub record StopsAtOperators (h : Heading) (e : Error) (body : Reader) (text : List ℕ) : Type 0 where
   pub unread : Locals
   pub read : Locals
@@ -79,18 +80,18 @@ pub record StopsAtOperators (h : Heading) (e : Error) (body : Reader) (text : Li
   pub is : text ≡ header h (source_of body) ++ (local_lines h (source_of body) locals (offset_of read.reader) ++
       operator_lines (source_of body) placed (offset_of stops.stopped.reader))
 
--- The text of a function, and how it ended.
+-- The text of a function, by how reading its body ended.
 abbrev pub IsText : {X : Type 0} → Heading → Result X Error → Reader → List ℕ → Type 0
 IsText h (Ok x) body text = IsWhole h body text
 IsText h (Err e) body text = StopsAtCount h e body text ⊎ (StopsAtLocals h e body text ⊎ StopsAtOperators h e body text)
 
--- The text of a function was written, to its end or up to a refusal. Where memory or the writer failed, nothing is said here.
+-- The text of a function is written, to its end or up to an error. If allocation or the writer failed, this says nothing.
 abbrev pub Disassembles : {X : Type 0} → Heading → Result X DisassemblyFault → Reader → Option (List ℕ) → Option (List ℕ) → Type 0
 Disassembles {X} h (Ok x) body before after = (text : List ℕ) × Appends before after text × IsText {X = X} h (Ok x) body text
 Disassembles {X} h (Err (fault.Refused e)) body before after = (text : List ℕ) × Appends before after text × IsText {X = X} h (Err e) body text
 Disassembles h (Err _) body before after = Unit {0}
 
--- Reading the operators of an expression, and writing their lines: `bytes` are those of the body or of more, from the offset `start` on.
+-- The operators of an expression are read and their lines written; `bytes` start at the offset `start`, and contain those of the body.
 abbrev pub ListsOperators : {X : Type 0} → ℕ → List ℕ → Result X DisassemblyFault → Reader → Option (List ℕ) → Option (List ℕ) → Type 0
 ListsOperators start bytes (Ok x) reader before after =
     (placed : Placed) × EncodesExpression (source_of reader) placed ×

@@ -16,7 +16,7 @@ use wasm_lines::text::{Written, write_value_type};
 use wasm_lines::{begin_line, bytes_between, end_line, write_indices};
 use wasm_operators::{LocalsReader, ValType, body_laws};
 
-/// Writes a type, without the space before it.
+/// Writes the name of a value type, without the space before it.
 fn write_type_name(alloc: Global, out: &mut String, ty: ValType) -> Written
     ensures { OnOk result (string_bytes out.new ≡ string_bytes out.old ++ type_name ty) }
 {
@@ -28,8 +28,8 @@ fn write_type_name(alloc: Global, out: &mut String, ty: ValType) -> Written
     }
 }
 
-/// Makes the lines of a declaration that stands at an offset. The first of its locals has the index
-/// `first`.
+/// Writes the lines of the declaration at `offset` into `out`. `first` is the index of its first
+/// local.
 fn push_declaration(
     alloc: Global,
     out: &mut String,
@@ -49,7 +49,7 @@ fn push_declaration(
     end_line(out, offset, bytes)
 }
 
-/// Writes the lines of a declaration. They are made in `line`.
+/// Writes the lines of a declaration to `writer`, through the buffer `line`.
 fn write_declaration<W: Write>(
     alloc: Global,
     writer: &mut W,
@@ -72,11 +72,12 @@ fn write_declaration<W: Write>(
     write_text(writer, line.as_str())
 }
 
-/// Reads the declarations that were announced, and writes the lines of each before the next is read.
-/// `bytes` are those of the body, from the offset `start` on, and `parameters` of the function are its
-/// first locals.
+/// Reads all declarations, and writes the lines of each before it reads the next. `bytes` are the
+/// bytes of the body, and `start` is the offset of the first of them. The function's `parameters`
+/// are its first locals.
 ///
-/// `Refused` as `LocalsReader::read`; the lines of the declarations before are then written.
+/// Fails with `Refused` at an error of `LocalsReader::read`, after the lines of the declarations
+/// before it.
 pub fn write_declarations<W: Write>(
     alloc: Global,
     writer: &mut W,
@@ -88,7 +89,8 @@ pub fn write_declarations<W: Write>(
 ) -> Result<(), DisassemblyFault>
     ensures lists { ListsDeclarations start bytes.now parameters result locals.old locals.new
         (W.contents writer.old) (W.contents writer.new) }
-    // Where the declarations stand, and are not too many, nothing else is refused than memory or by the writer.
+    // If the data has all declarations, and not too many locals, only allocation and the writer can
+    // fail.
     ensures whole { (declarations : List Declaration) → (text more : List ℕ)
         → EncodesMany EncodesDeclaration locals.old.count text declarations → rest locals.old.reader ≡ text ++ more
         → locals.old.total + locals_in declarations ≤ max_locals → IfErr result (λ fault. IsHalt fault) }

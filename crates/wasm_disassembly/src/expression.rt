@@ -16,8 +16,8 @@ use std::io::Write;
 use wasm_lines::{bytes_between, write_line};
 use wasm_operators::{BinaryReader, Operator, OperatorsReader, run_laws};
 
-/// Writes the lines of an operator that stands at an offset, where this many constructs are open, and
-/// answers how many are behind it. They are made in `line`; the operator is let go behind them.
+/// Writes the lines of the operator at `offset` through the buffer `line`, and returns how many
+/// constructs are open after it. `depth` constructs are open before it. Drops the operator.
 fn write_operator<W: Write>(
     writer: &mut W,
     line: &mut String,
@@ -43,8 +43,9 @@ fn write_operator<W: Write>(
     }
 }
 
-/// Reads the operators of the expression that begins where the reader stands, and writes the lines of
-/// each before the next is read. `bytes` are those of the body, from the offset `start` on.
+/// Reads the operators of the expression at the reader's position, and writes the lines of each
+/// before it reads the next. `bytes` are the bytes of the body, and `start` is the offset of the
+/// first of them.
 pub fn write_operators<W: Write>(
     alloc: Global,
     writer: &mut W,
@@ -54,7 +55,7 @@ pub fn write_operators<W: Write>(
     reader: BinaryReader<'_>,
 ) -> Result<(), DisassemblyFault>
     ensures lists { ListsOperators start bytes.now result reader.entry (W.contents writer.old) (W.contents writer.new) }
-    // Where an expression stands there, nothing else is refused than memory or by the writer.
+    // If an expression starts at the reader's position, only allocation and the writer can fail.
     ensures whole { (placed : Placed) → EncodesExpression (source_of reader.entry) placed
         → IfErr result (λ fault. IsHalt fault) }
 {

@@ -1,21 +1,21 @@
-//! How the text of a function may end.
+//! The reasons why the text of a function may stop.
 ghost use Rattle.std.specs.Prelude.{◌≡◌};
 ghost use Rattle.wasm_disassembly.specs.Faults.{fault_at};
 
 use wasm_operators::{Error, Message};
 
-/// Why the text of a function was not written to the end of its body.
+/// The reason why the text of a function stops before the end of its body.
 #[derive(Clone, Copy, Debug, PartialEq, Eq)]
 pub enum DisassemblyFault {
-    /// The bytes are no body: what stands behind the lines that were written is refused so.
+    /// The bytes are not a body; the error of what follows the lines that are written.
     Refused(Error),
-    /// Memory was refused.
+    /// Allocation failed.
     Memory,
-    /// The writer refused a line.
+    /// The writer failed.
     Writing,
 }
 
-/// A refusal of operators: of what stands there, or of memory.
+/// Returns the fault for an error of reading operators: `Memory` for `OutOfMemory`, else `Refused`.
 pub fn fault_of(error: Error) -> DisassemblyFault
     ensures { result ≡ fault_at error.message error }
 {

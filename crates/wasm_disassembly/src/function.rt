@@ -19,7 +19,7 @@ use std::io::Write;
 use wasm_lines::write_header;
 use wasm_operators::{FunctionBody, body_laws, byte_laws};
 
-/// Writes the line of a function. It is made in `line`.
+/// Writes the header of a function through the buffer `line`.
 fn write_heading<W: Write>(
     writer: &mut W,
     line: &mut String,
@@ -38,12 +38,12 @@ fn write_heading<W: Write>(
 }
 
 /// Writes the text of a function: its header, a line for each declaration of its locals, and a line
-/// for each of its operators. The name may be empty; the `parameters` are the first locals. Each line
-/// is written before what is behind it is read.
+/// for each of its operators. `name` may be empty; the `parameters` are the first locals. Each line
+/// is written before the data after it is read.
 ///
-/// `Refused` as the locals and the operators are: of a body that is none the lines of what was read are
-/// written, up to where its locals or the longest beginning of an expression end. Where memory is
-/// refused, or by the writer, nothing is said of how much was written.
+/// Fails with `Refused` if the bytes are not a body. The lines that are then written end before the
+/// error: after the header, after some declarations, or after the longest prefix of an expression.
+/// If allocation or the writer fails, the text may be shorter.
 pub fn disassemble<W: Write>(
     alloc: Global,
     writer: &mut W,
@@ -54,8 +54,8 @@ pub fn disassemble<W: Write>(
 ) -> Result<(), DisassemblyFault>
     ensures text { Disassembles (record { index = index; name = name.now; parameters = parameters }) result body.now
         (W.contents writer.old) (W.contents writer.new) }
-    // Where the bytes encode a body that has no more locals than a function may have, nothing else is refused than memory
-    // or by the writer.
+    // If the bytes encode a body with at most `max_locals` locals, only allocation and the writer
+    // can fail.
     ensures whole { (declarations : List Declaration) → (placed : Placed)
         → EncodesBody (source_of body.now) declarations placed → locals_in declarations ≤ max_locals
         → IfErr result (λ fault. IsHalt fault) }

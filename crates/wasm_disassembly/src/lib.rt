@@ -1,6 +1,9 @@
-//! A function of a module, disassembled: its header, the declarations of its locals, its operators.
+//! The disassembly of a function: its header, the declarations of its locals, and its operators.
 //!
-//! The theorem stands on [`disassemble`].
+//! The main theorem is the contract of [`disassemble`].
+//!
+//! If allocation fails, [`disassemble`] fails with `DisassemblyFault::Memory`. The writer may then
+//! have received a part of the text.
 #![tactic(auto)]
 
 mod declarations;

@@ -1,7 +1,8 @@
-//! Prints the operators of a function body that stands on standard input: a line for each, with the
-//! offset at which it begins and its name.
+//! Prints the operators of the function body on standard input: a line for each, with the offset of
+//! its first byte and its name.
 //!
-//! The theorem stands on `run` of `wasm_listing`, over any reader and writer.
+//! The main theorem is the contract of `run` of `wasm_listing`, which holds for any reader and
+//! writer.
 #![tactic(auto)]
 
 use std::env::Env;
@@ -28,8 +29,9 @@ fn main(rt: HostRuntime) -> ExitCode {
     }
 }
 
-/// The features that the arguments ask for: one word at most is read. `None` where there are more, or
-/// where the word is no text or names none of the features; `Memory` where memory was refused.
+/// Returns the features that the program's argument names; at most one argument is allowed. Returns
+/// `None` if there are more, or if the argument is not UTF-8 or has a name that is no feature.
+/// Fails with `Memory` if allocation fails.
 fn read_features<R: Env + AllocGlobal>(rt: &R) -> Result<Option<WasmFeatures>, DumpFault> {
     let mut words = match env::args(rt) {
         Ok(words) => words,

@@ -1,4 +1,4 @@
--- What a module tells of its own functions is one thing at most.
+-- What a module says about its defined functions is unique.
 use Rattle.std.proofs.Common.{◌≡◌, ℕ, List, length, Option, Some, None, sym, subst, ap, ◌∙◌}
 use Rattle.std.specs.Int.{w32}
 use Rattle.wasm_module.specs.below.Number.{EncodesUnsigned, EncodesFixed}
@@ -29,7 +29,7 @@ one_own numbers fixed code whole t u a b =
       one_types numbers b.functions t.types u.types (subst (λ s. ListsTypes s t.types) functions a.types) b.types,
     )
 
--- the names that a module tells are those of as many functions as were found
+-- The module names as many functions as were found.
 pub names_of_functions : PrefixCode (EncodesUnsigned 32) → PrefixCode (EncodesFixed w32) → PrefixCode EncodesImport → (whole : Reader) (t : ModuleFunctions) →
     TellsFunctions whole t → (n : ℕ) → (section : Option Reader) × IsSection whole 2 section × CountsImports section n → (types : List ℕ) →
     (section : Option Reader) × IsSection whole 3 section × ListsTypes section types → (count : ℕ) → count ≡ length types →

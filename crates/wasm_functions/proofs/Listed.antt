@@ -1,4 +1,4 @@
--- Items of a section one behind the other, and one more.
+-- Items of a section, one after another, and one more.
 use Rattle.std.proofs.Common.{◌≡◌, ℕ, ◌+◌, List, [], ◌∷◌, ◌++◌, length, Ok, refl, sym, subst, arith, cond}
 use Rattle.std.specs.Prelude.{◌==◌}
 use Rattle.wasm_module.specs.below.Source.{Reader, Reads}
@@ -12,7 +12,7 @@ pub item_more : {X : Type 0} (P : List ℕ → X → Type 0) (r : Reader) (xs : 
 item_more P r [] mid new x same reads = (new, subst (λ z. Reads P (Ok x) z new) same reads, refl)
 item_more P r (y ∷ ys) mid new x (next, first, others) reads = (next, first, item_more P next ys mid new x others reads)
 
--- all items stand there
+-- All items are encoded.
 pub all_stand : {X : Type 0} (P : List ℕ → X → Type 0) (contents first end : Reader) (xs : List X) (n : ℕ) → Reads (EncodesUnsigned 32) (Ok n) contents first →
     ItemsStand P first xs end → length xs ≡ n → IsList P contents xs
 all_stand P contents first end xs n counted stand all =

@@ -1,4 +1,4 @@
--- Refusals of bytes as faults of a module.
+-- Errors of bytes as faults of a module.
 use Rattle.std.proofs.Common.{◌≡◌, ◌<◌, ◌⊎◌, ℕ, List, [], length, Result, Ok, Err, refl, sym, subst, ◌∙◌, inl, inr}
 use Rattle.std.specs.List.{All}
 use Rattle.wasm_module.specs.below.bytes.error.Error.{Error}
@@ -23,37 +23,37 @@ refused_by : (m : Message) (e : Error) → IsReadFault m → fault_by m e ≡ fa
 refused_by message.OutOfMemory e read = absurd read
 refused_by _ e read = refl
 
--- a refusal of bytes is told as one
+-- An error of bytes is reported as such.
 pub of_refusal : (P : ModuleFault → Type 0) (e : Error) (f : ModuleFault) → f ≡ fault_of e → IsReadFault e.message → P (fault.Refused e) → P f
 of_refusal P e f is read p = subst P (sym (is ∙ refused_by e.message e read)) p
 
--- nothing is asked of items
+-- Every item has the property that always holds.
 pub any_items : {X : Type 0} (xs : List X) → All IsAny xs
 any_items xs = λ k d few. tt
 
--- items stand up to here, and more are announced
+-- Items are encoded up to here, and more are declared.
 pub items_to : {X : Type 0} (P : List ℕ → X → Type 0) (K : X → Type 0) (contents first next : Reader) (n : ℕ) (xs : List X) →
     Reads (EncodesUnsigned 32) (Ok n) contents first → ItemsStand P first xs next → length xs < n → All K xs → HasItemsTo P K contents next
 items_to P K contents first next n xs count stand fewer known =
     record { first = first; announced = n; count = count; items = xs; stand = stand; fewer = fewer; known = known }
 
--- sections stand up to here, and the bytes do not end
+-- Sections are encoded up to here, and more bytes follow.
 pub sections_to : (whole behind next : Reader) (ss : List SectionParts) → BeginsModule whole behind → SectionsStand behind ss next → (rest next ≡ [] → ⊥) →
     HasSectionsTo whole next
 sections_to whole behind next ss begins stand more = record { behind = behind; begins = begins; sections = ss; stand = stand; more = more }
 
--- sub types stand up to here, and more are announced
+-- Sub types are encoded up to here, and more are declared.
 pub sub_types_to : (n : ℕ) (r next : Reader) (types : List CompositeType) → ItemsStand EncodesSubType r types next → length types < n → AreKnownTypes types →
     HasSubTypesTo n r next
 sub_types_to n r next types stand fewer known = record { types = types; stand = stand; fewer = fewer; known = known }
 
--- recursive types stand up to here, and more are announced
+-- Recursive types are encoded up to here, and more are declared.
 pub types_to : (contents first next : Reader) (n : ℕ) (rec_types : List (List CompositeType)) → Reads (EncodesUnsigned 32) (Ok n) contents first →
     RecTypesStand first rec_types next → length rec_types < n → All AreKnownTypes rec_types → HasTypesTo contents next
 types_to contents first next n rec_types count stand fewer known =
     record { first = first; announced = n; count = count; rec_types = rec_types; stand = stand; fewer = fewer; known = known }
 
--- the beginning of a recursive type is refused only where one stands
+-- The start of a recursive type is in error only if there is one.
 abbrev IsRead : Result ℕ Error → Type 0
 IsRead (Ok n) = Unit {0}
 IsRead (Err e) = ⊥

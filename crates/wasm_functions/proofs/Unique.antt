@@ -1,4 +1,4 @@
--- Bytes are one module at most.
+-- Bytes are at most one module.
 use Rattle.std.proofs.Common.{◌≡◌, ℕ, ◌+◌, List, [], ◌∷◌, ◌++◌, length, get_or, drop, Option, Ok, refl, sym, subst, ap, ◌∙◌, append_assoc, arith}
 use Rattle.std.specs.Int.{w32}
 use Rattle.wasm_module.specs.below.bytes.error.Error.{Error}
@@ -57,7 +57,7 @@ module _ (numbers : PrefixCode (EncodesUnsigned 32)) where
       let same = section_text r.features a b (rest mid) (rest next) s t is is' (sym takes.parts ∙ takes'.parts) in
       (takes.moved ∙ ap (λ (z : List ℕ). at_position r (r.position + length z)) same.0 ∙ sym takes'.moved, same.1, same.2, same.3, same.4)
 
-  -- what is left of sections behind some of them
+  -- The sections that are left after some of them.
   sections_left : (r : Reader) (ss : List SectionParts) (mid : Reader) (ts : List SectionParts) (end : Reader) → SectionsStand r ss mid →
       SectionsStand r ts end → rest end ≡ [] → (us : List SectionParts) × SectionsStand mid us end
   sections_left r [] mid ts end same all none = (ts, subst (λ z. SectionsStand z ts end) (sym same) all)
@@ -115,7 +115,7 @@ module _ (fixed : PrefixCode (EncodesFixed w32)) where
         ap (λ z. kind_by z p.version) first.1 ∙ ap (λ z. kind_by q.magic z) second.1,
       )
 
-  -- a module begins with the preamble that was read
+  -- A module starts with the preamble that was read.
   pub begins_as : (whole mid behind : Reader) (p : Preamble) → Reads EncodesPreamble (Ok p) whole mid → BeginsModule whole behind →
       (mid ≡ behind) × (preamble_kind p ≡ kind.Module)
   begins_as whole mid behind p (a, is, takes) h =
@@ -125,11 +125,11 @@ module _ (fixed : PrefixCode (EncodesFixed w32)) where
         same.1 ∙ h.is,
       )
 
--- bytes whose preamble is refused are no module
+-- Bytes whose preamble is in error are no module.
 pub no_preamble : (whole behind : Reader) (e : Error) → IsRefusal EncodesPreamble e whole → BeginsModule whole behind → ⊥
 no_preamble whole behind e refused h = not_both EncodesPreamble e whole behind h.preamble refused h.begins
 
--- nor are those of which a section is refused
+-- Bytes of which a section is in error are no module.
 pub no_module : PrefixCode (EncodesUnsigned 32) → PrefixCode (EncodesFixed w32) → (whole behind mid : Reader) (ss : List SectionParts) (e : Error) →
     BeginsModule whole behind → SectionsStand behind ss mid → (rest mid ≡ [] → ⊥) → IsRefusal (EncodesSection mid.features) e mid →
     (sections : List SectionParts) → IsModule whole sections → ⊥
@@ -145,6 +145,6 @@ module _ (numbers : PrefixCode (EncodesUnsigned 32)) (fixed : PrefixCode (Encode
       let same = (begins_as fixed whole a.behind b.behind a.begins.preamble a.begins.begins b.begins).0 in
       same_sections numbers a.behind ss ts a.end b.end a.stand (subst (λ z. SectionsStand z ts b.end) (sym same) b.stand) a.all b.all
 
-  -- a module has one first section with a number
+  -- The first section of a module with a number is unique.
   pub one_found : (whole : Reader) (id : ℕ) (found other : Option Reader) → IsSection whole id found → IsSection whole id other → found ≡ other
   one_found whole id found other (ss, a, is) (ts, b, is') = is ∙ ap (first_with id) (one_module whole ss ts a b) ∙ sym is'

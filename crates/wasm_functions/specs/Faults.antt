@@ -1,4 +1,4 @@
--- What a refusal of bytes tells of a module.
+-- The faults of a module that errors of its bytes lead to.
 use Rattle.wasm_module.specs.below.bytes.error.Error.{Error}
 use Rattle.wasm_module.specs.below.bytes.message.Message.{Message}
 use Rattle.wasm_module.specs.below.bytes.message.Message.TheVariants as message
@@ -9,6 +9,6 @@ abbrev pub fault_by : Message → Error → ModuleFault
 fault_by message.OutOfMemory e = fault.Memory
 fault_by _ e = fault.Refused e
 
--- Memory was refused; or else these bytes are, with this message at this offset.
+-- `Memory` for an allocation failure; otherwise `Refused` with this error.
 abbrev pub fault_of : Error → ModuleFault
 fault_of e = fault_by e.message e

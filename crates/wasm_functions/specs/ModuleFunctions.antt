@@ -1,4 +1,4 @@
--- What the sections of a module tell of its functions.
+-- The functions of a module, from its sections.
 -- WebAssembly Core Specification 3.0, Binary Format, Modules: Indices, Import Section, Function Section.
 use Rattle.std.specs.Prelude.{◌≡◌, ◌==◌, ◌+◌, ◌^◌, ◌-◌, ◌<◌, ◌≤◌, ℕ, List, [], ◌∷◌, Option, Some, None, min, length, replicate, slice_get, slice_index_or, if◌then◌else◌}
 use Rattle.std.specs.List.{All}
@@ -11,12 +11,13 @@ use Rattle.wasm_functions.specs.Names.{NamesExported, NamesGiven, HasNames, Give
 use Rattle.wasm_functions.specs.Parameters.{CountsParameters}
 use Rattle.wasm_functions.specs.Sections.{IsSection}
 
--- How many of these imports are functions.
+-- The number of functions among these imports.
 abbrev pub functions_in : List ImportParts → ℕ
 functions_in [] = 0
 functions_in (i ∷ is) = (if i.kind == 0 then 1 else 0) + functions_in is
 
--- What is known of the functions of a module: how many are imported; how many parameters each type has; and of its own functions the types and the names.
+-- The functions of a module: the number of imported functions, the number of parameters of each type, and the types and names
+-- of the functions that the module defines.
 pub record ModuleFunctions : Type 0 where
   pub imported : ℕ
   pub parameters : List ℕ
@@ -27,17 +28,17 @@ pub record ModuleFunctions : Type 0 where
 abbrev pub IsKnownImport : ImportParts → Type 0
 IsKnownImport i = i.kind < 5
 
--- So many functions are imported, where the section of imports is this.
+-- The number of imported functions, if this is the import section.
 abbrev pub CountsImports : Option Reader → ℕ → Type 0
 CountsImports None n = n ≡ 0
 CountsImports (Some contents) n = (imports : List ImportParts) × IsList EncodesImport contents imports × All IsKnownImport imports × (n ≡ functions_in imports)
 
--- These are the types of the module's own functions, where the section of functions is this.
+-- The types of the defined functions, if this is the function section.
 abbrev pub ListsTypes : Option Reader → List ℕ → Type 0
 ListsTypes None types = types ≡ []
 ListsTypes (Some contents) types = IsList (EncodesUnsigned 32) contents types
 
--- These are the names of so many own functions, behind the imported ones: those of exports, and in their place those of the section of names.
+-- The names of this many defined functions: the names of exports, replaced by the names of the custom section `name`.
 pub record NamesFunctions (whole : Reader) (imported count : ℕ) (names : List (List ℕ)) : Type 0 where
   pub exports : Option Reader
   pub section_of_exports : IsSection whole 7 exports
@@ -47,7 +48,7 @@ pub record NamesFunctions (whole : Reader) (imported count : ℕ) (names : List 
   pub section_of_names : HasNames whole given
   pub from_names : NamesGiven imported given exported names
 
--- This is what the sections of a module tell of its functions.
+-- What the sections of a module say about its functions.
 pub record TellsFunctions (whole : Reader) (t : ModuleFunctions) : Type 0 where
   pub imports : Option Reader
   pub section_of_imports : IsSection whole 2 imports
@@ -60,31 +61,31 @@ pub record TellsFunctions (whole : Reader) (t : ModuleFunctions) : Type 0 where
   pub parameters : CountsParameters signatures t.parameters
   pub names : NamesFunctions whole t.imported (length t.types) t.names
 
--- The index of the own function with an ordinal: those that are imported come first.
+-- The index of the defined function with an ordinal: the imported functions come first.
 abbrev pub index_of : ModuleFunctions → ℕ → ℕ
 index_of t ordinal = min (t.imported + ordinal) (2 ^ 32 - 1)
 
--- The function with this index is one of the module's own.
+-- The module defines the function with this index.
 abbrev pub IsOwn : ModuleFunctions → ℕ → Type 0
 IsOwn t index = (t.imported ≤ index) × (index < t.imported + length t.types)
 
--- How many parameters a type has, where it is known; else none.
+-- The number of parameters of a type, or 0 if the type is not known.
 abbrev pub parameters_of_type : List ℕ → Option ℕ → ℕ
 parameters_of_type parameters None = 0
 parameters_of_type parameters (Some ty) = slice_index_or parameters ty 0
 
--- How many parameters the own function with an ordinal has: those of its type.
+-- The number of parameters of the defined function with an ordinal: that of its type.
 abbrev pub parameters_at : ModuleFunctions → ℕ → ℕ
 parameters_at t ordinal = parameters_of_type t.parameters (slice_get t.types ordinal)
 
--- A name as text: it is empty where its bytes are no UTF-8.
+-- A name as text, which is empty if its bytes are not UTF-8.
 abbrev pub text_of_name : List ℕ → List ℕ
 text_of_name name = if is_utf8 name then name else []
 
--- The name of the own function with an ordinal, which is empty where it has none.
+-- The name of the defined function with an ordinal, which is empty if it has none.
 abbrev pub name_at : ModuleFunctions → ℕ → List ℕ
 name_at t ordinal = text_of_name (slice_index_or t.names ordinal [])
 
--- The name of a module as text, which is empty where it has none.
+-- The name of a module as text, which is empty if it has none.
 abbrev pub NamesModule : Reader → List ℕ → Type 0
 NamesModule whole text = (found : Option Reader) × HasNames whole found × (name : List ℕ) × GivesModule found name × (text ≡ text_of_name name)

@@ -1,4 +1,4 @@
--- The types of a section of types, and how many parameters each has.
+-- The types of a type section, and the number of parameters of each.
 -- WebAssembly Core Specification 3.0, Binary Format: Types, Recursive Types; Modules, Type Section.
 use Rattle.std.specs.Prelude.{◌≡◌, ◌⊎◌, ℕ, List, [], ◌∷◌, length, map, Option, Some, None, Ok}
 use Rattle.std.specs.List.{All, flat_map}
@@ -9,7 +9,7 @@ use Rattle.wasm_module.specs.declared.composite.CompositeType.{CompositeType}
 use Rattle.wasm_module.specs.declared.composite.CompositeType.TheVariants as composite
 use Rattle.wasm_functions.specs.Items.{ItemsStand}
 
--- How many parameters a type has: none where it is no function's.
+-- The number of parameters of a type: 0 if it is not a function type.
 abbrev pub parameter_count : CompositeType → ℕ
 parameter_count (composite.Function parameters results) = parameters
 parameter_count _ = 0
@@ -22,31 +22,31 @@ IsKnownType _ = Unit {0}
 abbrev pub AreKnownTypes : List CompositeType → Type 0
 AreKnownTypes types = All IsKnownType types
 
--- So many sub types are announced: as the beginning of a list says, or one where no such beginning stands there.
+-- The number of sub types of a recursive type: as the start of a list declares, or one if the next byte does not start a list.
 abbrev pub Announces : ℕ → Reader → Reader → Type 0
 Announces n r first = (BeginsWith 0x4e (rest r) × Reads EncodesRecTypeLength (Ok n) r first) ⊎ ((¬ BeginsWith 0x4e (rest r)) × (n ≡ 1) × (first ≡ r))
 
--- A recursive type: these sub types, as many as it announces.
+-- A recursive type: as many sub types as it declares.
 abbrev pub RecTypeStands : Reader → List CompositeType → Reader → Type 0
 RecTypeStands r types end = (first : Reader) × Announces (length types) r first × ItemsStand EncodesSubType first types end
 
--- These recursive types stand one behind the other, from the first reader to the second.
+-- Between the two readers, the bytes encode these recursive types, one after another.
 abbrev pub RecTypesStand : Reader → List (List CompositeType) → Reader → Type 0
 RecTypesStand r [] end = end ≡ r
 RecTypesStand r (g ∷ gs) end = (mid : Reader) × RecTypeStands r g mid × RecTypesStand mid gs end
 
--- The contents of a section begin with these recursive types: how many they are, and each.
+-- The contents of a section begin with these recursive types: their number, followed by the types.
 pub record AreTypes (contents : Reader) (rec_types : List (List CompositeType)) : Type 0 where
   pub first : Reader
   pub count : Reads (EncodesUnsigned 32) (Ok (length rec_types)) contents first
   pub end : Reader
   pub stand : RecTypesStand first rec_types end
 
--- How many parameters each type of these has.
+-- The number of parameters of each type in these recursive types.
 abbrev pub parameters_in : List (List CompositeType) → List ℕ
 parameters_in = flat_map (λ types. map parameter_count types)
 
--- These are the numbers of parameters, where the section of types is this.
+-- The numbers of parameters, if this is the type section.
 abbrev pub CountsParameters : Option Reader → List ℕ → Type 0
 CountsParameters None counts = counts ≡ []
 CountsParameters (Some contents) counts = (rec_types : List (List CompositeType)) × AreTypes contents rec_types × All AreKnownTypes rec_types × (counts ≡ parameters_in rec_types)

@@ -1,5 +1,6 @@
--- Why the functions of a module are not known: which fault, with which message and offset.
--- WebAssembly Core Specification 3.0, Binary Format: Conventions, Lists; Types, Recursive Types; Modules, Sections, Type Section, Import Section, Function Section, Export Section.
+-- The faults of the functions of a module, with their messages and offsets.
+-- WebAssembly Core Specification 3.0, Binary Format: Conventions, Lists; Types, Recursive Types; Modules, Sections, Type Section, Import Section, Function
+-- Section, Export Section.
 use Rattle.std.specs.Prelude.{◌≡◌, ◌≢◌, ◌⊎◌, ◌<◌, ℕ, List, [], length, Option, Some, Ok}
 use Rattle.std.specs.List.{All}
 use Rattle.wasm_module.specs.below.bytes.error.Error.{Error}
@@ -22,20 +23,20 @@ use Rattle.wasm_functions.specs.ModuleFunctions.{IsKnownImport, CountsImports, L
 use Rattle.wasm_functions.specs.declared.fault.ModuleFault.{ModuleFault}
 use Rattle.wasm_functions.specs.declared.fault.ModuleFault.TheVariants as fault
 
--- What should stand here is refused: no prefix of the rest is one, and message and offset are those of its fault.
+-- Reading a value here fails with this error: no prefix of the rest encodes one, and the message and the offset are those of its fault.
 abbrev pub IsRefusedAs : {X : Type 0} → (List ℕ → X → Type 0) → (Message → Reader → ℕ → Type 0) → Error → Reader → Type 0
 IsRefusedAs Encodes Fault e r = IsRefusal Encodes e r × Fault e.message r e.offset
 
--- The fault is a refusal, of which this holds.
+-- The fault is an error of the bytes, for which this holds.
 abbrev pub RefusedWith : (Error → Type 0) → ModuleFault → Type 0
 RefusedWith Holds (fault.Refused e) = Holds e
 RefusedWith Holds _ = ⊥
 
--- The bytes begin with a preamble that says this of the binary.
+-- The bytes begin with a preamble that identifies this kind of binary.
 abbrev pub BeginsAs : PreambleKind → Reader → Type 0
 BeginsAs said whole = (preamble : Preamble) × (behind : Reader) × Reads EncodesPreamble (Ok preamble) whole behind × (preamble_kind preamble ≡ said)
 
--- The preamble of a module and sections stand up to the second reader, where the bytes do not end.
+-- The bytes up to the second reader encode the preamble of a module and sections, and more bytes follow.
 pub record HasSectionsTo (whole next : Reader) : Type 0 where
   pub behind : Reader
   pub begins : BeginsModule whole behind
@@ -43,7 +44,8 @@ pub record HasSectionsTo (whole next : Reader) : Type 0 where
   pub stand : SectionsStand behind sections next
   pub more : rest next ≢ []
 
--- Which fault bytes have that are no module: the preamble is that of something else; or it is refused; or behind it and some sections the next section is.
+-- The fault of bytes that are no module: the preamble identifies something else, or it is in error.
+-- Or the next section after the preamble and some sections is in error.
 abbrev pub SectionsFault : ModuleFault → Reader → Type 0
 SectionsFault (fault.NotModule said) whole = BeginsAs said whole × (said ≢ kind.Module)
 SectionsFault (fault.Refused e) whole =
@@ -51,7 +53,7 @@ SectionsFault (fault.Refused e) whole =
     ((next : Reader) × HasSectionsTo whole next × IsRefusedAs (EncodesSection next.features) SectionFault e next)
 SectionsFault _ whole = ⊥
 
--- The contents of a section are a list that announces more items than stand up to the second reader; these are all known.
+-- The contents of a section are a list that declares more items than are encoded up to the second reader, all of them known.
 pub record HasItemsTo {X : Type 0} (Encodes : List ℕ → X → Type 0) (IsKnown : X → Type 0) (contents next : Reader) : Type 0 where
   pub first : Reader
   pub announced : ℕ
@@ -61,16 +63,17 @@ pub record HasItemsTo {X : Type 0} (Encodes : List ℕ → X → Type 0) (IsKnow
   pub fewer : length items < announced
   pub known : All IsKnown items
 
--- The number of the items of a list is refused, or behind some of them the next.
+-- The number of the items of a list is in error, or the next item after some of them.
 abbrev pub ListFault : {X : Type 0} → (List ℕ → X → Type 0) → (Message → Reader → ℕ → Type 0) → (X → Type 0) → Error → Reader → Type 0
 ListFault Encodes Fault IsKnown e contents =
     IsRefusedAs (EncodesUnsigned 32) U32Fault e contents ⊎ ((next : Reader) × HasItemsTo Encodes IsKnown contents next × IsRefusedAs Encodes Fault e next)
 
--- Nothing is asked of an item.
+-- The property that every item has.
 abbrev pub IsAny : {X : Type 0} → X → Type 0
 IsAny x = Unit {0}
 
--- Which fault the contents of a section of imports have: that of the list; or an import is of none of the five kinds, which has this byte and this offset.
+-- The fault of the contents of an import section: the error of the list, or an import of none of the five kinds.
+-- The fault then has the byte of the kind and the import's offset.
 abbrev pub ImportsFault : ModuleFault → Reader → Type 0
 ImportsFault (fault.Refused e) contents = ListFault EncodesImport ImportFault IsKnownImport e contents
 ImportsFault (fault.ImportKind byte offset) contents =
@@ -78,24 +81,25 @@ ImportsFault (fault.ImportKind byte offset) contents =
     (import : ImportParts) × (behind : Reader) × Reads EncodesImport (Ok import) next behind × (import.kind ≡ byte) × (4 < byte)
 ImportsFault _ contents = ⊥
 
--- Of functions.
+-- The fault of the contents of a function section.
 abbrev pub FunctionsFault : ModuleFault → Reader → Type 0
 FunctionsFault (fault.Refused e) contents = ListFault (EncodesUnsigned 32) U32Fault IsAny e contents
 FunctionsFault fault.Memory contents = Unit {0}
 FunctionsFault _ contents = ⊥
 
--- Of exports.
+-- The fault of the contents of an export section.
 abbrev pub ExportsFault : ModuleFault → Reader → Type 0
 ExportsFault f contents = RefusedWith (λ e. ListFault EncodesExport ExportFault IsAny e contents) f
 
--- Fewer sub types than this many stand up to the second reader, all of known sorts.
+-- Fewer than this many sub types, all of known sorts, are encoded up to the second reader.
 pub record HasSubTypesTo (n : ℕ) (r next : Reader) : Type 0 where
   pub types : List CompositeType
   pub stand : ItemsStand EncodesSubType r types next
   pub fewer : length types < n
   pub known : AreKnownTypes types
 
--- Which fault this many sub types have: behind some the next is refused; or it is of none of the three sorts, which has this byte and this offset.
+-- The fault of this many sub types: the next one after some is in error, or it is of none of the three sorts.
+-- The fault then has the type's byte and offset.
 abbrev pub SubTypesFault : ModuleFault → ℕ → Reader → Type 0
 SubTypesFault (fault.Refused e) n r = (next : Reader) × HasSubTypesTo n r next × IsRefusedAs EncodesSubType SubTypeFault e next
 SubTypesFault (fault.TypeKind byte offset) n r =
@@ -103,15 +107,15 @@ SubTypesFault (fault.TypeKind byte offset) n r =
 SubTypesFault fault.Memory n r = Unit {0}
 SubTypesFault _ n r = ⊥
 
--- The number of sub types is refused that a recursive type announces.
+-- The declared number of sub types of a recursive type is in error.
 abbrev pub AnnouncedFault : ModuleFault → Reader → Type 0
 AnnouncedFault f r = RefusedWith (λ e. BeginsWith 0x4e (rest r) × IsRefusedAs EncodesRecTypeLength RecTypeLengthFault e r) f
 
--- That is refused, or one of them.
+-- The number of sub types of a recursive type is in error, or one of them is.
 abbrev pub RecTypeFault : ModuleFault → Reader → Type 0
 RecTypeFault fault r = AnnouncedFault fault r ⊎ ((n : ℕ) × (first : Reader) × Announces n r first × SubTypesFault fault n first)
 
--- The contents of a section announce more recursive types than stand up to the second reader; the types of these are all known.
+-- The contents of a section declare more recursive types than are encoded up to the second reader, and these have known types only.
 pub record HasTypesTo (contents next : Reader) : Type 0 where
   pub first : Reader
   pub announced : ℕ
@@ -121,19 +125,19 @@ pub record HasTypesTo (contents next : Reader) : Type 0 where
   pub fewer : length rec_types < announced
   pub known : All AreKnownTypes rec_types
 
--- The number of recursive types is refused.
+-- The number of recursive types is in error.
 abbrev pub TypesLengthFault : ModuleFault → Reader → Type 0
 TypesLengthFault f contents = RefusedWith (λ e. IsRefusedAs (EncodesUnsigned 32) U32Fault e contents) f
 
--- Which fault the contents of a section of types have: that number is refused, or behind some recursive types the next.
+-- The fault of the contents of a type section: their number is in error, or the next recursive type after some is.
 abbrev pub TypesFault : ModuleFault → Reader → Type 0
 TypesFault fault contents = TypesLengthFault fault contents ⊎ ((next : Reader) × HasTypesTo contents next × RecTypeFault fault next)
 
--- The first section with a number is there, and this is so of its contents.
+-- There is a section with this number, and the property holds for the contents of the first one.
 abbrev pub OfSection : Reader → ℕ → (Reader → Type 0) → Type 0
 OfSection whole id P = (contents : Reader) × IsSection whole id (Some contents) × P contents
 
--- The first section of types is read, of imports, of functions.
+-- The first type section can be read; the same for the import and the function section.
 abbrev pub HasTypes : Reader → Type 0
 HasTypes whole = (section : Option Reader) × (counts : List ℕ) × IsSection whole 1 section × CountsParameters section counts
 
@@ -143,16 +147,16 @@ HasImports whole = (section : Option Reader) × (n : ℕ) × IsSection whole 2 s
 abbrev pub HasFunctions : Reader → Type 0
 HasFunctions whole = (section : Option Reader) × (types : List ℕ) × IsSection whole 3 section × ListsTypes section types
 
--- Which fault comes where a section with a number is asked for: that of bytes that are no module, or that of its contents.
+-- The fault of finding and reading a section with a number: the fault of bytes that are no module, or of the section's contents.
 abbrev pub SectionFaultAt : ModuleFault → Reader → ℕ → (ModuleFault → Reader → Type 0) → Type 0
 SectionFaultAt fault whole id Fault = SectionsFault fault whole ⊎ OfSection whole id (Fault fault)
 
--- Which fault comes of the names of functions, unless memory is refused.
+-- The fault of the names of functions, or an allocation failure.
 abbrev pub NamesFault : ModuleFault → Reader → Type 0
 NamesFault f whole = (f ≡ fault.Memory) ⊎ SectionFaultAt f whole 7 ExportsFault
 
--- Which fault comes in place of the functions of a module: that of bytes that are no module; or of the first section that is refused, in this order: types,
--- imports, functions, exports; or memory is refused.
+-- The fault of the functions of a module: the fault of bytes that are no module, or of the first section in error, in this order:
+-- types, imports, functions, exports. Or allocation failed.
 abbrev pub ModuleFunctionsFault : ModuleFault → Reader → Type 0
 ModuleFunctionsFault fault whole =
     SectionFaultAt fault whole 1 TypesFault ⊎

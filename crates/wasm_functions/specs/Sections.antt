@@ -1,4 +1,4 @@
--- The sections of a module, one behind the other, and the first of a number.
+-- The sections of a module, one after another, and the first section with a number.
 -- WebAssembly Core Specification 3.0, Binary Format, Modules: Sections, Modules.
 use Rattle.std.specs.Prelude.{◌≡◌, ◌==◌, ℕ, List, [], ◌∷◌, Option, Some, None, Ok, if◌then◌else◌}
 use Rattle.wasm_module.specs.below.Source.{Reader, rest, offset_of, end_of, Reads}
@@ -6,18 +6,18 @@ use Rattle.wasm_module.specs.Module.{EncodesPreamble, preamble_kind, SectionPart
 use Rattle.wasm_module.specs.declared.preamble.Preamble.{Preamble}
 use Rattle.wasm_module.specs.declared.preamble.PreambleKind.TheVariants as kind
 
--- These sections stand one behind the other, from the first reader to the second. Their contents have the offsets of the module.
+-- Between the two readers, the bytes encode these sections, one after another. Their contents have the offsets of the module.
 abbrev pub SectionsStand : Reader → List SectionParts → Reader → Type 0
 SectionsStand r [] end = end ≡ r
 SectionsStand r (s ∷ ss) end = (mid : Reader) × Reads (EncodesSection r.features) (Ok s) r mid × (end_of s.contents ≡ offset_of mid) × SectionsStand mid ss end
 
--- The bytes begin with the preamble of a module, behind which the second reader stands.
+-- The bytes begin with the preamble of a module, and the second reader is after it.
 pub record BeginsModule (whole behind : Reader) : Type 0 where
   pub preamble : Preamble
   pub begins : Reads EncodesPreamble (Ok preamble) whole behind
   pub is : preamble_kind preamble ≡ kind.Module
 
--- The bytes are a module with these sections: its preamble, and behind it the sections, up to the end.
+-- The bytes are a module with these sections: its preamble, followed by the sections, up to the end.
 pub record IsModule (whole : Reader) (sections : List SectionParts) : Type 0 where
   pub behind : Reader
   pub begins : BeginsModule whole behind
@@ -25,16 +25,16 @@ pub record IsModule (whole : Reader) (sections : List SectionParts) : Type 0 whe
   pub stand : SectionsStand behind sections end
   pub all : rest end ≡ []
 
--- The contents of the first section with this number, where there is one.
+-- The contents of the first section with this number, if there is one.
 abbrev pub first_with : ℕ → List SectionParts → Option Reader
 first_with id [] = None
 first_with id (s ∷ ss) = if s.id == id then Some s.contents else first_with id ss
 
--- This is the first section with the number, of those of a module.
+-- The contents of the first section with this number in a module, if there is one.
 abbrev pub IsSection : Reader → ℕ → Option Reader → Type 0
 IsSection whole id found = (sections : List SectionParts) × IsModule whole sections × (found ≡ first_with id sections)
 
--- The same of sections of which this one was the first, and one section more.
+-- The contents of the first section with this number, after one more section.
 abbrev pub or_first : Option Reader → SectionParts → ℕ → Option Reader
 or_first (Some found) s id = Some found
 or_first None s id = first_with id (s ∷ [])

@@ -1,4 +1,4 @@
-//! Why the functions of a module are not known.
+//! The reasons why the functions of a module are not known.
 ghost use Rattle.std.specs.Prelude.{◌≡◌};
 ghost use Rattle.wasm_functions.specs.Faults.{fault_of};
 
@@ -6,25 +6,25 @@ use std::fmt;
 use wasm_module::PreambleKind;
 use wasm_module::below::{Error, Message};
 
-/// Why the functions of a module are not known.
+/// The reason why the functions of a module are not known.
 #[derive(Clone, Copy, Debug, PartialEq, Eq)]
 pub enum ModuleFault {
-    /// The bytes begin as no module does.
+    /// The bytes do not start with the preamble of a module.
     NotModule(PreambleKind),
-    /// The preamble, a section or an item of one is refused.
+    /// The preamble, a section or an item of one is in error.
     Refused(Error),
     /// An import is of none of the five kinds: the byte, and the offset of the import.
     ImportKind(u8, u64),
     /// A type is of none of the three sorts: its byte, and its offset.
     TypeKind(u8, u64),
-    /// Memory was refused.
+    /// Allocation failed.
     Memory,
 }
 
 impl From<Error> for ModuleFault {
     ghost from_gives = { λ error fault. fault ≡ fault_of error };
 
-    /// `Memory` where memory was refused; else the refusal.
+    /// Converts an error: to `Memory` if allocation failed, otherwise to `Refused`.
     fn from(error: Error) -> ModuleFault {
         match error.message() {
             Message::OutOfMemory => ModuleFault::Memory,

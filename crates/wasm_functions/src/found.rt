@@ -1,4 +1,4 @@
-//! What the sections of a module tell of its functions, each where it is there.
+//! The parts of a module that describe its functions, each from its section.
 ghost use Rattle.std.specs.Prelude.{◌≡◌, ℕ, [], List, Option, Some, replicate, IfOk, IfErr};
 ghost use Rattle.wasm_module.specs.below.Source.{Reader, reader_of};
 ghost use Rattle.wasm_functions.specs.Items.{IsList};
@@ -17,21 +17,21 @@ use std::alloc::Global;
 use wasm_module::below::WasmFeatures;
 use wasm_module::below::byte_laws::{fixed_numbers, unsigned_numbers};
 
-/// The number of the section of types.
+/// The number of the type section.
 const TYPES: u8 = 1;
 
-/// The number of the section of imports.
+/// The number of the import section.
 const IMPORTS: u8 = 2;
 
-/// The number of the section of functions.
+/// The number of the function section.
 const FUNCTIONS: u8 = 3;
 
-/// The number of the section of exports.
+/// The number of the export section.
 const EXPORTS: u8 = 7;
 
-/// How many parameters each type has.
+/// Returns the number of parameters of each type.
 ///
-/// Refused as `find_section`; else as `parameter_counts` of the section.
+/// Fails as `find_section` does, then as `parameter_counts` does for the section.
 pub fn find_parameters(
     alloc: Global,
     features: WasmFeatures,
@@ -52,9 +52,9 @@ pub fn find_parameters(
     }
 }
 
-/// How many functions are imported.
+/// Returns the number of imported functions.
 ///
-/// Refused as `find_section`; else as `imported_functions` of the section.
+/// Fails as `find_section` does, then as `imported_functions` does for the section.
 pub fn find_imported(features: WasmFeatures, bytes: &[u8]) -> Result<u32, ModuleFault>
     ensures ok { IfOk result (λ n. (section : Option Reader) × IsSection (reader_of features 0 bytes.now) 2 section
         × CountsImports section n) }
@@ -71,9 +71,9 @@ pub fn find_imported(features: WasmFeatures, bytes: &[u8]) -> Result<u32, Module
     }
 }
 
-/// The types of the functions.
+/// Returns the types of the functions.
 ///
-/// Refused as `find_section`; else as `function_types` of the section.
+/// Fails as `find_section` does, then as `function_types` does for the section.
 pub fn find_types(
     alloc: Global,
     features: WasmFeatures,
@@ -94,9 +94,9 @@ pub fn find_types(
     }
 }
 
-/// A name for each function, which has no byte.
+/// Returns an empty name for each function.
 ///
-/// `Memory` alone is answered.
+/// Fails with `Memory` only.
 fn no_names<'a>(alloc: Global, count: usize) -> Result<Vec<&'a [u8]>, ModuleFault>
     ensures ok { IfOk result (λ names. bytes_of names.items ≡ replicate count []) }
     ensures memory { IfErr result (λ fault. fault ≡ ModuleFault.Memory) }
@@ -110,9 +110,9 @@ fn no_names<'a>(alloc: Global, count: usize) -> Result<Vec<&'a [u8]>, ModuleFaul
     Ok(names)
 }
 
-/// Names the functions that are exported.
+/// Sets the names of the functions that are exported.
 ///
-/// Refused as `find_section`; else as `name_exports` of the section.
+/// Fails as `find_section` does, then as `name_exports` does for the section.
 fn set_exports<'a>(
     features: WasmFeatures,
     bytes: &'a [u8],
@@ -134,9 +134,9 @@ fn set_exports<'a>(
     }
 }
 
-/// Names the functions that the last section of names names.
+/// Sets the names of the functions that the last custom section `name` names.
 ///
-/// Refused as `find_names`.
+/// Fails as `find_names` does.
 fn set_names<'a>(
     features: WasmFeatures,
     bytes: &'a [u8],
@@ -158,9 +158,11 @@ fn set_names<'a>(
     }
 }
 
-/// The names of so many own functions: those of exports, and in their place those of the section of names.
+/// Returns the names of this many defined functions: the names of exports, replaced by the names of
+/// the custom section `name`.
 ///
-/// `Memory` where memory was refused; else refused as the section of exports is found or read.
+/// Fails with `Memory` if allocation fails; otherwise as finding or reading the export section
+/// does.
 pub fn find_function_names<'a>(
     alloc: Global,
     features: WasmFeatures,

@@ -1,4 +1,4 @@
-//! Laws, each the contract of a function that does nothing.
+//! Laws. Each is the contract of a function that does nothing.
 ghost use Rattle.std.specs.Prelude.{◌≡◌, ◌≢◌, ℕ, List, Option};
 ghost use Rattle.wasm_module.specs.below.Source.{Reader};
 ghost use Rattle.wasm_module.specs.Module.{SectionParts};
@@ -10,7 +10,7 @@ ghost use Rattle.wasm_functions.specs.ModuleFunctions.{ModuleFunctions, TellsFun
 use wasm_module::below::byte_laws::{fixed_numbers, number_refusals, unsigned_numbers};
 use wasm_module::module_laws;
 
-/// Bytes are one module at most: it has one first section with a number.
+/// States that bytes are at most one module: its first section with a number is unique.
 pub fn sections()
     ensures { (whole : Reader) → (id : ℕ) → (a b : Option Reader) → IsSection whole id a → IsSection whole id b → a ≡ b }
 {
@@ -18,7 +18,7 @@ pub fn sections()
     fixed_numbers();
 }
 
-/// Bytes that are no module have one fault at most, and those that are one have none.
+/// States that bytes that are no module have at most one fault, and that a module has none.
 pub fn refusals()
     ensures one { (whole : Reader) → (a b : ModuleFault) → SectionsFault a whole → SectionsFault b whole → a ≡ b }
     ensures none { (whole : Reader) → (fault : ModuleFault) → (sections : List SectionParts) → SectionsFault fault whole → IsModule whole sections → ⊥ }
@@ -28,7 +28,7 @@ pub fn refusals()
     module_laws::refusals();
 }
 
-/// It imports so many functions, and its own have these types.
+/// States that the number of imported functions and the types of the defined functions are unique.
 pub fn own_functions()
     ensures { (whole : Reader) → (t u : ModuleFunctions) → TellsFunctions whole t → TellsFunctions whole u → (t.imported ≡ u.imported) × (t.types ≡ u.types) }
 {
@@ -37,8 +37,8 @@ pub fn own_functions()
     module_laws::imports();
 }
 
-/// Bytes that are no module that tells its functions have one fault at most, memory aside; and where
-/// they are one, only memory is refused.
+/// States that bytes have at most one fault in place of known functions, unless allocation fails.
+/// If the functions are known, the only fault is `Memory`.
 pub fn faults()
     ensures one { (whole : Reader) → (a b : ModuleFault) → ModuleFunctionsFault a whole → ModuleFunctionsFault b whole
         → a ≢ ModuleFault.Memory → b ≢ ModuleFault.Memory → a ≡ b }

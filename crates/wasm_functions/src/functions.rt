@@ -17,7 +17,7 @@ use wasm_module::below::WasmFeatures;
 use wasm_module::below::byte_laws::{fixed_numbers, unsigned_numbers};
 use wasm_module::module_laws;
 
-/// What a module tells of its own functions, each by its ordinal behind those that are imported.
+/// The functions that a module defines, each by its ordinal after the imported functions.
 #[derive(Debug, Drop)]
 pub struct Functions<'a> {
     imported: u32,
@@ -36,13 +36,16 @@ impl<'a> Model for Functions<'a> {
 }
 
 impl<'a> Functions<'a> {
-    /// What the sections of a module tell. Of two names that a function has, that of the custom
-    /// section is kept; of two exports, the last. A custom section that is refused names no more.
+    /// Reads what the sections of a module say about its functions. The name in the custom section
+    /// replaces the name of an export; of two exports, the last names the function. After an error
+    /// in the custom section, no more functions are named.
     ///
-    /// `NotModule` where the bytes begin as no module does. `Refused` where the preamble is, or behind some
-    /// sections the next one. Else the fault of the first that is refused of four sections: that of types
-    /// (`TypeKind`, `Refused`), of imports (`ImportKind`, `Refused`), of functions and of exports (`Refused`).
-    /// `Memory` where memory was refused.
+    /// Fails with `NotModule` if the bytes do not start with the preamble of a module. Fails with
+    /// `Refused` if the preamble or a section is in error.
+    ///
+    /// Otherwise fails with the fault of the first of four sections that has one: types
+    /// (`TypeKind`, `Refused`), imports (`ImportKind`, `Refused`), functions and exports
+    /// (`Refused`). Fails with `Memory` if allocation fails.
     pub fn new(
         alloc: Global,
         features: WasmFeatures,
@@ -80,21 +83,22 @@ impl<'a> Functions<'a> {
         })
     }
 
-    /// The index of the function with this ordinal. It stays at 4294967295.
+    /// Returns the index of the function with this ordinal, at most 4294967295.
     pub fn index(&self, ordinal: u32) -> u32
         ensures { result ≡ index_of self.now ordinal }
     {
         self.imported.saturating_add(ordinal)
     }
 
-    /// Whether the function with this index is one of the module's own.
+    /// Returns whether the module defines the function with this index.
     pub fn has(&self, index: u32) -> bool
         ensures { IsTrue result ↔ IsOwn self.now index }
     {
         index >= self.imported && ((index - self.imported) as usize) < self.types.len()
     }
 
-    /// How many parameters it has, where its type is known and that of a function; else 0.
+    /// Returns the function's number of parameters, or 0 if its type is not known or not a function
+    /// type.
     pub fn parameters(&self, ordinal: u32) -> u32
         ensures { result ≡ parameters_at self.now ordinal }
     {
@@ -104,7 +108,7 @@ impl<'a> Functions<'a> {
         }
     }
 
-    /// Its name, which is empty where it has none, or one that is no text.
+    /// Returns the function's name, which is empty if it has none or if the name is not UTF-8.
     pub fn name(&self, ordinal: u32) -> &'a str
         ensures { result.now ≡ name_at self.now ordinal }
     {
@@ -116,7 +120,7 @@ impl<'a> Functions<'a> {
 }
 
 #[tactic(auto, using(crate::proofs::Texts::name_is_text, crate::proofs::Texts::name_is_none))]
-/// The text of a name, which is empty where its bytes are none.
+/// Returns the text of a name, which is empty if its bytes are not UTF-8.
 fn text_of<'a>(name: &'a [u8]) -> &'a str
     ensures { result.now ≡ text_of_name name.now }
 {
@@ -126,8 +130,8 @@ fn text_of<'a>(name: &'a [u8]) -> &'a str
     }
 }
 
-/// The name of a module, which is empty where it has none, or one that is no text; and where the bytes
-/// are no module.
+/// Returns the name of a module. It is empty if the module has none, if the name is not UTF-8, or
+/// if the bytes are no module.
 pub fn module_name<'a>(features: WasmFeatures, bytes: &'a [u8]) -> &'a str
     ensures names { (sections : List SectionParts) → IsModule (reader_of features 0 bytes.now) sections
         → NamesModule (reader_of features 0 bytes.now) result.now }

@@ -1,4 +1,4 @@
-//! How many functions are imported.
+//! The number of imported functions.
 ghost use Rattle.std.specs.Prelude.{ℕ, Some, IfOk, IfErr};
 ghost use Rattle.wasm_functions.specs.Refusals.{ImportsFault};
 ghost use Rattle.wasm_functions.specs.ModuleFunctions.{CountsImports};
@@ -11,10 +11,10 @@ use wasm_module::{Import, module_laws};
 /// The byte of the last kind, that of tags.
 const TAG: u8 = 4;
 
-/// How many of the imports of a section are functions.
+/// Returns the number of functions among the imports of a section.
 ///
-/// `ImportKind` at an import of none of the five kinds; else refused as the number of the imports or as
-/// an import.
+/// Fails with `ImportKind` at an import of none of the five kinds; otherwise as the number of the
+/// imports or an import does.
 pub fn imported_functions(contents: BinaryReader<'_>) -> Result<u32, ModuleFault>
     ensures ok { IfOk result (λ n. CountsImports (Some contents.entry) n) }
     ensures refused { IfErr result (λ fault. (n : ℕ) → CountsImports (Some contents.entry) n → ⊥) }

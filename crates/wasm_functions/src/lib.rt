@@ -1,5 +1,7 @@
-//! What a module tells of its functions beside their bodies: which sections it has, how many functions
-//! are imported, how many parameters each has, and its name.
+//! The functions of a module, except their bodies: the sections that describe them, the number of
+//! imported functions, the number of parameters of each, and its name.
+//!
+//! Every call that allocates may fail with `Memory`; it then returns no result.
 #![tactic(auto)]
 
 mod fault;

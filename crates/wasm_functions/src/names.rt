@@ -1,4 +1,4 @@
-//! The names of functions: those under which they are exported, and those of the custom section `name`.
+//! The names of functions: those of exports, and those of the custom section `name`.
 ghost use Rattle.std.specs.Prelude.{◌≡◌, ◌∷◌, [], List, Some, IfOk, IfErr};
 ghost use Rattle.wasm_module.specs.Exports.{ExportParts, EncodesExport};
 ghost use Rattle.wasm_module.specs.Names.{NameParts, EncodesNameAssociation};
@@ -14,13 +14,13 @@ use wasm_module::{Export, Name, NameAssociation, module_laws, read_section};
 /// The byte of the kind of functions.
 const FUNCTION: u8 = 0;
 
-/// The number of the subsection that names the module,
+/// The number of the subsection that names the module.
 const MODULE_NAME: u8 = 0;
 
-/// and of the one that names functions.
+/// The number of the subsection that names functions.
 const FUNCTION_NAMES: u8 = 1;
 
-/// Names the function with this index, where it is one of the module's own.
+/// Sets the name of the function with this index, if the module defines it.
 fn set_name<'a>(names: &mut Vec<&'a [u8]>, imported: u32, index: u32, name: &'a [u8])
     ensures { bytes_of names.new.items ≡ with_name imported (bytes_of names.old.items) index name.now }
 {
@@ -33,7 +33,7 @@ fn set_name<'a>(names: &mut Vec<&'a [u8]>, imported: u32, index: u32, name: &'a 
     }
 }
 
-/// Names the function that an export exports, where it is one.
+/// Sets the name of the exported function, if the export is a function.
 fn set_exported<'a>(names: &mut Vec<&'a [u8]>, imported: u32, export: &Export<'a>)
     ensures { bytes_of names.new.items ≡ with_exports imported (bytes_of names.old.items) (export.now ∷ []) }
 {
@@ -42,9 +42,9 @@ fn set_exported<'a>(names: &mut Vec<&'a [u8]>, imported: u32, export: &Export<'a
     }
 }
 
-/// Names the functions that a section of exports exports. Of two names the last one is kept.
+/// Sets the names of the functions that an export section exports. Of two names the last is kept.
 ///
-/// Refused as the number of the exports, or as an export.
+/// Fails as the number of the exports or an export does.
 pub fn name_exports<'a>(
     contents: BinaryReader<'a>,
     imported: u32,
@@ -71,7 +71,7 @@ pub fn name_exports<'a>(
     Ok(())
 }
 
-/// Names the functions of a subsection of names, up to a refusal.
+/// Sets the names of the functions in a subsection, up to an error.
 fn name_associations<'a>(contents: BinaryReader<'a>, imported: u32, names: &mut Vec<&'a [u8]>)
     ensures { (given : List NameParts) × ReadsItems EncodesNameAssociation contents.entry given
         × (bytes_of names.new.items ≡ with_names imported (bytes_of names.old.items) given) }
@@ -89,7 +89,7 @@ fn name_associations<'a>(contents: BinaryReader<'a>, imported: u32, names: &mut 
     }
 }
 
-/// Names the functions that the custom section `name` names, up to a refusal.
+/// Sets the names of the functions in the custom section `name`, up to an error.
 pub fn name_functions<'a>(contents: BinaryReader<'a>, imported: u32, names: &mut Vec<&'a [u8]>)
     ensures { (given : List NameParts) × GivesNames contents.entry given
         × (bytes_of names.new.items ≡ with_names imported (bytes_of names.old.items) given) }
@@ -107,7 +107,7 @@ pub fn name_functions<'a>(contents: BinaryReader<'a>, imported: u32, names: &mut
     }
 }
 
-/// The name of the module, where the custom section `name` begins with it; else none.
+/// Returns the name of the module, if the custom section `name` starts with it; otherwise no bytes.
 pub fn name_of_module<'a>(contents: BinaryReader<'a>) -> &'a [u8]
     ensures { GivesModule (Some contents.entry) result.now }
 {

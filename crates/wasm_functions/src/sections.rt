@@ -12,9 +12,10 @@ use wasm_module::below::{BinaryReader, WasmFeatures};
 use wasm_module::module_laws::names;
 use wasm_module::{CustomSection, PreambleKind, Section, read_preamble, read_section};
 
-/// A reader of a module's sections, behind its preamble.
+/// Reads the preamble of a module and returns a reader of its sections.
 ///
-/// `NotModule` where the preamble is that of something else; refused where the data ends within it.
+/// Fails with `NotModule` if the preamble is that of something else, and with `Refused` if the data
+/// ends within it.
 fn open_module<'a>(features: WasmFeatures, bytes: &'a [u8]) -> Result<BinaryReader<'a>, ModuleFault>
     ensures ok { IfOk result (λ behind. BeginsModule (reader_of features 0 bytes.now) behind) }
     ensures refused { IfErr result (λ fault. (behind : Reader) → BeginsModule (reader_of features 0 bytes.now) behind → ⊥) }
@@ -32,7 +33,7 @@ fn open_module<'a>(features: WasmFeatures, bytes: &'a [u8]) -> Result<BinaryRead
     }
 }
 
-/// What was found, or else the contents of the section where it has this number.
+/// Returns what was found, or otherwise the contents of the section, if it has this number.
 fn or_first<'a>(
     found: Option<BinaryReader<'a>>,
     section: &Section<'a>,
@@ -52,11 +53,11 @@ fn or_first<'a>(
     }
 }
 
-/// The contents of a module's first section with this number, where there is one. It goes past all
+/// Returns the contents of a module's first section with this number, if there is one. Skips all
 /// sections by their sizes.
 ///
-/// `NotModule` where the bytes begin as no module does; else refused as the preamble, or behind sections that
-/// stand as the next one.
+/// Fails with `NotModule` if the bytes do not start with the preamble of a module; otherwise as the
+/// preamble or the first section in error does.
 pub fn find_section<'a>(
     features: WasmFeatures,
     bytes: &'a [u8],
@@ -83,7 +84,7 @@ pub fn find_section<'a>(
     Ok(found)
 }
 
-/// The contents of a custom section behind its name, where that is `name`.
+/// Returns the contents of a custom section after its name, if the name is `name`.
 fn names_of<'a>(section: &Section<'a>) -> Option<BinaryReader<'a>>
     ensures { MatchOption result ((contents : Reader) → IsNames section.now contents → ⊥) (λ contents. IsNames section.now contents) }
 {
@@ -103,7 +104,7 @@ fn names_of<'a>(section: &Section<'a>) -> Option<BinaryReader<'a>>
     }
 }
 
-/// The contents of the section where it is one of names, or else what was found.
+/// Returns the contents of the section, if it is a custom section `name`; otherwise what was found.
 fn or_last<'a>(found: Option<BinaryReader<'a>>, section: &Section<'a>) -> Option<BinaryReader<'a>>
     ensures { (sections : List SectionParts) → LastNames sections found.entry → LastNames (sections ++ section.now ∷ []) result }
 {
@@ -113,9 +114,9 @@ fn or_last<'a>(found: Option<BinaryReader<'a>>, section: &Section<'a>) -> Option
     }
 }
 
-/// The contents of a module's last custom section of names, where there is one.
+/// Returns the contents of a module's last custom section `name`, if there is one.
 ///
-/// Refused as `find_section`.
+/// Fails as `find_section` does.
 pub fn find_names<'a>(
     features: WasmFeatures,
     bytes: &'a [u8],

@@ -15,7 +15,7 @@ use wasm_module::below::BinaryReader;
 use wasm_module::below::byte_laws::unsigned_numbers;
 use wasm_module::{CompositeType, module_laws, read_rec_type_len};
 
-/// How many parameters a type has, none where it is no function's.
+/// Returns the number of parameters of a type, or 0 if it is not a function type.
 fn parameter_count(ty: CompositeType) -> u32
     ensures { result ≡ parameter_count ty }
 {
@@ -25,9 +25,9 @@ fn parameter_count(ty: CompositeType) -> u32
     }
 }
 
-/// How many parameters each of this many types has.
+/// Reads this many types and appends the number of parameters of each.
 ///
-/// `TypeKind` at a type of none of the three sorts; else refused as one.
+/// Fails with `TypeKind` at a type of none of the three sorts; otherwise as a type does.
 fn read_rec_type(
     reader: &mut BinaryReader<'_>,
     len: u32,
@@ -56,10 +56,12 @@ fn read_rec_type(
     Ok(())
 }
 
-/// How many parameters each type of a section has, none of one that is no function's.
+/// Returns the number of parameters of each type of a section, which is 0 if it is not a function
+/// type.
 ///
-/// `TypeKind` at a type of none of the three sorts; else refused as the number of the recursive types, as
-/// that of the types of one, or as one of these. `Memory` where memory was refused.
+/// Fails with `TypeKind` at a type of none of the three sorts; otherwise as the number of the
+/// recursive types, the number of the types of one, or one of these does. Fails with `Memory` if
+/// allocation fails.
 pub fn parameter_counts(alloc: Global, contents: BinaryReader<'_>) -> Result<Vec<u32>, ModuleFault>
     ensures ok { IfOk result (λ counts. CountsParameters (Some contents.entry) counts.items) }
     ensures refused { IfErr result (λ fault. (counts : List ℕ) → CountsParameters (Some contents.entry) counts → fault ≡ ModuleFault.Memory) }
@@ -86,9 +88,9 @@ pub fn parameter_counts(alloc: Global, contents: BinaryReader<'_>) -> Result<Vec
     Ok(counts)
 }
 
-/// The types of the functions of a section: an index for each.
+/// Returns the types of the functions of a section: an index for each.
 ///
-/// Refused as the number of the functions, or as an index. `Memory` where memory was refused.
+/// Fails as the number of the functions or an index does. Fails with `Memory` if allocation fails.
 pub fn function_types(alloc: Global, contents: BinaryReader<'_>) -> Result<Vec<u32>, ModuleFault>
     ensures ok { IfOk result (λ types. IsList (EncodesUnsigned 32) contents.entry types.items) }
     ensures refused { IfErr result (λ fault. (types : List ℕ) → IsList (EncodesUnsigned 32) contents.entry types → fault ≡ ModuleFault.Memory) }

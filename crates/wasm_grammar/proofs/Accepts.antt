@@ -1,4 +1,4 @@
--- The rules for frames let each walk through, and close its frames again.
+-- The frame rules accept each walk, and close its frames.
 use Rattle.std.proofs.Common.{◌≡◌, ℕ, List, [], ◌∷◌, ◌++◌, Some, refl, sym, ap, ◌∙◌, append_assoc}
 use Rattle.std.specs.Option.{option_map, option_and_then}
 use Rattle.wasm_grammar.specs.declared.frame_kind.FrameKind.{FrameKind}
@@ -7,7 +7,7 @@ use Rattle.wasm_grammar.specs.Role.{Role, plain, opens, opens_if, opens_try, tur
 use Rattle.wasm_grammar.specs.Tree.{Instruction, single, nest, if_one, if_two, try_handle, try_delegate, Instructions, nil, cons, Handlers, no_more, for_all, for_tag, walk_instruction, walk_instructions, walk_handlers, Expression, walk}
 use Rattle.wasm_grammar.specs.Frames.{kind_of_nest, replacement, frames_after, frames_along}
 
--- a role changes the innermost frame alone
+-- a role changes only the innermost frame
 pub frames_after_at : {A : Type 0} (outer : List FrameKind) (kind : FrameKind) (role : Role A) (next : List FrameKind) →
     replacement kind role ≡ Some next → frames_after (outer ++ kind ∷ []) role ≡ Some (outer ++ next)
 frames_after_at [] kind role next e = e
@@ -23,7 +23,7 @@ pub run_role : {A : Type 0} (outer : List FrameKind) (kind : FrameKind) (role : 
 run_role outer kind role next rest e =
     ap (option_and_then (λ frames. frames_along frames rest)) (frames_after_at outer kind role next e)
 
--- the same with one frame more around it
+-- the same with one more frame around it
 pub run_inner_role : {A : Type 0} (outer : List FrameKind) (kind inner : FrameKind) (role : Role A)
     (next : List FrameKind) (rest : List (Role A)) →
     replacement inner role ≡ Some next →
@@ -32,7 +32,7 @@ run_inner_role outer kind inner role next rest e =
     ap (λ frames. frames_along frames (role ∷ rest)) (sym (append_assoc outer (kind ∷ []) (inner ∷ []))) ∙
     run_role (outer ++ kind ∷ []) inner role next rest e ∙ ap (λ frames. frames_along frames rest) (append_assoc outer (kind ∷ []) next)
 
--- the roles of a whole body leave the frames as they are
+-- the roles of a complete body leave the frames unchanged
 pub run_body : {A : Type 0} (outer : List FrameKind) (kind inner : FrameKind) (body close rest : List (Role A)) →
     frames_along ((outer ++ kind ∷ []) ++ inner ∷ []) (body ++ (close ++ rest)) ≡ frames_along ((outer ++ kind ∷ []) ++ inner ∷ []) (close ++ rest) →
     frames_along (outer ++ kind ∷ inner ∷ []) ((body ++ close) ++ rest) ≡ frames_along (outer ++ kind ∷ inner ∷ []) (close ++ rest)
@@ -42,7 +42,7 @@ run_body outer kind inner body close rest e =
     ∙ e
     ∙ ap (λ frames. frames_along frames (close ++ rest)) (append_assoc outer (kind ∷ []) (inner ∷ []))
 
--- a frame behind whose body a handler may stand
+-- a frame after whose body a handler may follow
 pub record Handles (A : Type 0) (inner : FrameKind) : Type 0 where
   pub tags : (tag : ℕ) → replacement {A = A} inner (turns_catch tag) ≡ Some (frame.LegacyCatch ∷ [])
   pub all : replacement {A = A} inner turns_catch_all ≡ Some (frame.LegacyCatchAll ∷ [])
@@ -53,7 +53,7 @@ handles_try A = record { tags = λ tag. refl; all = refl }
 pub handles_catch : (A : Type 0) → Handles A frame.LegacyCatch
 handles_catch A = record { tags = λ tag. refl; all = refl }
 
--- a whole tree leaves the frames as they are, and the handlers of a try close its frame
+-- a complete tree leaves the frames unchanged, and the handlers of a try close its frame
 mutual
   run_instruction : {A : Type 0} (instruction : Instruction A) (outer : List FrameKind) (kind : FrameKind)
       (rest : List (Role A)) →
@@ -111,6 +111,6 @@ mutual
       (run_instructions body (outer ++ kind ∷ []) frame.LegacyCatch (walk_handlers handlers ++ rest))
       ∙ run_handlers handlers outer kind frame.LegacyCatch rest (handles_catch A)
 
--- From the frame of the expression on, its walk closes all frames.
+-- Starting with the frame of the expression, the walk of an expression closes all frames.
 pub run_walk : {A : Type 0} (tree : Expression A) → frames_along (frame.Block ∷ []) (walk tree) ≡ Some []
 run_walk tree = run_instructions tree [] frame.Block (ends ∷ [])

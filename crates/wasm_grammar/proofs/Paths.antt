@@ -1,4 +1,4 @@
--- Along an open path the rules for frames come to its frames.
+-- Along an open path the frame rules lead to its frames.
 use Rattle.std.proofs.Common.{◌≡◌, List, [], ◌∷◌, ◌++◌, Option, Some, refl, sym, ap, ◌∙◌, append_assoc}
 use Rattle.std.proofs.lemmas.List.{append-nil}
 use Rattle.wasm_grammar.specs.declared.frame_kind.FrameKind.{FrameKind}
@@ -12,7 +12,7 @@ use Rattle.wasm_grammar.proofs.Accepts.{run_role, run_inner_role, run_body, Hand
 abbrev some : {X : Type 0} → X → Option X
 some x = Some x
 
--- through handlers that are whole, and the role behind them
+-- through complete handlers, and the role after them
 run_parts : {A : Type 0} (parts : Parts A) (outer : List FrameKind) (kind inner : FrameKind) (role : Role A)
     (next : FrameKind) (rest : List (Role A)) →
     Handles A inner → replacement inner role ≡ Some (next ∷ []) →
@@ -27,7 +27,7 @@ run_parts {A} (part ∷ parts) outer kind inner role next rest handles at_inner 
     (run_instructions part.1 (outer ++ kind ∷ []) frame.LegacyCatch (walk_parts parts ++ role ∷ rest))
     ∙ run_parts parts outer kind frame.LegacyCatch role next rest (handles_catch A) at_catch at_catch
 
--- the same from the opener of the try on
+-- the same, starting with the opener of the try
 run_tries : {A : Type 0} (a : A) (body : Instructions A) (parts : Parts A) (role : Role A) (next : FrameKind)
     (outer : List FrameKind) (kind : FrameKind) (rest : List (Role A)) →
     replacement frame.LegacyTry role ≡ Some (next ∷ []) → replacement frame.LegacyCatch role ≡ Some (next ∷ []) →
@@ -71,7 +71,7 @@ run_in (next ∷ frames) outer kind roles (whole, head, inner, kind_is, roles_ar
     ∙ run_in frames (outer ++ kind ∷ []) next inner path
     ∙ ap (λ (x : List FrameKind). some x) (append_assoc (outer ++ kind ∷ []) (next ∷ []) frames)
 
--- From the frame of the expression on, roles with an open path lead to its frames.
+-- Starting with the frame of the expression, roles with an open path lead to its frames.
 pub run_path : {A : Type 0} (frames : List FrameKind) (roles : List (Role A)) →
     OpenPath roles frames → frames_along (frame.Block ∷ []) roles ≡ Some frames
 run_path [] roles (tree, e) = ap (frames_along (frame.Block ∷ [])) e ∙ run_walk tree
@@ -81,7 +81,7 @@ run_path (kind ∷ frames) roles (kind_is, path) =
 some_is : {X : Type 0} {x y : X} → Some x ≡ Some y → x ≡ y
 some_is e = cc
 
--- Roles have an open path to one list of frames at most.
+-- Roles have an open path to at most one list of frames.
 pub same_frames : {A : Type 0} (first second : List FrameKind) (roles : List (Role A)) →
     OpenPath roles first → OpenPath roles second → first ≡ second
 same_frames first second roles p q = some_is (sym (run_path first roles p) ∙ run_path second roles q)

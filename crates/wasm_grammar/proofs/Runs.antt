@@ -1,4 +1,4 @@
--- The rules for frames, and the grammar of expressions, say the same of each list of roles.
+-- The frame rules and the grammar of expressions agree on each list of roles.
 use Rattle.std.proofs.Common.{◌≡◌, ℕ, zero, suc, List, [], ◌∷◌, ◌++◌, replicate, length, Option, Some, None, refl, sym, subst, ap, ◌∙◌, append_assoc}
 use Rattle.std.proofs.lemmas.List.{append-nil}
 use Rattle.std.specs.Prelude.{IsSome}
@@ -15,7 +15,7 @@ use Rattle.wasm_grammar.proofs.Accepts.{run_walk}
 use Rattle.wasm_grammar.proofs.Steps.{path_step, path_start}
 use Rattle.wasm_grammar.proofs.Paths.{run_path}
 
--- Two steps that give a value: the value between them.
+-- If two steps give a value, there is a value between them.
 pub bound : {X Y : Type 0} (f : X → Option Y) (o : Option X) (y : Y) →
     option_and_then f o ≡ Some y → (x : X) × (o ≡ Some x) × (f x ≡ Some y)
 bound f None y e = absurd (cc e)
@@ -42,7 +42,8 @@ frames_along-append frames (role ∷ roles) more =
     chained (λ next. frames_along next roles) (λ next. frames_along next more) (λ next. frames_along next (roles ++ more))
     (λ next. frames_along-append next roles more) (frames_after frames role)
 
--- Where the roles so far have an open path, so have those behind which the rules come to some frames.
+-- If roles have an open path, and the frame rules lead on to other frames, all the roles have an
+-- open path to those.
 pub path_run : {A : Type 0} (more : List (Role A)) (frames : List FrameKind) (roles : List (Role A))
     (next : List FrameKind) →
     OpenPath roles frames → frames_along frames more ≡ Some next → OpenPath (roles ++ more) next
@@ -53,7 +54,8 @@ path_run (role ∷ more) frames roles next path e =
     let longer = path_run more b.0 (roles ++ role ∷ []) next (path_step frames roles role b.0 path b.1) b.2 in
     subst (λ x. OpenPath x next) (append_assoc roles (role ∷ []) more) longer
 
--- The frames that the rules come to from the frame of the expression on have an open path.
+-- If the frame rules lead from the frame of the expression to some frames, the roles have an open
+-- path to them.
 pub path_of : {A : Type 0} (roles : List (Role A)) (frames : List FrameKind) →
     frames_along (frame.Block ∷ []) roles ≡ Some frames → OpenPath roles frames
 path_of roles frames e = path_run roles (frame.Block ∷ []) [] frames path_start e
@@ -87,7 +89,7 @@ ends_close A (suc n) (kind ∷ inside) e =
     let f = fewer A kind inside in
     ap (option_and_then (λ next. frames_along next (replicate n ends))) f.1 ∙ ends_close A n f.0 (f.2 ∙ cc e)
 
--- With these behind it, a list of roles that comes to some frames is a walk.
+-- With these after it, a list of roles that leads to some frames is a walk.
 pub ends_complete : {A : Type 0} (roles : List (Role A)) (frames : List FrameKind) →
     frames_along (frame.Block ∷ []) roles ≡ Some frames → IsWalk (roles ++ replicate (length frames) ends)
 ends_complete {A} roles frames e =
@@ -99,7 +101,7 @@ pub run_begins : {A : Type 0} (roles : List (Role A)) (frames : List FrameKind) 
     frames_along (frame.Block ∷ []) roles ≡ Some frames → BeginsWalk roles
 run_begins roles frames e = let t = ends_complete roles frames e in (replicate (length frames) ends, t.0, t.1)
 
--- The rules let each beginning of a walk through.
+-- The frame rules accept each prefix of a walk.
 pub beginning_runs : {A : Type 0} (roles : List (Role A)) →
     BeginsWalk roles → (frames : List FrameKind) × (frames_along (frame.Block ∷ []) roles ≡ Some frames)
 beginning_runs roles (more, tree, e) =
@@ -107,7 +109,7 @@ beginning_runs roles (more, tree, e) =
     walk_runs_out (roles ++ more) tree e) in
     (b.0, b.1)
 
--- The rules come to some frames exactly by a beginning of a walk.
+-- If the frame rules lead to some frames, the roles are a prefix of a walk.
 pub begins_of_run : {A : Type 0} (roles : List (Role A)) →
     IsSome (frames_along (frame.Block ∷ []) roles) → BeginsWalk roles
 begins_of_run roles h = let s = some_of (frames_along (frame.Block ∷ []) roles) h in run_begins roles s.0 s.1
@@ -116,11 +118,11 @@ pub IsSome_of_begins : {A : Type 0} (roles : List (Role A)) →
     BeginsWalk roles → IsSome (frames_along (frame.Block ∷ []) roles)
 IsSome_of_begins roles begins = let r = beginning_runs roles begins in IsSome_of (frames_along (frame.Block ∷ []) roles) r.0 r.1
 
--- A beginning of a beginning is one.
+-- A prefix of a prefix of a walk is a prefix of a walk.
 pub begins_beginning : {A : Type 0} (roles more : List (Role A)) → BeginsWalk (roles ++ more) → BeginsWalk roles
 begins_beginning roles more (others, tree, e) = (more ++ others, tree, sym (append_assoc roles more others) ∙ e)
 
--- From the frames of an open path on, the rules let through what continues it to a beginning of a walk.
+-- From the frames of an open path, the frame rules accept what extends it to a prefix of a walk.
 pub path_runs_on : {A : Type 0} (frames : List FrameKind) (roles more : List (Role A)) →
     OpenPath roles frames → BeginsWalk (roles ++ more) →
     (next : List FrameKind) × (frames_along frames more ≡ Some next)
@@ -131,7 +133,7 @@ path_runs_on frames roles more path begins =
           r.1,
     )
 
--- In particular it closes them exactly where it completes an expression.
+-- In particular, what completes an expression closes all frames.
 pub path_runs_out : {A : Type 0} (frames : List FrameKind) (roles more : List (Role A)) →
     OpenPath roles frames → IsWalk (roles ++ more) → frames_along frames more ≡ Some []
 path_runs_out frames roles more path (tree, e) =

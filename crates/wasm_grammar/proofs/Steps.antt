@@ -1,4 +1,4 @@
--- A role that the rules for frames allow leads an open path on.
+-- A role that the frame rules allow extends an open path.
 use Rattle.std.proofs.Common.{◌≡◌, ℕ, List, [], ◌∷◌, ◌++◌, Option, Some, None, refl, sym, subst, ap, ◌∙◌, append_assoc}
 use Rattle.std.proofs.lemmas.List.{append-nil}
 use Rattle.std.specs.Option.{option_map}
@@ -22,7 +22,7 @@ walk_instructions-push (cons first more) last =
     append_assoc (walk_instruction first) (walk_instructions more) (walk_instruction last)
     ∙ ap (λ roles. walk_instruction first ++ roles) (walk_instructions-push more last)
 
--- handlers that are whole, before others
+-- complete handlers, before others
 handlers_of : {A : Type 0} → Parts A → Handlers A → Handlers A
 handlers_of [] handlers = handlers
 handlers_of (part ∷ parts) handlers = for_tag part.0 part.1 (handlers_of parts handlers)
@@ -42,7 +42,7 @@ walk_parts-push (part ∷ parts) tag body =
     ap (λ roles. turns_catch part.0 ∷ roles) (append_assoc (walk_instructions part.1) (walk_parts parts) (turns_catch tag ∷ walk_instructions body) ∙
     ap (λ roles. walk_instructions part.1 ++ roles) (walk_parts-push parts tag body))
 
--- the instruction that an `end` completes behind this head and body
+-- the instruction that an `end` completes after this head and body
 closed : {A : Type 0} → Head A → Instructions A → Instruction A
 closed (of_nest n a) body = nest n a body
 closed (of_if a) body = if_one a body
@@ -70,7 +70,7 @@ walk-closed (of_catch_all a before parts) body =
     ap (λ roles. opens_try a ∷ roles) (regroup (walk_instructions before) (walk_parts parts) turns_catch_all (walk_instructions body ++ ends ∷ []) ∙
     ap (λ roles. walk_instructions before ++ roles) (walk-handlers_of parts (for_all body)))
 
--- whole instructions, a head, the body so far, and a role behind it
+-- complete instructions, a head, the body so far, and a role after it
 behind : {A : Type 0} → Instructions A → Head A → Instructions A → Role A → List (Role A)
 behind before head body role = (walk_instructions before ++ (walk_head head ++ walk_instructions body)) ++ role ∷ []
 
@@ -104,7 +104,7 @@ longer_path before head body a = (
   (push body (single a), refl),
 )
 
--- one more body open
+-- one more open body
 opened_path : {A : Type 0} (before : Instructions A) (head : Head A) (body : Instructions A) (role : Role A)
     (other : Head A) →
     walk_head other ≡ role ∷ [] →
@@ -119,7 +119,7 @@ opened_path before head body role other e = (
   (body, other, [], refl, refl, (nil, refl)),
 )
 
--- another body of the same construct open
+-- another body of the same construct is open
 turned_path : {A : Type 0} (before : Instructions A) (head : Head A) (body : Instructions A) (role : Role A)
     (other : Head A) →
     walk_head head ++ (walk_instructions body ++ role ∷ []) ≡ walk_head other →
@@ -133,7 +133,7 @@ turned_path before head body role other e = (
   (nil, refl),
 )
 
--- the construct whole
+-- the construct is complete
 closed_path : {A : Type 0} (before : Instructions A) (head : Head A) (body : Instructions A) (role : Role A)
     (instruction : Instruction A) →
     walk_head head ++ (walk_instructions body ++ role ∷ []) ≡ walk_instruction instruction →
@@ -141,7 +141,7 @@ closed_path : {A : Type 0} (before : Instructions A) (head : Head A) (body : Ins
 closed_path before head body role instruction e =
     (push before instruction, behind-is before head body role ∙ ap (λ roles. walk_instructions before ++ roles) e ∙ walk_instructions-push before instruction)
 
--- a handler becomes whole where the next begins
+-- a handler is complete at the start of the next
 catch_head : {A : Type 0} (a : A) (before : Instructions A) (parts : Parts A) (tag : ℕ) (body : Instructions A)
     (role : Role A) →
     walk_head (of_catch a before parts tag) ++ (walk_instructions body ++ role ∷ []) ≡ opens_try
@@ -191,7 +191,7 @@ step_innermost role before (of_nest loop a) body next e = absurd (cc e)
 step_innermost role before (of_nest try_table a) body next e = absurd (cc e)
 step_innermost _ before _ body next e = absurd (cc e)
 
--- a map that gives a value was given one
+-- if `option_map` gives a value, it was given one
 mapped : {X Y : Type 0} (f : X → Y) (o : Option X) (y : Y) →
     option_map f o ≡ Some y → (x : X) × (o ≡ Some x) × (f x ≡ y)
 mapped f None y e = absurd (cc e)
@@ -230,7 +230,7 @@ step_outermost (opens_try a) before next e =
 step_outermost ends before next e = subst (OpenPath _) (some_is e) (before, refl)
 step_outermost _ before next e = absurd (cc e)
 
--- Behind a role that is allowed, there is an open path to the frames after it.
+-- After a role that is allowed, there is an open path to the frames after the role.
 pub path_step : {A : Type 0} (frames : List FrameKind) (roles : List (Role A)) (role : Role A) (next : List FrameKind) →
     OpenPath roles frames → frames_after frames role ≡ Some next → OpenPath (roles ++ role ∷ []) next
 path_step [] roles role next path e = absurd (cc e)
@@ -241,6 +241,6 @@ path_step (kind ∷ inside ∷ frames) roles role next (kind_is, path) e =
     let m = mapped (λ (x : List FrameKind). kind ∷ x) (frames_after_in inside frames role) next e in
     subst (OpenPath (roles ++ role ∷ [])) m.2 (kind_is, step_inside frames inside roles role m.0 path m.1)
 
--- At the start the frame of the expression alone is open.
+-- At the start only the frame of the expression is open.
 pub path_start : {A : Type 0} → OpenPath {A = A} [] (frame.Block ∷ [])
 path_start = (refl, (nil, refl))

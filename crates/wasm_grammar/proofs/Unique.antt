@@ -3,7 +3,7 @@ use Rattle.std.proofs.Common.{◌≡◌, ℕ, List, [], ◌∷◌, ◌++◌, ref
 use Rattle.wasm_grammar.specs.Role.{Role, opens, opens_if, opens_try, turns_else, turns_catch, turns_catch_all, delegates, ends}
 use Rattle.wasm_grammar.specs.Tree.{Instruction, single, nest, if_one, if_two, try_handle, try_delegate, Instructions, nil, cons, Handlers, no_more, for_all, for_tag, walk_instruction, walk_instructions, walk_handlers, Expression, walk}
 
--- The first role is one that ends a body.
+-- The first role ends a body.
 abbrev EndsBody : {A : Type 0} → List (Role A) → Type 0
 EndsBody [] = ⊥
 EndsBody (turns_else ∷ roles) = Unit {0}
@@ -20,7 +20,7 @@ regrouped s t a b x y p q e =
     let tails : (a ++ x) ++ p ≡ (b ++ y) ++ q = cc in
     sym (append_assoc a x p) ∙ tails ∙ append_assoc b y q
 
--- handlers begin with a role that ends a body
+-- handlers start with a role that ends a body
 handlers_end_body : {A : Type 0} (h : Handlers A) (p : List (Role A)) → EndsBody (walk_handlers h ++ p)
 handlers_end_body no_more p = tt
 handlers_end_body (for_all body) p = tt
@@ -33,7 +33,7 @@ handlers_no_delegate no_more depth p q e = cc
 handlers_no_delegate (for_all body) depth p q e = cc
 handlers_no_delegate (for_tag tag body more) depth p q e = cc
 
--- a role that ends a body begins no instruction
+-- no instruction starts with a role that ends a body
 no_instruction : {A : Type 0} (i : Instruction A) (p x : List (Role A)) → EndsBody p → p ≡ walk_instruction i ++ x → ⊥
 no_instruction (single a) p x ends_body e = subst EndsBody e ends_body
 no_instruction (nest n a is) p x ends_body e = subst EndsBody e ends_body
@@ -42,7 +42,7 @@ no_instruction (if_two a is js) p x ends_body e = subst EndsBody e ends_body
 no_instruction (try_handle a is h) p x ends_body e = subst EndsBody e ends_body
 no_instruction (try_delegate a is depth) p x ends_body e = subst EndsBody e ends_body
 
--- where two walks with something behind them are equal, the trees are, and what is behind them
+-- if two walks with roles after them are equal, so are the trees, and the roles after them
 mutual
   same_instruction : {A : Type 0} (i j : Instruction A) (p q : List (Role A)) →
       walk_instruction i ++ p ≡ walk_instruction j ++ q → (i ≡ j) × (p ≡ q)

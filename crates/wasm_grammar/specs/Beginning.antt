@@ -1,5 +1,6 @@
--- Which lists of roles are an expression, and which are a beginning of one.
--- WebAssembly Core Specification 3.0: Structure, Instructions, Expressions; Binary Format, Instructions, Expressions.
+-- Lists of roles that are an expression, or a prefix of one.
+-- WebAssembly Core Specification 3.0: Structure, Instructions, Expressions; Binary Format,
+-- Instructions, Expressions.
 use Rattle.std.specs.Prelude.{◌≡◌, List, ◌++◌}
 use Rattle.wasm_grammar.specs.Role.{Role}
 use Rattle.wasm_grammar.specs.Tree.{Expression, walk}
@@ -12,6 +13,6 @@ IsWalk {A} roles = (tree : Expression A) × (roles ≡ walk tree)
 abbrev pub IsOnlyTree : {A : Type 0} → List (Role A) → Expression A → Type 0
 IsOnlyTree {A} roles tree = (roles ≡ walk tree) × ((other : Expression A) → roles ≡ walk other → other ≡ tree)
 
--- With more roles behind them the roles are the walk of an expression.
+-- The roles are a prefix of the walk of an expression.
 abbrev pub BeginsWalk : {A : Type 0} → List (Role A) → Type 0
 BeginsWalk {A} roles = (more : List (Role A)) × (tree : Expression A) × (roles ++ more ≡ walk tree)

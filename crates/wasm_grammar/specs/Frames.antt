@@ -1,6 +1,7 @@
--- The open frames, from the outermost to the innermost: what the innermost allows, and what is open afterwards.
--- WebAssembly Core Specification 3.0: Validation, Instructions, Control Instructions; Appendix, Validation Algorithm,
--- control frames.
+-- The open frames, from the outermost to the innermost: which roles the innermost frame allows, and
+-- which frames are open after a role.
+-- WebAssembly Core Specification 3.0: Validation, Instructions, Control Instructions; Appendix,
+-- Validation Algorithm, control frames.
 -- The legacy exception handling proposal: the frames of try, catch and catch_all.
 use Rattle.std.specs.Prelude.{List, [], ◌∷◌, Option, Some, None, IsSome}
 use Rattle.std.specs.Option.{option_map, option_and_then}
@@ -14,7 +15,7 @@ kind_of_nest block = frame.Block
 kind_of_nest loop = frame.Loop
 kind_of_nest try_table = frame.TryTable
 
--- What the innermost frame becomes by a role, or None where it does not allow the role.
+-- The frames that replace the innermost frame after a role, or None if it does not allow the role.
 abbrev pub replacement : {A : Type 0} → FrameKind → Role A → Option (List FrameKind)
 replacement kind (plain a) = Some (kind ∷ [])
 replacement kind (opens n a) = Some (kind ∷ kind_of_nest n ∷ [])
@@ -29,21 +30,22 @@ replacement frame.LegacyCatch turns_catch_all = Some (frame.LegacyCatchAll ∷ [
 replacement frame.LegacyTry (delegates depth) = Some []
 replacement _ _ = None
 
--- A role may stand where this frame is the innermost.
+-- An innermost frame of this kind allows the role.
 abbrev pub Allows : {A : Type 0} → FrameKind → Role A → Type 0
 Allows kind role = IsSome (replacement kind role)
 
--- The frames after a role, of one frame and those inside it.
+-- The frames after a role, for one frame and those inside it.
 abbrev pub frames_after_in : {A : Type 0} → FrameKind → List FrameKind → Role A → Option (List FrameKind)
 frames_after_in kind [] role = replacement kind role
 frames_after_in kind (next ∷ inside) role = option_map (λ frames. kind ∷ frames) (frames_after_in next inside role)
 
--- The frames after a role, or None where no frame is open or the innermost does not allow the role.
+-- The frames after a role, or None if no frame is open or the innermost frame does not allow the
+-- role.
 abbrev pub frames_after : {A : Type 0} → List FrameKind → Role A → Option (List FrameKind)
 frames_after [] role = None
 frames_after (kind ∷ inside) role = frames_after_in kind inside role
 
--- The frames after several roles, one by one.
+-- The frames after several roles in order, or None if one of them is not allowed.
 abbrev pub frames_along : {A : Type 0} → List FrameKind → List (Role A) → Option (List FrameKind)
 frames_along frames [] = Some frames
 frames_along frames (role ∷ roles) = option_and_then (λ next. frames_along next roles) (frames_after frames role)
@@ -53,17 +55,17 @@ abbrev pub innermost_in : FrameKind → List FrameKind → FrameKind
 innermost_in kind [] = kind
 innermost_in kind (next ∷ inside) = innermost_in next inside
 
--- The innermost frame, or None where no frame is open.
+-- The innermost frame, or None if no frame is open.
 abbrev pub innermost : List FrameKind → Option FrameKind
 innermost [] = None
 innermost (kind ∷ inside) = Some (innermost_in kind inside)
 
--- One frame and those inside it, but for the innermost.
+-- One frame and those inside it, without the innermost.
 abbrev pub without_innermost_in : FrameKind → List FrameKind → List FrameKind
 without_innermost_in kind [] = []
 without_innermost_in kind (next ∷ inside) = kind ∷ without_innermost_in next inside
 
--- The frames but for the innermost.
+-- The frames without the innermost.
 abbrev pub without_innermost : List FrameKind → List FrameKind
 without_innermost [] = []
 without_innermost (kind ∷ inside) = without_innermost_in kind inside

@@ -1,6 +1,7 @@
--- How far roles have come in a tree: the instructions that are whole, and the way down to the open body.
--- WebAssembly Core Specification 3.0: Structure, Instructions, Control Instructions and Expressions; Appendix, Validation
--- Algorithm, control frames.
+-- How far a list of roles has come in a tree: the complete instructions, and the path down to the
+-- open body.
+-- WebAssembly Core Specification 3.0: Structure, Instructions, Control Instructions and
+-- Expressions; Appendix, Validation Algorithm, control frames.
 -- The legacy exception handling proposal: try whose body or handlers are open.
 use Rattle.std.specs.Prelude.{◌≡◌, ℕ, List, [], ◌∷◌, ◌++◌}
 use Rattle.wasm_grammar.specs.declared.frame_kind.FrameKind.{FrameKind}
@@ -10,7 +11,7 @@ use Rattle.wasm_grammar.specs.Tree.{Instructions, walk_instructions}
 use Rattle.wasm_grammar.specs.Beginning.{IsWalk}
 use Rattle.wasm_grammar.specs.Frames.{kind_of_nest}
 
--- Handlers of a try that are whole, each a tag and a body.
+-- Complete handlers of a try, each a tag and a body.
 abbrev pub Parts : Type 0 → Type 0
 Parts A = List (ℕ × Instructions A)
 
@@ -18,7 +19,7 @@ abbrev pub walk_parts : {A : Type 0} → Parts A → List (Role A)
 walk_parts [] = []
 walk_parts (part ∷ parts) = turns_catch part.0 ∷ (walk_instructions part.1 ++ walk_parts parts)
 
--- An instruction up to its open body: which construct it is, and its bodies that are whole.
+-- An instruction up to its open body: which construct it is, and its complete bodies.
 pub data Head (A : Type 0) : Type 0 where
   of_nest : Nest → A → Head A
   of_if : A → Head A
@@ -27,7 +28,7 @@ pub data Head (A : Type 0) : Type 0 where
   of_catch : A → Instructions A → Parts A → ℕ → Head A
   of_catch_all : A → Instructions A → Parts A → Head A
 
--- The frame of the open body.
+-- The kind of the frame of the open body.
 abbrev pub kind_of_head : {A : Type 0} → Head A → FrameKind
 kind_of_head (of_nest n a) = kind_of_nest n
 kind_of_head (of_if a) = frame.If
@@ -45,16 +46,16 @@ walk_head (of_try a) = opens_try a ∷ []
 walk_head (of_catch a body parts tag) = opens_try a ∷ (walk_instructions body ++ (walk_parts parts ++ turns_catch tag ∷ []))
 walk_head (of_catch_all a body parts) = opens_try a ∷ (walk_instructions body ++ (walk_parts parts ++ turns_catch_all ∷ []))
 
--- Inside a body: instructions that are whole, and then, for each of these frames, a head of its kind and what its body
--- holds so far.
+-- Roles in a body: complete instructions, and then, for each of these frames, a head of its kind
+-- and what its body holds so far.
 abbrev pub OpenPathIn : {A : Type 0} → List (Role A) → List FrameKind → Type 0
 OpenPathIn {A} roles [] = (whole : Instructions A) × (roles ≡ walk_instructions whole)
 OpenPathIn {A} roles (kind ∷ frames) =
     (whole : Instructions A) × (head : Head A) × (inner : List (Role A)) × (kind_of_head head ≡ kind)
     × (roles ≡ walk_instructions whole ++ (walk_head head ++ inner)) × OpenPathIn inner frames
 
--- The roles lead into an expression in which these frames are open. The outermost is that of the expression itself, and
--- with none open the expression is whole.
+-- The roles lead into an expression in which these frames are open. The outermost frame is the
+-- frame of the expression; if no frame is open, the expression is complete.
 abbrev pub OpenPath : {A : Type 0} → List (Role A) → List FrameKind → Type 0
 OpenPath roles [] = IsWalk roles
 OpenPath roles (kind ∷ frames) = (kind ≡ frame.Block) × OpenPathIn roles frames

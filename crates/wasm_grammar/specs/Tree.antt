@@ -1,6 +1,6 @@
--- Instructions and expressions as trees, and the order in which their operators are written.
--- WebAssembly Core Specification 3.0: Structure, Instructions, Control Instructions and Expressions; Binary Format,
--- Instructions, Control Instructions and Expressions.
+-- Instructions and expressions as trees, and the order of their operators.
+-- WebAssembly Core Specification 3.0: Structure, Instructions, Control Instructions and
+-- Expressions; Binary Format, Instructions, Control Instructions and Expressions.
 -- The legacy exception handling proposal: try with its handlers, and try with delegate.
 use Rattle.std.specs.Prelude.{ℕ, List, [], ◌∷◌, ◌++◌}
 use Rattle.wasm_grammar.specs.Role.{Nest, Role, plain, opens, opens_if, opens_try, turns_else, turns_catch, turns_catch_all, delegates, ends}
@@ -20,17 +20,18 @@ mutual
     nil : Instructions A
     cons : Instruction A → Instructions A → Instructions A
 
-  -- What follows the body of a try: bodies for one tag each, and at most one for all tags, which is the last.
+  -- What follows the body of a try: bodies for one tag each, and then at most one body for all
+  -- tags.
   pub data Handlers (A : Type 0) : Type 0 where
     no_more : Handlers A
     for_all : Instructions A → Handlers A
     for_tag : ℕ → Instructions A → Handlers A → Handlers A
 
--- Instructions, behind which one `end` is written.
+-- Instructions. In the binary format an `end` follows them.
 abbrev pub Expression : Type 0 → Type 0
 Expression A = Instructions A
 
--- The roles of the operators of a tree, in the order in which they are written.
+-- The roles of the operators of a tree, in the order of the binary format.
 abbrev mutual
   pub walk_instruction : {A : Type 0} → Instruction A → List (Role A)
   walk_instruction (single a) = plain a ∷ []
@@ -49,6 +50,6 @@ abbrev mutual
   walk_handlers (for_all body) = turns_catch_all ∷ (walk_instructions body ++ ends ∷ [])
   walk_handlers (for_tag tag body more) = turns_catch tag ∷ (walk_instructions body ++ walk_handlers more)
 
--- The roles of an expression, its `end` among them.
+-- The roles of an expression, including its `end`.
 abbrev pub walk : {A : Type 0} → Expression A → List (Role A)
 walk tree = walk_instructions tree ++ ends ∷ []

@@ -1,5 +1,5 @@
 //! The kinds of frames.
-/// Which construct an open frame belongs to.
+/// The construct that an open frame belongs to.
 ///
 /// A frame is the control frame of the WebAssembly Core Specification 3.0 (Appendix, Validation
 /// Algorithm). The last three kinds belong to the legacy exception handling proposal.

@@ -1,7 +1,8 @@
-//! The structure of WebAssembly expressions, whatever their operators carry: trees of instructions,
-//! the frames that are open along the operators of one, and laws that the two say the same.
+//! The structure of WebAssembly expressions, for any values that operators carry: trees of
+//! instructions, and the frames that are open after each operator. The laws relate the two.
 //!
-//! The definitions are in `specs/`, the laws in [`laws`]. Only [`FrameKind`] is a value of programs.
+//! The definitions are in `specs/`, the laws in [`laws`]. Only [`FrameKind`] is a value of
+//! programs.
 #![tactic(auto)]
 
 mod frame_kind;

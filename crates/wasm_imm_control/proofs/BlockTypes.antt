@@ -21,7 +21,7 @@ use Rattle.wasm_imm_control.specs.declared.block_type.BlockType.{BlockType}
 use Rattle.wasm_imm_control.specs.declared.block_type.BlockType.TheVariants as block
 use Rattle.wasm_imm_control.specs.BlockTypes.{EncodesBlockType, EncodesFunctionType}
 
--- a byte that is an index by itself
+-- a byte that is an index of one byte
 pub short_index : (byte : ℕ) → byte < 64 → EncodesSigned 33 (byte ∷ []) (pos byte)
 short_index byte lt = (omega arith, ap (λ t. with_sign t byte 128) (sym (lt-ltb byte 64 lt)), (omega (arith, ints), omega (arith, ints)))
 
@@ -38,13 +38,13 @@ value_within b tail value.F64 p = let e : b ≡ 124 = cc p in (omega arith, omeg
 value_within b tail value.V128 p = let e : b ≡ 123 = cc p in (omega arith, omega arith)
 value_within b tail (value.Ref r) p = let l = ref_leads b tail r p in (omega (arith, l.0), omega (arith, l.1))
 
--- where a value type begins
+-- if a value type starts here
 pub value_block : (b : ℕ) → 65 ≤ b → b ≤ 127 → (tail : List ℕ) (t : BlockType) → EncodesBlockType (b ∷ tail) t → (v : ValType) × EncodesValType (b ∷ tail) v
 value_block b low high tail block.Empty p = let e : b ≡ 64 = cc p in absurd (omega arith)
 value_block b low high tail (block.Value v) p = (v, p)
 value_block b low high tail (block.FuncType i) p = absurd (index_leads 33 b tail i p (omega arith) (omega arith))
 
--- where neither a value type nor the byte 0x40 stands
+-- if the first byte starts no value type and is not 0x40
 pub function_block : (b : ℕ) → ((64 ≤ b) × (b ≤ 127) → ⊥) → (tail : List ℕ) (t : BlockType) → EncodesBlockType (b ∷ tail) t → EncodesFunctionType (b ∷ tail) t
 function_block b far tail block.Empty p = let e : b ≡ 64 = cc p in absurd (far (omega arith, omega arith))
 function_block b far tail (block.Value v) p = let w = value_within b tail v p in absurd (far (omega (arith, w.0), w.1))
@@ -62,7 +62,7 @@ no_function text after more n p over t2 more2 (block.Value v) q e = q
 no_function text after more n p over t2 more2 (block.FuncType i) q e =
     over i (signed_prefix_code text t2 33 (after ++ more) more2 n (pos i) p q (sym (append_assoc text after more) ∙ e)).1
 
--- back where a negative number was read, which is refused behind it
+-- back at the start of a negative number, with the error after it
 pub negative_refused : (e : Error) (old mid new : Reader) (n : ℤ) (position : ℕ) → Reads (EncodesSigned 33) (Ok n) old mid → ((i : ℕ) → n ≡ pos i → ⊥) →
     position ≡ old.position → new ≡ at_position mid position → e.offset ≡ offset_of mid → IsReadFault e.message →
     (new ≡ old) × IsRefusal EncodesFunctionType e old
@@ -80,7 +80,7 @@ negative_refused e old mid new n position (text, p, t) over at went offset fault
       },
     )
 
--- an encoding of a block type begins no other, and is that of one
+-- the encodings of block types are a prefix code
 pub block_prefix_code : PrefixCode EncodesBlockType
 block_prefix_code [] b x y m n p q e = absurd (block_empty m p)
 block_prefix_code (c ∷ a) [] x y m n p q e = absurd (block_empty n q)

@@ -58,7 +58,7 @@ next_target old new (Ok n) count (text, p, takes) (m ∷ ms, (l, (first, behind,
 next_target old new (Err e) count h ([], (l, nil)) some = absurd (omega (arith, l))
 next_target old new (Err e) count h (m ∷ ms, (l, (first, behind, eq, q, qs))) some = absurd (refused_now (EncodesUnsigned 32) e old h.1 first behind m q eq)
 
--- as many targets as are announced
+-- as many targets as the count says
 pub as_many : (count : ℕ) (bytes : List ℕ) → AreTargets count bytes → length (numbers_of bytes) ≡ count
 as_many count bytes h = (targets_encoded count bytes h).0
 
@@ -128,7 +128,7 @@ same_parts : (s t : BranchTable) → s.count ≡ t.count → s.default ≡ t.def
 unfolding table_of
 same_parts s t c d ts = ap (λ z. table_of z s.default s.targets) c ∙ ap (λ z. table_of t.count z s.targets) d ∙ ap (λ z. table_of t.count t.default z) ts
 
--- an encoding of a table begins no other, and is that of one
+-- the encodings of branch tables are a prefix code
 pub table_prefix_code : PrefixCode EncodesBranchTable
 table_prefix_code a b x y s t (c1, d1, ea, pc, (m, pm), pd) (c2, d2, eb, qc, (n, qm), qd) e =
     let whole : c1 ++ (s.targets ++ (d1 ++ x)) ≡ c2 ++ (t.targets ++ (d2 ++ y)) = sym (three c1 s.targets d1 x) ∙ ap (λ z. z ++ x) (sym ea) ∙ e ∙
@@ -143,7 +143,7 @@ table_prefix_code a b x y s t (c1, d1, ea, pc, (m, pm), pd) (c2, d2, eb, qc, (n,
     three : (p q r z : List ℕ) → (p ++ (q ++ r)) ++ z ≡ p ++ (q ++ (r ++ z))
     three p q r z = append_assoc p (q ++ r) z ∙ ap (λ w. p ++ w) (append_assoc q r z)
 
--- a target is refused, and so are all of them
+-- an error of a target is an error of all targets
 pub target_refused : (e : Error) (old now now2 new : Reader) (text : List ℕ) (done : List ℕ) (read count position : ℕ) →
     EncodesMany (EncodesUnsigned 32) read text done → read < count → Takes old now text → (now2 ≡ now) × IsRefusal (EncodesUnsigned 32) e now →
     position ≡ old.position → new ≡ at_position now2 position → (new ≡ old) × IsRefusal (EncodesTargets count) e old

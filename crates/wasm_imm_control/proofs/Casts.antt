@@ -100,7 +100,7 @@ third_prefix_code flags depth from a b x y c d p q e =
     let o = reference_prefix_code (second_null flags) a b x y c.to d.to p.0 q.0 e in
     (o.0, p.1 ∙ ap (cast_of depth from) o.1 ∙ sym q.1)
 
--- an encoding of a cast begins no other, and is that of one
+-- the encodings of casts are a prefix code
 pub cast_prefix_code : PrefixCode EncodesCast
 cast_prefix_code a b x y c d p q e = parts a b x y c d (to_parts a c p) (to_parts b d q) e
   where

@@ -1,4 +1,4 @@
--- What the fault of a control operator's immediate says determines its refusal.
+-- The fault of an immediate of a control operator determines its error.
 use Rattle.std.proofs.Common.{ℕ, zero, suc, inl, inr, List, sym, ap, ◌∙◌, ℤ, arith}
 use Rattle.wasm_below.specs.bytes.message.Message.{Message}
 use Rattle.wasm_below.specs.bytes.message.Message.TheVariants as message

@@ -1,4 +1,4 @@
--- Targets that stand in bytes, one behind another.
+-- Targets in bytes, in sequence.
 use Rattle.std.proofs.Common.{◌≡◌, ℕ, ◌+◌, ◌-◌, ◌*◌, ◌<◌, ◌≤◌, ◌^◌, List, [], ◌∷◌, ◌++◌, length, drop, get_or, refl, sym, subst, ap, ◌∙◌, append_assoc, length-append, length-drop, add-one, arith}
 use Rattle.std.proofs.Math.Seq.{drop-cons}
 use Rattle.std.proofs.lemmas.Nat.{le_or_l, le_or_r}
@@ -9,7 +9,7 @@ use Rattle.wasm_below.proofs.Numbers.{wide_fits}
 use Rattle.wasm_imm_control.specs.BranchTables.{HasTargets}
 use Rattle.wasm_imm_control.proofs.ListLemmas.{each_both}
 
--- some behind others
+-- targets after targets
 pub targets_behind : (n m : ℕ) (bytes : List ℕ) (start middle behind : ℕ) → HasTargets n bytes start middle → HasTargets m bytes middle behind →
     HasTargets (n + m) bytes start behind
 targets_behind n m bytes start middle behind a b =
@@ -33,7 +33,7 @@ targets_within n bytes start behind le h =
     length-append h.text (drop behind bytes) in
     omega (arith, h.ends)
 
--- A number of at most `width` bits stands at a position, and ends where `behind` is.
+-- A number of at most `width` bits starts at position `start` and ends before position `behind`.
 pub record HasNumber (width : ℕ) (bytes : List ℕ) (start behind : ℕ) : Type 0 where
   pub text : List ℕ
   pub value : ℕ
@@ -61,7 +61,7 @@ byte_before : (width byte : ℕ) (text : List ℕ) (high : ℕ) → 7 < width �
 byte_before width byte [] high wide more small p = absurd p
 byte_before width byte (c ∷ text) high wide more small p = (wide, more, small, high, omega arith, p)
 
--- a byte before it that says that more follow
+-- a continuation byte before it
 pub more_bytes : (width : ℕ) (bytes : List ℕ) (start next behind : ℕ) → 7 < width → start < length bytes → 128 ≤ get_or bytes start 0 →
     get_or bytes start 0 < 256 → next ≡ start + 1 → HasNumber (width - 7) bytes next behind → HasNumber width bytes start behind
 more_bytes width bytes start next behind wide lt more small e h =
@@ -82,12 +82,12 @@ is_target bytes start behind end e h =
       ends = h.ends;
     })
 
--- a last byte where there is room for seven bits
+-- a last byte, if the width allows seven bits
 pub short_byte : (width : ℕ) (bytes : List ℕ) (start : ℕ) → 7 ≤ width → start < length bytes → get_or bytes start 0 < 128 →
     HasNumber width bytes start (start + 1)
 short_byte width bytes start wide lt small = last_byte width bytes start lt small (wide_fits (get_or bytes start 0) width small wide)
 
--- one target of one byte more, where no bit of all of them says that more follow
+-- one more target of one byte, if the bits of all of them mark no continuation byte
 pub short_more : (bytes : List ℕ) (start at bits : ℕ) → start ≤ at → at < length bytes → (bits < 128 → HasTargets (at - start) bytes start at) →
     bit_or bits (get_or bytes at 0) < 128 → HasTargets (at + 1 - start) bytes start (at + 1)
 short_more bytes start at bits le lt before small =

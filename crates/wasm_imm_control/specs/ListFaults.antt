@@ -1,4 +1,4 @@
--- Which refusals lists have, and what holds them.
+-- Errors of lists, and of immediates that consist of lists.
 use Rattle.std.specs.Prelude.{ℕ, List}
 use Rattle.wasm_below.specs.bytes.message.Message.{Message}
 use Rattle.wasm_below.specs.bytes.message.SizeName.{SizeName}
@@ -13,18 +13,18 @@ use Rattle.wasm_imm_control.specs.Handlers.{EncodesCatch, EncodesHandle}
 use Rattle.wasm_imm_control.specs.HandlerFaults.{CatchFault, HandleFault}
 use Rattle.wasm_imm_control.specs.HandlerTables.{max_catches, max_handlers, max_select_types}
 
--- A list of this name: that of its count, or that of a member behind it.
+-- The error of a list of this name: the error of its count, or of a member after it.
 abbrev pub ListFault : {X : Type 0} → SizeName → ℕ → (List ℕ → X → Type 0) → (Message → Reader → ℕ → Type 0) → Message → Reader → ℕ → Type 0
 ListFault name limit Encodes Fault = ThenFault (EncodesSize limit) (CountFault name limit) (ManyFault Encodes Fault)
 
--- A try table: that of its block type, or that of the catches behind it.
+-- The error of a try table: the error of its block type, or of the catches after it.
 abbrev pub TryTableFault : Message → Reader → ℕ → Type 0
 TryTableFault = ThenFault EncodesBlockType BlockTypeFault (λ ty. ListFault size_name.Catches max_catches EncodesCatch CatchFault)
 
--- A resume table: that of its clauses.
+-- The error of a resume table: the error of its clauses.
 abbrev pub ResumeTableFault : Message → Reader → ℕ → Type 0
 ResumeTableFault = ListFault size_name.ResumeTable max_handlers EncodesHandle HandleFault
 
--- The types of a select.
+-- The error of the types of a select.
 abbrev pub SelectFault : Message → Reader → ℕ → Type 0
 SelectFault = ListFault size_name.SelectTypes max_select_types EncodesValType ValTypeFault

@@ -1,19 +1,19 @@
--- Lists: a count, and that many members one after another.
+-- Lists: a count, and that many members in sequence.
 -- WebAssembly Core Specification 3.0, Binary Format, Conventions, Lists.
 use Rattle.std.specs.Prelude.{◌≡◌, ℕ, List, [], ◌∷◌, ◌++◌, length}
 use Rattle.wasm_below.specs.Number.{EncodesSize}
 use Rattle.wasm_below.specs.Sequence.{Then}
 
--- The encodings of the members, one after another.
+-- The encodings of the members, in sequence.
 abbrev pub EncodesEach : {X : Type 0} → (List ℕ → X → Type 0) → List ℕ → List X → Type 0
 EncodesEach Encodes text [] = text ≡ []
 EncodesEach Encodes text (x ∷ xs) = (first rest : List ℕ) × (text ≡ first ++ rest) × Encodes first x × EncodesEach Encodes rest xs
 
--- This many members.
+-- The encodings of `count` members, in sequence.
 abbrev pub EncodesMany : {X : Type 0} → (List ℕ → X → Type 0) → ℕ → List ℕ → List X → Type 0
 EncodesMany Encodes count text xs = (length xs ≡ count) × EncodesEach Encodes text xs
 
--- Their count, which is at most `limit`, and the members.
+-- A list: the count, which is at most `limit`, and the members.
 --   list(X) ::= n:u32 (el:X)^n ⇒ el^n
 abbrev pub EncodesList : {X : Type 0} → ℕ → (List ℕ → X → Type 0) → List ℕ → List X → Type 0
 EncodesList limit Encodes = Then (EncodesSize limit) (EncodesMany Encodes)

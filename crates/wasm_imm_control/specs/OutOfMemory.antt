@@ -3,10 +3,11 @@ use Rattle.std.specs.Prelude.{◌≡◌, ◌≢◌, ℕ, ◌⊎◌}
 use Rattle.wasm_below.specs.bytes.error.Error.{Error}
 use Rattle.wasm_below.specs.bytes.message.Message.TheVariants as message
 
--- Memory was refused to a call that began at this offset.
+-- The error is `OutOfMemory` with this offset.
 abbrev pub IsOutOfMemoryAt : ℕ → Error → Type 0
 IsOutOfMemoryAt offset e = (e.message ≡ message.OutOfMemory) × (e.offset ≡ offset)
 
--- The same refusal, of a call that began at this offset: allocation failure is said there, and any other refusal where it was.
+-- The error f of a call that began at this offset, from the error e of one of its parts.
+-- `OutOfMemory` gets this offset, and any other error is unchanged.
 abbrev pub IsRefusedFrom : ℕ → Error → Error → Type 0
 IsRefusedFrom offset e f = (f.message ≡ e.message) × ((IsOutOfMemoryAt offset f) ⊎ ((e.message ≢ message.OutOfMemory) × (f.offset ≡ e.offset)))

@@ -7,22 +7,22 @@ ghost use Rattle.wasm_imm_control.specs.BlockTypes.{EncodesBlockType, EncodesFun
 
 use wasm_below::{BinaryReader, Error, Message, Result, ValType};
 
-/// The type of a block: its parameters and its results. Control Instructions.
+/// The type of a block: its parameters and results. Control Instructions.
 #[derive(Clone, Copy, Debug, PartialEq, Eq)]
 pub enum BlockType {
     /// No parameters and no results.
     Empty,
     /// No parameters, and one result of this type.
     Value(ValType),
-    /// The parameters and the results of the function type of this index.
+    /// The parameters and results of the function type with this index.
     FuncType(u32),
 }
 
 impl BlockType {
-    /// A block type. Control Instructions.
+    /// Reads a block type. Control Instructions.
     ///
-    /// Where a byte from 0x41 to 0x7f leads, refused as `ValType::read`. Else as `read_var_s33`, or by
-    /// `InvalidFunctionType` behind a negative number.
+    /// If the first byte is from 0x41 to 0x7f, fails like `ValType::read`. Otherwise fails like
+    /// `read_var_s33`, or with `InvalidFunctionType` after a negative number.
     #[inline(always)]
     pub fn read(reader: &mut BinaryReader<'_>) -> Result<BlockType>
         ensures reads { Reads EncodesBlockType result reader.old reader.new }
@@ -46,7 +46,7 @@ impl BlockType {
     }
 }
 
-/// The number or vector type of this byte.
+/// Returns the number or vector type with this byte.
 #[inline(always)]
 fn short_value_type(byte: u8) -> ValType
     requires low { 0x7b ≤ byte }
@@ -62,7 +62,7 @@ fn short_value_type(byte: u8) -> ValType
     }
 }
 
-/// A block type of any form, read by a copy of the reader, which is lent out of line.
+/// Reads a block type of any form. The call that is not inlined borrows a copy of the reader.
 #[inline(always)]
 fn read_by_copy(reader: &mut BinaryReader<'_>) -> Result<BlockType>
     ensures reads { Reads EncodesBlockType result reader.old reader.new }
@@ -74,7 +74,7 @@ fn read_by_copy(reader: &mut BinaryReader<'_>) -> Result<BlockType>
     answer
 }
 
-/// A block type of any form.
+/// Reads a block type of any form.
 #[inline(never)]
 fn read_other(reader: &mut BinaryReader<'_>) -> Result<BlockType>
     ensures reads { Reads EncodesBlockType result reader.old reader.new }
@@ -97,7 +97,7 @@ fn read_other(reader: &mut BinaryReader<'_>) -> Result<BlockType>
     }
 }
 
-/// The index of a function type.
+/// Reads the index of a function type.
 fn read_function_type(reader: &mut BinaryReader<'_>) -> Result<BlockType>
     ensures reads { Reads EncodesFunctionType result reader.old reader.new }
     ensures fault { IfErr result (λ e. FunctionTypeFault e.message reader.old e.offset) }

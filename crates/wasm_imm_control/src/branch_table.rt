@@ -1,4 +1,4 @@
-//! Branch tables, whose targets stay in the bytes.
+//! Branch tables, whose targets stay in the bytes that were read.
 ghost use Rattle.std.specs.Prelude.{◌≡◌, ◌↔◌, ◌+◌, ◌≤◌, ℕ, List, map, length, IsTrue, IfErr, IfSome, Ok};
 ghost use Rattle.std.specs.Iterator.{YieldsFirst, at_most, UpTo};
 ghost use Rattle.std.specs.Iterator.SizeHint.{IsWithinCount};
@@ -14,13 +14,13 @@ use std::alloc::AllocError;
 use std::marker::Model;
 use wasm_below::{BinaryReader, Error, Result, SizeName};
 
-/// How many targets a table may have.
+/// The greatest number of targets of a table.
 const MAX_TARGETS: usize = 7654321;
 
-/// The labels of `br_table`: targets, and one for all other values.
+/// The labels of `br_table`: the targets, and a default target for all other values.
 ///
-/// The targets stay in the bytes that were read. Two tables are equal exactly where the count, the
-/// bytes of the targets and the default target are.
+/// The targets stay in the bytes that were read. Two tables are equal if and only if their counts,
+/// the bytes of their targets and their default targets are equal.
 #[derive(Debug, Drop)]
 pub struct BrTable<'a> {
     count: u32,
@@ -39,10 +39,11 @@ impl<'a> Model for BrTable<'a> {
 }
 
 impl<'a> BrTable<'a> {
-    /// A branch table. Control Instructions.
+    /// Reads a branch table. Control Instructions.
     ///
-    /// `SizeOutOfBounds` of `br_table` where a count above 7654321 begins; else as `read_size`, or
-    /// as `read_var_u32` at the first target, or the default one, that is refused.
+    /// Fails with `SizeOutOfBounds` of `br_table` at the start of the count if it is above 7654321.
+    /// Otherwise fails like `read_size` at the count, or like `read_var_u32` at a target or the
+    /// default target.
     pub fn read(reader: &mut BinaryReader<'a>) -> Result<BrTable<'a>>
         ensures reads { Reads EncodesBranchTable result reader.old reader.new }
         ensures fault { IfErr result (λ e. BranchTableFault e.message reader.old e.offset) }
@@ -70,28 +71,28 @@ impl<'a> BrTable<'a> {
         }
     }
 
-    /// How many targets there are, without the default target.
+    /// Returns the number of targets, without the default target.
     pub fn len(&self) -> u32
         ensures { result ≡ self.now.count }
     {
         self.count
     }
 
-    /// Whether there is no target but the default one.
+    /// Returns whether the default target is the only one.
     pub fn is_empty(&self) -> bool
         ensures { IsTrue result ↔ (self.now.count ≡ 0) }
     {
         self.count == 0
     }
 
-    /// The target of all values that have none of their own.
+    /// Returns the target for all values that have no other target.
     pub fn default(&self) -> u32
         ensures { result ≡ self.now.default }
     {
         self.default
     }
 
-    /// The targets, without the default one.
+    /// Returns an iterator over the targets, without the default target.
     pub fn targets(&self) -> BrTableTargets<'_>
         ensures { EncodesMany (EncodesUnsigned 32) self.now.count self.now.targets result }
     {
@@ -102,7 +103,7 @@ impl<'a> BrTable<'a> {
     }
 }
 
-/// How many bytes this many targets take.
+/// Reads `count` targets, and returns their size in bytes.
 #[inline(always)]
 fn read_targets(reader: &mut BinaryReader<'_>, count: usize) -> Result<usize>
     ensures reads { Reads (EncodesTargets count) result reader.old reader.new }
@@ -124,17 +125,19 @@ fn read_targets(reader: &mut BinaryReader<'_>, count: usize) -> Result<usize>
     Ok(reader.current_position() - start)
 }
 
-/// Targets that were gone past: how many, and the position behind them.
+/// Targets that were skipped: how many, and the position after them.
 #[derive(Clone, Copy)]
 struct Passed {
     targets: usize,
     position: usize,
 }
 
-/// Goes past targets, at most this many: four at a time as long as each has one byte, then one after
-/// another as long as five bytes are left, of which a target has no more. So far no end of the data
-/// is looked for at each byte. How far it goes is a matter of speed: the others are read. By a call,
-/// which answers two words, so that what calls it stays small.
+/// Skips targets, at most `count`. It skips four at a time as long as each has one byte. Then it
+/// skips one at a time as long as five bytes are left, the greatest size of a target. So it need
+/// not check for the end of the data at each byte.
+///
+/// How many it skips matters only for speed, since the caller reads the others. The function is not
+/// inlined, to keep the caller small; its result is two words.
 #[inline(never)]
 fn pass_targets(bytes: &[u8], count: usize) -> Passed
     ensures most { result.targets ≤ count }
@@ -153,7 +156,8 @@ fn pass_targets(bytes: &[u8], count: usize) -> Passed
     Passed { targets, position }
 }
 
-/// Goes past targets, at most this many, as long as the next four have one byte each: how many.
+/// Skips targets, at most `count`, as long as each of the next four has one byte. Returns their
+/// number.
 #[inline(always)]
 fn pass_short_targets(bytes: &[u8], count: usize) -> usize
     ensures most { result ≤ count }
@@ -166,7 +170,7 @@ fn pass_short_targets(bytes: &[u8], count: usize) -> usize
     position
 }
 
-/// Whether the next four bytes are a target each.
+/// Returns whether each of the next four bytes is a target.
 #[inline(always)]
 fn are_four_short(bytes: &[u8], position: usize) -> bool
     requires { position + 4 ≤ length bytes.now }
@@ -179,7 +183,7 @@ fn are_four_short(bytes: &[u8], position: usize) -> bool
     bits < 128
 }
 
-/// How many bytes the target at this position has, if one stands there.
+/// Returns the size in bytes of the target at this position, if there is one.
 #[inline(always)]
 fn target_size(bytes: &[u8], position: usize) -> Option<usize>
     requires { position + 5 ≤ length bytes.now }
@@ -238,7 +242,7 @@ impl<'a> Eq for BrTable<'a> {
     ghost laws = { same_table_equiv };
 }
 
-/// The targets of a branch table, one after another. Each is `Ok`.
+/// An iterator over the targets of a branch table. Each item is `Ok`.
 #[derive(Debug, Drop)]
 pub struct BrTableTargets<'a> {
     reader: BinaryReader<'a>,

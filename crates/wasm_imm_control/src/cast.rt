@@ -7,22 +7,23 @@ ghost use Rattle.wasm_imm_control.specs.Casts.{EncodesCast, EncodesReference};
 
 use wasm_below::{BinaryReader, HeapType, Message, RefType, Result};
 
-/// A branch on the type of a reference.
+/// The immediates of a branch on the type of a reference.
 #[derive(Clone, Copy, Debug, PartialEq, Eq)]
 pub struct Cast {
     /// The label, counted outwards from the innermost block.
     pub relative_depth: u32,
-    /// The type that the reference has.
+    /// The type of the reference.
     pub from: RefType,
-    /// The type that it is tested for.
+    /// The type that the reference is tested for.
     pub to: RefType,
 }
 
 impl Cast {
-    /// The flags, the label and the two heap types of a cast. Control Instructions.
+    /// Reads the flags, the label and the two heap types of a cast. Control Instructions.
     ///
-    /// `EndOfData` where the flags are wanted; as `read_var_u32` at the label; `InvalidCastFlags` at
-    /// flags above 3, once the label was read; then as `HeapType::read` at either heap type.
+    /// Fails with `EndOfData` at the flags, or like `read_var_u32` at the label. After the label,
+    /// fails with `InvalidCastFlags` at the flags if they are above 3. Then fails like
+    /// `HeapType::read` at either heap type.
     #[inline(never)]
     pub fn read(reader: &mut BinaryReader<'_>) -> Result<Cast>
         ensures reads { Reads EncodesCast result reader.old reader.new }
@@ -64,7 +65,7 @@ impl Cast {
     }
 }
 
-/// A heap type, as a reference type with null or without.
+/// Reads a heap type, and returns the reference type with or without null.
 fn read_reference(reader: &mut BinaryReader<'_>, nullable: bool) -> Result<RefType>
     ensures reads { Reads (EncodesReference nullable) result reader.old reader.new }
     ensures fault { IfErr result (λ e. HeapTypeFault e.message reader.old e.offset) }

@@ -11,25 +11,23 @@ use crate::members::{Catches, Handles};
 use std::alloc::Global;
 use wasm_below::{BinaryReader, FromReader, May, MemoryUse, Result, SizeName, UsesMemory};
 
-/// How many catches a try table may have.
+/// The greatest number of catches of a try table.
 const MAX_CATCHES: usize = 10000;
 
-/// How many clauses a resume table may have.
+/// The greatest number of clauses of a resume table.
 const MAX_HANDLERS: usize = 10000;
 
-/// What `try_table` carries: a block type, and what is caught in the block.
+/// The immediates of `try_table`: a block type, and the exceptions that are caught in the block.
 #[derive(Debug, PartialEq, Eq, Drop)]
 pub struct TryTable {
     /// The type of the block.
     pub ty: BlockType,
-    /// What is caught, the first that fits.
+    /// The catches. The first that matches is taken.
     pub catches: Catches,
 }
 
 impl TryTable {
-    /// The same table in memory of its own.
-    ///
-    /// `OutOfMemory` at offset 0.
+    /// Returns a copy that owns its memory.
     pub fn clone(&self, alloc: Global) -> Result<TryTable>
         ensures ok { IfOk result (λ copy. copy ≡ self.now) }
         ensures err { IfErr result (λ e. IsOutOfMemoryAt 0 e) }
@@ -53,11 +51,11 @@ impl<'a> FromReader<'a> for TryTable {
 
     ghost fault = { λ m r offset. TryTableFault m r offset };
 
-    /// A block type and catches. Control Instructions.
+    /// Reads a block type and catches. Control Instructions.
     ///
-    /// As `BlockType::read`; then `SizeOutOfBounds` of `catches` where a count above 10000 begins,
-    /// else as `read_size`; then as `Catch::read` at the first catch that is refused.
-    /// `OutOfMemory` where the block type begins.
+    /// Fails like `BlockType::read`. Then fails with `SizeOutOfBounds` of `catches` at the start of
+    /// the count if it is above 10000, or like `read_size`. Then fails like `Catch::read` at a
+    /// catch.
     fn from_reader(alloc: Global, reader: &mut BinaryReader<'a>) -> Result<TryTable> {
         let start = reader.current_position();
         let ty = match BlockType::read(reader) {
@@ -75,24 +73,22 @@ impl<'a> FromReader<'a> for TryTable {
     fn determines_refusal() {}
 }
 
-/// What `resume` carries: what is handled while a continuation runs. Proposal stack switching.
+/// The clauses of `resume`: what is handled while a continuation runs. Proposal stack switching.
 #[derive(Debug, PartialEq, Eq, Drop)]
 pub struct ResumeTable {
-    /// The clauses, the first that fits.
+    /// The clauses. The first that matches is taken.
     pub handlers: Handles,
 }
 
 impl ResumeTable {
-    /// How many clauses there are.
+    /// Returns the number of clauses.
     pub fn len(&self) -> usize
         ensures { result ≡ length self.now.handlers }
     {
         self.handlers.len()
     }
 
-    /// The same table in memory of its own.
-    ///
-    /// `OutOfMemory` at offset 0.
+    /// Returns a copy that owns its memory.
     pub fn clone(&self, alloc: Global) -> Result<ResumeTable>
         ensures ok { IfOk result (λ copy. copy ≡ self.now) }
         ensures err { IfErr result (λ e. IsOutOfMemoryAt 0 e) }
@@ -113,11 +109,10 @@ impl<'a> FromReader<'a> for ResumeTable {
 
     ghost fault = { λ m r offset. ResumeTableFault m r offset };
 
-    /// Clauses. Proposal stack switching.
+    /// Reads clauses. Proposal stack switching.
     ///
-    /// `SizeOutOfBounds` of `resume table` where a count above 10000 begins, else as `read_size`;
-    /// then as `Handle::read` at the first clause that is refused. `OutOfMemory` where the count
-    /// begins.
+    /// Fails with `SizeOutOfBounds` of `resume table` at the start of the count if it is above
+    /// 10000, or like `read_size`. Then fails like `Handle::read` at a clause.
     fn from_reader(alloc: Global, reader: &mut BinaryReader<'a>) -> Result<ResumeTable> {
         match read_list::<Handle>(alloc, reader, MAX_HANDLERS, SizeName::ResumeTable) {
             Ok(handlers) => Ok(ResumeTable { handlers }),

@@ -9,24 +9,25 @@ use wasm_below::{
     BinaryReader, FromReader, LeadingByteName, MemoryUse, Message, Never, Result, UsesMemory,
 };
 
-/// One catch of a try table.
+/// A catch of a try table.
 #[derive(Clone, Copy, Debug, PartialEq, Eq)]
 pub enum Catch {
-    /// Exceptions of this tag go to this label, with what they carry.
+    /// Exceptions with this tag branch to this label, with their values.
     One { tag: u32, label: u32 },
-    /// Exceptions of this tag go to this label, with what they carry and a reference to them.
+    /// Exceptions with this tag branch to this label, with their values and a reference to the
+    /// exception.
     OneRef { tag: u32, label: u32 },
-    /// All exceptions go to this label.
+    /// All exceptions branch to this label.
     All { label: u32 },
-    /// All exceptions go to this label, with a reference to them.
+    /// All exceptions branch to this label, with a reference to the exception.
     AllRef { label: u32 },
 }
 
 impl Catch {
-    /// A catch. Control Instructions.
+    /// Reads a catch. Control Instructions.
     ///
-    /// `EndOfData` where the first byte is wanted; `InvalidLeadingByte` of `catch` at one above 3;
-    /// else as `read_var_u32` at the tag or the label.
+    /// Fails with `EndOfData` at the first byte, or with `InvalidLeadingByte` of `catch` there if
+    /// it is above 3. Otherwise fails like `read_var_u32` at the tag or the label.
     #[inline(always)]
     pub fn read(reader: &mut BinaryReader<'_>) -> Result<Catch>
         ensures reads { Reads EncodesCatch result reader.old reader.new }
@@ -52,7 +53,7 @@ impl Catch {
         }
     }
 
-    /// A catch whose first byte was read.
+    /// Reads the rest of a catch whose first byte is `byte`.
     #[inline(always)]
     fn read_behind(reader: &mut BinaryReader<'_>, byte: u8) -> Result<Catch>
         requires { byte ≤ 3 }
@@ -98,20 +99,20 @@ impl<'a> FromReader<'a> for Catch {
     fn determines_refusal() {}
 }
 
-/// One clause of a resume table. Proposal stack switching.
+/// A clause of a resume table. Proposal stack switching.
 #[derive(Clone, Copy, Debug, PartialEq, Eq)]
 pub enum Handle {
-    /// Suspensions by this tag go to this label.
+    /// Suspensions with this tag branch to this label.
     OnLabel { tag: u32, label: u32 },
-    /// Switches by this tag.
+    /// Switches with this tag.
     OnSwitch { tag: u32 },
 }
 
 impl Handle {
-    /// A clause. Proposal stack switching.
+    /// Reads a clause. Proposal stack switching.
     ///
-    /// `EndOfData` where the first byte is wanted; `InvalidLeadingByte` of `on clause` at one above
-    /// 1; else as `read_var_u32` at the tag or the label.
+    /// Fails with `EndOfData` at the first byte, or with `InvalidLeadingByte` of `on clause` there
+    /// if it is above 1. Otherwise fails like `read_var_u32` at the tag or the label.
     #[inline(always)]
     pub fn read(reader: &mut BinaryReader<'_>) -> Result<Handle>
         ensures reads { Reads EncodesHandle result reader.old reader.new }
@@ -137,7 +138,7 @@ impl Handle {
         }
     }
 
-    /// A clause whose first byte was read.
+    /// Reads the rest of a clause whose first byte is `byte`.
     #[inline(always)]
     fn read_behind(reader: &mut BinaryReader<'_>, byte: u8) -> Result<Handle>
         requires { byte ≤ 1 }
@@ -175,7 +176,7 @@ impl<'a> FromReader<'a> for Handle {
     fn determines_refusal() {}
 }
 
-/// Two indices.
+/// Reads two indices.
 #[inline(always)]
 fn read_pair(reader: &mut BinaryReader<'_>) -> Result<(u32, u32)>
     ensures reads { Reads EncodesPair result reader.old reader.new }

@@ -1,7 +1,7 @@
-//! Laws on these immediates, each the contract of a function that does nothing.
+//! Laws of the immediates of control operators, each the contract of a function that does nothing.
 //!
-//! `PrefixCode` says that no encoding is a proper prefix of another, and that each is that of one
-//! value; `DeterminesRefusal`, that what a fault says determines the message and the offset.
+//! `PrefixCode` says that no encoding is a proper prefix of another, and that each encoding has one
+//! value. `DeterminesRefusal` says that a fault determines the message and the offset of an error.
 ghost use Rattle.std.specs.Prelude.{◌≡◌, ◌<◌, ℕ, List, true};
 ghost use Rattle.wasm_below.specs.bytes.features.WasmFeatures.{WasmFeatures};
 ghost use Rattle.wasm_below.specs.bytes.message.SizeName.{SizeName};
@@ -23,41 +23,41 @@ ghost use Rattle.wasm_imm_control.specs.BranchTableEquality.{same_table};
 
 use wasm_below::FromReader;
 
-/// Block types.
+/// States that the encodings of block types are a prefix code.
 pub fn block_types()
     ensures { PrefixCode EncodesBlockType }
 {}
 
-/// Branch tables.
+/// States that the encodings of branch tables are a prefix code.
 pub fn branch_tables()
     ensures { PrefixCode EncodesBranchTable }
 {}
 
-/// Casts.
+/// States that the encodings of casts are a prefix code.
 pub fn casts()
     ensures { PrefixCode EncodesCast }
 {}
 
-/// The types of a select.
+/// States that the encodings of the types of a `select` are a prefix code.
 pub fn select_types()
     ensures { PrefixCode EncodesSelect }
 {}
 
-/// Catches and clauses.
+/// States that the encodings of catches, and of clauses, are prefix codes.
 pub fn handlers()
     ensures catches { PrefixCode EncodesCatch }
     ensures clauses { PrefixCode EncodesHandle }
 {}
 
-/// Try tables and resume tables.
+/// States that the encodings of try tables, and of resume tables, are prefix codes.
 pub fn handler_tables()
     ensures catches { PrefixCode EncodesTryTable }
     ensures clauses { PrefixCode EncodesResumeTable }
 {}
 
-/// What a list's fault says determines its refusal, of any name and limit, where no member's
-/// encoding is a proper prefix of another, each is that of one member, and a member's fault
-/// determines its refusal.
+/// States that the fault of a list determines its error, for any name and limit. It requires that
+/// the encodings of the members are a prefix code, and that the fault of a member determines its
+/// error.
 pub fn list_refusals<'a, T: FromReader<'a>>()
     ensures { (name : SizeName) (limit : ℕ) (features : WasmFeatures)
         → PrefixCode (T.encodes features)
@@ -65,8 +65,8 @@ pub fn list_refusals<'a, T: FromReader<'a>>()
         → DeterminesRefusal (ListFault name limit (T.encodes features) T.fault) }
 {}
 
-/// What the fault of a block type says determines its refusal, and what that of a branch table, of
-/// a cast, and of the types of a select says.
+/// States that the fault determines the error: of a block type, a branch table, a cast, and the
+/// types of a `select`.
 pub fn control_refusals()
     ensures block { DeterminesRefusal BlockTypeFault }
     ensures table { DeterminesRefusal BranchTableFault }
@@ -74,8 +74,8 @@ pub fn control_refusals()
     ensures select { DeterminesRefusal SelectFault }
 {}
 
-/// What the fault of a catch says determines its refusal, and what that of a clause, of a try table
-/// and of a resume table says.
+/// States that the fault determines the error: of a catch, a clause, a try table and a resume
+/// table.
 pub fn handler_refusals()
     ensures catches { DeterminesRefusal CatchFault }
     ensures clauses { DeterminesRefusal HandleFault }
@@ -83,7 +83,7 @@ pub fn handler_refusals()
     ensures resume_table { DeterminesRefusal ResumeTableFault }
 {}
 
-/// Equal branch tables have the same targets and the same default target.
+/// States that equal branch tables have the same targets and the same default target.
 pub fn equal_tables()
     ensures { (s t : BranchTable) (m n : List ℕ)
         → same_table s t ≡ true

@@ -11,10 +11,10 @@ use crate::members::Members;
 use std::alloc::Global;
 use wasm_below::{BinaryReader, Error, FromReader, Message, Result, SizeName};
 
-/// A count, at most `limit`, and that many members, in memory that is made once.
+/// Reads a count of at most `limit`, and that many members. Allocates once.
 ///
-/// `SizeOutOfBounds` of `desc` where a count above `limit` begins, else as `read_size`; as the
-/// member at the first member that is refused; `OutOfMemory` where the count begins.
+/// Fails with `SizeOutOfBounds` of `desc` at the start of the count if it is above `limit`, or like
+/// `read_size`. Then fails like `T::from_reader` at a member.
 pub fn read_list<'a, T: FromReader<'a>>(
     alloc: Global,
     reader: &mut BinaryReader<'a>,
@@ -38,9 +38,9 @@ pub fn read_list<'a, T: FromReader<'a>>(
     }
 }
 
-/// This many members.
+/// Reads `count` members.
 ///
-/// Refused as the member at the first member that is; `OutOfMemory` where the members begin.
+/// Fails like `T::from_reader` at a member.
 pub fn read_members<'a, T: FromReader<'a>>(
     alloc: Global,
     reader: &mut BinaryReader<'a>,
@@ -71,8 +71,8 @@ pub fn read_members<'a, T: FromReader<'a>>(
     Ok(Members::from_vec(items))
 }
 
-/// Goes back to the position where a call began, and says there that memory was refused. Any other
-/// refusal stays as it was.
+/// Goes back to the position where a call began. Returns `OutOfMemory` with the offset there, and
+/// any other error unchanged.
 #[cold]
 #[inline(never)]
 pub fn refuse_from(reader: &mut BinaryReader<'_>, position: usize, e: Error) -> Error

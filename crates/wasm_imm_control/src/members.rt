@@ -10,7 +10,7 @@ use std::marker::Model;
 use std::slice::Iter;
 use wasm_below::{Error, Message, Result, ValType};
 
-/// A list that owns its memory. Contracts see the list alone.
+/// A list that owns its memory. In contracts it is a plain list.
 #[derive(Debug, Drop)]
 pub struct Members<T> {
     items: Vec<T>,
@@ -34,14 +34,14 @@ impl<T> Model for Members<T> {
 }
 
 impl<T> Members<T> {
-    /// The list of this vector, which takes no memory.
+    /// Converts a vector to a list. Does not allocate.
     pub fn from_vec(items: Vec<T>) -> Members<T>
         ensures { result ≡ items.items }
     {
         Members { items }
     }
 
-    /// The vector, which takes no memory.
+    /// Converts the list to a vector. Does not allocate.
     pub fn into_vec(self) -> Vec<T>
         ensures { result.items ≡ self }
     {
@@ -49,28 +49,28 @@ impl<T> Members<T> {
         items
     }
 
-    /// The members.
+    /// Returns the members as a slice.
     pub fn as_slice(&self) -> &[T]
         ensures { result.now ≡ self.now }
     {
         self.items.as_slice()
     }
 
-    /// How many members there are.
+    /// Returns the number of members.
     pub fn len(&self) -> usize
         ensures { result ≡ length self.now }
     {
         self.items.len()
     }
 
-    /// The member at an index, counted from 0.
+    /// Returns the member at this index, counted from 0.
     pub fn get(&self, index: usize) -> Option<&T>
         ensures { option_copied result ≡ slice_get self.now index }
     {
         self.items.as_slice().get(index)
     }
 
-    /// The members, one after another.
+    /// Returns an iterator over the members, in order.
     pub fn iter(&self) -> Iter<'_, T>
         ensures rest { iter_rest result ≡ self.now }
         ensures runs { IterYieldsInOrder T }
@@ -78,7 +78,7 @@ impl<T> Members<T> {
         self.items.as_slice().iter()
     }
 
-    /// Whether there is none.
+    /// Returns whether the list is empty.
     pub fn is_empty(&self) -> bool
         ensures { IsTrue result ↔ (self.now ≡ []) }
     {
@@ -87,9 +87,7 @@ impl<T> Members<T> {
 }
 
 impl<T: Copy + Drop> Members<T> {
-    /// The same list in memory of its own.
-    ///
-    /// `OutOfMemory` at offset 0.
+    /// Returns a copy that owns its memory.
     pub fn clone(&self, alloc: Global) -> Result<Members<T>>
         ensures ok { IfOk result (λ copy. copy ≡ self.now) }
         ensures err { IfErr result (λ e. IsOutOfMemoryAt 0 e) }

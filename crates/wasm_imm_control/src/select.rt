@@ -11,24 +11,24 @@ use crate::members::SelectTypes;
 use std::alloc::Global;
 use wasm_below::{BinaryReader, Message, Result, SizeName, ValType};
 
-/// How many types a `select` may have.
+/// The greatest number of types of a `select`.
 const MAX_SELECT_TYPES: usize = 10;
 
 /// The types of a `select`.
 #[derive(Debug, PartialEq, Eq, Drop)]
 pub enum Select {
-    /// One type, which takes no memory.
+    /// A single type. It is stored without an allocation.
     One { ty: ValType },
-    /// None or several.
+    /// No type, or several.
     Multi { tys: SelectTypes },
 }
 
 impl Select {
-    /// The types of a `select`. Parametric Instructions.
+    /// Reads the types of a `select`. Parametric Instructions.
     ///
-    /// `SizeOutOfBounds` of `select types` where a count above 10 begins, else as `read_size`; then
-    /// as `ValType::read` at the first type that is refused. `OutOfMemory` where the count begins;
-    /// one type takes no memory.
+    /// Fails with `SizeOutOfBounds` of `select types` at the start of the count if it is above 10,
+    /// or like `read_size`. Then fails like `ValType::read` at a type. A single type does not
+    /// allocate.
     #[inline(never)]
     pub fn read(alloc: Global, reader: &mut BinaryReader<'_>) -> Result<Select>
         ensures reads { ReadsValue EncodesSelect true result reader.old reader.new }

@@ -3,59 +3,59 @@
 use Rattle.std.specs.Prelude.{◌==◌, ◌||◌, ℕ, ◌+◌, ◌-◌, Bool, List, [], ◌∷◌, ◌++◌, take, drop, slice_index, codes, decimal, if◌then◌else◌}
 use Rattle.wasm_lines.specs.Rows.{offset_text, line_of}
 
--- The name of a function, where it has one.
+-- The name of a function in angle brackets; nothing if it has none.
 abbrev pub shown_name : List ℕ → List ℕ
 shown_name [] = []
 shown_name name = codes " <" ++ (name ++ codes ">")
 
--- The line of a function: the offset of its body, its index and its name.
+-- The header of a function: the offset of its body, its index and its name.
 abbrev pub header_of : ℕ → ℕ → List ℕ → List ℕ
 header_of offset index name = offset_text offset ++ ((codes " func[" ++ (decimal index ++ codes "]")) ++ (shown_name name ++ 58 ∷ 10 ∷ []))
 
--- The indices of this many locals, before their type: that of the first, and where they are not one, that of the last.
+-- The indices of locals before their type: the first one, and the last one too unless there is one local only.
 abbrev pub shown_indices : ℕ → ℕ → List ℕ
 shown_indices first number =
     if number == 1
     then codes "local[" ++ (decimal first ++ codes "] type=")
     else codes "local[" ++ (decimal first ++ (codes ".." ++ (decimal (first + number - 1) ++ codes "] type=")))
 
--- The opcodes of else, catch, end, delegate and catch_all, whose lines stand outside of the construct that they turn or end.
+-- An opcode whose line is indented like the opener of its construct: `else`, `catch`, `end`, `delegate` and `catch_all`.
 abbrev pub is_outside : ℕ → Bool
 is_outside opcode = opcode == 0x05 || (opcode == 0x07 || (opcode == 0x0b || (opcode == 0x18 || opcode == 0x19)))
 
--- Those of block, loop, if, try and try_table, which open a construct,
+-- An opcode that opens a construct: `block`, `loop`, `if`, `try` and `try_table`.
 abbrev pub opens : ℕ → Bool
 opens opcode = opcode == 0x02 || (opcode == 0x03 || (opcode == 0x04 || (opcode == 0x06 || opcode == 0x1f)))
 
--- and those of end and delegate, which close one.
+-- An opcode that closes a construct: `end` and `delegate`.
 abbrev pub closes : ℕ → Bool
 closes opcode = opcode == 0x0b || opcode == 0x18
 
--- In how many constructs the line of an operator stands, where this many are open before it,
+-- How deep the line of an operator is indented, by the constructs that are open before it.
 abbrev pub depth_of : ℕ → ℕ → ℕ
 depth_of opcode depth = if is_outside opcode then depth - 1 else depth
 
--- and how many are open behind it.
+-- How many constructs are open after an operator.
 abbrev pub depth_behind : ℕ → ℕ → ℕ
 depth_behind opcode depth = if opens opcode then depth + 1 else (if closes opcode then depth - 1 else depth)
 
--- The bytes from one offset to another, of those that begin at `start`.
+-- The bytes from one offset to another, of bytes that start at the offset `start`.
 abbrev pub between : ℕ → List ℕ → ℕ → ℕ → List ℕ
 between start bytes from to = take (to - from) (drop (from - start) bytes)
 
--- Where the next operator begins, or where the last one ends.
+-- The offset at which the next operator starts, or `end` after the last one.
 abbrev pub next_offset : {Op : Type 0} → ℕ → List (Op × ℕ) → ℕ
 next_offset end [] = end
 next_offset end (p ∷ ps) = p.1
 
--- The lines of operators with their offsets, each with the bytes from where it begins to where the next one does: the bytes begin at `start`, the last operator
--- ends at `end`, and this many constructs are open. What the text of an operator is, and its opcode, the first of its bytes, is all that is asked of it.
+-- The lines of operators with their offsets. Each operator is shown with the bytes from its offset to that of the next; the last one ends at `end`. The bytes
+-- start at the offset `start`, and `depth` constructs are open. Operators are of any type `Op`: only their text and the first of their bytes matter.
 abbrev pub lines_from : {Op : Type 0} → (Op → List ℕ) → ℕ → List ℕ → ℕ → ℕ → List (Op × ℕ) → List ℕ
 lines_from text start bytes end depth [] = []
 lines_from text start bytes end depth (p ∷ ps) =
     let shown = between start bytes p.1 (next_offset end ps) in
     line_of (depth_of (slice_index shown 0) depth) p.1 shown (text p.0) ++ lines_from text start bytes end (depth_behind (slice_index shown 0) depth) ps
 
--- The lines of a body's operators.
+-- The lines of the operators of a body.
 abbrev pub lines_of : {Op : Type 0} → (Op → List ℕ) → ℕ → List ℕ → ℕ → List (Op × ℕ) → List ℕ
 lines_of text start bytes end placed = lines_from text start bytes end 0 placed

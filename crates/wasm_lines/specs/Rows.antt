@@ -4,29 +4,29 @@ use Rattle.std.specs.Fmt.{radix_digits}
 use Rattle.std.specs.List.{repeat}
 use Rattle.wasm_text.specs.Values.{byte_text, spaced_byte}
 
--- An offset in hexadecimal: six digits, or as many as it has.
+-- An offset in hexadecimal, with at least six digits.
 abbrev pub offset_text : ℕ → List ℕ
 offset_text offset =
     if ltb offset (2 ^ 24)
     then byte_text (offset / 2 ^ 16) ++ (byte_text (offset / 2 ^ 8 % 2 ^ 8) ++ byte_text (offset % 2 ^ 8))
     else radix_digits 16 false offset
 
--- An address, the bytes that stand there, of which there are at most nine, and three spaces for each that is missing.
+-- The first columns of a row: an address, at most nine bytes at it, and three spaces for each missing byte.
 abbrev pub column : ℕ → List ℕ → List ℕ
 column offset bytes =
     (codes " " ++ (offset_text offset ++ codes ":")) ++ (flat_map spaced_byte bytes ++ (repeat (9 - length bytes) (codes "   ") ++ codes " | "))
 
--- The column of one row of the bytes at an offset: the rows have nine bytes each, the last what is left.
+-- The first columns of row `n` of the bytes at an offset; each row but the last has nine bytes.
 abbrev pub row : ℕ → List ℕ → ℕ → List ℕ
 row offset bytes n = column (offset + n * 9) (take 9 (drop (n * 9) bytes))
 
--- So many rows without a text, from one on.
+-- Rows without a text, from row `n` on.
 abbrev pub rows_from : ℕ → ℕ → List ℕ → ℕ → List ℕ
 rows_from zero offset bytes n = []
 rows_from (suc more) offset bytes n = row offset bytes n ++ (10 ∷ rows_from more offset bytes (n + 1))
 
--- The lines of what stands at an offset: the text behind the first row, two spaces before it for each construct that it stands in; and the rows of the bytes that
--- are more than nine.
+-- The start of the lines at an offset: the first row, and two spaces for each open construct. `line_end` follows the text, with the rows of the bytes after
+-- the first nine.
 abbrev pub line_begin : ℕ → ℕ → List ℕ → List ℕ
 line_begin depth offset bytes = row offset bytes 0 ++ repeat depth (codes "  ")
 

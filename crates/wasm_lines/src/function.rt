@@ -5,7 +5,7 @@ ghost use Rattle.wasm_lines.specs.Lines.{shown_name, header_of, shown_indices};
 use crate::rows::write_offset;
 use wasm_text::Written;
 
-/// Writes a name in angle brackets, and nothing of an empty one.
+/// Writes a name in angle brackets; nothing if the name is empty.
 fn write_name(out: &mut String, name: &str) -> Written
     ensures { OnOk result (string_bytes out.new ≡ string_bytes out.old ++ shown_name name.now) }
 {
@@ -15,10 +15,8 @@ fn write_name(out: &mut String, name: &str) -> Written
     write!(out, " <{name}>")
 }
 
-/// Writes the line of a function: the offset of its body, its index, and its name where that is not
+/// Writes the header of a function: the offset of its body, its index, and its name unless that is
 /// empty.
-///
-/// Where memory is refused, nothing is said of how much of it was written.
 pub fn write_header(out: &mut String, offset: u64, index: u32, name: &str) -> Written
     ensures { OnOk result (string_bytes out.new ≡ string_bytes out.old ++ header_of offset index name.now) }
 {
@@ -28,10 +26,8 @@ pub fn write_header(out: &mut String, offset: u64, index: u32, name: &str) -> Wr
     out.push_str(":\n")
 }
 
-/// Writes the indices of locals, before their type: that of the first, and where they are not one, that
-/// of the last.
-///
-/// Where memory is refused, nothing is said of how much of it was written.
+/// Writes the indices of `number` locals and `type=`: the first index, and the last one too unless
+/// `number` is 1.
 pub fn write_indices(out: &mut String, first: u64, number: u32) -> Written
     requires { first + number < 2 ^ 64 }
     ensures { OnOk result (string_bytes out.new ≡ string_bytes out.old ++ shown_indices first number) }

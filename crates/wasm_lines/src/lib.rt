@@ -1,7 +1,10 @@
-//! The lines of a disassembly, in the form of `wasm-objdump -d` of wabt: an address, at most nine bytes,
-//! and a text.
+//! The lines of a disassembly, in the form of `wasm-objdump -d` of wabt: an address, at most nine
+//! bytes, and a text.
 //!
-//! The theorem stands on [`write_line`].
+//! The main theorem is the contract of [`write_line`].
+//!
+//! Every call that writes may allocate, and fails with `AllocError` if allocation fails. `out` may
+//! then end with a part of the text.
 #![tactic(auto)]
 
 mod function;

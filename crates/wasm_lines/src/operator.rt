@@ -9,29 +9,29 @@ use std::alloc::AllocError;
 use wasm_text::instr::Operator;
 use wasm_text::write_operator;
 
-/// Whether the line of an operator with this opcode stands outside of the construct that it turns or
-/// ends: `else`, `catch`, `end`, `delegate` and `catch_all`.
+/// Returns whether this opcode turns or ends a construct, so that its line is indented like the
+/// opener: `else`, `catch`, `end`, `delegate` and `catch_all`.
 fn is_outside(opcode: u8) -> bool
     ensures { result ≡ is_outside opcode }
 {
     opcode == 0x05 || opcode == 0x07 || opcode == 0x0b || opcode == 0x18 || opcode == 0x19
 }
 
-/// Whether it opens a construct: `block`, `loop`, `if`, `try` and `try_table`.
+/// Returns whether this opcode opens a construct: `block`, `loop`, `if`, `try` and `try_table`.
 fn opens(opcode: u8) -> bool
     ensures { result ≡ opens opcode }
 {
     opcode == 0x02 || opcode == 0x03 || opcode == 0x04 || opcode == 0x06 || opcode == 0x1f
 }
 
-/// Whether it closes one: `end` and `delegate`.
+/// Returns whether this opcode closes a construct: `end` and `delegate`.
 fn closes(opcode: u8) -> bool
     ensures { result ≡ closes opcode }
 {
     opcode == 0x0b || opcode == 0x18
 }
 
-/// In how many constructs the line of an operator stands, where this many are open before it.
+/// Returns how deep the line of an operator is indented, if `depth` constructs are open before it.
 fn depth_of(opcode: u8, depth: usize) -> usize
     ensures { result ≡ depth_of opcode depth }
 {
@@ -42,7 +42,7 @@ fn depth_of(opcode: u8, depth: usize) -> usize
     }
 }
 
-/// How many are open behind it.
+/// Returns how many constructs are open after an operator, if `depth` are open before it.
 fn depth_behind(opcode: u8, depth: usize) -> usize
     requires { depth + 1 < 2 ^ 64 }
     ensures { result ≡ depth_behind opcode depth }
@@ -56,7 +56,7 @@ fn depth_behind(opcode: u8, depth: usize) -> usize
     }
 }
 
-/// The first of an operator's bytes, and 0 where there are none.
+/// Returns the first byte of an operator, or 0 if there are no bytes.
 fn opcode_of(bytes: &[u8]) -> u8
     ensures { result ≡ slice_index bytes.now 0 }
 {
@@ -66,7 +66,8 @@ fn opcode_of(bytes: &[u8]) -> u8
     }
 }
 
-/// The bytes from one offset to another, of those that begin at `start`.
+/// Returns the bytes from the offset `from` to the offset `to`. `start` is the offset of
+/// `bytes[0]`.
 pub fn bytes_between(bytes: &[u8], start: u64, from: u64, to: u64) -> &[u8]
     ensures bytes { result.now ≡ between start bytes.now from to }
     ensures fits { from + length result.now < 2 ^ 64 }
@@ -83,10 +84,9 @@ pub fn bytes_between(bytes: &[u8], start: u64, from: u64, to: u64) -> &[u8]
     &left[..wanted as usize]
 }
 
-/// Writes the lines of an operator that stands at an offset, where this many constructs are open, and
-/// answers how many are behind it. `bytes` are its own, the first of them its opcode.
-///
-/// Where memory is refused, nothing is said of how much of it was written.
+/// Writes the lines of the operator at `offset`, and returns how many constructs are open after it.
+/// `depth` constructs are open before it. `bytes` are the operator's bytes, and start with its
+/// opcode.
 pub fn write_line(
     out: &mut String,
     depth: usize,

@@ -1,4 +1,4 @@
-//! Rows: an address, at most nine bytes, and a text.
+//! Rows of an address, at most nine bytes, and a text.
 ghost use Rattle.std.specs.Prelude.{◌≡◌, ◌++◌, ◌+◌, ◌-◌, ◌*◌, ◌/◌, ◌^◌, ◌<◌, ◌≤◌, ◌∷◌, OnOk, string_bytes, length, codes, flat_map};
 ghost use Rattle.std.specs.List.{repeat};
 ghost use Rattle.wasm_text.specs.Values.{spaced_byte};
@@ -6,10 +6,10 @@ ghost use Rattle.wasm_lines.specs.Rows.{offset_text, column, row, line_begin, li
 
 use wasm_text::{Written, write_byte, write_spaced_byte};
 
-/// How many bytes a row has.
+/// The number of bytes in a full row.
 const BYTES: usize = 9;
 
-/// The first offset that has more than six digits.
+/// The first offset with more than six hexadecimal digits.
 const SEVEN_DIGITS: u64 = 0x100_0000;
 
 /// Writes an offset in hexadecimal, with at least six digits.
@@ -24,7 +24,7 @@ pub fn write_offset(out: &mut String, offset: u64) -> Written
     write_byte(out, (offset % 0x100) as u8)
 }
 
-/// Writes an address.
+/// Writes a space, an offset and a colon.
 fn write_address(out: &mut String, offset: u64) -> Written
     ensures { OnOk result (string_bytes out.new ≡ string_bytes out.old ++ (codes " " ++ (offset_text offset ++ codes ":"))) }
 {
@@ -33,7 +33,7 @@ fn write_address(out: &mut String, offset: u64) -> Written
     out.push_str(":")
 }
 
-/// Writes bytes, each behind a space.
+/// Writes each byte in hexadecimal, after a space.
 fn write_shown_bytes(out: &mut String, bytes: &[u8]) -> Written
     ensures { OnOk result (string_bytes out.new ≡ string_bytes out.old ++ flat_map spaced_byte bytes.now) }
 {
@@ -43,7 +43,7 @@ fn write_shown_bytes(out: &mut String, bytes: &[u8]) -> Written
     Ok(())
 }
 
-/// Writes a text so many times.
+/// Writes a text `times` times.
 fn write_times(out: &mut String, times: usize, text: &str) -> Written
     ensures { OnOk result (string_bytes out.new ≡ string_bytes out.old ++ repeat times text.now) }
 {
@@ -53,7 +53,7 @@ fn write_times(out: &mut String, times: usize, text: &str) -> Written
     Ok(())
 }
 
-/// Three spaces for each byte that is missing, and the bar behind them.
+/// Returns three spaces for each missing byte, and then the bar.
 fn bar_behind(missing: usize) -> &'static str
     requires { missing ≤ 9 }
     ensures { result.now ≡ repeat missing (codes "   ") ++ codes " | " }
@@ -72,7 +72,7 @@ fn bar_behind(missing: usize) -> &'static str
     }
 }
 
-/// Writes bytes, and room for those that are missing.
+/// Writes the bytes of a row, padded to nine, and the bar.
 fn write_room(out: &mut String, bytes: &[u8]) -> Written
     requires { length bytes.now ≤ 9 }
     ensures { OnOk result
@@ -83,7 +83,7 @@ fn write_room(out: &mut String, bytes: &[u8]) -> Written
     out.push_str(bar_behind(BYTES - bytes.len()))
 }
 
-/// Writes the column of an address and its bytes.
+/// Writes the first columns of a row: an address and its bytes.
 fn write_column(out: &mut String, offset: u64, bytes: &[u8]) -> Written
     requires { length bytes.now ≤ 9 }
     ensures { OnOk result (string_bytes out.new ≡ string_bytes out.old ++ column offset bytes.now) }
@@ -92,7 +92,7 @@ fn write_column(out: &mut String, offset: u64, bytes: &[u8]) -> Written
     write_room(out, bytes)
 }
 
-/// Writes the column of one row of the bytes at an offset.
+/// Writes the first columns of row `number` of the bytes at `offset`.
 fn write_row(out: &mut String, offset: u64, bytes: &[u8], number: usize) -> Written
     requires within { number * 9 ≤ length bytes.now }
     requires fits { offset + length bytes.now < 2 ^ 64 }
@@ -104,10 +104,8 @@ fn write_row(out: &mut String, offset: u64, bytes: &[u8], number: usize) -> Writ
     write_column(out, offset + before as u64, &left[..shown])
 }
 
-/// Begins the lines of what stands at an offset: the first row, and two spaces for each construct that
-/// it stands in.
-///
-/// Where memory is refused, nothing is said of how much of it was written.
+/// Writes the start of the lines at an offset: the first row, and two spaces for each open
+/// construct.
 pub fn begin_line(out: &mut String, depth: usize, offset: u64, bytes: &[u8]) -> Written
     requires { offset + length bytes.now < 2 ^ 64 }
     ensures { OnOk result (string_bytes out.new ≡ string_bytes out.old ++ line_begin depth offset bytes.now) }
@@ -116,9 +114,7 @@ pub fn begin_line(out: &mut String, depth: usize, offset: u64, bytes: &[u8]) -> 
     write_times(out, depth, "  ")
 }
 
-/// Ends them behind the text: the rows of the bytes that are more than nine.
-///
-/// Where memory is refused, nothing is said of how much of it was written.
+/// Ends the line, and writes the further rows of the bytes if there are more than nine.
 pub fn end_line(out: &mut String, offset: u64, bytes: &[u8]) -> Written
     requires { offset + length bytes.now < 2 ^ 64 }
     ensures { OnOk result (string_bytes out.new ≡ string_bytes out.old ++ line_end offset bytes.now) }

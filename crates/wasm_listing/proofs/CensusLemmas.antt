@@ -1,4 +1,4 @@
--- The counts behind visits of a list, and that none comes to the greatest u64.
+-- The counts after visits of a list, none of which reaches the greatest u64.
 use Rattle.std.proofs.Common.{◌≡◌, ◌≢◌, ℕ, ◌+◌, ◌-◌, ◌^◌, ◌≤◌, List, [], ◌∷◌, length, map, refl, sym, subst, ap, ◌∙◌, arith, cond, Bool, true, false, nat_eq, Result, Ok, Err}
 use Rattle.std.proofs.lemmas.List.{length-append}
 use Rattle.std.specs.Cmp.Lexicographic.{pointwise}
@@ -16,7 +16,7 @@ use Rattle.wasm_listing.specs.declared.fault.DumpFault.TheVariants as fault
 use Rattle.wasm_listing.specs.Census.{proposals, count_of, counts_of, one_more, one_more_of, CountsVisit, Counted, Counts}
 use Rattle.wasm_listing.specs.Dump.{IsBody}
 
--- the counts, and to each what the list adds
+-- The counts, each increased by the operators of the list.
 abbrev pub added : List (List ℕ) → List ℕ → Placed → List ℕ
 added (p ∷ ps) (n ∷ ns) placed = (n + count_of p placed) ∷ added ps ns placed
 added _ _ placed = []
@@ -35,7 +35,7 @@ added_zeros (p ∷ ps) placed =
     let same : 0 + count_of p placed ≡ count_of p placed = omega arith in
     ap (λ m. m ∷ added ps (map (λ p. 0) ps) placed) same ∙ ap (λ others. count_of p placed ∷ others) (added_zeros ps placed)
 
--- each count is at most this
+-- Each count is at most this number.
 abbrev pub AreWithin : ℕ → List ℕ → Type 0
 AreWithin most [] = Unit {0}
 AreWithin most (n ∷ ns) = (n ≤ most) × AreWithin most ns
@@ -68,7 +68,7 @@ counted_adds (q ∷ qs) (n ∷ ns) p placed most h below =
     ap (λ m. m ∷ added qs (one_more_of (proposal_of p.0) qs ns) placed) (one_added b n (count_of q placed) most h.0 below) ∙
     ap (λ others. (n + (cond b 1 0 + count_of q placed)) ∷ others) (counted_adds qs ns p placed most h.1 below)
 
--- Behind visits of a list each count has what the list adds, where that is not too much.
+-- After visits of a list, each count is increased by the list's operators, if the sum is not too large.
 counts_along : (placed : Placed) (answers : List (Unit {0})) (before after : List ℕ) (most : ℕ) → length proposals ≡ length before → AreWithin most before →
     most + length placed ≤ 2 ^ 64 - 1 → VisitRun {A = Unit {0}} (λ s op a t. CountsVisit s op t) before placed answers after →
     after ≡ added proposals before placed
@@ -85,7 +85,7 @@ zeros_within : (ps : List (List ℕ)) → AreWithin 0 (map (λ p. 0) ps)
 zeros_within [] = tt
 zeros_within (p ∷ ps) = (omega arith, zeros_within ps)
 
--- From no visit on they are the counts of the list.
+-- After visits that start with no count, the counts are the counts of the list.
 pub visited_counts : (placed : Placed) (before after : List ℕ) → before ≡ map (λ p. 0) proposals → length placed ≤ 2 ^ 64 - 1 →
     Visited {A = Unit {0}} (λ s op a t. CountsVisit s op t) before after placed → after ≡ counts_of placed
 visited_counts placed before after none below (answers, run) =
@@ -100,7 +100,7 @@ body_length input declarations placed no_longer h =
     let whole : length (rest input) ≡ length h.locals + length h.expression = ap length h.parts ∙ length-append h.locals h.expression in
     omega (arith, fits, whole)
 
--- The counts of a whole body.
+-- The counts of a complete body.
 pub whole_counts : (r : Result (Unit {0}) Error) (x : Unit {0}) (input : Reader) (before after : List ℕ) → IsNoLonger input.features → r ≡ Ok x →
     ReadsBody (Counted before after) r input → before ≡ map (λ p. 0) proposals → length (rest input) ≤ 2 ^ 64 - 1 → Counts input (Ok after)
 whole_counts (Ok y) x input before after no_longer is (declarations, placed, visited, whole) none fits =
@@ -108,7 +108,7 @@ whole_counts (Ok y) x input before after no_longer is (declarations, placed, vis
     (declarations, placed, whole, visited_counts placed before after none (omega (arith, few, fits)) visited)
 whole_counts (Err e) x input before after no_longer is h none fits = absurd (cc is)
 
--- A refusal, memory aside.
+-- An error other than an allocation failure.
 pub other_counts : {X : Type 0} (r : Result X Error) (e : Error) (input : Reader) (before after : List ℕ) → r ≡ Err e →
     ReadsBody (Counted before after) r input → e.message ≢ message.OutOfMemory → Counts input (Err (fault.Refused e))
 other_counts (Ok x) e input before after is h other = absurd (cc is)

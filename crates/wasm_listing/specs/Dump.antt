@@ -1,4 +1,4 @@
--- What the program writes of a body.
+-- What the program writes for a body.
 use Rattle.std.specs.Prelude.{◌≡◌, ◌≢◌, ℕ, List, [], ◌∷◌, ◌++◌, Option, Result, Ok, Err, codes, decimal, flat_map}
 use Rattle.std.specs.Io.KnownBytes.{Appends}
 use Rattle.wasm_operators.specs.below.bytes.error.Error.{Error}
@@ -24,11 +24,11 @@ lines placed = flat_map line_of placed
 abbrev pub input_of : WasmFeatures → List ℕ → Reader
 input_of features bytes = reader_of features 0 bytes
 
--- The input is a body: these declarations of locals, and behind them an expression with these operators.
+-- The input is a body: these declarations of locals, followed by an expression with these operators.
 abbrev pub IsBody : Reader → List Declaration → Placed → Type 0
 IsBody input declarations placed = EncodesBody (source_of input) declarations placed
 
--- The input is no body: these operators were read of it, and this is the refusal of what stands behind them. It is not said of allocation failure.
+-- The input is no body: these operators were read, and this is the error for the bytes after them. The error is not `OutOfMemory`.
 abbrev pub IsNoBody : Error → Reader → Placed → Type 0
 IsNoBody e input placed = (e.message ≢ message.OutOfMemory) × StopsBody e input placed
 
@@ -36,13 +36,13 @@ abbrev pub status_of : DumpFault → ℕ
 status_of (fault.Refused e) = 1
 status_of _ = 3
 
--- The text is the lines of what was read of the body.
+-- The text has the lines of the operators that were read.
 abbrev pub Lists : {X : Type 0} → Reader → Result X Error → List ℕ → Type 0
 Lists input (Ok x) text = (declarations : List Declaration) × (placed : Placed) × IsBody input declarations placed × (text ≡ lines placed)
 Lists input (Err e) text = (placed : Placed) × IsNoBody e input placed × (text ≡ lines placed)
 
--- What the program writes: the lines of the body that the input encodes; or, of other input, those of what was read before the refusal.
--- Of the other faults nothing is said here.
+-- What the program writes: the lines of the body that the input encodes, or the lines of the operators that were read before the error.
+-- About the other faults nothing is said here.
 abbrev pub Dumps : {X : Type 0} → Reader → Result X DumpFault → Option (List ℕ) → Option (List ℕ) → Type 0
 Dumps input (Ok x) old new = (declarations : List Declaration) × (placed : Placed) × IsBody input declarations placed × Appends old new (lines placed)
 Dumps input (Err (fault.Refused e)) old new = (placed : Placed) × IsNoBody e input placed × Appends old new (lines placed)
@@ -52,7 +52,7 @@ abbrev pub IsNotRefused : {X : Type 0} → Result X DumpFault → Type 0
 IsNotRefused (Err (fault.Refused e)) = ⊥
 IsNotRefused _ = Unit {0}
 
--- The faults before anything is written.
+-- The faults that occur before anything is written.
 abbrev pub WritesNothing : DumpFault → Type 0
 WritesNothing fault.Reading = Unit {0}
 WritesNothing fault.Memory = Unit {0}

@@ -1,4 +1,4 @@
--- The word that names features.
+-- The argument that names features.
 use Rattle.std.specs.Prelude.{ℕ, List, [], ◌∷◌, Option, Some, None, codes, nat_eq, if◌then◌else◌}
 use Rattle.std.specs.Result.{result_ok}
 use Rattle.std.specs.Cmp.Lexicographic.{pointwise}
@@ -15,7 +15,7 @@ feature_names =
     ∷ (codes "MULTIBYTE_ARRAY_ACCESS", 32)
     ∷ []
 
--- All for no word and for `all`, none for `none`, else the features named between bars.
+-- All features if there is no word or the word is `all`; none if it is `none`; otherwise the features that it names, separated by bars.
 abbrev pub bits_of_word : Option (List ℕ) → Option ℕ
 bits_of_word None = Some 63
 bits_of_word (Some word) =

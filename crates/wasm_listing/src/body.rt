@@ -1,4 +1,4 @@
-//! The body that the bytes of a program's input are.
+//! The body that a program's input encodes.
 ghost use Rattle.std.specs.Prelude.{[], IfOk};
 ghost use Rattle.wasm_operators.specs.Body.{OpensBody};
 ghost use Rattle.wasm_operators.specs.Headline.{StoodBefore};
@@ -7,9 +7,9 @@ ghost use Rattle.wasm_listing.specs.Dump.{input_of};
 use std::alloc::Global;
 use wasm_operators::{BinaryReader, FunctionBody, OperatorsReader, Result, WasmFeatures};
 
-/// A reader of a body's operators, behind its locals.
+/// Skips the locals of a body and returns a reader of its operators.
 ///
-/// Refused as the locals are.
+/// Fails as the locals do.
 pub fn open_body<'a>(
     alloc: Global,
     features: WasmFeatures,

@@ -1,4 +1,4 @@
-//! How many operators of each proposal a body has.
+//! The number of operators of each proposal in a body.
 ghost use Rattle.std.specs.Prelude.{◌≡◌, List, IfErr};
 ghost use Rattle.wasm_operators.specs.Expression.{Placed};
 ghost use Rattle.wasm_operators.specs.Body.{ReadsBody};
@@ -33,17 +33,17 @@ fn count_body(
     operators.visit_all_simd(census)
 }
 
-/// How many operators of each proposal a body has, in the order of the proposals: `mvp`,
+/// Counts the operators of a body by proposal, in the order of the proposals: `mvp`,
 /// `sign_extension`, `gc`, `custom_descriptors`, `saturating_float_to_int`, `bulk_memory`,
 /// `reference_types`, `tail_call`, `memory_control`, `threads`, `simd`, `relaxed_simd`,
 /// `exceptions`, `legacy_exceptions`, `shared_everything_threads`, `function_references`,
 /// `stack_switching`, `wide_arithmetic`, `acquire_release_atomics`.
 ///
-/// `Refused` where the bytes are no body; `Memory` where memory was refused, and only where an
-/// operator of the body may ask for it.
+/// Fails with `Refused` if the bytes are no body. Fails with `Memory` if allocation fails, and only
+/// if an operator of the body may allocate.
 pub fn census(alloc: Global, features: WasmFeatures, body: &[u8]) -> Result<[u64; 19], DumpFault>
     ensures counts { Counts (input_of features body.now) result }
-    // Where the bytes encode a body, it is not refused.
+    // If the bytes encode a body, the result is not `Refused`.
     ensures whole { (declarations : List Declaration) → (placed : Placed)
         → IsBody (input_of features body.now) declarations placed → IsNotRefused result }
     ensures memory { IfErr result (λ fault. fault ≡ DumpFault.Memory → BodyMayAllocate (input_of features body.now)) }

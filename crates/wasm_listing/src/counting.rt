@@ -28,7 +28,7 @@ static PROPOSALS: [&str; 19] = [
     "acquire_release_atomics",
 ];
 
-/// The proposal of the count at this place, and no text where there is none.
+/// Returns the proposal of the count at this place, or the empty string if there is no such place.
 pub fn proposal_at(place: usize) -> &'static str
     ensures { result.now ≡ slice_index_or proposals place [] }
 {
@@ -37,7 +37,7 @@ pub fn proposal_at(place: usize) -> &'static str
 
 /// A visitor that counts the operators of each proposal.
 ///
-/// Contracts see it as the counts.
+/// Contracts see the counts.
 #[derive(Debug, Drop)]
 pub struct Census {
     counts: [u64; 19],
@@ -52,22 +52,22 @@ impl Model for Census {
 }
 
 impl Census {
-    /// One that has visited nothing.
+    /// Creates a visitor whose counts are 0.
     pub fn new() -> Census
         ensures { result ≡ replicate 19 0 }
     {
         Census { counts: [0; 19] }
     }
 
-    /// How many operators of each proposal were visited: `proposal_at` tells of which. A count that came
-    /// to the greatest u64 stayed there.
+    /// Returns the number of visited operators of each proposal, in the order of `proposal_at`. A
+    /// count that reaches the greatest u64 stays there.
     pub fn counts(&self) -> [u64; 19]
         ensures { result ≡ self.now }
     {
         self.counts
     }
 
-    /// Counts one more of a proposal.
+    /// Counts one more operator of a proposal.
     fn count(&mut self, proposal: &str)
         ensures { self.new ≡ one_more_of proposal.now proposals self.old }
     {
@@ -82,7 +82,7 @@ impl Census {
 impl Visitor for Census {
     type Output = ();
 
-    // A visit counts the operator at its proposal.
+    // A visit adds one to the count of the operator's proposal.
     ghost visits = { λ before op answer after. CountsVisit before op after };
 
     fn visit_any(&mut self, op: Operator<'static>) {

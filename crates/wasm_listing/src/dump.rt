@@ -1,4 +1,4 @@
-//! The listing of a function body, over any reader and writer.
+//! The listing of a function body, for any reader and writer.
 ghost use Rattle.std.specs.Prelude.{◌≡◌, ◌↔◌, List, IsTrue, IsOk, IsErrAnd, IfOk, IfErr, IfSome, OnOk, string_bytes};
 ghost use Rattle.std.specs.Io.KnownBytes.{Appends};
 ghost use Rattle.wasm_operators.specs.Expression.{Placed};
@@ -15,7 +15,7 @@ use std::alloc::Global;
 use std::io::{Read, Write};
 use wasm_operators::{Error, Message, Operator, WasmFeatures, body_laws};
 
-/// The lines of what was read of a body, and how reading it ended.
+/// The lines of the operators that were read of a body, and the result of reading it.
 #[derive(Drop)]
 struct Listing {
     text: String,
@@ -40,7 +40,7 @@ fn read_body<'a>(
     operators.read_all(out)
 }
 
-/// Makes the text for a body, of which only memory can keep it.
+/// Makes the text for a body. Fails with `Memory` only.
 fn list_body(alloc: Global, features: WasmFeatures, bytes: &[u8]) -> Result<Listing, DumpFault>
     ensures lists { IfOk result (λ listing. Lists (input_of features bytes.now) listing.end (string_bytes listing.text)) }
     ensures whole { (declarations : List Declaration) → (placed : Placed)
@@ -58,7 +58,7 @@ fn list_body(alloc: Global, features: WasmFeatures, bytes: &[u8]) -> Result<List
     }
 }
 
-/// Whether reading ended for allocation failure.
+/// Returns whether reading ended with an allocation failure.
 fn is_memory(end: &Result<(), Error>) -> bool
     ensures { IsTrue result ↔ IsErrAnd end.now (λ e. e.message ≡ Message.OutOfMemory) }
 {
@@ -84,18 +84,19 @@ fn write_text<W: Write>(writer: &mut W, text: &str) -> Result<(), DumpFault>
 
 /// Reads a body from the reader, and writes a line for each of its operators.
 ///
-/// The lines of what was read before a refusal are written too, and the answer is then `Refused`.
-/// On `Reading` and `Memory` nothing is written. Of `Writing` nothing is said of how much was.
+/// The lines of the operators before an error are written too; the call then fails with `Refused`.
+/// On `Reading` and `Memory` nothing is written. On `Writing`, an unspecified part may have been
+/// written.
 pub fn run<R: Read, W: Write>(
     alloc: Global,
     features: WasmFeatures,
     reader: &mut R,
     writer: &mut W,
 ) -> Result<(), DumpFault>
-    // Over the bytes that the reader tells, the writer gets the lines of what the body holds.
+    // If the bytes that the reader supplies are known, the lines of these bytes are written.
     ensures lines { IfSome (R.remaining reader.old) (λ bytes.
         Dumps (input_of features bytes) result (W.contents writer.old) (W.contents writer.new)) }
-    // Where the bytes encode a body, it is not refused.
+    // If the bytes encode a body, the result is not `Refused`.
     ensures whole { IfSome (R.remaining reader.old) (λ bytes.
         (declarations : List Declaration) → (placed : Placed) → IsBody (input_of features bytes) declarations placed
         → IsNotRefused result) }

@@ -1,25 +1,25 @@
-//! What a run of the program may end with.
+//! The faults of a run of the program.
 ghost use Rattle.std.specs.Prelude.{◌≡◌};
 ghost use Rattle.wasm_listing.specs.Dump.{status_of};
 
 use std::fmt;
 use wasm_operators::Error;
 
-/// Why a body was not printed whole.
+/// The reason why a body was not listed completely.
 #[derive(Clone, Copy, Debug, PartialEq, Eq)]
 pub enum DumpFault {
-    /// The bytes are no body. The lines of what was read are written.
+    /// The bytes are no body. The lines of the operators that were read are written.
     Refused(Error),
     /// The input can't be read. Nothing is written.
     Reading,
     /// The output can't be written.
     Writing,
-    /// Memory was refused. Nothing is written.
+    /// Allocation failed. Nothing is written.
     Memory,
 }
 
 impl DumpFault {
-    /// The status with which the program ends.
+    /// Returns the exit status of the program.
     pub fn status(&self) -> u8
         ensures { result ≡ status_of self.now }
     {

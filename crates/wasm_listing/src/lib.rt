@@ -1,6 +1,7 @@
-//! The operators of a function body as lines of text, and their census by proposal.
+//! The operators of a function body as lines of text, and their counts by proposal.
 //!
-//! The theorem stands on [`run`], over any reader and writer.
+//! The main theorem of this crate is the contract of [`run`], for any reader and writer. If an
+//! allocation fails, [`run`] and [`census`] fail with `Memory`, and nothing is written.
 #![tactic(auto)]
 
 mod body;

@@ -5,7 +5,7 @@ ghost use Rattle.wasm_listing.specs.Dump.{line_of, lines};
 use std::alloc::{AllocError, Global};
 use wasm_operators::Operator;
 
-/// The line of one operator, at the end of a text.
+/// Appends the line of one operator to a text.
 fn push_line(text: &mut String, operator: &Operator, offset: u64) -> Result<(), AllocError>
     ensures { OnOk result (string_bytes text.new ≡ string_bytes text.old ++ line_of (operator.now, offset)) }
 {
@@ -13,7 +13,7 @@ fn push_line(text: &mut String, operator: &Operator, offset: u64) -> Result<(), 
     writeln!(text, "{offset} {name}")
 }
 
-/// The lines of operators with their offsets.
+/// Returns the lines of operators with their offsets.
 pub fn lines_of(alloc: Global, operators: &[(Operator, u64)]) -> Result<String, AllocError>
     ensures { IfOk result (λ text. string_bytes text ≡ lines operators.now) }
 {

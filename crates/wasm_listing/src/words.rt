@@ -1,4 +1,4 @@
-//! The features that the program's argument asks for.
+//! The features that the program's argument names.
 ghost use Rattle.std.specs.Prelude.{◌≡◌, option_map};
 ghost use Rattle.wasm_listing.specs.Words.{bits_of_word};
 
@@ -6,8 +6,8 @@ use bitflags::Flags;
 use bitflags::parser::from_str_strict;
 use wasm_operators::WasmFeatures;
 
-/// The features that a word asks for: all for `all` and where there is no word, none for `none`,
-/// and for another word those that it names, joined by `|`. `None` where a name is none of the six.
+/// Returns the features that a word names: all for `all` and if there is no word, none for `none`;
+/// otherwise the named features, separated by `|`. Returns `None` if a name is none of the six.
 pub fn features_of(word: Option<&str>) -> Option<WasmFeatures>
     ensures { option_map (λ features. features.0) result ≡ bits_of_word (option_map (λ text. text.now) word.entry) }
 {

@@ -1,4 +1,4 @@
--- Types are a prefix code, and their faults determine the refusal.
+-- Types are a prefix code, and their faults determine the error.
 use Rattle.std.proofs.Common.{◌≡◌, ℕ, zero, suc, ◌+◌, ◌-◌, ◌<◌, ◌≤◌, List, [], ◌∷◌, inl, inr, Result, Ok, Err, refl, ap, sym, ◌∙◌, arith}
 use Rattle.wasm_below.specs.bytes.error.Error.{Error}
 use Rattle.wasm_below.specs.Fault.{DeterminesRefusal}
@@ -14,7 +14,7 @@ use Rattle.wasm_module.proofs.Many.{length_code, length_determines}
 use Rattle.wasm_module.proofs.Parts.{refused_now, then_determines, byte_prefix_code, end_determines}
 use Rattle.wasm_module.proofs.Sequences.{then_code, both_code, refused_as}
 
--- ---- what is read or refused behind a first byte is so as a type
+-- ---- what is read or is in error after a first byte is so as a type
 
 module _ (byte : ℕ) where
   pub function_read : byte ≡ 0x60 → (old new : Reader) (parameters results : ℕ) → Reads EncodesSignature (Ok (parameters, results)) old new →
@@ -148,7 +148,7 @@ module _ (numbers : PrefixCode (EncodesUnsigned 32)) where
     pub sub_type_code : PrefixCode EncodesSubType
     sub_type_code = then_code IsByte EncodesSubBehind byte_prefix_code sub_behind_code
 
-    -- ---- refusals
+    -- ---- errors
 
     module _ (small : DeterminesRefusal U32Fault) (value : DeterminesRefusal ValTypeFault) where
       value_types_determine : DeterminesRefusal ValueTypesFault

@@ -1,4 +1,4 @@
--- Storage types and fields: how they begin, that they are a prefix code, and what refuses them.
+-- Storage types and fields: how they start, that they are a prefix code, and their errors.
 use Rattle.std.proofs.Common.{◌≡◌, ℕ, ◌<◌, ◌≤◌, ◌⊎◌, Bool, true, false, List, [], ◌∷◌, ◌++◌, inl, inr, Ok, Err, refl, ap, sym, ◌∙◌, arith}
 use Rattle.wasm_below.specs.bytes.error.Error.{Error}
 use Rattle.wasm_below.specs.bytes.message.Message.{Message}
@@ -20,7 +20,7 @@ use Rattle.wasm_module.specs.Types.{IsPackedByte, IsPacked, IsStorage, IsField, 
 use Rattle.wasm_module.proofs.Parts.{refused_now, then_determines, byte_prefix_code, end_determines}
 use Rattle.wasm_module.proofs.Sequences.{then_code, some_code}
 
--- ---- the first byte of a value type is none of a packed type
+-- ---- no first byte of a value type is that of a packed type
 
 abbrev Begins : List ℕ → Type 0
 Begins text = (byte : ℕ) × (more : List ℕ) × (text ≡ byte ∷ more) × ((byte ≤ 0x75) ⊎ (0x7b ≤ byte))

@@ -1,4 +1,4 @@
--- Values of one kind, one behind the other, as a loop reads them; and lists of which the length is kept.
+-- Values of one kind, one after another, as a loop reads them; and lists whose length is kept.
 use Rattle.std.proofs.Common.{◌≡◌, ℕ, zero, suc, ◌+◌, ◌<◌, ◌≤◌, List, [], length, inl, inr, Ok, Err, refl, ap, sym, subst, ◌∙◌, arith}
 use Rattle.wasm_below.specs.bytes.error.Error.{Error}
 use Rattle.wasm_below.specs.bytes.message.Message.{Message}
@@ -13,7 +13,7 @@ use Rattle.wasm_module.proofs.Sequences.{then_read, then_first, then_refused, th
 takes_none : (r : Reader) → Takes r r []
 takes_none r = record { moved = ap (at_position r) (let same : r.position ≡ r.position + 0 = omega arith in same); parts = refl }
 
--- some of the values were read, and what is said of those that are left is said of all
+-- Some of the values were read, and what holds for those that are left holds for all.
 pub record IsOnTheWay {X : Type 0} (P : List ℕ → X → Type 0) (Fault : Message → Reader → ℕ → Type 0) (count i : ℕ) (old now : Reader) : Type 0 where
   pub left : ℕ
   pub all : i + left ≡ count
@@ -36,7 +36,7 @@ module _ {X : Type 0} (P : List ℕ → X → Type 0) (Fault : Message → Reade
         fault = λ m offset h. h;
       }
 
-  -- what is left, where there is one more
+  -- The number of values that are left, if there is one more.
   one_less : (count i left : ℕ) → i + left ≡ count → i < count → (k : ℕ) × (left ≡ suc k)
   one_less count i zero all more = absurd (omega (arith, all, more))
   one_less count i (suc k) all more = (k, refl)

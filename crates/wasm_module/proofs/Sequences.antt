@@ -1,4 +1,4 @@
--- Values that are read one behind the other: of which only the last is kept, and of which both are.
+-- Values that are read one after the other: only the last is kept, or both are.
 use Rattle.std.proofs.Common.{◌≡◌, ℕ, ◌+◌, List, ◌++◌, length, Ok, Err, refl, ap, sym, subst, ◌∙◌, append_assoc, arith}
 use Rattle.std.proofs.lemmas.List.{append_cancel_left}
 use Rattle.wasm_below.specs.bytes.error.Error.{Error}
@@ -8,7 +8,7 @@ use Rattle.wasm_module.specs.Both.{Both}
 use Rattle.wasm_module.specs.Imports.{SomeOf, IsExternTypeBehind, EncodesExternTypeBehind}
 use Rattle.wasm_module.proofs.Parts.{takes_both, back}
 
--- an encoding that is a prefix of what stands there
+-- An encoding that is a prefix of the next bytes.
 first_text : (a b x y : List ℕ) → a ≡ b → a ++ x ≡ b ++ y → x ≡ y
 first_text a b x y same e = append_cancel_left a x y (e ∙ ap (λ t. t ++ y) (sym same))
 
@@ -58,7 +58,7 @@ module _ {X Y : Type 0} (P : List ℕ → X → Type 0) (Q : X → List ℕ → 
         let second = behind p.2 p.1 q.1 x y m n p.5 (subst (λ v. Q v q.1 n) (sym first.1) q.5) (first_text p.0 q.0 (p.1 ++ x) (q.1 ++ y) first.0 whole) in
         (p.3 ∙ ap (λ t. t ++ p.1) first.0 ∙ ap (λ t. q.0 ++ t) second.0 ∙ sym q.3, second.1)
 
--- what is refused is refused too as anything that has it in it
+-- If reading a part fails, reading any value that contains the part fails too.
 pub refused_as : {X Z : Type 0} (P : List ℕ → X → Type 0) (Q : List ℕ → Z → Type 0) → ((text : List ℕ) (z : Z) → Q text z → (x : X) × P text x) →
     (e : Error) (old new : Reader) → Reads P (Err e) old new → Reads Q (Err e) old new
 refused_as P Q has e old new (same, h) = (

@@ -8,13 +8,13 @@ use Rattle.wasm_below.specs.Source.{Reader, IsByte, EndFault, U32Fault}
 use Rattle.wasm_module.specs.Both.{Both}
 use Rattle.wasm_module.specs.Names.{EncodesName, NameFault}
 
--- An export: its name, the byte of a kind, and which one of that kind.
+-- An export: its name, the byte of its kind, and its index among the items of that kind.
 pub record ExportParts : Type 0 where
   pub name : List ℕ
   pub kind : ℕ
   pub index : ℕ
 
--- The byte of a kind, whatever it is, and an index.
+-- The byte of a kind, with any value, followed by an index.
 --   externidx ::= 0x00 x:funcidx | 0x01 x:tableidx | 0x02 x:memidx | 0x03 x:globalidx | 0x04 x:tagidx
 abbrev pub EncodesExternIndex : List ℕ → ℕ × ℕ → Type 0
 EncodesExternIndex = Both IsByte (EncodesUnsigned 32)
@@ -22,11 +22,11 @@ EncodesExternIndex = Both IsByte (EncodesUnsigned 32)
 abbrev pub ExternIndexFault : Message → Reader → ℕ → Type 0
 ExternIndexFault = ThenFault IsByte EndFault (λ kind. U32Fault)
 
--- The same behind a name.
+-- A name, followed by the byte of a kind and an index.
 --   export ::= nm:name xx:externidx
 abbrev pub EncodesExport : List ℕ → ExportParts → Type 0
 EncodesExport text e = Both EncodesName EncodesExternIndex text (e.name, (e.kind, e.index))
 
--- Which refusal an export has: that of its first part that is not there.
+-- The error of an export: the error of its first part that can't be read.
 abbrev pub ExportFault : Message → Reader → ℕ → Type 0
 ExportFault = ThenFault EncodesName NameFault (λ name. ExternIndexFault)

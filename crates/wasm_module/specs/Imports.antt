@@ -1,5 +1,6 @@
--- Imports: which bytes are one, and which refusal it has. Of what is imported the kind is kept.
--- WebAssembly Core Specification 3.0, Binary Format: Types, Limits, Table Types, Memory Types, Global Types, Tag Types, External Types; Modules, Import Section.
+-- Imports: their bytes and their errors. Only the kind of what is imported is kept.
+-- WebAssembly Core Specification 3.0, Binary Format: Types, Limits, Table Types, Memory Types, Global Types, Tag Types, External Types; Modules, Import
+-- Section.
 use Rattle.std.specs.Prelude.{◌≡◌, ◌≢◌, ℕ, zero, suc, ◌%◌, ◌⊎◌, List, []}
 use Rattle.wasm_below.specs.bytes.message.Message.{Message}
 use Rattle.wasm_below.specs.Fault.{ThenFault}
@@ -10,11 +11,11 @@ use Rattle.wasm_below.specs.TypeEncoding.{EncodesRefType, EncodesValType, RefTyp
 use Rattle.wasm_module.specs.Both.{Both}
 use Rattle.wasm_module.specs.Names.{EncodesName, NameFault}
 
--- A text that is stepped over.
+-- Bytes that are skipped.
 abbrev pub Skipped : Type 1
 Skipped = List ℕ → Unit {0} → Type 0
 
--- Which refusal stepping over has.
+-- The error of skipping.
 abbrev pub SkipFault : Type 1
 SkipFault = Message → Reader → ℕ → Type 0
 
@@ -22,18 +23,18 @@ SkipFault = Message → Reader → ℕ → Type 0
 abbrev pub SomeOf : {X : Type 0} → (List ℕ → X → Type 0) → Skipped
 SomeOf {X} Encodes text done = (x : X) × Encodes text x
 
--- Nothing stands there.
+-- There are no bytes.
 abbrev pub IsNothing : Skipped
 IsNothing text done = text ≡ []
 
--- The greatest size, where the flags say that there is one.
+-- The maximum size, if the flags say that there is one.
 abbrev pub IsMost : ℕ → Skipped
 IsMost flags text done = ((flags % 2 ≡ 1) × SomeOf (EncodesUnsigned 64) text done) ⊎ ((flags % 2 ≢ 1) × IsNothing text done)
 
 abbrev pub MostFault : ℕ → SkipFault
 MostFault flags m r offset = (flags % 2 ≡ 1) × U64Fault m r offset
 
--- Limits. Of the flags only the lowest bit is looked at.
+-- Limits. Only the lowest bit of the flags is checked.
 --   limits ::= 0x00 n:u64 | 0x01 n:u64 m:u64 | 0x04 n:u64 | 0x05 n:u64 m:u64
 abbrev pub IsBounds : ℕ → Skipped
 IsBounds flags = Then (EncodesUnsigned 64) (λ least. IsMost flags)
@@ -55,7 +56,7 @@ IsTable = Then EncodesRefType (λ ty. IsLimits)
 abbrev pub TableFault : SkipFault
 TableFault = ThenFault EncodesRefType RefTypeFault (λ ty. LimitsFault)
 
--- A global type: a value type, and whether it is mutable, whatever the byte.
+-- A global type: a value type, and the byte of its mutability, with any value.
 --   globaltype ::= t:valtype mut:mut      mut ::= 0x00 | 0x01
 abbrev pub IsGlobal : Skipped
 IsGlobal = Then EncodesValType (λ ty. SomeOf IsByte)
@@ -63,7 +64,7 @@ IsGlobal = Then EncodesValType (λ ty. SomeOf IsByte)
 abbrev pub GlobalFault : SkipFault
 GlobalFault = ThenFault EncodesValType ValTypeFault (λ ty. EndFault)
 
--- A tag type: a byte, whatever it is, and the index of a type.
+-- A tag type: a byte, with any value, and the index of a type.
 --   tagtype ::= 0x00 x:typeidx
 abbrev pub IsTag : Skipped
 IsTag = Then IsByte (λ attribute. SomeOf (EncodesUnsigned 32))
@@ -71,7 +72,7 @@ IsTag = Then IsByte (λ attribute. SomeOf (EncodesUnsigned 32))
 abbrev pub TagFault : SkipFault
 TagFault = ThenFault IsByte EndFault (λ attribute. U32Fault)
 
--- What stands behind the byte of a kind: nothing where the standard has no such kind.
+-- The bytes after the byte of a kind: none if the standard has no such kind.
 --   externtype ::= 0x00 x:typeidx | 0x01 tt:tabletype | 0x02 mt:memtype | 0x03 gt:globaltype | 0x04 jt:tagtype
 abbrev pub IsExternTypeBehind : ℕ → Skipped
 IsExternTypeBehind zero = SomeOf (EncodesUnsigned 32)
@@ -89,7 +90,7 @@ ExternTypeBehindFault (suc (suc (suc zero))) = GlobalFault
 ExternTypeBehindFault (suc (suc (suc (suc zero)))) = TagFault
 ExternTypeBehindFault _ = λ m r offset. ⊥
 
--- The byte of a kind, and what stands behind it. The byte is kept.
+-- The byte of a kind, which is kept, and the bytes after it.
 abbrev pub EncodesExternTypeBehind : ℕ → List ℕ → ℕ → Type 0
 EncodesExternTypeBehind byte text kind = (kind ≡ byte) × IsExternTypeBehind byte text tt
 
@@ -99,24 +100,24 @@ EncodesExternType = Then IsByte EncodesExternTypeBehind
 abbrev pub ExternTypeFault : SkipFault
 ExternTypeFault = ThenFault IsByte EndFault ExternTypeBehindFault
 
--- An import: the names of its module and of itself, and the byte of its kind.
+-- An import: the module's name, the import's name, and the byte of its kind.
 pub record ImportParts : Type 0 where
   pub module_name : List ℕ
   pub name : List ℕ
   pub kind : ℕ
 
--- A kind behind a name.
+-- A name, followed by a kind.
 abbrev pub EncodesNamed : List ℕ → List ℕ × ℕ → Type 0
 EncodesNamed = Both EncodesName EncodesExternType
 
 abbrev pub NamedFault : SkipFault
 NamedFault = ThenFault EncodesName NameFault (λ name. ExternTypeFault)
 
--- The same behind another name, that of the module.
+-- The module's name, followed by the import's name and kind.
 --   import ::= nm1:name nm2:name xt:externtype
 abbrev pub EncodesImport : List ℕ → ImportParts → Type 0
 EncodesImport text i = Both EncodesName EncodesNamed text (i.module_name, (i.name, i.kind))
 
--- Which refusal an import has: that of its first part that is not there.
+-- The error of an import: the error of its first part that can't be read.
 abbrev pub ImportFault : SkipFault
 ImportFault = ThenFault EncodesName NameFault (λ module_name. NamedFault)

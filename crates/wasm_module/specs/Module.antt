@@ -18,7 +18,7 @@ use Rattle.wasm_module.specs.declared.preamble.PreambleKind.TheVariants as kind
 abbrev pub EncodesPreamble : List ℕ → Preamble → Type 0
 EncodesPreamble text p = Both (EncodesFixed w32) (EncodesFixed w32) text (p.magic, p.version)
 
--- What the two numbers say. That of components is of the proposal component model: version 13, layer 1.
+-- The kind of binary that the two numbers identify. Components are defined by the component model proposal: version 13, layer 1.
 abbrev pub preamble_kind : Preamble → PreambleKind
 preamble_kind p =
     if p.magic == 0x6d736100
@@ -30,15 +30,15 @@ pub record SectionParts : Type 0 where
   pub id : ℕ
   pub contents : Reader
 
--- The bytes are a section: its number, the length of its contents, and these.
+-- The bytes are a section: its number, the length of its contents, and the contents.
 --   section_N(X) ::= N:byte len:u32 en*:X
 abbrev pub EncodesSection : WasmFeatures → List ℕ → SectionParts → Type 0
 EncodesSection features text s = Both IsByte (EncodesReader features) text (s.id, s.contents)
 
--- Which refusal a preamble has: the data ends within the first number; or that is there, and the data ends within the second.
+-- The error of a preamble: the data ends within the first number, or within the second.
 abbrev pub PreambleFault : Message → Reader → ℕ → Type 0
 PreambleFault = ThenFault (EncodesFixed w32) (EndsWithin 4) (λ magic. EndsWithin 4)
 
--- Which refusal a section has: the data ends at its number; or that is there, and it is the refusal of the length and the contents behind it.
+-- The error of a section: the data ends at its number, or the error of the length and the contents after it.
 abbrev pub SectionFault : Message → Reader → ℕ → Type 0
 SectionFault = ThenFault IsByte EndFault (λ id. ReaderFault)

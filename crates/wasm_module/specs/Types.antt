@@ -1,4 +1,4 @@
--- Types, of which is kept what sort they are, and how many parameters and results, or fields, they have.
+-- Types. Their sort and the numbers of their parameters and results, or fields, are kept.
 -- WebAssembly Core Specification 3.0, Binary Format: Conventions, Lists; Types, Composite Types, Recursive Types.
 use Rattle.std.specs.Prelude.{◌≡◌, ◌≢◌, ℕ, zero, suc, ◌⊎◌, List, [], ◌∷◌}
 use Rattle.wasm_below.specs.bytes.message.Message.{Message}
@@ -12,12 +12,12 @@ use Rattle.wasm_module.specs.Imports.{Skipped, SkipFault, SomeOf, IsNothing}
 use Rattle.wasm_module.specs.declared.composite.CompositeType.{CompositeType}
 use Rattle.wasm_module.specs.declared.composite.CompositeType.TheVariants as composite
 
--- This many values, one behind the other.
+-- This many values, one after another.
 abbrev pub IsMany : {X : Type 0} → (List ℕ → X → Type 0) → ℕ → Skipped
 IsMany P zero = IsNothing
 IsMany P (suc n) = Then P (λ x. IsMany P n)
 
--- How many there are, which is kept, and behind that these.
+-- The number of values, which is kept, followed by the values.
 --   list(X) ::= n:u32 (el:X)^n
 abbrev pub EncodesCounted : {X : Type 0} → (List ℕ → X → Type 0) → ℕ → List ℕ → ℕ → Type 0
 EncodesCounted P count text n = (n ≡ count) × IsMany P count text tt
@@ -28,7 +28,7 @@ EncodesLength P = Then (EncodesUnsigned 32) (EncodesCounted P)
 abbrev pub LengthFault : {X : Type 0} → (List ℕ → X → Type 0) → (Message → Reader → ℕ → Type 0) → Message → Reader → ℕ → Type 0
 LengthFault P Fault = ThenFault (EncodesUnsigned 32) U32Fault (ManyFault P Fault)
 
--- The value types of a list, counted.
+-- A list of value types. Their number is kept.
 --   resulttype ::= t*:list(valtype)
 abbrev pub EncodesValueTypes : List ℕ → ℕ → Type 0
 EncodesValueTypes = EncodesLength EncodesValType
@@ -36,7 +36,7 @@ EncodesValueTypes = EncodesLength EncodesValType
 abbrev pub ValueTypesFault : SkipFault
 ValueTypesFault = LengthFault EncodesValType ValTypeFault
 
--- Those of parameters, and behind them those of results.
+-- The value types of the parameters, followed by those of the results.
 abbrev pub EncodesSignature : List ℕ → ℕ × ℕ → Type 0
 EncodesSignature = Both EncodesValueTypes EncodesValueTypes
 
@@ -51,12 +51,12 @@ IsPackedByte byte = (byte ≡ 0x77) ⊎ (byte ≡ 0x78)
 abbrev pub IsPacked : Skipped
 IsPacked text done = (byte : ℕ) × IsPackedByte byte × (text ≡ byte ∷ [])
 
--- A storage type. Its refusal is that of a value type.
+-- A storage type. Its error is the error of a value type.
 --   storagetype ::= t:valtype | pt:packtype
 abbrev pub IsStorage : Skipped
 IsStorage text done = SomeOf EncodesValType text done ⊎ IsPacked text done
 
--- A field: a storage type, and whether it is mutable, whatever the byte.
+-- A field: a storage type, and the byte of its mutability, with any value.
 --   fieldtype ::= zt:storagetype mut:mut
 abbrev pub IsField : Skipped
 IsField = Then IsStorage (λ storage. SomeOf IsByte)
@@ -64,18 +64,18 @@ IsField = Then IsStorage (λ storage. SomeOf IsByte)
 abbrev pub FieldFault : SkipFault
 FieldFault = ThenFault IsStorage ValTypeFault (λ storage. EndFault)
 
--- The fields of a list, counted.
+-- A list of fields. Their number is kept.
 abbrev pub EncodesFields : List ℕ → ℕ → Type 0
 EncodesFields = EncodesLength IsField
 
 abbrev pub FieldsFault : SkipFault
 FieldsFault = LengthFault IsField FieldFault
 
--- The first byte of none of the three sorts of composite types.
+-- The byte starts none of the three sorts of composite types.
 abbrev pub IsOther : ℕ → Type 0
 IsOther byte = (byte ≢ 0x60) × (byte ≢ 0x5f) × (byte ≢ 0x5e)
 
--- What stands behind the first byte of a type: nothing where that is none of the three.
+-- The bytes after the first byte of a type: none if that byte is none of the three.
 --   comptype ::= 0x5E ft:fieldtype ⇒ array | 0x5F ft*:list(fieldtype) ⇒ struct | 0x60 t1*:resulttype t2*:resulttype ⇒ func
 abbrev pub EncodesBehind : ℕ → List ℕ → CompositeType → Type 0
 EncodesBehind byte text (composite.Function parameters results) = (byte ≡ 0x60) × EncodesSignature text (parameters, results)
@@ -86,18 +86,18 @@ EncodesBehind byte text (composite.Other kind) = IsOther byte × (kind ≡ byte)
 abbrev pub BehindFault : ℕ → SkipFault
 BehindFault byte m r offset = ((byte ≡ 0x60) × SignatureFault m r offset) ⊎ (((byte ≡ 0x5f) × FieldsFault m r offset) ⊎ ((byte ≡ 0x5e) × FieldFault m r offset))
 
--- A composite type: its first byte, and what stands behind that.
+-- A composite type: its first byte, and the bytes after it.
 abbrev pub EncodesComposite : List ℕ → CompositeType → Type 0
 EncodesComposite = Then IsByte EncodesBehind
 
 abbrev pub CompositeFault : SkipFault
 CompositeFault = ThenFault IsByte EndFault BehindFault
 
--- The first byte of a type whose supertypes are named: of one that is final, and of one that is not.
+-- The byte starts a type with supertypes: 0x4f a final type, 0x50 one that is not final.
 abbrev pub NamesSupertypes : ℕ → Type 0
 NamesSupertypes byte = (byte ≡ 0x4f) ⊎ (byte ≡ 0x50)
 
--- The indices of supertypes, and the composite type behind them.
+-- The indices of the supertypes, followed by the composite type.
 abbrev pub EncodesIndices : List ℕ → ℕ → Type 0
 EncodesIndices = EncodesLength (EncodesUnsigned 32)
 
@@ -110,7 +110,7 @@ EncodesWithSupertypes = Then EncodesIndices (λ supertypes. EncodesComposite)
 abbrev pub WithSupertypesFault : SkipFault
 WithSupertypesFault = ThenFault EncodesIndices IndicesFault (λ supertypes. CompositeFault)
 
--- What stands behind the first byte of a sub type.
+-- The bytes after the first byte of a sub type.
 --   subtype ::= 0x4F x*:list(typeidx) ct:comptype | 0x50 x*:list(typeidx) ct:comptype | ct:comptype
 abbrev pub EncodesSubBehind : ℕ → List ℕ → CompositeType → Type 0
 EncodesSubBehind byte text ty = (NamesSupertypes byte × EncodesWithSupertypes text ty) ⊎ ((¬ NamesSupertypes byte) × EncodesBehind byte text ty)
@@ -118,19 +118,19 @@ EncodesSubBehind byte text ty = (NamesSupertypes byte × EncodesWithSupertypes t
 abbrev pub SubBehindFault : ℕ → SkipFault
 SubBehindFault byte m r offset = (NamesSupertypes byte × WithSupertypesFault m r offset) ⊎ ((¬ NamesSupertypes byte) × BehindFault byte m r offset)
 
--- A sub type, of which the composite type is kept.
+-- A sub type. Its composite type is kept.
 abbrev pub EncodesSubType : List ℕ → CompositeType → Type 0
 EncodesSubType = Then IsByte EncodesSubBehind
 
--- Which refusal a sub type has: that of its first part that is not there.
+-- The error of a sub type: the error of its first part that can't be read.
 abbrev pub SubTypeFault : SkipFault
 SubTypeFault = ThenFault IsByte EndFault SubBehindFault
 
--- The beginning of a recursive type that is written as a list: its byte, and how many sub types follow.
+-- The start of a recursive type that is written as a list: its byte, and the number of sub types that follow.
 --   rectype ::= 0x4E st*:list(subtype) | st:subtype
 abbrev pub EncodesRecTypeLength : List ℕ → ℕ → Type 0
 EncodesRecTypeLength = Then IsByte (λ byte text n. (byte ≡ 0x4e) × EncodesUnsigned 32 text n)
 
--- Which refusal it has: that of the number behind the byte.
+-- The error of this start: the error of the number after the byte.
 abbrev pub RecTypeLengthFault : SkipFault
 RecTypeLengthFault = FaultBehind IsByte (λ byte. U32Fault)

@@ -22,16 +22,16 @@ const STRUCT: u8 = 0x5f;
 /// The first byte of a function type.
 const FUNCTION: u8 = 0x60;
 
-/// The first byte of a final type whose supertypes are named.
+/// The first byte of a final type with supertypes.
 const FINAL: u8 = 0x4f;
 
-/// The first byte of another type whose supertypes are named.
+/// The first byte of a type with supertypes that is not final.
 const OPEN: u8 = 0x50;
 
 /// The first byte of a recursive type that is a list.
 const REC_TYPE: u8 = 0x4e;
 
-/// This many value types.
+/// Skips this many value types.
 fn skip_value_types(reader: &mut BinaryReader<'_>, count: u32) -> Result<()>
     ensures reads { Reads (IsMany EncodesValType count) result reader.old reader.new }
     ensures fault { IfErr result (λ e.
@@ -51,7 +51,7 @@ fn skip_value_types(reader: &mut BinaryReader<'_>, count: u32) -> Result<()>
     Ok(())
 }
 
-/// A list of value types, and how many they are.
+/// Skips a list of value types and returns their number.
 fn count_value_types(reader: &mut BinaryReader<'_>) -> Result<u32>
     ensures reads { Reads EncodesValueTypes result reader.old reader.new }
     ensures fault { IfErr result (λ e. ValueTypesFault e.message reader.old e.offset) }
@@ -71,7 +71,7 @@ fn count_value_types(reader: &mut BinaryReader<'_>) -> Result<u32>
     }
 }
 
-/// How many parameters and results there are.
+/// Skips the parameters and results of a function type and returns their numbers.
 fn read_signature(reader: &mut BinaryReader<'_>) -> Result<(u32, u32)>
     ensures reads { Reads EncodesSignature result reader.old reader.new }
     ensures fault { IfErr result (λ e. SignatureFault e.message reader.old e.offset) }
@@ -92,7 +92,7 @@ fn read_signature(reader: &mut BinaryReader<'_>) -> Result<(u32, u32)>
     }
 }
 
-/// This many indices.
+/// Skips this many indices.
 fn skip_indices(reader: &mut BinaryReader<'_>, count: u32) -> Result<()>
     ensures reads { Reads (IsMany (EncodesUnsigned 32) count) result reader.old reader.new }
     ensures fault { IfErr result (λ e.
@@ -112,7 +112,7 @@ fn skip_indices(reader: &mut BinaryReader<'_>, count: u32) -> Result<()>
     Ok(())
 }
 
-/// A list of indices, and how many they are.
+/// Skips a list of indices and returns their number.
 fn count_indices(reader: &mut BinaryReader<'_>) -> Result<u32>
     ensures reads { Reads EncodesIndices result reader.old reader.new }
     ensures fault { IfErr result (λ e. IndicesFault e.message reader.old e.offset) }
@@ -132,28 +132,29 @@ fn count_indices(reader: &mut BinaryReader<'_>) -> Result<u32>
     }
 }
 
-/// A composite type. Composite Types.
+/// A composite type. Specification: Composite Types.
 #[derive(Clone, Copy, Debug, PartialEq, Eq)]
 pub enum CompositeType {
     /// A function type.
     Function {
-        /// How many parameters it has.
+        /// The number of parameters.
         parameters: u32,
-        /// How many results it has.
+        /// The number of results.
         results: u32,
     },
     /// A struct type.
     Struct {
-        /// How many fields it has.
+        /// The number of fields.
         fields: u32,
     },
     /// An array type.
     Array,
-    /// The first byte of what is none of the standard's composite types. Nothing else is read of it.
+    /// The first byte of a type that is none of the standard's composite types. No bytes after it
+    /// are read.
     Other(u8),
 }
 
-/// What stands behind this first byte.
+/// Reads the bytes after this first byte.
 fn read_behind(reader: &mut BinaryReader<'_>, kind: u8) -> Result<CompositeType>
     ensures reads { Reads (EncodesBehind kind) result reader.old reader.new }
     ensures fault { IfErr result (λ e. BehindFault kind e.message reader.old e.offset) }
@@ -178,7 +179,7 @@ fn read_behind(reader: &mut BinaryReader<'_>, kind: u8) -> Result<CompositeType>
     }
 }
 
-/// A composite type by itself.
+/// Reads a composite type without supertypes.
 fn read_composite(reader: &mut BinaryReader<'_>) -> Result<CompositeType>
     ensures reads { Reads EncodesComposite result reader.old reader.new }
     ensures fault { IfErr result (λ e. CompositeFault e.message reader.old e.offset) }
@@ -197,7 +198,7 @@ fn read_composite(reader: &mut BinaryReader<'_>) -> Result<CompositeType>
     }
 }
 
-/// The indices of supertypes, and the composite type behind them.
+/// Reads the indices of the supertypes, and the composite type after them.
 fn read_with_supertypes(reader: &mut BinaryReader<'_>) -> Result<CompositeType>
     ensures reads { Reads EncodesWithSupertypes result reader.old reader.new }
     ensures fault { IfErr result (λ e. WithSupertypesFault e.message reader.old e.offset) }
@@ -217,7 +218,7 @@ fn read_with_supertypes(reader: &mut BinaryReader<'_>) -> Result<CompositeType>
     }
 }
 
-/// What stands behind this first byte of a sub type.
+/// Reads the bytes after this first byte of a sub type.
 fn read_sub_behind(reader: &mut BinaryReader<'_>, kind: u8) -> Result<CompositeType>
     ensures reads { Reads (EncodesSubBehind kind) result reader.old reader.new }
     ensures fault { IfErr result (λ e. SubBehindFault kind e.message reader.old e.offset) }
@@ -229,10 +230,10 @@ fn read_sub_behind(reader: &mut BinaryReader<'_>, kind: u8) -> Result<CompositeT
 }
 
 impl CompositeType {
-    /// The composite type of a sub type. Recursive Types.
+    /// Reads a sub type and returns its composite type. Specification: Recursive Types.
     ///
-    /// Behind a byte that is none of the standard's nothing is read. Refused as the part that is not
-    /// there: `EndOfData`, or as a number or a type.
+    /// After a first byte that is not one of the standard's, nothing is read. Fails as the first
+    /// part that can't be read does: with `EndOfData`, or with the error of a number or a type.
     pub fn read(reader: &mut BinaryReader<'_>) -> Result<CompositeType>
         ensures reads { Reads EncodesSubType result reader.old reader.new }
         ensures fault { IfErr result (λ e. SubTypeFault e.message reader.old e.offset) }
@@ -252,18 +253,18 @@ impl CompositeType {
     }
 }
 
-/// Whether a recursive type stands next that is a list.
+/// Returns whether the next byte starts a recursive type that is a list.
 fn is_rec_type_list_next(reader: &BinaryReader<'_>) -> bool
     ensures { IsTrue result ↔ BeginsWith REC_TYPE (rest reader.now) }
 {
     matches!(reader.remaining_buffer(), [REC_TYPE, ..])
 }
 
-/// How many sub types the recursive type has that begins here: where it is a list, its first byte and
-/// that number, which are taken; else one, and nothing is taken. The sub types stand behind. Recursive
-/// Types.
+/// Returns the number of sub types of the recursive type that starts here. If it is a list,
+/// consumes its first byte and that number; otherwise returns 1 and consumes nothing. The sub types
+/// follow. Specification: Recursive Types.
 ///
-/// Refused as `read_var_u32` behind the byte.
+/// Fails as `read_var_u32` does after the byte.
 pub fn read_rec_type_len(reader: &mut BinaryReader<'_>) -> Result<u32>
     ensures rec_type { BeginsWith REC_TYPE (rest reader.old)
         → Reads EncodesRecTypeLength result reader.old reader.new }
@@ -297,17 +298,17 @@ impl<'a> FromReader<'a> for CompositeType {
 
     ghost fault = { λ m r offset. SubTypeFault m r offset };
 
-    /// As `CompositeType::read`.
+    /// Reads a type as `CompositeType::read` does.
     fn from_reader(_alloc: Global, reader: &mut BinaryReader<'a>) -> Result<CompositeType> {
         CompositeType::read(reader)
     }
 
-    /// No encoding is a proper prefix of another.
+    /// States that no encoding is a proper prefix of another.
     fn is_prefix_code() {
         types();
     }
 
-    /// What the fault says determines the refusal.
+    /// States that the fault determines the error.
     fn determines_refusal() {
         types();
     }

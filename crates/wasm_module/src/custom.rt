@@ -7,7 +7,7 @@ use crate::name::Name;
 use std::marker::Model;
 use wasm_below::{BinaryReader, Result};
 
-/// What a custom section has: its name, and a reader of what stands behind that.
+/// The contents of a custom section: its name, and a reader of the bytes after the name.
 #[derive(Debug, Drop)]
 pub struct CustomSection<'a> {
     name: Name<'a>,
@@ -23,9 +23,10 @@ impl<'a> Model for CustomSection<'a> {
 }
 
 impl<'a> CustomSection<'a> {
-    /// What the contents of a section with the number 0 are: reads the name. Custom Section.
+    /// Reads the name of a custom section from the contents of a section with the number 0.
+    /// Specification: Custom Section.
     ///
-    /// Refused as `Name::read`.
+    /// Fails as `Name::read` does.
     pub fn new(mut reader: BinaryReader<'a>) -> Result<CustomSection<'a>>
         ensures name { IfOk result (λ s. Reads EncodesName (Ok s.name) reader.entry s.contents) }
         ensures refused { IfErr result (λ e. IsRefusal EncodesName e reader.entry) }
@@ -40,14 +41,14 @@ impl<'a> CustomSection<'a> {
         }
     }
 
-    /// The bytes of the name, which says what the section has.
+    /// Returns the bytes of the name, which identifies what the section contains.
     pub fn name(&self) -> &'a [u8]
         ensures { result.now ≡ self.now.name }
     {
         self.name.bytes()
     }
 
-    /// A reader of what stands behind the name, with the offsets of the module.
+    /// Returns a reader of the bytes after the name, with the offsets of the module.
     pub fn contents(&self) -> BinaryReader<'a>
         ensures { result ≡ self.now.contents }
     {

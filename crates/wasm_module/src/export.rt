@@ -14,7 +14,7 @@ use std::marker::Model;
 use wasm_below::byte_laws::unsigned_numbers;
 use wasm_below::{BinaryReader, FromReader, MemoryUse, Never, Result, UsesMemory};
 
-/// The byte of a kind, and an index.
+/// Reads the byte of a kind, and an index.
 fn read_extern_index(reader: &mut BinaryReader<'_>) -> Result<(u8, u32)>
     ensures reads { Reads EncodesExternIndex result reader.old reader.new }
     ensures fault { IfErr result (λ e. ExternIndexFault e.message reader.old e.offset) }
@@ -33,7 +33,7 @@ fn read_extern_index(reader: &mut BinaryReader<'_>) -> Result<(u8, u32)>
     }
 }
 
-/// An export: a name for something of the module.
+/// An export: a name for an item of the module.
 ///
 /// Contracts see the bytes of the name, the byte of the kind, and the index.
 #[derive(Debug, Drop)]
@@ -52,31 +52,33 @@ impl<'a> Model for Export<'a> {
 }
 
 impl<'a> Export<'a> {
-    /// The bytes of the name.
+    /// Returns the bytes of the name.
     pub fn name(&self) -> &'a [u8]
         ensures { result.now ≡ self.now.name }
     {
         self.name.bytes()
     }
 
-    /// The byte of the kind: 0 of a function, 1 of a table, 2 of a memory, 3 of a global, 4 of a tag.
-    /// No other is one of the standard's.
+    /// Returns the byte of the kind: 0 for a function, 1 for a table, 2 for a memory, 3 for a
+    /// global, 4 for a tag. The standard has no other kinds.
     pub fn kind(&self) -> u8
         ensures { result ≡ self.now.kind }
     {
         self.kind
     }
 
-    /// Which one of that kind.
+    /// Returns the index among the items of that kind.
     pub fn index(&self) -> u32
         ensures { result ≡ self.now.index }
     {
         self.index
     }
 
-    /// An export: its name, the byte of its kind, and an index, whatever the byte. Export Section.
+    /// Reads an export: its name, the byte of its kind, with any value, and an index.
+    /// Specification: Export Section.
     ///
-    /// Refused as the part that is not there: `EndOfData`, or as a number.
+    /// Fails as the first part that can't be read does: with `EndOfData`, or with the error of a
+    /// number.
     pub fn read(reader: &mut BinaryReader<'a>) -> Result<Export<'a>>
         ensures reads { Reads EncodesExport result reader.old reader.new }
         ensures fault { IfErr result (λ e. ExportFault e.message reader.old e.offset) }
@@ -106,7 +108,7 @@ impl<'a> FromReader<'a> for Export<'a> {
 
     ghost fault = { λ m r offset. ExportFault m r offset };
 
-    /// As `Export::read`.
+    /// Reads an export as `Export::read` does.
     fn from_reader(_alloc: Global, reader: &mut BinaryReader<'a>) -> Result<Export<'a>>
         ensures reads { ReadsValue EncodesExport false result reader.old reader.new }
         ensures fault { IfErr result (λ e. HasFault ExportFault e reader.old) }
@@ -115,14 +117,14 @@ impl<'a> FromReader<'a> for Export<'a> {
         Export::read(reader)
     }
 
-    /// No encoding is a proper prefix of another.
+    /// States that no encoding is a proper prefix of another.
     fn is_prefix_code()
         ensures { (features : WasmFeatures) → PrefixCode EncodesExport }
     {
         exports();
     }
 
-    /// What the fault says determines the refusal.
+    /// States that the fault determines the error.
     fn determines_refusal()
         ensures { DeterminesRefusal ExportFault }
     {

@@ -1,4 +1,4 @@
-//! Steps over fields of structs and arrays.
+//! Skipping the fields of structs and arrays.
 ghost use Rattle.std.specs.Prelude.{◌↔◌, IsTrue, IfErr};
 ghost use Rattle.wasm_below.specs.Fault.{ManyFault};
 ghost use Rattle.wasm_below.specs.Source.{Reads, rest};
@@ -15,14 +15,14 @@ const I16: u8 = 0x77;
 /// The byte of the packed type of 8 bits.
 const I8: u8 = 0x78;
 
-/// Whether a packed type stands next.
+/// Returns whether the next byte is that of a packed type.
 fn is_packed_next(reader: &BinaryReader<'_>) -> bool
     ensures { IsTrue result ↔ LedBy IsPackedByte (rest reader.now) }
 {
     matches!(reader.remaining_buffer(), [I16 | I8, ..])
 }
 
-/// A packed type, which stands next.
+/// Skips a packed type, which is next.
 fn skip_packed(reader: &mut BinaryReader<'_>) -> Result<()>
     requires { LedBy IsPackedByte (rest reader.old) }
     ensures reads { Reads IsStorage result reader.old reader.new }
@@ -34,7 +34,7 @@ fn skip_packed(reader: &mut BinaryReader<'_>) -> Result<()>
     }
 }
 
-/// A storage type.
+/// Skips a storage type.
 fn skip_storage(reader: &mut BinaryReader<'_>) -> Result<()>
     ensures reads { Reads IsStorage result reader.old reader.new }
     ensures fault { IfErr result (λ e. ValTypeFault e.message reader.old e.offset) }
@@ -48,7 +48,7 @@ fn skip_storage(reader: &mut BinaryReader<'_>) -> Result<()>
     }
 }
 
-/// A field.
+/// Skips a field.
 pub fn skip_field(reader: &mut BinaryReader<'_>) -> Result<()>
     ensures reads { Reads IsField result reader.old reader.new }
     ensures fault { IfErr result (λ e. FieldFault e.message reader.old e.offset) }
@@ -68,7 +68,7 @@ pub fn skip_field(reader: &mut BinaryReader<'_>) -> Result<()>
     }
 }
 
-/// This many fields.
+/// Skips this many fields.
 fn skip_fields(reader: &mut BinaryReader<'_>, count: u32) -> Result<()>
     ensures reads { Reads (IsMany IsField count) result reader.old reader.new }
     ensures fault { IfErr result (λ e.
@@ -88,7 +88,7 @@ fn skip_fields(reader: &mut BinaryReader<'_>, count: u32) -> Result<()>
     Ok(())
 }
 
-/// A list of fields, and how many they are.
+/// Skips a list of fields and returns their number.
 pub fn count_fields(reader: &mut BinaryReader<'_>) -> Result<u32>
     ensures reads { Reads EncodesFields result reader.old reader.new }
     ensures fault { IfErr result (λ e. FieldsFault e.message reader.old e.offset) }

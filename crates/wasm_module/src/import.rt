@@ -15,7 +15,7 @@ use std::marker::Model;
 use wasm_below::byte_laws::unsigned_numbers;
 use wasm_below::{BinaryReader, FromReader, MemoryUse, Never, Result, UsesMemory};
 
-/// What stands behind the byte of a kind.
+/// Skips the bytes after the byte of a kind.
 fn skip_extern_type_behind(reader: &mut BinaryReader<'_>, kind: u8) -> Result<()>
     ensures reads { Reads (IsExternTypeBehind kind) result reader.old reader.new }
     ensures fault { IfErr result (λ e. ExternTypeBehindFault kind e.message reader.old e.offset) }
@@ -33,7 +33,7 @@ fn skip_extern_type_behind(reader: &mut BinaryReader<'_>, kind: u8) -> Result<()
     }
 }
 
-/// The byte of a kind, and what stands behind it.
+/// Reads the byte of a kind, and skips the bytes after it.
 fn read_extern_type(reader: &mut BinaryReader<'_>) -> Result<u8>
     ensures reads { Reads EncodesExternType result reader.old reader.new }
     ensures fault { IfErr result (λ e. ExternTypeFault e.message reader.old e.offset) }
@@ -52,7 +52,7 @@ fn read_extern_type(reader: &mut BinaryReader<'_>) -> Result<u8>
     }
 }
 
-/// An import behind the name of its module.
+/// Reads an import after the name of its module.
 fn read_named<'a>(reader: &mut BinaryReader<'a>) -> Result<(Name<'a>, u8)>
     ensures reads { Reads EncodesNamed result reader.old reader.new }
     ensures fault { IfErr result (λ e. NamedFault e.message reader.old e.offset) }
@@ -72,7 +72,7 @@ fn read_named<'a>(reader: &mut BinaryReader<'a>) -> Result<(Name<'a>, u8)>
     }
 }
 
-/// An import. Of what is imported the kind is kept.
+/// An import. Only the kind of what is imported is kept.
 ///
 /// Contracts see the bytes of the two names and the byte of the kind.
 #[derive(Debug, Drop)]
@@ -91,32 +91,33 @@ impl<'a> Model for Import<'a> {
 }
 
 impl<'a> Import<'a> {
-    /// The bytes of the name of the module that it is imported from.
+    /// Returns the bytes of the name of the module that the item is imported from.
     pub fn module_name(&self) -> &'a [u8]
         ensures { result.now ≡ self.now.module_name }
     {
         self.module_name.bytes()
     }
 
-    /// The bytes of the name that it has in that module.
+    /// Returns the bytes of the item's name in that module.
     pub fn name(&self) -> &'a [u8]
         ensures { result.now ≡ self.now.name }
     {
         self.name.bytes()
     }
 
-    /// The byte of the kind: 0 of a function, 1 of a table, 2 of a memory, 3 of a global, 4 of a tag.
-    /// No other is one of the standard's.
+    /// Returns the byte of the kind: 0 for a function, 1 for a table, 2 for a memory, 3 for a
+    /// global, 4 for a tag. The standard has no other kinds.
     pub fn kind(&self) -> u8
         ensures { result ≡ self.now.kind }
     {
         self.kind
     }
 
-    /// An import: the names of its module and of itself, and what it is. Import Section.
+    /// Reads an import: the module's name, the import's name, and its type. Specification: Import
+    /// Section.
     ///
-    /// Behind a byte that is none of the five kinds nothing is read. Refused as the part that is not
-    /// there: `EndOfData`, or as a number or a type.
+    /// After a byte that is none of the five kinds, nothing is read. Fails as the first part that
+    /// can't be read does: with `EndOfData`, or with the error of a number or a type.
     pub fn read(reader: &mut BinaryReader<'a>) -> Result<Import<'a>>
         ensures reads { Reads EncodesImport result reader.old reader.new }
         ensures fault { IfErr result (λ e. ImportFault e.message reader.old e.offset) }
@@ -150,7 +151,7 @@ impl<'a> FromReader<'a> for Import<'a> {
 
     ghost fault = { λ m r offset. ImportFault m r offset };
 
-    /// As `Import::read`.
+    /// Reads an import as `Import::read` does.
     fn from_reader(_alloc: Global, reader: &mut BinaryReader<'a>) -> Result<Import<'a>>
         ensures reads { ReadsValue EncodesImport false result reader.old reader.new }
         ensures fault { IfErr result (λ e. HasFault ImportFault e reader.old) }
@@ -159,14 +160,14 @@ impl<'a> FromReader<'a> for Import<'a> {
         Import::read(reader)
     }
 
-    /// No encoding is a proper prefix of another.
+    /// States that no encoding is a proper prefix of another.
     fn is_prefix_code()
         ensures { (features : WasmFeatures) → PrefixCode EncodesImport }
     {
         imports();
     }
 
-    /// What the fault says determines the refusal.
+    /// States that the fault determines the error.
     fn determines_refusal()
         ensures { DeterminesRefusal ImportFault }
     {

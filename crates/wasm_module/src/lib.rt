@@ -1,6 +1,6 @@
-//! What a module is made of: its preamble, its sections by their numbers and sizes, its types by their
-//! sorts, its imports by their names and kinds, its exports, its custom sections, and the names that one
-//! of these gives.
+//! The parts of a module: its preamble, sections, types, imports, exports and custom sections, and
+//! the names in the custom section `name`. Types are known by their sorts, imports by their names
+//! and kinds.
 #![tactic(auto)]
 
 mod composite;

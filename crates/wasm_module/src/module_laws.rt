@@ -1,7 +1,7 @@
-//! Laws, each the contract of a function that does nothing.
+//! Laws. Each is the contract of a function that does nothing.
 //!
-//! `PrefixCode` says that no encoding is a proper prefix of another, and that each is that of one
-//! value; `DeterminesRefusal`, that what a fault says determines the message and the offset.
+//! `PrefixCode` says that no encoding is a proper prefix of another, and that each encodes one
+//! value. `DeterminesRefusal` says that the fault determines the message and the offset.
 ghost use Rattle.wasm_below.specs.Fault.{DeterminesRefusal};
 ghost use Rattle.wasm_below.specs.Sequence.{PrefixCode};
 ghost use Rattle.wasm_module.specs.Exports.{EncodesExport, ExportFault};
@@ -13,7 +13,7 @@ ghost use Rattle.wasm_module.specs.Types.{EncodesSubType, SubTypeFault, EncodesR
 use wasm_below::byte_laws::{fixed_numbers, number_refusals, part_refusals, unsigned_numbers};
 use wasm_below::type_laws::{reference_types, type_refusals, value_types};
 
-/// The refusals of a preamble and of a section.
+/// States that the errors of a preamble and of a section are determined.
 pub fn refusals()
     ensures preamble { DeterminesRefusal PreambleFault }
     ensures section { DeterminesRefusal SectionFault }
@@ -22,7 +22,8 @@ pub fn refusals()
     part_refusals();
 }
 
-/// Names, and names of indices.
+/// States that names, and indices with names, are prefix codes, and that their errors are
+/// determined.
 pub fn names()
     ensures one { PrefixCode EncodesName }
     ensures refusal { DeterminesRefusal NameFault }
@@ -33,7 +34,7 @@ pub fn names()
     number_refusals();
 }
 
-/// Exports.
+/// States that exports are a prefix code, and that their errors are determined.
 pub fn exports()
     ensures one { PrefixCode EncodesExport }
     ensures refusal { DeterminesRefusal ExportFault }
@@ -42,7 +43,8 @@ pub fn exports()
     number_refusals();
 }
 
-/// Imports, of which two names and the kind are kept.
+/// States that imports, with their two names and their kind, are a prefix code, and that their
+/// errors are determined.
 pub fn imports()
     ensures one { PrefixCode EncodesImport }
     ensures refusal { DeterminesRefusal ImportFault }
@@ -54,7 +56,8 @@ pub fn imports()
     type_refusals();
 }
 
-/// Types, of which the sort and the numbers of their parts are kept, and the beginning of a list of them.
+/// States that types, and the start of a list of them, are prefix codes, and that their errors are
+/// determined. Of a type, the sort and the numbers of its parts are kept.
 pub fn types()
     ensures one { PrefixCode EncodesSubType }
     ensures refusal { DeterminesRefusal SubTypeFault }

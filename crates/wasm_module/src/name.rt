@@ -1,4 +1,4 @@
-//! Names, and the names of indices.
+//! Names, and indices with names.
 ghost use Rattle.std.specs.Prelude.{◌≡◌, ⊤, false, IfOk, IfErr};
 ghost use Rattle.wasm_below.specs.bytes.features.WasmFeatures.{WasmFeatures};
 ghost use Rattle.wasm_below.specs.Fault.{HasFault, DeterminesRefusal};
@@ -13,7 +13,7 @@ use std::marker::Model;
 use wasm_below::byte_laws::unsigned_numbers;
 use wasm_below::{BinaryReader, FromReader, MemoryUse, Never, Result, UsesMemory};
 
-/// A name. That its bytes are UTF-8 is not asked.
+/// A name. Whether its bytes are UTF-8 is not checked.
 ///
 /// Contracts see the bytes.
 #[derive(Debug, Drop)]
@@ -30,16 +30,17 @@ impl<'a> Model for Name<'a> {
 }
 
 impl<'a> Name<'a> {
-    /// The bytes.
+    /// Returns the bytes of the name.
     pub fn bytes(&self) -> &'a [u8]
         ensures { result.now ≡ self.now }
     {
         self.bytes
     }
 
-    /// A name: a number of 32 bits, and that many bytes. Names.
+    /// Reads a name: a number of 32 bits, and that many bytes. Specification: Names.
     ///
-    /// Refused as `read_var_u32`; `EndOfData` where the bytes begin.
+    /// Fails as `read_var_u32` does; with `EndOfData` at the start of the bytes if the data ends
+    /// within them.
     pub fn read(reader: &mut BinaryReader<'a>) -> Result<Name<'a>>
         ensures reads { Reads EncodesName result reader.old reader.new }
         ensures fault { IfErr result (λ e. NameFault e.message reader.old e.offset) }
@@ -60,7 +61,7 @@ impl<'a> Name<'a> {
     }
 }
 
-/// The name of an index, of a function for example.
+/// An index with its name, for example of a function.
 ///
 /// Contracts see the index and the bytes of the name.
 #[derive(Debug, Drop)]
@@ -78,23 +79,23 @@ impl<'a> Model for NameAssociation<'a> {
 }
 
 impl<'a> NameAssociation<'a> {
-    /// What is named.
+    /// Returns the index that is named.
     pub fn index(&self) -> u32
         ensures { result ≡ self.now.index }
     {
         self.index
     }
 
-    /// The bytes of its name.
+    /// Returns the bytes of its name.
     pub fn name(&self) -> &'a [u8]
         ensures { result.now ≡ self.now.name }
     {
         self.name.bytes()
     }
 
-    /// An index, and its name. Name Section, Name Maps.
+    /// Reads an index and its name. Specification: Name Section, Name Maps.
     ///
-    /// Refused as `read_var_u32`; then as `Name::read`.
+    /// Fails as `read_var_u32` does, then as `Name::read` does.
     pub fn read(reader: &mut BinaryReader<'a>) -> Result<NameAssociation<'a>>
         ensures reads { Reads EncodesNameAssociation result reader.old reader.new }
         ensures fault { IfErr result (λ e. NameAssociationFault e.message reader.old e.offset) }
@@ -124,7 +125,7 @@ impl<'a> FromReader<'a> for NameAssociation<'a> {
 
     ghost fault = { λ m r offset. NameAssociationFault m r offset };
 
-    /// As `NameAssociation::read`.
+    /// Reads an index and its name as `NameAssociation::read` does.
     fn from_reader(_alloc: Global, reader: &mut BinaryReader<'a>) -> Result<NameAssociation<'a>>
         ensures reads { ReadsValue EncodesNameAssociation false result reader.old reader.new }
         ensures fault { IfErr result (λ e. HasFault NameAssociationFault e reader.old) }
@@ -133,14 +134,14 @@ impl<'a> FromReader<'a> for NameAssociation<'a> {
         NameAssociation::read(reader)
     }
 
-    /// No encoding is a proper prefix of another.
+    /// States that no encoding is a proper prefix of another.
     fn is_prefix_code()
         ensures { (features : WasmFeatures) → PrefixCode EncodesNameAssociation }
     {
         names();
     }
 
-    /// What the fault says determines the refusal.
+    /// States that the fault determines the error.
     fn determines_refusal()
         ensures { DeterminesRefusal NameAssociationFault }
     {

@@ -1,4 +1,4 @@
-//! The eight bytes that a module begins with.
+//! The first eight bytes of a module.
 ghost use Rattle.std.specs.Prelude.{◌≡◌, IfErr};
 ghost use Rattle.wasm_below.specs.Source.{Reads};
 ghost use Rattle.wasm_module.specs.Module.{EncodesPreamble, PreambleFault, preamble_kind};
@@ -16,21 +16,21 @@ const MODULE: u32 = 0x0000_0001;
 /// The version and the layer of components.
 const COMPONENT: u32 = 0x0001_000d;
 
-/// The preamble of a binary: a magic number, and a version, each of four bytes, the lowest first.
+/// The preamble of a binary: a magic number and a version, each of four bytes, the lowest first.
 #[derive(Clone, Copy, Debug, PartialEq, Eq)]
 pub struct Preamble {
-    /// What says that the binary is one of WebAssembly.
+    /// The number that identifies a binary of WebAssembly.
     pub magic: u32,
-    /// What sort of binary it is, and of which version.
+    /// The number that identifies the sort of the binary and its version.
     pub version: u32,
 }
 
-/// What a preamble says of a binary.
+/// The kind of binary that a preamble identifies.
 #[derive(Clone, Copy, Debug, PartialEq, Eq)]
 pub enum PreambleKind {
     /// A module of version 1.
     Module,
-    /// A component, of the proposal component model.
+    /// A component, of the component model proposal.
     Component,
     /// A binary of WebAssembly of another version.
     OtherVersion,
@@ -39,7 +39,7 @@ pub enum PreambleKind {
 }
 
 impl Preamble {
-    /// What it says of the binary. Modules.
+    /// Returns the kind of binary that the preamble identifies. Specification: Modules.
     pub fn kind(&self) -> PreambleKind
         ensures { result ≡ preamble_kind self.now }
     {
@@ -67,9 +67,9 @@ impl fmt::Display for PreambleKind {
     }
 }
 
-/// A preamble, whatever it says. Modules.
+/// Reads a preamble of any kind. Specification: Modules.
 ///
-/// `EndOfData` where a number of it begins of which the data has fewer bytes than four.
+/// Fails with `EndOfData` at the start of the number for which the data has fewer than four bytes.
 pub fn read_preamble(reader: &mut BinaryReader<'_>) -> Result<Preamble>
     ensures reads { Reads EncodesPreamble result reader.old reader.new }
     ensures fault { IfErr result (λ e. PreambleFault e.message reader.old e.offset) }

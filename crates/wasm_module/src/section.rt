@@ -22,14 +22,14 @@ impl<'a> Model for Section<'a> {
 }
 
 impl<'a> Section<'a> {
-    /// The number, which says what the section has. Sections.
+    /// Returns the number, which identifies what the section contains. Specification: Sections.
     pub fn id(&self) -> u8
         ensures { result ≡ self.now.id }
     {
         self.id
     }
 
-    /// A reader of the contents, with the offsets of the module.
+    /// Returns a reader of the contents, with the offsets of the module.
     pub fn contents(&self) -> BinaryReader<'a>
         ensures { result ≡ self.now.contents }
     {
@@ -37,12 +37,13 @@ impl<'a> Section<'a> {
     }
 }
 
-/// The next section: a byte, a number of 32 bits, and that many bytes. Sections.
+/// Reads the next section: a byte, a number of 32 bits, and that many bytes. Specification:
+/// Sections.
 ///
-/// The subsections of the custom section `name` are encoded in the same way, so that this call reads
-/// them too. Name Section.
+/// The subsections of the custom section `name` have the same encoding, so this call reads them
+/// too. Specification: Name Section.
 ///
-/// `EndOfData` at the end of the data; else refused as `read_reader` behind the byte.
+/// Fails with `EndOfData` at the end of the data; otherwise as `read_reader` does after the byte.
 pub fn read_section<'a>(reader: &mut BinaryReader<'a>) -> Result<Section<'a>>
     ensures reads { Reads (EncodesSection reader.old.features) result reader.old reader.new }
     ensures placed { IfOk result (λ s. end_of s.contents ≡ offset_of reader.new) }

@@ -1,4 +1,4 @@
-//! Steps over what an import has behind its kind.
+//! Skipping the type of an import after the byte of its kind.
 ghost use Rattle.std.specs.Prelude.{IfErr};
 ghost use Rattle.wasm_below.specs.Source.{Reads};
 ghost use Rattle.wasm_module.specs.Imports.{IsMost, MostFault, IsBounds, BoundsFault, IsLimits, LimitsFault, IsTable, TableFault, IsGlobal, GlobalFault, IsTag, TagFault};
@@ -7,7 +7,7 @@ use wasm_below::byte_laws::unsigned_numbers;
 use wasm_below::type_laws::{reference_types, value_types};
 use wasm_below::{BinaryReader, RefType, Result, ValType};
 
-/// The greatest size, where these flags say that there is one.
+/// Skips the maximum size, if these flags say that there is one.
 fn skip_most(reader: &mut BinaryReader<'_>, flags: u8) -> Result<()>
     ensures reads { Reads (IsMost flags) result reader.old reader.new }
     ensures fault { IfErr result (λ e. MostFault flags e.message reader.old e.offset) }
@@ -21,7 +21,7 @@ fn skip_most(reader: &mut BinaryReader<'_>, flags: u8) -> Result<()>
     }
 }
 
-/// The sizes of limits with these flags.
+/// Skips the sizes of limits with these flags.
 fn skip_bounds(reader: &mut BinaryReader<'_>, flags: u8) -> Result<()>
     ensures reads { Reads (IsBounds flags) result reader.old reader.new }
     ensures fault { IfErr result (λ e. BoundsFault flags e.message reader.old e.offset) }
@@ -41,7 +41,7 @@ fn skip_bounds(reader: &mut BinaryReader<'_>, flags: u8) -> Result<()>
     }
 }
 
-/// Limits.
+/// Skips limits.
 pub fn skip_limits(reader: &mut BinaryReader<'_>) -> Result<()>
     ensures reads { Reads IsLimits result reader.old reader.new }
     ensures fault { IfErr result (λ e. LimitsFault e.message reader.old e.offset) }
@@ -60,7 +60,7 @@ pub fn skip_limits(reader: &mut BinaryReader<'_>) -> Result<()>
     }
 }
 
-/// A table type.
+/// Skips a table type.
 pub fn skip_table(reader: &mut BinaryReader<'_>) -> Result<()>
     ensures reads { Reads IsTable result reader.old reader.new }
     ensures fault { IfErr result (λ e. TableFault e.message reader.old e.offset) }
@@ -80,7 +80,7 @@ pub fn skip_table(reader: &mut BinaryReader<'_>) -> Result<()>
     }
 }
 
-/// A global type.
+/// Skips a global type.
 pub fn skip_global(reader: &mut BinaryReader<'_>) -> Result<()>
     ensures reads { Reads IsGlobal result reader.old reader.new }
     ensures fault { IfErr result (λ e. GlobalFault e.message reader.old e.offset) }
@@ -100,7 +100,7 @@ pub fn skip_global(reader: &mut BinaryReader<'_>) -> Result<()>
     }
 }
 
-/// A tag type.
+/// Skips a tag type.
 pub fn skip_tag(reader: &mut BinaryReader<'_>) -> Result<()>
     ensures reads { Reads IsTag result reader.old reader.new }
     ensures fault { IfErr result (λ e. TagFault e.message reader.old e.offset) }

@@ -30,12 +30,12 @@ added_more features t only place (c ∷ cs) b told one before mid after at is (f
       added_more features t only (place + 1) cs b others one between mid after at next behind last,
     )
 
--- none was counted
+-- No function was counted.
 pub adds_none : {S : Type 0} (tells : S → ℕ → Error → S → Type 0) (features : WasmFeatures) (t : ModuleFunctions) (only : Option ℕ) (s : S) →
     Adds tells features t only [] [] s s no_counts
 adds_none tells features t only s = record { added = (refl, refl); told_of = refl }
 
--- one more was counted
+-- One more function was counted.
 pub adds_more : {S : Type 0} (tells : S → ℕ → Error → S → Type 0) (features : WasmFeatures) (t : ModuleFunctions) (only : Option ℕ) (bs : List Reader) (b : Reader)
     (told one : Refusals) (at : ℕ) (before mid after : S) (counts more : List ℕ) → at ≡ length bs →
     Adds tells features t only bs told before mid counts → IsAdded features t only at b one counts more → Told tells one mid after →

@@ -1,4 +1,4 @@
--- Bodies of a code section, and what is told of them.
+-- Bodies of a code section, and their reports.
 use Rattle.std.proofs.Common.{◌≡◌, ℕ, false, List, [], ◌∷◌, ◌++◌, Option, Some, None, Ok, refl, sym, subst, ap, ◌∙◌, append_assoc, append-nil}
 use Rattle.std.specs.Prelude.{◌&&◌}
 use Rattle.std.specs.Io.KnownBytes.{Appends, Keeps}
@@ -7,13 +7,13 @@ use Rattle.wasm_disassembly.specs.operators.below.FromReader.{ReadsValue, Encode
 use Rattle.wasm_disassembly.specs.operators.below.Source.{Reader, offset_of, end_of}
 use Rattle.wasm_module_listing.specs.Listing.{BodiesStand, Refusals, Told, are_none}
 
--- one body more
+-- One more body.
 pub body_more : (r : Reader) (bs : List Reader) (mid new b : Reader) → BodiesStand r bs mid →
     ReadsValue (EncodesReader mid.features) false (Ok b) mid new → end_of b ≡ offset_of new → BodiesStand r (bs ++ b ∷ []) new
 body_more r [] mid new b same reads placed = (new, subst (λ z. ReadsValue (EncodesReader z.features) false (Ok b) z new) same reads, placed, refl)
 body_more r (c ∷ cs) mid new b (next, first, stands, others) reads placed = (next, first, stands, body_more next cs mid new b others reads placed)
 
--- refusals, and more of them
+-- Reports, and more of them.
 pub told_both : {S : Type 0} (tells : S → ℕ → Error → S → Type 0) (a b : Refusals) (old mid new : S) → Told tells a old mid → Told tells b mid new →
     Told tells (a ++ b) old new
 told_both tells [] b old mid new same more = subst (λ s. Told tells b s new) same more

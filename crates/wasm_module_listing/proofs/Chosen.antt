@@ -1,4 +1,4 @@
--- The disassembly or the census.
+-- The disassembly or the operator counts.
 use Rattle.std.proofs.Common.{◌≡◌, ℕ, Bool, true, false, not, refl, List, Option, Err}
 use Rattle.std.specs.Bool.{OnTrue, OnFalse}
 use Rattle.wasm_disassembly.specs.operators.below.bytes.error.Error.{Error}
@@ -23,7 +23,7 @@ pub not_on_true : (b : Bool) (P : Type 0) → not b ≡ true → OnTrue b P
 not_on_true true P is = let h : false ≡ true = is in absurd cc
 not_on_true false P is = tt
 
--- where nothing is counted, nothing is written
+-- If nothing is counted, nothing is written.
 pub tabulates_none : {S : Type 0} (tells : S → ℕ → Error → S → Type 0) (features : WasmFeatures) (only : Option ℕ) (bytes : List ℕ) (f : Fault)
     (before after : S) (old : Option (List ℕ)) → CountsModule tells features only bytes (Err f) before after →
     TabulatesModule tells features only bytes (Err f) before after old old

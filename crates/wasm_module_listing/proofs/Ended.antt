@@ -1,4 +1,4 @@
--- Where the reading of a code section ended.
+-- The end of reading a code section.
 use Rattle.std.proofs.Common.{◌≡◌, ◌+◌, true, false, List, length, Option, Some, Result, Ok, Err, sym, subst, ap, ◌∙◌, arith, inl, inr}
 use Rattle.wasm_disassembly.specs.operators.below.bytes.error.Error.{Error}
 use Rattle.wasm_disassembly.specs.operators.below.FromReader.{EncodesReader, ReaderFault}
@@ -10,7 +10,7 @@ use Rattle.wasm_module_listing.specs.Listing.{BodiesStand, IsCode, StopsCode}
 abbrev Steps : Option (Result Reader Error) → SectionItems → SectionItems → Type 0
 Steps item old new = StepsSection (EncodesReader old.reader.features) ReaderFault (λ o b n. end_of b ≡ offset_of n) false item old new
 
--- behind the last body
+-- The end after the last body.
 pub all_read : (contents : Reader) (s : Section) (begun left : SectionItems) (bodies : List Reader) → Reads (EncodesUnsigned 32) (Ok s.count) contents s.reader →
     begun ≡ items_of s → BodiesStand begun.reader bodies left.reader → length bodies + left.remaining ≡ begun.remaining → left.refused ≡ false → IsDone left →
     IsCode contents bodies
@@ -26,7 +26,7 @@ all_read contents s begun left bodies count gives stand sum open_still (inr (non
       all = end;
     }
 
--- at a refusal
+-- The end at an error.
 pub stopped_behind : (contents : Reader) (s : Section) (begun left new : SectionItems) (bodies : List Reader) (e : Error) (item : Result Reader Error) →
     Reads (EncodesUnsigned 32) (Ok s.count) contents s.reader → begun ≡ items_of s → BodiesStand begun.reader bodies left.reader →
     length bodies + left.remaining ≡ begun.remaining → item ≡ Err e → Steps (Some item) left new → StopsCode e contents bodies

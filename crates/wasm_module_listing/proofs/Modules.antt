@@ -46,7 +46,7 @@ counts_module tells features only bytes t contents (Err fault.Reading) before af
 counts_module tells features only bytes t contents (Err fault.Writing) before after opens counts later = tt
 counts_module tells features only bytes t contents (Err fault.Memory) before after opens counts later = tt
 
--- where a module is refused nothing is written, and nothing is counted
+-- If a module is in error, nothing is written, and nothing is counted.
 pub lists_refused : {S : Type 0} (tells : S → ℕ → Error → S → Type 0) (features : WasmFeatures) (only : Option ℕ) (file bytes : List ℕ) (f : Fault) (s : S)
     (written : Option (List ℕ)) → RefusesModule features only bytes f → ListsModule tells features only file bytes (Err f) s s written written
 lists_refused tells features only file bytes (fault.Module f) s written refuses = (refuses, refl)

@@ -33,12 +33,12 @@ written_more t only place (c ∷ cs) b told one text own at is (first, others, f
       written_more t only (place + 1) cs b others one more own at next behind last,
     )
 
--- none was written
+-- No function was written.
 pub writes_none : {S : Type 0} (tells : S → ℕ → Error → S → Type 0) (t : ModuleFunctions) (only : Option ℕ) (s : S) (old : Option (List ℕ)) →
     Writes tells t only [] [] s s old old
 writes_none tells t only s old = record { text = []; written = (refl, refl); appends = appends_none old; told_of = refl }
 
--- one more was written
+-- One more function was written.
 pub writes_more : {S : Type 0} (tells : S → ℕ → Error → S → Type 0) (t : ModuleFunctions) (only : Option ℕ) (bs : List Reader) (b : Reader) (told one : Refusals)
     (own : List ℕ) (at : ℕ) (before mid after : S) (old between new : Option (List ℕ)) → at ≡ length bs →
     Writes tells t only bs told before mid old between → IsWritten t only at b one own → Told tells one mid after → Appends between new own →

@@ -1,4 +1,4 @@
--- The census of a module as a table: a line for each proposal that brought some of its operators, the largest count first.
+-- The operator counts of a module as a table: a line for each proposal whose operators occur, the largest count first.
 use Rattle.std.specs.Prelude.{◌==◌, ℕ, ◌+◌, ◌-◌, ◌^◌, List, [], ◌∷◌, ◌++◌, IsPermutation, IsSorted, codes, flat_map, if◌then◌else◌, slice_index_or}
 use Rattle.std.specs.Fmt.{styled_decimal, format_spec}
 use Rattle.std.specs.Ordering.{nat_cmp, ordering_then}
@@ -6,7 +6,7 @@ use Rattle.std.specs.declared.cmp.Ordering.{Ordering}
 use Rattle.std.specs.declared.cmp.Reverse.{Reverse}
 use Rattle.wasm_listing.specs.Census.{proposals}
 
--- A row: how many operators, and the place of the proposal that brought them.
+-- A row: the number of operators, and the place of the proposal that introduced them.
 abbrev pub Row : Type 0
 Row = Reverse ℕ × ℕ
 
@@ -15,16 +15,16 @@ abbrev pub rows_from : ℕ → List ℕ → List Row
 rows_from place [] = []
 rows_from place (n ∷ ns) = (if n == 0 then [] else (record { 0 = n }, place) ∷ []) ++ rows_from (place + 1) ns
 
--- The larger count stands first, and of equal ones that of the proposal that is named before.
+-- The larger count comes first; of equal counts, the one whose proposal is listed first.
 abbrev pub row_cmp : Row → Row → Ordering
 row_cmp a b = ordering_then (nat_cmp b.0.0 a.0.0) (nat_cmp a.1 b.1)
 
--- These are the rows of the counts that are not 0, the largest first.
+-- The rows of the counts that are not 0, the largest first.
 pub record IsTable (counts : List ℕ) (rows : List Row) : Type 0 where
   pub same : IsPermutation (rows_from 0 counts) rows
   pub falls : IsSorted row_cmp rows
 
--- A number at the right of twelve columns, filled up with spaces, or of as many as it has digits.
+-- A number in decimal, aligned right in at least twelve columns.
 abbrev pub at_right : ℕ → List ℕ
 at_right n = styled_decimal (format_spec 32 3 0 12 (2 ^ 64 - 1)) n
 

@@ -1,5 +1,5 @@
--- What is written of the functions of a module, and what is told of those that are refused.
--- WebAssembly Core Specification 3.0, Binary Format, Modules: Code Section. The form is that of `wasm-objdump -d` of wabt.
+-- The output for the functions of a module, and the reports of functions with errors.
+-- WebAssembly Core Specification 3.0, Binary Format, Modules: Code Section. The format is that of `wasm-objdump -d` of wabt.
 use Rattle.std.specs.Prelude.{◌≡◌, ◌==◌, ◌⊎◌, ℕ, ◌+◌, Bool, true, false, List, [], ◌∷◌, ◌++◌, length, ◌≤◌, Option, Some, None, Result, Ok, Err, codes}
 use Rattle.std.specs.Io.KnownBytes.{Appends, Keeps}
 use Rattle.wasm_disassembly.specs.operators.below.bytes.error.Error.{Error}
@@ -20,12 +20,13 @@ use Rattle.wasm_functions.specs.declared.fault.ModuleFault.TheVariants as whole_
 use Rattle.wasm_module_listing.specs.declared.fault.Fault.{Fault}
 use Rattle.wasm_module_listing.specs.declared.fault.Fault.TheVariants as fault
 
--- These bodies stand one behind the other, each behind its length, from the first reader to the second. Their offsets are those of the section.
+-- Between the two readers, the bytes encode these bodies, each with its length before it, one after another.
+-- Their offsets are those of the section.
 abbrev pub BodiesStand : Reader → List Reader → Reader → Type 0
 BodiesStand r [] end = end ≡ r
 BodiesStand r (b ∷ bs) end = (mid : Reader) × ReadsValue (EncodesReader r.features) false (Ok b) r mid × (end_of b ≡ offset_of mid) × BodiesStand mid bs end
 
--- The contents of a code section: how many bodies it has, and these, up to the end.
+-- The contents of a code section: the number of bodies, followed by the bodies, up to the end.
 pub record IsCode (contents : Reader) (bodies : List Reader) : Type 0 where
   pub first : Reader
   pub count : Reads (EncodesUnsigned 32) (Ok (length bodies)) contents first
@@ -33,7 +34,7 @@ pub record IsCode (contents : Reader) (bodies : List Reader) : Type 0 where
   pub stand : BodiesStand first bodies end
   pub all : rest end ≡ []
 
--- A code section is refused behind these bodies: of those that it announces the next one has no bytes, or data is left behind the last.
+-- A code section is in error after these bodies: the next body that it declares can't be read, or data is left after the last.
 pub record StopsCode (e : Error) (contents : Reader) (bodies : List Reader) : Type 0 where
   pub first : Reader
   pub remaining : ℕ
@@ -42,21 +43,21 @@ pub record StopsCode (e : Error) (contents : Reader) (bodies : List Reader) : Ty
   pub stand : BodiesStand first bodies end
   pub stops : StopsSection (EncodesReader end.features) ReaderFault false e (record { remaining = remaining; reader = end; refused = false })
 
--- A code section is refused: it announces no number of bodies, and none is read; or it is behind some of them.
+-- A code section is in error: its number of bodies, and none is read; or it is in error after some of them.
 abbrev pub RefusesCode : Error → Reader → List Reader → Type 0
 RefusesCode e contents bodies = ((bodies ≡ []) × IsRefusal (EncodesUnsigned 32) e contents) ⊎ StopsCode e contents bodies
 
--- Whether the function with this index is asked for: any is, or this one alone.
+-- Whether the function with this index is requested: every function is, or only this one.
 abbrev pub is_asked : Option ℕ → ℕ → Bool
 is_asked None index = true
 is_asked (Some only) index = only == index
 
--- One thing holds of a function that is asked for, and another of those that are not.
+-- The first property if the function is requested, otherwise the second.
 abbrev pub WhereAsked : Bool → Type 0 → Type 0 → Type 0
 WhereAsked true A B = A
 WhereAsked false A B = B
 
--- Refusals, each with the index of its function.
+-- Errors, each with the index of its function.
 abbrev pub Refusals : Type 0
 Refusals = List (ℕ × Error)
 
@@ -64,38 +65,38 @@ abbrev pub are_none : Refusals → Bool
 are_none [] = true
 are_none (r ∷ rs) = false
 
--- These refusals were told, one after the other.
+-- These errors were reported, one after another.
 abbrev pub Told : {S : Type 0} → (S → ℕ → Error → S → Type 0) → Refusals → S → S → Type 0
 Told tells [] old new = new ≡ old
 Told {S} tells (r ∷ rs) old new = (mid : S) × tells old r.0 r.1 mid × Told tells rs mid new
 
--- What the text of the own function at a place begins with.
+-- The heading of the text of the defined function at a place.
 abbrev pub heading_at : ModuleFunctions → ℕ → Heading
 heading_at t place = record { index = index_of t place; name = name_at t place; parameters = parameters_at t place }
 
--- What a body that ended so is told of.
+-- The reports of a body that was read with this result.
 abbrev pub refusals_of : {X : Type 0} → ℕ → Result X Error → Refusals
 refusals_of index (Ok x) = []
 refusals_of index (Err e) = (index, e) ∷ []
 
--- The text of the function at a place: of the body that the bytes are; or, of other bytes, of what stands before the refusal, which is told.
+-- The text of the function at a place: of the body that the bytes encode, or of the part before the error, which is reported.
 abbrev pub ListsFunction : ModuleFunctions → ℕ → Reader → Refusals → List ℕ → Type 0
 ListsFunction t place body told text =
     (answer : Result (Unit {0}) Error) × IsText (heading_at t place) answer body text × (told ≡ refusals_of (index_of t place) answer)
 
--- What is written of the function at a place: its text, or nothing where it is not asked for.
+-- The output for the function at a place: its text, or nothing if it is not requested.
 abbrev pub IsWritten : ModuleFunctions → Option ℕ → ℕ → Reader → Refusals → List ℕ → Type 0
 IsWritten t only place body told text =
     WhereAsked (is_asked only (index_of t place)) (ListsFunction t place body told text) ((told ≡ []) × (text ≡ []))
 
--- What is written of these functions, from a place on, one behind the other, and what is told.
+-- The output and the reports for these functions, from a place on, one after another.
 abbrev pub AreWritten : ModuleFunctions → Option ℕ → ℕ → List Reader → Refusals → List ℕ → Type 0
 AreWritten t only place [] told text = (told ≡ []) × (text ≡ [])
 AreWritten t only place (b ∷ bs) told text =
     (one others : Refusals) × (own more : List ℕ) × (told ≡ one ++ others) × (text ≡ own ++ more) × IsWritten t only place b one own ×
     AreWritten t only (place + 1) bs others more
 
--- These functions were written and told of, the first ones of a module.
+-- The first functions of a module, with these bodies, were written and their errors reported.
 pub record Writes {S : Type 0} (tells : S → ℕ → Error → S → Type 0) (t : ModuleFunctions) (only : Option ℕ) (bodies : List Reader) (told : Refusals)
     (before after : S) (old new : Option (List ℕ)) : Type 0 where
   pub text : List ℕ
@@ -103,8 +104,8 @@ pub record Writes {S : Type 0} (tells : S → ℕ → Error → S → Type 0) (t
   pub appends : Appends old new text
   pub told_of : Told tells told before after
 
--- The functions of a code section are written, and answered is whether none is refused; or the section is refused, behind those that stand before.
--- Of the other faults nothing is said here.
+-- The functions of a code section are written, and the result is whether none has an error.
+-- Or the section is in error, after the functions before the error. About the other faults nothing is said here.
 abbrev pub ListsCode : {S : Type 0} → (S → ℕ → Error → S → Type 0) → ModuleFunctions → Option ℕ → Reader → Result Bool Fault → S → S → Option (List ℕ) →
     Option (List ℕ) → Type 0
 ListsCode tells t only contents (Ok whole) before after old new =
@@ -113,14 +114,14 @@ ListsCode tells t only contents (Err (fault.Code e)) before after old new =
     (bodies : List Reader) × RefusesCode e contents bodies × (told : Refusals) × Writes tells t only bodies told before after old new
 ListsCode tells t only contents (Err _) before after old new = Unit {0}
 
--- The same where the module has a code section or none.
+-- The same for a module with a code section or without.
 abbrev pub ListsFound : {S : Type 0} → (S → ℕ → Error → S → Type 0) → ModuleFunctions → Option ℕ → Option Reader → Result Bool Fault → S → S → Option (List ℕ) →
     Option (List ℕ) → Type 0
 ListsFound tells t only (Some contents) result before after old new = ListsCode tells t only contents result before after old new
 ListsFound tells t only None (Ok whole) before after old new = (whole ≡ true) × (after ≡ before) × Keeps old new
 ListsFound tells t only None (Err f) before after old new = Unit {0}
 
--- What stands before the functions: the name of the file, and that of the module, where it has one.
+-- The title: the name of the file, and the name of the module, if it has one.
 abbrev pub name_line : List ℕ → List ℕ
 name_line [] = []
 name_line (n ∷ ns) = codes "module name: <" ++ ((n ∷ ns) ++ codes ">\n")
@@ -131,31 +132,32 @@ file_line file = codes "\n" ++ (file ++ codes ":\tfile format wasm 0x1\n")
 abbrev pub title_of : List ℕ → List ℕ → List ℕ
 title_of file name = file_line file ++ (name_line name ++ codes "\nCode Disassembly:\n\n")
 
--- One of the functions is asked for that the module has, or all.
+-- All functions are requested, or one that the module defines.
 abbrev pub IsThere : ModuleFunctions → Option ℕ → Type 0
 IsThere t None = Unit {0}
 IsThere t (Some index) = IsOwn t index
 
--- The bytes are a module: this is what it tells of its functions, one of which is asked for or all, and this its code section, where it has one.
+-- The bytes are a module with these functions and this code section, if it has one. All functions are requested, or one that the module defines.
 pub record OpensModule (features : WasmFeatures) (only : Option ℕ) (bytes : List ℕ) (functions : ModuleFunctions) (code : Option Reader) : Type 0 where
   pub is_told : TellsFunctions (reader_of features 0 bytes) functions
   pub is_there : IsThere functions only
   pub is_code : IsSection (reader_of features 0 bytes) 10 code
 
--- The bytes are a module that has no own function with this index.
+-- The bytes are a module that defines no function with this index.
 pub record LacksFunction (features : WasmFeatures) (bytes : List ℕ) (index : ℕ) : Type 0 where
   pub functions : ModuleFunctions
   pub is_told : TellsFunctions (reader_of features 0 bytes) functions
   pub is_not : IsOwn functions index → ⊥
 
--- Nothing is written: the bytes are no module that tells its functions, and this is their fault, or memory was refused; or the one function that is asked for is none of the module's.
+-- Nothing is written. The functions of the bytes are not known, and this is their fault, or allocation failed;
+-- or the module does not define the one function that is requested.
 abbrev pub RefusesModule : WasmFeatures → Option ℕ → List ℕ → Fault → Type 0
 RefusesModule features only bytes (fault.Module f) =
     ModuleFunctionsFault f (reader_of features 0 bytes) × ((functions : ModuleFunctions) → TellsFunctions (reader_of features 0 bytes) functions → f ≡ whole_fault.Memory)
 RefusesModule features only bytes (fault.NoFunction index) = (only ≡ Some index) × LacksFunction features bytes index
 RefusesModule features only bytes _ = ⊥
 
--- A module is written: a title with its name, and behind it the functions of its code section.
+-- A module is written: a title with its name, followed by the functions of its code section.
 pub record WritesModule {S : Type 0} (tells : S → ℕ → Error → S → Type 0) (features : WasmFeatures) (only : Option ℕ) (file bytes : List ℕ)
     (result : Result Bool Fault) (before after : S) (old new : Option (List ℕ)) : Type 0 where
   pub functions : ModuleFunctions
@@ -167,8 +169,8 @@ pub record WritesModule {S : Type 0} (tells : S → ℕ → Error → S → Type
   pub title : Appends old titled (title_of file name)
   pub lists : ListsFound tells functions only code result before after titled new
 
--- The disassembly of a module: it is written; or its code section is refused, behind the functions that were written; or nothing is. Where writing failed, or
--- memory behind the beginning, nothing is said here.
+-- The disassembly of a module: it is written, or its code section is in error after the functions that were written, or nothing is written.
+-- If writing failed, or allocation after the start, nothing is said here.
 abbrev pub ListsModule : {S : Type 0} → (S → ℕ → Error → S → Type 0) → WasmFeatures → Option ℕ → List ℕ → List ℕ → Result Bool Fault → S → S →
     Option (List ℕ) → Option (List ℕ) → Type 0
 ListsModule tells features only file bytes (Ok whole) before after old new = WritesModule tells features only file bytes (Ok whole) before after old new
@@ -178,21 +180,21 @@ ListsModule tells features only file bytes (Err fault.Writing) before after old 
 ListsModule tells features only file bytes (Err fault.Memory) before after old new = Unit {0}
 ListsModule tells features only file bytes (Err f) before after old new = RefusesModule features only bytes f × (after ≡ before)
 
--- The bytes are the body of a function, with no more locals than it may have.
+-- The bytes are the body of a function, with no more locals than the limit.
 abbrev pub IsFunction : Reader → Type 0
 IsFunction body = (declarations : List Declaration) × (placed : Placed) × EncodesBody (source_of body) declarations placed × (locals_in declarations ≤ max_locals)
 
--- Each of these functions, from a place on, that is asked for has a body of this kind.
+-- Each of these functions, from a place on, that is requested has a body with the property.
 abbrev pub AreAsked : (Reader → Type 0) → ModuleFunctions → Option ℕ → ℕ → List Reader → Type 0
 AreAsked Is t only place [] = Unit {0}
 AreAsked Is t only place (b ∷ bs) = WhereAsked (is_asked only (index_of t place)) (Is b) (Unit {0}) × AreAsked Is t only (place + 1) bs
 
--- The same of those of a code section, where there is one.
+-- Each requested function of a code section, if there is one, has a body with the property.
 abbrev pub HasAsked : (Reader → Type 0) → ModuleFunctions → Option ℕ → Option Reader → Type 0
 HasAsked Is t only None = Unit {0}
 HasAsked Is t only (Some contents) = (bodies : List Reader) × IsCode contents bodies × AreAsked Is t only 0 bodies
 
--- The bytes are a module of which each function that is asked for has a body of this kind.
+-- The bytes are a module in which each requested function has a body with the property.
 pub record IsModuleOf (Is : Reader → Type 0) (features : WasmFeatures) (only : Option ℕ) (bytes : List ℕ) : Type 0 where
   pub functions : ModuleFunctions
   pub code : Option Reader
@@ -205,23 +207,23 @@ WritesNothing (fault.Module _) = Unit {0}
 WritesNothing (fault.NoFunction _) = Unit {0}
 WritesNothing _ = ⊥
 
--- The faults of writing, and of memory behind the beginning.
+-- The faults of writing, and of allocation after the start.
 abbrev pub IsHalt : Fault → Type 0
 IsHalt fault.Writing = Unit {0}
 IsHalt fault.Memory = Unit {0}
 IsHalt _ = ⊥
 
--- Those behind the beginning of what is written: the code section is refused, or writing or memory failed.
+-- The faults after the start: the code section is in error, or writing or allocation failed.
 abbrev pub IsLater : Fault → Type 0
 IsLater (fault.Code _) = Unit {0}
 IsLater f = IsHalt f
 
--- Those that say nothing against the module.
+-- The faults that say nothing about the module.
 abbrev pub IsOutside : Fault → Type 0
 IsOutside (fault.Module f) = f ≡ whole_fault.Memory
 IsOutside f = IsHalt f
 
--- All functions are written and none is refused, unless writing or memory failed.
+-- All functions are written and none has an error, unless writing or allocation failed.
 abbrev pub Succeeds : Result Bool Fault → Type 0
 Succeeds (Ok whole) = whole ≡ true
 Succeeds (Err f) = IsOutside f

@@ -1,4 +1,4 @@
--- The operators of a module, counted by the proposals that brought them.
+-- The operators of a module, counted by the proposals that introduced them.
 use Rattle.std.specs.Prelude.{◌≡◌, ◌⊎◌, ℕ, ◌+◌, ◌-◌, ◌^◌, Bool, List, [], ◌∷◌, ◌++◌, Option, Some, None, Result, Ok, Err, min, replicate, true}
 use Rattle.wasm_disassembly.specs.operators.below.bytes.error.Error.{Error}
 use Rattle.wasm_disassembly.specs.operators.below.bytes.features.WasmFeatures.{WasmFeatures}
@@ -16,27 +16,27 @@ use Rattle.wasm_module_listing.specs.declared.fault.Fault.{Fault}
 use Rattle.wasm_module_listing.specs.declared.fault.Fault.TheVariants as fault
 use Rattle.wasm_module_listing.specs.Listing.{Refusals, Told, are_none, is_asked, WhereAsked, IsCode, RefusesCode, OpensModule, RefusesModule, IsOutside}
 
--- Counts, added: each stays at the greatest u64.
+-- The sums of counts, each at most the greatest u64.
 abbrev pub add_counts : List ℕ → List ℕ → List ℕ
 add_counts (a ∷ more) (b ∷ others) = min (a + b) (2 ^ 64 - 1) ∷ add_counts more others
 add_counts _ _ = []
 
--- A refusal of some bytes at offset 0, where they stand at another offset.
+-- An error of bytes at offset 0, for the same bytes at another offset.
 abbrev pub moved : ℕ → Error → Error
 moved offset e = record { message = e.message; offset = min (offset + e.offset) (2 ^ 64 - 1) }
 
--- What the census of a body adds to the counts: those of the body that the bytes are; or, of other bytes, nothing, and their refusal is told.
+-- The effect of a body on the counts: its counts are added, or its error is reported and nothing is added.
 abbrev pub AddsBody : WasmFeatures → ℕ → Reader → Refusals → List ℕ → List ℕ → Type 0
 AddsBody features index body told before after =
     ((added : List ℕ) × Counts (input_of features (rest body)) (Ok added) × (after ≡ add_counts before added) × (told ≡ [])) ⊎
     ((e : Error) × Counts (input_of features (rest body)) (Err (dump.Refused e)) × (after ≡ before) × (told ≡ (index, moved (offset_of body) e) ∷ []))
 
--- What the function at a place adds: its census, or nothing where it is not asked for.
+-- The effect of the function at a place on the counts: nothing if it is not requested.
 abbrev pub IsAdded : WasmFeatures → ModuleFunctions → Option ℕ → ℕ → Reader → Refusals → List ℕ → List ℕ → Type 0
 IsAdded features t only place body told before after =
     WhereAsked (is_asked only (index_of t place)) (AddsBody features (index_of t place) body told before after) ((told ≡ []) × (after ≡ before))
 
--- What these functions add, from a place on, one after the other, and what is told.
+-- The effect of these functions on the counts, from a place on, one after another, and the reports.
 abbrev pub AreAdded : WasmFeatures → ModuleFunctions → Option ℕ → ℕ → List Reader → Refusals → List ℕ → List ℕ → Type 0
 AreAdded features t only place [] told before after = (told ≡ []) × (after ≡ before)
 AreAdded features t only place (b ∷ bs) told before after =
@@ -46,14 +46,14 @@ AreAdded features t only place (b ∷ bs) told before after =
 abbrev pub no_counts : List ℕ
 no_counts = replicate 19 0
 
--- These functions were counted and told of, the first ones of a module.
+-- The first functions of a module, with these bodies, were counted and their errors reported.
 pub record Adds {S : Type 0} (tells : S → ℕ → Error → S → Type 0) (features : WasmFeatures) (t : ModuleFunctions) (only : Option ℕ) (bodies : List Reader)
     (told : Refusals) (before after : S) (counts : List ℕ) : Type 0 where
   pub added : AreAdded features t only 0 bodies told no_counts counts
   pub told_of : Told tells told before after
 
--- The functions of a code section are counted, and answered is whether none is refused; or the section is refused, behind those that stand before.
--- Of the other faults nothing is said here.
+-- The functions of a code section are counted, and the result is whether none has an error.
+-- Or the section is in error, after the functions before the error. About the other faults nothing is said here.
 abbrev pub CountsCode : {S : Type 0} → (S → ℕ → Error → S → Type 0) → WasmFeatures → ModuleFunctions → Option ℕ → Reader → Result ModuleCounts Fault → S → S → Type 0
 CountsCode tells features t only contents (Ok found) before after =
     (bodies : List Reader) × IsCode contents bodies × (told : Refusals) × Adds tells features t only bodies told before after found.counts ×
@@ -63,7 +63,7 @@ CountsCode tells features t only contents (Err (fault.Code e)) before after =
     Adds tells features t only bodies told before after counts
 CountsCode tells features t only contents (Err _) before after = Unit {0}
 
--- The same where the module has a code section or none.
+-- The same for a module with a code section or without.
 abbrev pub CountsFound : {S : Type 0} → (S → ℕ → Error → S → Type 0) → WasmFeatures → ModuleFunctions → Option ℕ → Option Reader → Result ModuleCounts Fault → S → S →
     Type 0
 CountsFound tells features t only (Some contents) result before after = CountsCode tells features t only contents result before after
@@ -78,8 +78,8 @@ pub record CountsOf {S : Type 0} (tells : S → ℕ → Error → S → Type 0) 
   pub opens : OpensModule features only bytes functions code
   pub counts : CountsFound tells features functions only code result before after
 
--- The census of a module: it is counted; or its code section is refused, behind the functions that were told of; or nothing is. Where telling failed, or memory
--- behind the beginning, nothing is said here.
+-- The operator counts of a module: it is counted, or its code section is in error after the functions that were counted, or nothing is counted.
+-- If reporting failed, or allocation after the start, nothing is said here.
 abbrev pub CountsModule : {S : Type 0} → (S → ℕ → Error → S → Type 0) → WasmFeatures → Option ℕ → List ℕ → Result ModuleCounts Fault → S → S → Type 0
 CountsModule tells features only bytes (Ok found) before after = CountsOf tells features only bytes (Ok found) before after
 CountsModule tells features only bytes (Err (fault.Code e)) before after = CountsOf tells features only bytes (Err (fault.Code e)) before after
@@ -87,16 +87,16 @@ CountsModule tells features only bytes (Err fault.Writing) before after = Unit {
 CountsModule tells features only bytes (Err fault.Memory) before after = Unit {0}
 CountsModule tells features only bytes (Err f) before after = RefusesModule features only bytes f × (after ≡ before)
 
--- The bytes are a body that is counted.
+-- The bytes are a body whose operators can be counted.
 abbrev pub IsCounted : WasmFeatures → Reader → Type 0
 IsCounted features body = (declarations : List Declaration) × (placed : Placed) × IsBody (input_of features (rest body)) declarations placed
 
--- All functions are counted and none is refused, unless telling or memory failed.
+-- All functions are counted and none has an error, unless reporting or allocation failed.
 abbrev pub CountsAll : Result ModuleCounts Fault → Type 0
 CountsAll (Ok found) = found.whole ≡ true
 CountsAll (Err f) = IsOutside f
 
--- The census of a module as a table, which is written where it is counted.
+-- The operator counts of a module as a table, which is written if the module is counted.
 abbrev pub TabulatesModule : {S : Type 0} → (S → ℕ → Error → S → Type 0) → WasmFeatures → Option ℕ → List ℕ → Result Bool Fault → S → S → Option (List ℕ) →
     Option (List ℕ) → Type 0
 TabulatesModule tells features only bytes (Ok whole) before after old new =

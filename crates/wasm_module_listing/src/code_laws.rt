@@ -1,4 +1,4 @@
-//! Laws on code sections, each the contract of a function that does nothing.
+//! Laws about code sections. Each is the contract of a function that does nothing.
 ghost use Rattle.std.specs.Prelude.{◌≡◌, List};
 ghost use Rattle.wasm_disassembly.specs.operators.below.bytes.error.Error.{Error};
 ghost use Rattle.wasm_disassembly.specs.operators.below.Source.{Reader};
@@ -6,7 +6,7 @@ ghost use Rattle.wasm_module_listing.specs.Listing.{IsCode, RefusesCode};
 
 use wasm_disassembly::operators::byte_laws::unsigned_numbers;
 
-/// The contents of a code section have one list of bodies at most.
+/// States that the contents of a code section have at most one list of bodies.
 pub fn one_list()
     ensures { (contents : Reader) → (first second : List Reader) → IsCode contents first → IsCode contents second
         → first ≡ second }
@@ -14,7 +14,7 @@ pub fn one_list()
     unsigned_numbers();
 }
 
-/// Contents that have one are not refused.
+/// States that contents with such a list are not in error.
 pub fn no_refusal()
     ensures { (contents : Reader) → (all before : List Reader) → (e : Error) → IsCode contents all
         → RefusesCode e contents before → ⊥ }

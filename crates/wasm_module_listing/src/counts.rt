@@ -1,4 +1,4 @@
-//! How many operators of each proposal the functions of a code section have.
+//! The number of operators of each proposal in the functions of a code section.
 ghost use Rattle.std.specs.Prelude.{◌≡◌, true, List, IfOk, IfErr};
 ghost use Rattle.wasm_disassembly.specs.operators.below.Source.{Reader, offset_of};
 ghost use Rattle.wasm_functions.specs.ModuleFunctions.{index_of};
@@ -16,18 +16,19 @@ use wasm_disassembly::operators::{
 use wasm_functions::Functions;
 use wasm_listing::{DumpFault, census};
 
-/// How many operators of each proposal the functions of a module have, in the order of `census` of
-/// `wasm_listing`; and whether none of them is refused, whose operators are not counted.
+/// The number of operators of each proposal in the functions of a module, and whether no function
+/// has an error. The order is that of `census` of `wasm_listing`. Operators of a function with an
+/// error are not counted.
 #[derive(Clone, Copy, Debug, PartialEq, Eq)]
 pub struct ModuleCounts {
     /// The counts.
     pub counts: [u64; 19],
-    /// Whether no function is refused.
+    /// Whether no function has an error.
     pub whole: bool,
 }
 
 impl ModuleCounts {
-    /// No operator is counted, and none refused.
+    /// Returns counts of 0, without an error.
     pub fn none() -> ModuleCounts
         ensures counts { result.counts ≡ no_counts }
         ensures whole { result.whole ≡ true }
@@ -48,7 +49,7 @@ fn add(counts: &mut [u64; 19], more: &[u64; 19])
     }
 }
 
-/// A refusal of the bytes of a body, with the offset of the module.
+/// Moves an error of the bytes of a body to the offset of the module.
 fn moved(body: &FunctionBody<'_>, error: Error) -> Error
     ensures { result ≡ moved (offset_of body.now) error }
 {
@@ -56,8 +57,8 @@ fn moved(body: &FunctionBody<'_>, error: Error) -> Error
     Error::new(error.message(), start.saturating_add(error.offset()))
 }
 
-/// Adds the counts of the function at a place, where it is asked for. Answers whether it is not refused,
-/// and tells of it where it is.
+/// Adds the counts of the function at a place, if it is requested. Returns whether it has no error;
+/// reports the error otherwise.
 fn count_asked<C: Complaints>(
     alloc: Global,
     features: WasmFeatures,
@@ -93,10 +94,10 @@ fn count_asked<C: Complaints>(
 }
 
 #[tactic(auto, using(crate::proofs::Asked::halts_later))]
-/// Counts the operators of the functions of a code section, or of the one with an index. Each that is
-/// refused is told of, and the others are counted.
+/// Counts the operators of the functions of a code section, or of the function with an index.
+/// Reports each function with an error, and counts the others.
 ///
-/// `Code` where the section itself is refused.
+/// Fails with `Code` if the section itself is in error.
 pub fn count_code<C: Complaints>(
     alloc: Global,
     features: WasmFeatures,

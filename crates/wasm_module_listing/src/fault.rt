@@ -1,4 +1,4 @@
-//! How the listing of a module may end.
+//! The faults of listing a module.
 ghost use Rattle.std.specs.Prelude.{◌≡◌};
 ghost use Rattle.wasm_module_listing.specs.Listing.{status_of};
 
@@ -6,25 +6,25 @@ use std::fmt;
 use wasm_disassembly::operators::Error;
 use wasm_functions::ModuleFault;
 
-/// Why a module was not listed or counted to its end.
+/// The reason why a module was not listed or counted completely.
 #[derive(Clone, Copy, Debug, PartialEq, Eq)]
 pub enum Fault {
-    /// What a module tells of its functions can't be read. Nothing is written.
+    /// The functions of the module can't be read. Nothing is written.
     Module(ModuleFault),
-    /// No own function of the module has the index that was asked for. Nothing is written.
+    /// The module defines no function with the requested index. Nothing is written.
     NoFunction(u32),
-    /// The code section is refused, behind the functions that were written.
+    /// The code section is in error, after the functions that were written.
     Code(Error),
     /// The input can't be read.
     Reading,
-    /// What is written or told can't be.
+    /// The output or a report can't be written.
     Writing,
-    /// Memory was refused.
+    /// Allocation failed.
     Memory,
 }
 
 impl Fault {
-    /// The status with which the program ends.
+    /// Returns the exit status of the program.
     pub fn status(&self) -> u8
         ensures { result ≡ status_of self.now }
     {

@@ -1,6 +1,10 @@
-//! A whole module: the texts of its functions, one behind the other, and the census of its operators.
+//! A complete module: the texts of its functions, one after another, and its operator counts.
 //!
-//! The theorem stands on [`run`], over any writer: on [`list_module`], [`count_module`] and [`write_table`].
+//! The main theorem of this crate is the contract of [`run`], for any writer. It combines the
+//! contracts of [`list_module`], [`count_module`] and [`write_table`].
+//!
+//! Every call that allocates may fail. Before anything is written it fails with
+//! `Module(ModuleFault::Memory)`; with `Memory`, an unspecified part may have been written.
 #![tactic(auto)]
 
 pub mod code_laws;

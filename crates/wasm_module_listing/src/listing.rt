@@ -16,7 +16,8 @@ use wasm_disassembly::operators::{BinaryReader, CodeSectionReader, Error, Functi
 use wasm_disassembly::{DisassemblyFault, disassemble};
 use wasm_functions::Functions;
 
-/// Writes the text of the function at a place, a line at a time, and answers how its reading ended.
+/// Writes the text of the function at a place, a line at a time, and returns the result of reading
+/// it.
 fn list_function<W: Write>(
     alloc: Global,
     functions: &Functions<'_>,
@@ -40,7 +41,7 @@ fn list_function<W: Write>(
     }
 }
 
-/// Tells of a function that is refused, once the lines that stand before are written.
+/// Flushes the lines before the error of a function, then reports the error.
 fn complain<W: Write, C: Complaints>(
     writer: &mut W,
     complaints: &mut C,
@@ -60,7 +61,7 @@ fn complain<W: Write, C: Complaints>(
     Ok(())
 }
 
-/// Whether the function with this index is asked for.
+/// Returns whether the function with this index is requested.
 pub fn is_asked(only: Option<u32>, index: u32) -> bool
     ensures { result ≡ is_asked only index }
 {
@@ -70,8 +71,8 @@ pub fn is_asked(only: Option<u32>, index: u32) -> bool
     }
 }
 
-/// Writes the text of the function at a place, where it is asked for. Answers whether it is not refused,
-/// and tells of it where it is.
+/// Writes the text of the function at a place, if it is requested. Returns whether it has no error;
+/// reports the error otherwise.
 fn list_asked<W: Write, C: Complaints>(
     alloc: Global,
     functions: &Functions<'_>,
@@ -107,10 +108,11 @@ fn list_asked<W: Write, C: Complaints>(
 }
 
 #[tactic(auto, using(crate::proofs::Asked::halts_later))]
-/// Writes the texts of the functions of a code section, or of the one with an index, in their order.
-/// Answers whether none of them is refused; each that is refused is told of, and the others follow.
+/// Writes the texts of the functions of a code section, or of the function with an index, in their
+/// order. Returns whether none of them has an error. Reports each function with an error, and goes
+/// on with the others.
 ///
-/// `Code` where the section itself is refused, behind the functions before.
+/// Fails with `Code` if the section itself is in error, after the functions before the error.
 pub fn list_code<W: Write, C: Complaints>(
     alloc: Global,
     functions: &Functions<'_>,

@@ -1,4 +1,4 @@
-//! The disassembly and the census of a module.
+//! The disassembly and the operator counts of a module.
 ghost use Rattle.std.specs.Prelude.{◌≡◌, ◌++◌, IfErr, OnOk, string_bytes};
 ghost use Rattle.std.specs.Io.KnownBytes.{Appends};
 ghost use Rattle.wasm_module_listing.specs.Listing.{file_line, name_line, title_of, IsHalt, ListsModule, IsModuleOf, IsFunction, Succeeds, WritesNothing};
@@ -15,7 +15,7 @@ use std::io::Write;
 use wasm_disassembly::operators::WasmFeatures;
 use wasm_functions::{function_laws, module_name};
 
-/// Writes the line with the name of a module, where it has one.
+/// Appends the line with the name of a module, if it has one.
 fn push_name(out: &mut String, name: &str) -> Result<(), AllocError>
     ensures { OnOk result (string_bytes out.new ≡ string_bytes out.old ++ name_line name.now) }
 {
@@ -27,7 +27,7 @@ fn push_name(out: &mut String, name: &str) -> Result<(), AllocError>
     out.push_str(">\n")
 }
 
-/// Writes the line with the name of a file.
+/// Appends the line with the name of a file.
 fn push_file(out: &mut String, file: &str) -> Result<(), AllocError>
     ensures { OnOk result (string_bytes out.new ≡ string_bytes out.old ++ file_line file.now) }
 {
@@ -36,7 +36,7 @@ fn push_file(out: &mut String, file: &str) -> Result<(), AllocError>
     out.push_str(":\tfile format wasm 0x1\n")
 }
 
-/// Writes a title.
+/// Appends a title.
 fn push_title(out: &mut String, file: &str, name: &str) -> Result<(), AllocError>
     ensures { OnOk result (string_bytes out.new ≡ string_bytes out.old ++ title_of file.now name.now) }
 {
@@ -45,8 +45,7 @@ fn push_title(out: &mut String, file: &str, name: &str) -> Result<(), AllocError
     out.push_str("\nCode Disassembly:\n\n")
 }
 
-/// Writes what stands before the functions: the name of the file, and that of the module where it has
-/// one.
+/// Writes the title: the name of the file, and the name of the module, if it has one.
 fn write_title<W: Write>(alloc: Global, file: &str, name: &str, writer: &mut W) -> Result<(), Fault>
     ensures ok { OnOk result (Appends (W.contents writer.old) (W.contents writer.new) (title_of file.now name.now)) }
     ensures err { IfErr result (λ fault. IsHalt fault) }
@@ -58,12 +57,12 @@ fn write_title<W: Write>(alloc: Global, file: &str, name: &str, writer: &mut W) 
     write_text(writer, title.as_str())
 }
 
-/// Writes the disassembly of a module: a title with the name of its file, and the texts of the functions
-/// of its code section, or of the one with an index. Answers whether none of them is refused; each that
-/// is refused is told of, and the others follow.
+/// Writes the disassembly of a module: a title with the name of its file, and the texts of the
+/// functions of its code section, or of the function with an index. Returns whether none of them
+/// has an error. Reports each function with an error, and goes on with the others.
 ///
-/// On `Module` and `NoFunction` nothing is written. `Code` where the code section is refused, behind the
-/// functions before.
+/// On `Module` and `NoFunction` nothing is written. Fails with `Code` if the code section is in
+/// error, after the functions before the error.
 pub fn list_module<W: Write, C: Complaints>(
     alloc: Global,
     features: WasmFeatures,
@@ -75,7 +74,8 @@ pub fn list_module<W: Write, C: Complaints>(
 ) -> Result<bool, Fault>
     ensures lists { ListsModule C.tells features only file.now bytes.now result complaints.old complaints.new
         (W.contents writer.old) (W.contents writer.new) }
-    // Where each function that is asked for has a body, none is refused.
+    // If each requested function has a body within the limit of locals, the result is `Ok(true)`,
+    // unless writing or allocation fails.
     ensures whole { IsModuleOf IsFunction features only bytes.now → Succeeds result }
     ensures nothing { IfErr result (λ fault. WritesNothing fault → writer.new ≡ writer.old) }
 {
@@ -95,10 +95,10 @@ pub fn list_module<W: Write, C: Complaints>(
     }
 }
 
-/// Counts the operators of a module by proposal, or those of the function with an index. Each function
-/// that is refused is told of, and the others are counted.
+/// Counts the operators of a module by proposal, or those of the function with an index. Reports
+/// each function with an error, and counts the others.
 ///
-/// `Code` where the code section is refused.
+/// Fails with `Code` if the code section is in error.
 pub fn count_module<C: Complaints>(
     alloc: Global,
     features: WasmFeatures,
@@ -107,7 +107,8 @@ pub fn count_module<C: Complaints>(
     complaints: &mut C,
 ) -> Result<ModuleCounts, Fault>
     ensures counts { CountsModule C.tells features only bytes.now result complaints.old complaints.new }
-    // Where each function that is asked for has a body, none is refused.
+    // If each requested function has a body, the counts are complete, unless reporting or
+    // allocation fails.
     ensures whole { IsModuleOf (IsCounted features) features only bytes.now → CountsAll result }
 {
     function_laws::sections();

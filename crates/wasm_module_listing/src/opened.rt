@@ -1,4 +1,4 @@
-//! What a module tells of its functions, and where their bodies stand.
+//! The functions of a module, and the place of their bodies.
 ghost use Rattle.std.specs.Prelude.{◌≡◌, Some, MatchOption, IfOk, IfErr};
 ghost use Rattle.wasm_disassembly.specs.operators.below.Source.{reader_of};
 ghost use Rattle.wasm_functions.specs.ModuleFunctions.{IsOwn};
@@ -12,7 +12,7 @@ use wasm_functions::{Functions, find_section};
 /// The number of the code section.
 const CODE: u8 = 10;
 
-/// The index that is asked for, where no own function of the module has it.
+/// Returns the requested index if the module defines no function with it.
 fn lacking(functions: &Functions<'_>, only: Option<u32>) -> Option<u32>
     ensures { MatchOption result (IsThere functions.now only)
         (λ index. (only ≡ Some index) × (IsOwn functions.now index → ⊥)) }
@@ -29,10 +29,10 @@ fn lacking(functions: &Functions<'_>, only: Option<u32>) -> Option<u32>
     }
 }
 
-/// What a module tells of its functions, and the contents of its code section, where it has one.
+/// Returns the functions of a module, and the contents of its code section, if it has one.
 ///
-/// `Module` where the bytes are no module, or it tells nothing; `NoFunction` where the one that is asked
-/// for is none of its own.
+/// Fails with `Module` if the functions can't be read, and with `NoFunction` if the module does not
+/// define the requested function.
 pub fn open_module<'a>(
     alloc: Global,
     features: WasmFeatures,

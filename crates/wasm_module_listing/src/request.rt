@@ -1,4 +1,4 @@
-//! What the program writes of a module.
+//! The output of the program for a module.
 ghost use Rattle.std.specs.Prelude.{◌≡◌, IfErr};
 ghost use Rattle.std.specs.Bool.{OnTrue, OnFalse};
 ghost use Rattle.wasm_module_listing.specs.Listing.{IsFunction, IsModuleOf, ListsModule, Succeeds, WritesNothing};
@@ -12,21 +12,21 @@ use std::alloc::Global;
 use std::io::Write;
 use wasm_disassembly::operators::WasmFeatures;
 
-/// What is wanted of a module.
+/// The request for a module.
 #[derive(Clone, Copy, Debug, PartialEq, Eq)]
 pub struct Wanted {
-    /// The census in place of the functions.
+    /// Whether the operator counts are requested in place of the functions.
     pub census: bool,
-    /// The function with this index alone.
+    /// The index of the only function that is requested, if there is one.
     pub function: Option<u32>,
-    /// The features that its functions are read with.
+    /// The features that the functions are read with.
     pub features: WasmFeatures,
 }
 
-/// Writes the disassembly of a module, or its census as a table. Answers whether none of its functions
-/// is refused; each that is refused is told of.
+/// Writes the disassembly of a module, or its operator counts as a table. Returns whether none of
+/// its functions has an error. Reports each function with an error.
 ///
-/// Refused as `list_module` and `count_module`. On `Module` and `NoFunction` nothing is written.
+/// Fails as `list_module` and `count_module` do. On `Module` and `NoFunction` nothing is written.
 pub fn run<W: Write, C: Complaints>(
     alloc: Global,
     wanted: Wanted,
@@ -41,7 +41,8 @@ pub fn run<W: Write, C: Complaints>(
     ensures lists { OnFalse wanted.census
         (ListsModule C.tells wanted.features wanted.function file.now bytes.now result complaints.old complaints.new
         (W.contents writer.old) (W.contents writer.new)) }
-    // Where each function that is asked for has a body, none is refused.
+    // If each requested function has a body (in a listing, within the limit of locals), the result
+    // is `Ok(true)`, unless writing or allocation fails.
     ensures counted { OnTrue wanted.census
         (IsModuleOf (IsCounted wanted.features) wanted.features wanted.function bytes.now → Succeeds result) }
     ensures listed { OnFalse wanted.census

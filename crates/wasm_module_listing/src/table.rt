@@ -1,4 +1,4 @@
-//! The census of a module as a table.
+//! The operator counts of a module as a table.
 ghost use Rattle.std.specs.Prelude.{◌≡◌, ◌++◌, List, IfOk, IfErr, OnOk, string_bytes};
 ghost use Rattle.std.specs.Io.KnownBytes.{Appends};
 ghost use Rattle.wasm_module_listing.specs.CountTable.{Row, IsTable, row_text, table_text};
@@ -11,7 +11,7 @@ use std::cmp::Reverse;
 use std::io::Write;
 use wasm_listing::proposal_at;
 
-/// The counts that are not 0, each with its place, the largest first.
+/// Returns the counts that are not 0, each with its place, the largest first.
 fn rows_of(alloc: Global, counts: &[u64; 19]) -> Result<Vec<(Reverse<u64>, usize)>, AllocError>
     ensures { IfOk result (λ rows. IsTable counts.now rows.items) }
 {
@@ -25,7 +25,7 @@ fn rows_of(alloc: Global, counts: &[u64; 19]) -> Result<Vec<(Reverse<u64>, usize
     Ok(rows)
 }
 
-/// Writes the line of a row.
+/// Appends the line of a row.
 fn push_row(out: &mut String, row: (Reverse<u64>, usize)) -> Result<(), AllocError>
     ensures { OnOk result (string_bytes out.new ≡ string_bytes out.old ++ row_text row) }
 {
@@ -34,7 +34,7 @@ fn push_row(out: &mut String, row: (Reverse<u64>, usize)) -> Result<(), AllocErr
     writeln!(out, "{count:>12} {name}")
 }
 
-/// The lines of the rows.
+/// Appends the lines of the rows.
 fn push_rows(out: &mut String, rows: &[(Reverse<u64>, usize)]) -> Result<(), AllocError>
     ensures { OnOk result (string_bytes out.new ≡ string_bytes out.old ++ table_text rows.now) }
 {
@@ -44,8 +44,8 @@ fn push_rows(out: &mut String, rows: &[(Reverse<u64>, usize)]) -> Result<(), All
     Ok(())
 }
 
-/// Writes a line for each proposal that brought operators of a module: how many, in the order of
-/// `census` of `wasm_listing`, and its name; the largest count first.
+/// Writes a line for each proposal whose operators occur in a module: the count and the proposal's
+/// name, the largest count first. The counts are in the order of `census` of `wasm_listing`.
 pub fn write_table<W: Write>(alloc: Global, counts: &[u64; 19], writer: &mut W) -> Result<(), Fault>
     ensures ok { OnOk result ((rows : List Row) × IsTable counts.now rows
         × Appends (W.contents writer.old) (W.contents writer.new) (table_text rows)) }

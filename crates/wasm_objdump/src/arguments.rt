@@ -1,18 +1,18 @@
-//! The words behind the program's name.
+//! The arguments of the program.
 
 use wasm_module_listing::operators::WasmFeatures;
 use wasm_module_listing::{Wanted, features_of};
 
-/// What is asked for.
+/// The options that the arguments give.
 #[derive(Debug, Drop)]
 pub struct Options {
-    /// What is wanted of the module.
+    /// The part of the module that is requested.
     pub wanted: Wanted,
-    /// The file that is read, where it is not standard input.
+    /// The path of the module, unless it is read from standard input.
     pub file: Option<String>,
 }
 
-/// What the words say.
+/// The meaning of all arguments.
 #[derive(Debug, Drop)]
 pub enum Words {
     Help,
@@ -20,7 +20,7 @@ pub enum Words {
     Bad,
 }
 
-/// What the word before says of the next one.
+/// What the argument before determines about the next one.
 #[derive(Clone, Copy, Debug, PartialEq, Eq)]
 enum Next {
     Any,
@@ -28,7 +28,8 @@ enum Next {
     Features,
 }
 
-/// What a word says: the value of the option before it, or what it is itself. `None` where it is neither.
+/// Reads one argument: the value of the option before it, or an option or path. Returns `None` if
+/// it is neither.
 fn read_word(options: Options, next: Next, word: String) -> Option<(Options, Next)> {
     let mut read = options;
     match next {
@@ -50,7 +51,7 @@ fn read_word(options: Options, next: Next, word: String) -> Option<(Options, Nex
     }
 }
 
-/// Reads a word that is no value of an option.
+/// Reads an argument that is not the value of an option.
 fn read_option(options: Options, word: String) -> Option<(Options, Next)> {
     let mut read = options;
     if word.as_str() == "--census" {
@@ -70,7 +71,7 @@ fn read_option(options: Options, word: String) -> Option<(Options, Next)> {
     Some((read, Next::Any))
 }
 
-/// Reads the words behind the program's name.
+/// Reads the arguments after the program's name.
 pub fn read_words(words: Vec<String>) -> Words {
     let mut read = Options {
         wanted: Wanted {
@@ -99,7 +100,7 @@ pub fn read_words(words: Vec<String>) -> Words {
     }
 }
 
-/// The last part of a path, behind its last slash.
+/// Returns the last part of a path, after its last slash.
 pub fn last_part(path: &str) -> &str {
     match path.rsplit_once('/') {
         Some((_, name)) => name,

@@ -7,7 +7,7 @@ use std::rt::Files;
 use std::{fs, io};
 use wasm_module_listing::Fault;
 
-/// All that a reader gives, by reads until one gives nothing.
+/// Reads to the end of the data.
 fn read_input<R: Read>(alloc: Global, reader: &mut R) -> Result<Vec<u8>, Fault>
     ensures { IfOk result (λ input. IfSome (R.remaining reader.old) (λ bytes. input.items ≡ bytes)) }
 {
@@ -26,7 +26,7 @@ fn read_input<R: Read>(alloc: Global, reader: &mut R) -> Result<Vec<u8>, Fault>
     }
 }
 
-/// All bytes of a file, or of standard input where none is named.
+/// Reads a file, or standard input if `file` is `None`.
 pub fn read_module<R: Files + Input + AllocGlobal>(
     rt: &R,
     file: &Option<String>,

@@ -1,7 +1,7 @@
 //! Disassembles the functions of a WebAssembly module in the form of `wasm-objdump -d` of wabt, or
 //! counts its operators by proposal.
 //!
-//! The theorem stands on `run` of `wasm_module_listing`, over any writer.
+//! The main theorem is the contract of `run` of `wasm_module_listing`, which holds for any writer.
 #![tactic(auto)]
 
 mod arguments;
@@ -32,10 +32,10 @@ Ends with 0; with 1 where a function, the module or its code section is refused,
 with 2 where these words are others; with 3 where a file or memory fails.
 ";
 
-/// How many bytes are kept, to be written together.
+/// The capacity of the output buffer in bytes.
 const WRITTEN: usize = 0x1_0000;
 
-/// The words behind the program's name. `None` where one is no text.
+/// Returns the arguments after the program's name, or `None` if one of them is not UTF-8.
 fn words_of<R: Env + AllocGlobal>(rt: &R) -> Result<Option<Vec<String>>, Fault> {
     let mut args = match env::args(rt) {
         Ok(args) => args,
@@ -56,7 +56,7 @@ fn words_of<R: Env + AllocGlobal>(rt: &R) -> Result<Option<Vec<String>>, Fault> 
     Ok(Some(words))
 }
 
-/// Reads the module and writes what is asked for.
+/// Reads the module and writes what the options request.
 fn write_module(rt: &HostRuntime, options: &Options) -> Result<bool, Fault> {
     let bytes = read_module(rt, &options.file)?;
     let file = match &options.file {
@@ -80,7 +80,7 @@ fn write_module(rt: &HostRuntime, options: &Options) -> Result<bool, Fault> {
     answer
 }
 
-/// Tells why the program ends, and answers with which status.
+/// Reports a fault on standard error, and returns the program's exit status.
 fn complain(rt: &HostRuntime, file: &Option<String>, fault: Fault) -> ExitCode {
     let _ = match (fault, file) {
         (Fault::Reading, Some(path)) => eprintln!(rt; "cannot read {path}"),
@@ -89,7 +89,7 @@ fn complain(rt: &HostRuntime, file: &Option<String>, fault: Fault) -> ExitCode {
     ExitCode::from(fault.status())
 }
 
-/// Answers the words behind the program's name.
+/// Runs the program with these arguments, and returns its exit status.
 fn answer(rt: &HostRuntime, words: Words) -> ExitCode {
     match words {
         Words::Options(options) => match write_module(rt, &options) {

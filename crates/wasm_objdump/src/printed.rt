@@ -1,25 +1,25 @@
-//! The refusals of functions, printed on standard error.
+//! The errors of functions, printed on standard error.
 ghost use Rattle.std.specs.Prelude.{⊤};
 
 use std::io;
 use wasm_module_listing::Complaints;
 use wasm_module_listing::operators::Error;
 
-/// One that prints each refusal on standard error.
+/// A reporter that prints each error on standard error.
 #[derive(Drop)]
 pub struct Printed<'a> {
     rt: &'a HostRuntime,
 }
 
 impl<'a> Printed<'a> {
-    /// One that prints by this runtime.
+    /// Creates a reporter that prints through this runtime.
     pub fn new(rt: &'a HostRuntime) -> Printed<'a> {
         Printed { rt }
     }
 }
 
 impl<'a> Complaints for Printed<'a> {
-    // Standard error tells nothing to a contract.
+    // Printing on standard error is not specified.
     ghost tells = { λ s index error t. ⊤ };
 
     fn complain(&mut self, index: u32, error: Error) -> io::Result<()> {

@@ -1,4 +1,4 @@
--- What the fault of a constant expression says determines its refusal, and no encoding of one is a proper prefix of another.
+-- The fault of a constant expression determines its error, and no encoding of one is a proper prefix of another.
 use Rattle.std.proofs.Common.{◌≡◌, ℕ, ◌+◌, ◌≤◌, List, [], ◌∷◌, ◌++◌, length, Some, None, inl, inr, refl, sym, subst, ap, ◌∙◌, ◌⊎◌, arith}
 use Rattle.std.proofs.lemmas.Bool.{cases_lt}
 use Rattle.wasm_operators_readers.specs.below.bytes.features.WasmFeatures.{WasmFeatures}
@@ -44,7 +44,7 @@ some_is e = cc e
 end_encodes : (f : WasmFeatures) → EncodesOperator f operator.End (0x0b ∷ [])
 end_encodes f = record { head = 0x0b ∷ []; behind = []; parts = refl; code = refl; immediates = refl; enabled = tt }
 
--- Where the passing ends, no operator but an `end` may follow.
+-- At the end of the skipped operators, no operator except an `end` may follow.
 Ended : Message → Reader → List FrameKind → ℕ → Type 0
 Ended m r frames offset = IsNoOperator m r frames offset ⊎ EndsInside m r frames offset
 
@@ -67,7 +67,7 @@ no_end_there (x ∷ xs) next more h is = no_end_there xs next more h.1 is
 features_there : (old new : Reader) (text : List ℕ) → Takes old new text → new.features ≡ old.features
 features_there old new text t = ap (λ (r : Reader). r.features) t.moved
 
--- Of two passings of the same bytes the one that ends is not the shorter.
+-- If two runs skip operators of the same bytes, the run that ends is not the shorter.
 not_shorter : (m : Message) (r a b : Reader) (xs ys : List FrameKind) (offset : ℕ) (p : PassesOperators r a xs) (q : PassesOperators r b ys) →
     Ended m a xs offset →
     length q.placed ≤ length p.placed
@@ -89,7 +89,7 @@ not_shorter m r a b xs ys offset p q ended =
 ends_allowed : (kind : FrameKind) → Allows kind (role_of operator.End)
 ends_allowed kind = refl
 
--- Not both: an `end` is an operator that each frame allows.
+-- The two cases exclude each other: an `end` is an operator that each frame allows.
 not_both : (m n : Message) (r : Reader) (frames : List FrameKind) (x y : ℕ) → IsNoOperator m r frames x → EndsInside n r frames y → ⊥
 not_both m n r frames x y (kind, innermost_is, none, fault) (begins, around, is, at) =
     none (0x0b ∷ []) begins.0 operator.End (end_encodes r.features, ends_allowed kind) begins.1

@@ -1,4 +1,4 @@
--- What stands there is refused: from one operator to the constant expression.
+-- Errors: from one operator to the constant expression.
 use Rattle.std.proofs.Common.{◌≡◌, ℕ, List, [], ◌++◌, None, true, inl, inr, refl, sym, subst, ap, ◌∙◌, arith}
 use Rattle.std.proofs.lemmas.List.{append-nil}
 use Rattle.wasm_operators_readers.specs.below.bytes.error.Error.{Error}
@@ -26,7 +26,7 @@ use Rattle.wasm_operators.specs.ConstantFaults.{ConstantFault, ConstantMayAlloca
 use Rattle.wasm_operators.proofs.OneEnd.{stays_open}
 use Rattle.wasm_operators.proofs.Passed.{from_block, passes, none_follows, none_inside, inside_fault, within_data, before, ahead_behind}
 
--- Why one operator was not passed.
+-- The reason why one operator was not read.
 abbrev pub Stops : Error → State → Type 0
 Stops e t = StopsRead EncodesAllowed OperatorFault (NextMayAllocate EncodesAllowed) e t
 
@@ -39,7 +39,7 @@ stuck e t more (inr (inl there)) follow text behind op encodes eq =
     (λ allows. takes_all t.reader.features there.kind text op encodes allows tt) eq
 stuck e t more (inr (inr memory)) follow text behind op encodes eq = absurd (subst (λ m. MayFollow m more) memory.0 follow)
 
--- Where the next operator wants memory, a byte stands there.
+-- If the next operator may allocate, a byte is left.
 some_byte : (t : State) → NextMayAllocate EncodesAllowed t → (byte : ℕ) × BeginsWith byte (rest t.reader)
 some_byte t (inl room) = (room.2, room.3)
 some_byte t (inr list) = (list.2.leads.0, list.2.leads.2)
@@ -78,7 +78,7 @@ there_ahead e offset s t placed fresh r no_end stops memory other = elim (is_mem
     at_operator not (inr (inl there)) = ahead_before s.reader t.reader r.text e.offset r.takes there.ahead
     at_operator not (inr (inr needs)) = absurd (not needs.0)
 
--- An operator was refused: so is the expression, by the same message, where allocation failure is said at its start.
+-- If an operator is in error, so is the expression, with the same message. An allocation failure is reported at its start.
 pub refused_there : (e d : Error) (s mid t : State) (placed : Placed) → IsFresh s → TakesOperators s mid placed → HasNoEnd (operators placed) →
     IsUnchanged mid t → Stops e t →
     d.message ≡ e.message → (e.message ≡ message.OutOfMemory → d.offset ≡ offset_of s.reader) → ((e.message ≡ message.OutOfMemory → ⊥) → d.offset ≡ e.offset) →
@@ -117,7 +117,7 @@ pub inside_has_fault : (d : Error) (s t u : State) (placed : Placed) → IsFresh
 inside_has_fault d s t u placed fresh r no_end k stays is at not =
     subst (λ m. ConstantFault m s.reader d.offset) (sym is) (inside_fault s t u placed d.offset fresh r no_end k stays at)
 
--- Where memory was refused, the next operator may ask for it.
+-- If allocation failed, the next operator may allocate.
 pub memory_there : (e d : Error) (s mid t : State) (placed : Placed) → IsFresh s → TakesOperators s mid placed → HasNoEnd (operators placed) →
     IsUnchanged mid t → Stops e t → d.message ≡ e.message → d.message ≡ message.OutOfMemory → ConstantMayAllocate s.reader
 memory_there e d s mid t placed fresh r no_end same stops is memory =

@@ -1,4 +1,4 @@
--- The body of a function: its locals, and its expression.
+-- The body of a function: its locals and its expression.
 -- WebAssembly Core Specification 3.0: Binary Format, Modules, Code Section.
 use Rattle.std.specs.Prelude.{◌≡◌, ◌≢◌, ℕ, ◌+◌, List, [], ◌++◌, length, Result, Ok, Err, ◌⊎◌}
 use Rattle.wasm_operators_readers.specs.below.bytes.error.Error.{Error}
@@ -11,7 +11,7 @@ use Rattle.wasm_operators_readers.specs.Reading.{State, IsFresh, Anywhere}
 use Rattle.wasm_operators_readers.specs.Headline.{ReadsBeginning}
 use Rattle.wasm_operators.specs.Locals.{Declaration, EncodesLocals, RefusesLocals, ReadsPastLocals}
 
--- What is left of a source behind a text of its prefix.
+-- The rest of a source after these bytes of a prefix.
 abbrev pub source_behind : Source → List ℕ → List ℕ → Source
 source_behind s text more = record { features = s.features; offset = s.offset + length text; bytes = more }
 
@@ -24,7 +24,7 @@ pub record EncodesBody (s : Source) (declarations : List Declaration) (placed : 
   pub encodes_locals : EncodesLocals locals declarations
   pub encodes_expression : EncodesExpression (source_behind s locals expression) placed
 
--- The reader of a body's operators: behind the locals, and fresh, so that no operator stood before it.
+-- The new reader of a body's operators, after its locals. No operator was read before.
 abbrev pub OpensBody : Result State Error → Reader → Type 0
 OpensBody (Ok s) body = ReadsPastLocals (Ok s.reader) body × IsFresh s
 OpensBody (Err e) body = RefusesLocals e body
@@ -34,19 +34,19 @@ pub record NoLocals (e : Error) (body : Reader) (placed : Placed) : Type 0 where
   pub refused : RefusesLocals e body
   pub nothing : placed ≡ []
 
--- The bytes begin with a body's locals, and no expression stands behind them: these operators are the longest beginning of one, and what stands behind it
--- is refused.
+-- The bytes begin with a body's locals, and no expression follows. These operators are the longest list that begins an expression there,
+-- and the error describes the bytes after them.
 pub record NoExpression (e : Error) (body : Reader) (placed : Placed) : Type 0 where
   pub opened : State
   pub opens : OpensBody (Ok opened) body
   pub stopped : State
   pub reads : ReadsBeginning IsAny EncodesAllowed OperatorFault Anywhere [] e opened stopped placed
 
--- The bytes encode no body, and these operators were read of it.
+-- The bytes encode no body, and these operators were read.
 abbrev pub StopsBody : Error → Reader → Placed → Type 0
 StopsBody e body placed = NoLocals e body placed ⊎ NoExpression e body placed
 
--- Reading or visiting a body to its end, allocation failure aside. The first word says what happened to the operators that came.
+-- Reading or visiting a body to its end, unless allocation fails. `Happened` is the effect on the list of operators.
 abbrev pub ReadsBody : {X : Type 0} → OfPlaced → Result X Error → Reader → Type 0
 ReadsBody Happened (Ok x) body = (declarations : List Declaration) × (placed : Placed) × Happened placed × EncodesBody (source_of body) declarations placed
 ReadsBody Happened (Err e) body = e.message ≢ message.OutOfMemory → (placed : Placed) × Happened placed × StopsBody e body placed

@@ -1,4 +1,4 @@
--- Constant expressions as readers of modules take them: up to the first `end`, which has to close the expression.
+-- Constant expressions as readers of modules read them: up to the first `end`, which has to close the expression.
 -- WebAssembly Core Specification 3.0: Binary Format, Instructions, Expressions; Validation, Instructions, Constant Expressions.
 use Rattle.std.specs.Prelude.{◌≡◌, ◌≢◌, ℕ, List, [], ◌∷◌, ◌++◌, length}
 use Rattle.wasm_operators_readers.specs.below.bytes.features.WasmFeatures.{WasmFeatures}
@@ -21,6 +21,6 @@ EndsOnce ops = (before : List Operator) × (ops ≡ before ++ operator.End ∷ [
 abbrev pub EncodesConstant : Source → Type 0
 EncodesConstant s = (placed : Placed) × EncodesExpression s placed × EndsOnce (operators placed)
 
--- The text encodes such an expression, and the value is a fresh reader of the text. Where it stood is not seen.
+-- The bytes encode such an expression, and the value is a new reader of these bytes, at any offset.
 abbrev pub EncodesConstantReader : WasmFeatures → List ℕ → Reader → Type 0
 EncodesConstantReader features text r = IsReaderOf features (length text) text r × EncodesConstant (source_of r)

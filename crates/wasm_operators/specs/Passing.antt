@@ -1,4 +1,4 @@
--- One step to the first `end`.
+-- One step towards the first `end`.
 use Rattle.std.specs.Prelude.{◌≡◌, ◌↔◌, IsTrue, Bool, Result, Ok, Err}
 use Rattle.wasm_operators_readers.specs.below.bytes.error.Error.{Error}
 use Rattle.wasm_operators_readers.specs.instr.declared.operator.Operator.{Operator}
@@ -10,11 +10,11 @@ use Rattle.wasm_operators_readers.specs.Expression.{Placed, operators}
 use Rattle.wasm_operators_readers.specs.Reading.{State, IsUnchanged, TakesOperator, StopsRead, TakesOperators}
 use Rattle.wasm_operators.specs.Constant.{EndsOnce}
 
--- An operator was taken, and the answer is whether it is `end`; or it is refused.
+-- An operator was read, and the result is whether it is `end`; or an error was returned.
 abbrev pub PassesOne : Result Bool Error → State → State → Type 0
 PassesOne (Ok answer) old new = (op : Operator) × TakesOperator EncodesAllowed op old new × (IsTrue answer ↔ (op ≡ operator.End))
 PassesOne (Err e) old new = IsUnchanged old new × StopsRead EncodesAllowed OperatorFault (NextMayAllocate EncodesAllowed) e new
 
--- Operators up to the first `end` were taken.
+-- The operators up to the first `end` were read.
 abbrev pub PassesEnd : State → State → Type 0
 PassesEnd old new = (placed : Placed) × TakesOperators old new placed × EndsOnce (operators placed)

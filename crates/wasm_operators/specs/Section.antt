@@ -1,4 +1,4 @@
--- Sections that are a list of items: how many they are, and the items, one behind the other.
+-- Sections that are a list of items: their number, and the items, one after another.
 -- WebAssembly Core Specification 3.0, Binary Format: Conventions, Lists; Modules, Sections.
 use Rattle.std.specs.Prelude.{◌≡◌, ℕ, ◌+◌, ◌<◌, ◌⊎◌, Bool, true, false, List, [], Option, Some, None, Result, Ok, Err}
 use Rattle.wasm_operators_readers.specs.below.bytes.error.Error.{Error}
@@ -8,12 +8,12 @@ use Rattle.wasm_operators_readers.specs.below.Fault.{HasFault}
 use Rattle.wasm_operators_readers.specs.below.FromReader.{ReadsValue, IsRefused}
 use Rattle.wasm_operators_readers.specs.below.Source.{Reader, rest, offset_of}
 
--- A section: how many items it announces, and what stands behind that number.
+-- A section: its number of items, and the reader after that number.
 pub record Section : Type 0 where
   pub count : ℕ
   pub reader : Reader
 
--- An iterator over the items: how many are left, the reader before the next of them, and whether an error was answered.
+-- An iterator over the items: how many are left, the reader before the next item, and whether an error was returned.
 pub record SectionItems : Type 0 where
   pub remaining : ℕ
   pub reader : Reader
@@ -23,25 +23,26 @@ pub record SectionItems : Type 0 where
 abbrev pub items_of : Section → SectionItems
 items_of s = record { remaining = s.count; reader = s.reader; refused = false }
 
--- The same iterator behind an error that it answered.
+-- The same iterator after it returned an error.
 abbrev pub behind_error : SectionItems → SectionItems
 behind_error s = record { remaining = s.remaining; reader = s.reader; refused = true }
 
--- Nothing more comes: an error was answered, or no item is left and no data.
+-- No item follows: an error was returned, or no item and no data is left.
 abbrev pub IsDone : SectionItems → Type 0
 IsDone s = (s.refused ≡ true) ⊎ ((s.remaining ≡ 0) × (rest s.reader ≡ []))
 
--- Data is left, and is refused where it begins.
+-- Data is left, and the error is reported at its start.
 abbrev pub IsDataLeft : Error → Reader → Type 0
 IsDataLeft e r = (rest r ≡ [] → ⊥) × (e.message ≡ message.DataAfterSection) × (e.offset ≡ offset_of r)
 
--- The next item is refused by the reading of its type; or no item is left, but data is.
+-- Reading the next item fails with an error of its type; or no item is left, but data is.
 abbrev pub StopsSection : {X : Type 0} → (List ℕ → X → Type 0) → (Message → Reader → ℕ → Type 0) → Bool → Error → SectionItems → Type 0
 StopsSection Encodes Fault takes_memory e s =
     ((0 < s.remaining) × IsRefused Encodes takes_memory e s.reader × HasFault Fault e s.reader) ⊎
     ((s.remaining ≡ 0) × IsDataLeft e s.reader)
 
--- A step of such an iterator: an item was read, which stood where its type says; or an error is answered, once, and nothing taken; or nothing more comes.
+-- One step of the iterator: an item was read, at the place that its type requires; or an error was returned, once, and nothing consumed;
+-- or no item follows.
 abbrev pub StepsSection : {X : Type 0} → (List ℕ → X → Type 0) → (Message → Reader → ℕ → Type 0) → (Reader → X → Reader → Type 0) → Bool →
     Option (Result X Error) → SectionItems → SectionItems → Type 0
 StepsSection Encodes Fault Placed takes_memory None old new = (new ≡ old) × IsDone old

@@ -1,4 +1,4 @@
--- Single operators, read or visited from a reader of bytes under frames that another keeps, and the end of an expression.
+-- Single operators, read or visited from a reader of bytes with frames that the caller keeps, and the end of an expression.
 -- WebAssembly Core Specification 3.0, Binary Format: Instructions; Expressions.
 use Rattle.std.specs.Prelude.{◌≡◌, Option, None, Result}
 use Rattle.wasm_operators_readers.specs.below.bytes.error.Error.{Error}
@@ -8,11 +8,11 @@ use Rattle.wasm_operators_readers.specs.grammar.declared.frame_kind.FrameKind.{F
 use Rattle.wasm_operators_readers.specs.instr.declared.operator.Operator.{Operator}
 use Rattle.wasm_operators_readers.specs.Reading.{EndsExpression}
 
--- What a reading from here answers, where this frame is the innermost or none is open, wherever it leaves the reader.
+-- The result of reading an operator from here, with this frame as the innermost, if one is open. The position of the reader after it is not fixed.
 abbrev pub PeeksOperator : Option FrameKind → Result Operator Error → Reader → Type 0
 PeeksOperator frame result r = (behind : Reader) × DecodesOperatorIn frame result r behind
 
--- Whether an expression ends here, where this frame is the innermost or none is open: Ok exactly where none is and no data is left. Else the refusal stands at
--- the position.
+-- The end of an expression, with this frame as the innermost, if one is open: `Ok` if and only if none is open and no data is left.
+-- Otherwise the error is at the position.
 abbrev pub FinishesExpression : {X : Type 0} → Result X Error → Option FrameKind → Reader → Type 0
 FinishesExpression result frame r = EndsExpression result (frame ≡ None) r

@@ -1,7 +1,7 @@
-//! Laws on bodies and their locals, each the contract of a function that does nothing.
+//! Laws about bodies and their locals. Each is the contract of a function that does nothing.
 //!
-//! `PrefixCode` says that no encoding is a proper prefix of another, and that each is that of one
-//! value; `DeterminesRefusal`, that what a fault says determines the message and the offset.
+//! `PrefixCode` says that no encoding is a proper prefix of another, and that each encodes one
+//! value. `DeterminesRefusal` says that the fault determines the message and the offset.
 ghost use Rattle.std.specs.Prelude.{◌≡◌, ◌≢◌, ℕ, List, [], ◌∷◌, ◌++◌, Some, Ok};
 ghost use Rattle.wasm_operators_readers.specs.below.bytes.error.Error.{Error};
 ghost use Rattle.wasm_operators_readers.specs.below.Fault.{DeterminesRefusal};
@@ -19,34 +19,37 @@ ghost use Rattle.wasm_operators.specs.Locals.{Declaration, EncodesDeclaration, E
 
 use wasm_operators_readers::below::{Message, WasmFeatures};
 
-/// One declaration, and the locals of a body.
+/// States that no encoding of a declaration, or of a body's locals, is a proper prefix of another,
+/// and that each encodes one value.
 pub fn declarations()
     ensures one { PrefixCode EncodesDeclaration }
     ensures locals { PrefixCode EncodesLocals }
 {}
 
-/// The refusals of a declaration, of one with those before it, and of the locals of a body.
+/// States that the errors of a declaration, of the next declaration and of a body's locals are
+/// determined.
 pub fn refusals()
     ensures one { DeterminesRefusal DeclarationFault }
     ensures next { (total : ℕ) → DeterminesRefusal (NextFault total) }
     ensures locals { DeterminesRefusal LocalsFault }
 {}
 
-/// A body behind its length: no encoding is a proper prefix of another, and each is that of the same
-/// bytes, wherever they stand.
+/// States that no encoding of a body with its length is a proper prefix of another. Each encodes
+/// one body, except for the body's offset.
 pub fn lengths(features: WasmFeatures)
     ensures { PrefixCodeUpTo SameReader (EncodesReader features) }
 {}
 
-/// Some bytes are one body at most: they have one list of declarations and one of operators.
+/// States that bytes encode at most one body: they have one list of declarations and one of
+/// operators.
 pub fn one_body()
     ensures { (s : Source) (declarations others : List Declaration) (first second : Placed)
         → EncodesBody s declarations first → EncodesBody s others second
         → (declarations ≡ others) × (first ≡ second) }
 {}
 
-/// Behind the locals of a body stands its expression, and these locals and an expression behind them
-/// are a body.
+/// States that the expression of a body follows its locals, and that locals followed by an
+/// expression are a body.
 pub fn past_locals()
     ensures body { (body r : Reader) (declarations : List Declaration) (placed : Placed)
         → IsPastLocals declarations body r → EncodesExpression (source_of r) placed
@@ -56,8 +59,9 @@ pub fn past_locals()
         → (others ≡ declarations) × EncodesExpression (source_of r) placed }
 {}
 
-/// A body that was opened and read or visited to its end is that body, and has its expression where
-/// it was opened; one that was stopped is stopped as a body.
+/// States that a body which was opened and read or visited to its end is a body. Its expression
+/// starts where it was opened. If reading stopped at an error, it stopped as `StopsBody` says of
+/// the body.
 pub fn opened_bodies()
     ensures whole { (body : Reader) (opened new : State) (placed : Placed)
         → OpensBody (Ok opened) body → ReadsTree [] opened new placed
@@ -73,14 +77,14 @@ pub fn opened_bodies()
         → StopsBody e body placed }
 {}
 
-/// Where the locals are refused there is no body, and nothing was read of one.
+/// States that if the locals are in error, the bytes encode no body, and no operator was read.
 pub fn refused_locals()
     ensures none { (e : Error) (body : Reader) (declarations : List Declaration) (placed : Placed)
         → RefusesLocals e body → ¬ EncodesBody (source_of body) declarations placed }
     ensures stopped { (e : Error) (body : Reader) → RefusesLocals e body → StopsBody e body [] }
 {}
 
-/// The steps of an iterator over the locals of a body, one after another from the first.
+/// States how steps of an iterator over the locals of a body follow one another, from the first.
 pub fn steps_of_locals()
     ensures first { (body : Reader) (unread : Locals) → OpensLocals (Ok unread) body → HasStepped [] body (all_left unread) }
     ensures next { (declarations : List Declaration) (d : Declaration) (body : Reader) (old new : LocalsLeft)
@@ -88,8 +92,8 @@ pub fn steps_of_locals()
         → HasStepped (declarations ++ d ∷ []) body new }
 {}
 
-/// What is refused is no body; and it is refused in one way: the operators that were read, the message
-/// and the offset are determined. Allocation failure aside.
+/// States that bytes with an error encode no body. The operators that were read, the message and
+/// the offset are determined. Both hold unless allocation fails.
 pub fn stopped_bodies()
     ensures none { (e : Error) (body : Reader) (placed whole : Placed) (declarations : List Declaration)
         → e.message ≢ Message.OutOfMemory → StopsBody e body placed

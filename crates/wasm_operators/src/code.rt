@@ -19,7 +19,7 @@ use wasm_operators_readers::below::{
     BinaryReader, FromReader, MemoryUse, Never, Result, UsesMemory,
 };
 
-/// The body of a function.
+/// A body of a function: a reader of its bytes.
 #[derive(Debug, Drop)]
 pub struct FunctionBody<'a> {
     reader: BinaryReader<'a>,
@@ -46,17 +46,17 @@ impl<'a> Clone for FunctionBody<'a> {
 }
 
 impl<'a> FunctionBody<'a> {
-    /// The body that begins where this reader stands.
+    /// Creates a body from the reader's position.
     pub fn new(reader: BinaryReader<'a>) -> FunctionBody<'a>
         ensures { result ≡ reader.entry }
     {
         FunctionBody { reader }
     }
 
-    /// A number of 32 bits, and that many bytes as a body with the same features, whose offset is
-    /// theirs. Code Section.
+    /// Reads a number of 32 bits and that many bytes, and returns the bytes as a body with the same
+    /// features and their offset. Specification: Code Section.
     ///
-    /// Refused as `read_reader`.
+    /// Fails as `read_reader` does.
     pub fn read(reader: &mut BinaryReader<'a>) -> Result<FunctionBody<'a>>
         ensures reads { Reads (EncodesReader reader.old.features) result reader.old reader.new }
         ensures placed { IfOk result (λ body. end_of body ≡ offset_of reader.new) }
@@ -68,7 +68,7 @@ impl<'a> FunctionBody<'a> {
         }
     }
 
-    /// The same body again, which takes no memory.
+    /// Returns the same body. Does not allocate.
     pub fn clone(&self) -> FunctionBody<'a>
         ensures { result ≡ self.now }
     {
@@ -77,27 +77,26 @@ impl<'a> FunctionBody<'a> {
         }
     }
 
-    /// A reader of the body, from where the body begins.
+    /// Returns a reader of the body, at its start.
     pub fn get_binary_reader(&self) -> BinaryReader<'a>
         ensures { result ≡ self.now }
     {
         self.reader.clone()
     }
 
-    /// A reader of the body's locals, of which it reads the count.
+    /// Reads the count of declarations and returns a reader of the body's locals.
     ///
-    /// Refused as `read_var_u32`.
+    /// Fails as `read_var_u32` does.
     pub fn get_locals_reader(&self) -> Result<LocalsReader<'a>>
         ensures { OpensLocals result self.now }
     {
         LocalsReader::new(self.reader.clone())
     }
 
-    /// A reader of the bytes behind the locals.
+    /// Skips the locals and returns a reader of the bytes after them.
     ///
-    /// Refused as `read_var_u32` at the count of the declarations; then, at the first declaration
-    /// that is none, as `read_var_u32` or as `ValType::read`. How many locals are declared in all is
-    /// not asked.
+    /// Fails as `read_var_u32` does at the count of the declarations. At a declaration, fails as
+    /// `read_var_u32` or `ValType::read` does. The total number of locals is not checked.
     pub fn get_binary_reader_for_operators(&self) -> Result<BinaryReader<'a>>
         ensures { ReadsPastLocals result self.now }
     {
@@ -115,9 +114,9 @@ impl<'a> FunctionBody<'a> {
         Ok(reader)
     }
 
-    /// A reader of the body's operators, behind its locals. It takes no memory.
+    /// Skips the locals and returns a reader of the body's operators. Does not allocate.
     ///
-    /// Refused as `get_binary_reader_for_operators`.
+    /// Fails as `get_binary_reader_for_operators` does.
     ///
     /// # Examples
     ///
@@ -135,8 +134,8 @@ impl<'a> FunctionBody<'a> {
         }
     }
 
-    /// The offsets of all the data of the reader that the body was made of: of its first byte, which
-    /// may stand before the body, and behind the last.
+    /// Returns the offsets of all data of the reader that the body was made from: the offset of the
+    /// first byte, which may be before the body, and of the end.
     pub fn range(&self) -> Range<u64>
         ensures start { result.start ≡ self.now.start }
         ensures end { result.end ≡ end_of self.now }
@@ -144,7 +143,7 @@ impl<'a> FunctionBody<'a> {
         self.reader.range()
     }
 
-    /// The bytes of the body, its locals first.
+    /// Returns the bytes of the body, its locals first.
     pub fn as_bytes(&self) -> &'a [u8]
         ensures { result.now ≡ rest self.now }
     {
@@ -165,7 +164,7 @@ impl<'a> FromReader<'a> for FunctionBody<'a> {
 
     ghost placed = { λ old body new. end_of body ≡ offset_of new };
 
-    /// As `FunctionBody::read`.
+    /// Reads a body as `FunctionBody::read` does.
     fn from_reader(_alloc: Global, reader: &mut BinaryReader<'a>) -> Result<FunctionBody<'a>>
         ensures reads { ReadsValue (EncodesReader reader.old.features) false result reader.old reader.new }
         ensures fault { IfErr result (λ e. HasFault ReaderFault e reader.old) }

@@ -20,8 +20,8 @@ use wasm_operators_readers::below::{
 
 /// A constant expression: a reader of its bytes.
 ///
-/// Two are equal where the bytes that are left are the same, wherever these stood and whatever the
-/// features. Contracts see the reader.
+/// Two are equal if the bytes that are left are the same, at any offsets and with any features.
+/// Contracts see the reader.
 #[derive(Debug, Drop)]
 pub struct ConstExpr<'a> {
     reader: BinaryReader<'a>,
@@ -36,19 +36,19 @@ impl<'a> Model for ConstExpr<'a> {
 }
 
 impl<'a> ConstExpr<'a> {
-    /// The expression that begins where this reader stands. Nothing of it is looked at.
+    /// Creates a constant expression from the reader's position, without reading it.
     pub fn new(reader: BinaryReader<'a>) -> ConstExpr<'a>
         ensures { result ≡ reader.entry }
     {
         ConstExpr { reader }
     }
 
-    /// The expression at the start of the rest: the operators up to the first `end`, which has to
-    /// close the expression. Binary Format, Expressions.
+    /// Reads the expression at the start of the rest: the operators up to the first `end`, which
+    /// has to close the expression. Specification: Binary Format, Expressions.
     ///
-    /// `FramesRemainConst` behind that `end` where a frame is open then; else as the first operator
-    /// that is refused. `OutOfMemory` where the expression begins, and only where one of these operators
-    /// may ask for memory.
+    /// Fails with `FramesRemainConst` after that `end` if a frame is still open; otherwise as the
+    /// first operator in error does. Fails with `OutOfMemory` at the start of the expression, and
+    /// only if one of these operators may allocate.
     ///
     /// # Examples
     ///
@@ -77,14 +77,14 @@ impl<'a> ConstExpr<'a> {
         }
     }
 
-    /// A reader of its bytes.
+    /// Returns a reader of the expression's bytes.
     pub fn get_binary_reader(&self) -> BinaryReader<'a>
         ensures { result ≡ self.now }
     {
         self.reader.clone()
     }
 
-    /// A reader of its operators, of which none is read. It takes no memory.
+    /// Returns a new reader of the expression's operators. Does not allocate.
     pub fn get_operators_reader(&self, alloc: Global) -> OperatorsReader<'a>
         ensures reader { result.reader ≡ self.now }
         ensures fresh { IsFresh result }

@@ -1,4 +1,4 @@
-//! Laws on constant expressions, each the contract of a function that does nothing.
+//! Laws about constant expressions. Each is the contract of a function that does nothing.
 ghost use Rattle.wasm_operators_readers.specs.below.Fault.{DeterminesRefusal};
 ghost use Rattle.wasm_operators_readers.specs.below.FromReader.{SameReader};
 ghost use Rattle.wasm_operators_readers.specs.below.Sequence.{PrefixCodeUpTo};
@@ -7,13 +7,13 @@ ghost use Rattle.wasm_operators.specs.ConstantFaults.{ConstantFault};
 
 use wasm_operators_readers::below::WasmFeatures;
 
-/// No encoding of a constant expression is a proper prefix of another, and one encoding belongs to
-/// one, but for where it stands.
+/// States that no encoding of a constant expression is a proper prefix of another, and that each
+/// encodes one expression, except for its offset.
 pub fn constant_expressions(features: WasmFeatures)
     ensures { PrefixCodeUpTo SameReader (EncodesConstantReader features) }
 {}
 
-/// What the fault of a constant expression says determines its refusal, message and offset.
+/// States that the error of a constant expression, its message and its offset, is determined.
 pub fn constant_refusals()
     ensures { DeterminesRefusal ConstantFault }
 {}

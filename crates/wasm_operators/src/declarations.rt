@@ -5,9 +5,9 @@ ghost use Rattle.wasm_operators.specs.Locals.{EncodesDeclaration, DeclarationFau
 
 use wasm_operators_readers::below::{BinaryReader, Result, ValType};
 
-/// A declaration: how many locals, and of which type. Code Section.
+/// Reads a declaration: the number of locals, and their type. Specification: Code Section.
 ///
-/// Refused as `read_var_u32`, then as `ValType::read`.
+/// Fails as `read_var_u32` or `ValType::read` does.
 #[inline(always)]
 pub fn read_declaration(reader: &mut BinaryReader<'_>) -> Result<(u32, ValType)>
     ensures reads { Reads EncodesDeclaration result reader.old reader.new }

@@ -1,9 +1,13 @@
 //! The operators of a WebAssembly expression, read or visited from borrowed bytes; bodies of
 //! functions, constant expressions and sections that hold them; and single operators.
 //!
-//! The contract of [`OperatorsReader::read_all`] is the headline: reading a fresh reader to its end
-//! succeeds exactly where the bytes encode an expression of the recursive grammar, and gives the walk
-//! of its one tree. Callers list this crate alone: it has the names of all layers below it.
+//! The contract of [`OperatorsReader::read_all`] is the main theorem. With a new reader, it returns
+//! `Ok` if and only if the bytes encode an expression of the recursive grammar. The list is then
+//! the walk of the expression's one tree. Callers list only this crate in `crates.txt`: it has the
+//! names of all layers below it.
+//!
+//! Every call that allocates may fail with `OutOfMemory`. A call that reads one operator or item
+//! then consumes nothing; a call that reads to the end keeps what it read before.
 #![tactic(auto)]
 
 pub mod body_laws;

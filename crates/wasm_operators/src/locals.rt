@@ -12,8 +12,7 @@ use std::marker::Model;
 use wasm_operators_readers::OperatorsReader;
 use wasm_operators_readers::below::{BinaryReader, Error, Message, Result, ValType};
 
-/// Reads the declarations of a body's locals one after another, and adds up how many locals they
-/// declare.
+/// A reader of the declarations of a body's locals, which adds up how many locals they declare.
 ///
 /// Contracts see the reader of the bytes, the count of the declarations, and the total so far.
 #[derive(Debug, Drop)]
@@ -32,9 +31,9 @@ impl<'a> Model for LocalsReader<'a> {
 }
 
 impl<'a> LocalsReader<'a> {
-    /// The locals that begin where this reader stands: it reads the count of the declarations.
+    /// Reads the count of the declarations and creates a reader of the locals.
     ///
-    /// Refused as `read_var_u32`.
+    /// Fails as `read_var_u32` does.
     ///
     /// # Examples
     ///
@@ -57,26 +56,26 @@ impl<'a> LocalsReader<'a> {
         }
     }
 
-    /// How many declarations were announced, however many were read.
+    /// Returns the declared number of declarations, which does not change as they are read.
     pub fn get_count(&self) -> u32
         ensures { result ≡ self.now.count }
     {
         self.count
     }
 
-    /// The offset of the next declaration.
+    /// Returns the offset of the next declaration.
     pub fn original_position(&self) -> u64
         ensures { result ≡ offset_of self.now.reader }
     {
         self.reader.original_position()
     }
 
-    /// The next declaration: how many locals, and of which type. Code Section. It does not stop at
-    /// `get_count`.
+    /// Reads the next declaration: the number of locals, and their type. Specification: Code
+    /// Section. A call after `get_count` declarations reads on.
     ///
-    /// Refused as `read_var_u32`; `TooManyLocals` behind that number, where more than 4294967295
-    /// locals would be declared; then as `ValType::read`. The total is changed only by a read that
-    /// succeeds.
+    /// Fails as `read_var_u32` does; with `TooManyLocals` after that number if the total were more
+    /// than 4294967295 locals; then as `ValType::read` does. Only a read that succeeds changes the
+    /// total.
     pub fn read(&mut self) -> Result<(u32, ValType)>
         ensures { ReadsDeclaration result self.old self.new }
     {
@@ -102,7 +101,7 @@ impl<'a> LocalsReader<'a> {
         }
     }
 
-    /// The reader of the bytes, where it stands.
+    /// Returns the reader of the bytes, at its current position.
     pub fn get_binary_reader(self) -> BinaryReader<'a>
         ensures { result ≡ self.entry.reader }
     {
@@ -117,14 +116,15 @@ impl<'a> IntoIterator for LocalsReader<'a> {
 
     ghost into_iter_gives = { λ locals items. items ≡ all_left locals };
 
-    /// The declarations from here on: as many as were announced, however many were read.
+    /// Converts the reader into an iterator over as many declarations as were declared. It starts
+    /// at the current position, even if some were read before.
     fn into_iter(self) -> LocalsIterator<'a> {
         let left = self.count;
         LocalsIterator { locals: self, left }
     }
 }
 
-/// The declarations of a body's locals, one after another. Nothing follows a refusal.
+/// An iterator over the declarations of a body's locals. Nothing follows an error.
 ///
 /// Contracts see the reader of the declarations, and how many items are left.
 #[derive(Debug, Drop)]
@@ -174,9 +174,9 @@ impl<'a> Iterator for LocalsIterator<'a> {
 }
 
 impl<'a> LocalsIterator<'a> {
-    /// The reader of the bytes behind the locals, once nothing is left: where no item was refused,
-    /// it is the one that `FunctionBody::get_binary_reader_for_operators` answers; else it stands
-    /// where the refused item begins.
+    /// Returns the reader of the bytes after the locals, once no item is left. If no item failed,
+    /// it is the reader that `FunctionBody::get_binary_reader_for_operators` returns. Otherwise it
+    /// is at the start of the item that failed.
     pub fn into_binary_reader_for_operators(self) -> BinaryReader<'a>
         requires { self.left ≡ 0 }
         ensures reader { result ≡ self.entry.locals.reader }
@@ -188,8 +188,8 @@ impl<'a> LocalsIterator<'a> {
         self.locals.get_binary_reader()
     }
 
-    /// A reader of the operators that begin where this one stands: behind the locals, once nothing is
-    /// left and no item was refused. It takes no memory.
+    /// Returns a new reader of the operators at the current position. It is after the locals once
+    /// no item is left and no item failed. Does not allocate.
     pub fn into_operators_reader(self, alloc: Global) -> OperatorsReader<'a>
         ensures reader { result.reader ≡ self.entry.locals.reader }
         ensures fresh { IsFresh result }

@@ -1,4 +1,4 @@
-//! Going past the operators of a constant expression.
+//! Skipping the operators of a constant expression.
 ghost use Rattle.std.specs.Prelude.{◌≡◌, ◌≢◌, [], true, IfOk, IfErr};
 ghost use Rattle.wasm_operators_readers.specs.below.Fault.{HasFault};
 ghost use Rattle.wasm_operators_readers.specs.below.FromReader.{IsRefused};
@@ -13,10 +13,10 @@ use wasm_operators_readers::below::{Error, Message, Result};
 use wasm_operators_readers::instr::FrameStack;
 use wasm_operators_readers::visitors::IsEndOperatorVisitor;
 
-/// Goes past the operators up to the first `end`, which has to close the expression.
+/// Skips the operators up to the first `end`, which has to close the expression.
 ///
-/// `FramesRemainConst` behind that `end` where a frame is open then; else as the first operator that
-/// is refused. `OutOfMemory` where the expression begins.
+/// Fails with `FramesRemainConst` after that `end` if a frame is still open; otherwise as the first
+/// operator in error does. Fails with `OutOfMemory` at the start of the expression.
 pub fn pass_constant(operators: &mut OperatorsReader<'_>) -> Result<()>
     requires { IsFresh operators.old }
     ensures passed { IfOk result (λ _. PassesEnd operators.old operators.new × (operators.new.frames ≡ [])) }
@@ -38,16 +38,16 @@ pub fn pass_constant(operators: &mut OperatorsReader<'_>) -> Result<()>
     }
 }
 
-/// Goes past one operator, and answers whether it was `end`.
+/// Skips one operator, and returns whether it was `end`.
 fn pass_one(operators: &mut OperatorsReader<'_>) -> Result<bool>
     ensures { PassesOne result operators.old operators.new }
 {
     operators.visit_operator_simd(&mut IsEndOperatorVisitor)
 }
 
-/// Whether no frame is open.
+/// Checks that no frame is open.
 ///
-/// `FramesRemainConst` at the position where one is.
+/// Fails with `FramesRemainConst` at the position if one is.
 fn check_closed(operators: &OperatorsReader<'_>) -> Result<()>
     ensures closed { IfOk result (λ _. operators.now.frames ≡ []) }
     ensures open { IfErr result
@@ -61,7 +61,7 @@ fn check_closed(operators: &OperatorsReader<'_>) -> Result<()>
     Ok(())
 }
 
-/// The same refusal, but allocation failure is said at this offset.
+/// Returns the same error, except that an allocation failure gets this offset.
 fn from_start(e: Error, start: u64) -> Error
     ensures message { result.message ≡ e.message }
     ensures memory { e.message ≡ Message.OutOfMemory → result.offset ≡ start }

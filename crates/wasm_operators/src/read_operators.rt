@@ -1,4 +1,4 @@
-//! The calls that read or visit one operator under frames that another keeps.
+//! The calls that read or visit one operator with frames that the caller keeps.
 ghost use Rattle.wasm_operators_readers.specs.below.Source.{Reader};
 ghost use Rattle.wasm_operators_readers.specs.opcodes.Decoding.{DecodesIn, DecodesScalarIn};
 ghost use Rattle.wasm_operators.specs.Single.{PeeksOperator, FinishesExpression};
@@ -9,24 +9,24 @@ use wasm_operators_readers::decoder as decode;
 use wasm_operators_readers::instr::{FrameStack, Operator};
 use wasm_operators_readers::visitors::{VisitOperator, VisitSimdOperator};
 
-/// Reads single operators. The open frames are the caller's own: each call asks for the innermost of
-/// them, once, and changes none.
+/// Reading of single operators. The caller keeps the open frames: each call asks for the innermost
+/// of them once, and changes none.
 pub trait ReadOperators<'a> {
-    // The reader of bytes that it is.
+    // The reader of bytes of an implementing value.
     ghost reader: { Self → Reader };
 
-    /// The operator at the start of the rest, a vector operator too, which stays there: what a
-    /// reading answers, where the innermost frame is that of the stack. Binary Format, Instructions.
+    /// Reads the operator at the start of the rest, which may be a SIMD operator, without consuming
+    /// it. The stack supplies the innermost frame. Specification: Binary Format, Instructions.
     ///
-    /// Refusals are those of `visit_operator_simd`.
+    /// Fails as `visit_operator_simd` does.
     fn peek_operator<S: FrameStack>(&self, alloc: Global, stack: &S) -> Result<Operator<'a>>
         ensures { PeeksOperator (S.frame stack.now) result (reader self.now) };
 
-    /// Whether an expression ends here: the stack has no open frame, and no data is left. Binary
-    /// Format, Expressions.
+    /// Checks that an expression ends here: the stack has no open frame, and no data is left.
+    /// Specification: Binary Format, Expressions.
     ///
-    /// `FramesRemain` where a frame is open, else `UnexpectedData` where a byte is left; both at the
-    /// position.
+    /// Fails with `FramesRemain` if a frame is open, otherwise with `UnexpectedData` if a byte is
+    /// left; both at the position.
     fn finish_expression<S: FrameStack>(&self, stack: &S) -> Result<()>
         ensures { FinishesExpression result (S.frame stack.now) (reader self.now) };
 }
@@ -52,18 +52,19 @@ impl<'a> ReadOperators<'a> for BinaryReader<'a> {
     }
 }
 
-/// Visits single operators by the visitor `V`, whose open frames are its own: each call asks for the
-/// innermost of them, once and before anything else, and changes none.
+/// Visiting of single operators by the visitor `V`, which keeps the open frames. Each call asks for
+/// the innermost of them once, before anything else, and changes none.
 ///
-/// The reader that it is, is that of `ReadOperators`.
+/// The reader of bytes is the ghost `reader` of `ReadOperators`.
 pub trait ReadVisits<'a, V: VisitOperator<'a> + FrameStack>: ReadOperators<'a> {
-    /// Visits the operator at the start of the rest, which is no vector operator, where the
-    /// visitor's innermost frame allows it. Binary Format, Instructions.
+    /// Visits the operator at the start of the rest, if the visitor's innermost frame allows it.
+    /// Specification: Binary Format, Instructions.
     ///
-    /// `OperatorsRemaining` at the position where the visitor has no open frame. `UnexpectedSimd` at
-    /// the byte 0xfd, whatever stands behind it; else as `docs/REFUSALS.md` says of operators.
-    /// `OutOfMemory` where the operator begins, and only of one that owns a list. Reader and visitor
-    /// are unchanged then.
+    /// Fails with `OperatorsRemaining` at the position if the visitor has no open frame. Fails with
+    /// `UnexpectedSimd` at the byte 0xfd, whatever follows; otherwise as
+    /// `docs/ERRORS-AND-FEATURES.md` says for operators. Fails with `OutOfMemory` at the start of
+    /// the operator, and only if the operator owns a list. Then the reader and the visitor are
+    /// unchanged.
     fn visit_operator(&mut self, alloc: Global, v: &mut V) -> Result<V::Output>
         ensures { DecodesScalarIn V.visits (V.frame v.old) result (Self.reader self.old) (Self.reader self.new) v.old v.new };
 }
@@ -76,13 +77,14 @@ impl<'a, V: VisitOperator<'a> + FrameStack> ReadVisits<'a, V> for BinaryReader<'
     }
 }
 
-/// The same by a visitor of all operators.
+/// Visiting of single operators by a visitor of all operators.
 pub trait ReadSimdVisits<'a, V: VisitOperator<'a> + VisitSimdOperator + FrameStack>: ReadOperators<
     'a,
 > {
-    /// The same of all operators, vector operators too.
+    /// Visits the operator at the start of the rest, which may be a SIMD operator, if the visitor's
+    /// innermost frame allows it.
     ///
-    /// As `visit_operator`, but for `UnexpectedSimd`.
+    /// Fails as `visit_operator` does, except with `UnexpectedSimd`.
     fn visit_operator_simd(&mut self, alloc: Global, v: &mut V) -> Result<V::Output>
         ensures { DecodesIn V.visits (V.frame v.old) result (Self.reader self.old) (Self.reader self.new) v.old v.new };
 }

@@ -1,4 +1,4 @@
-//! A section that is a list of items, and the iterator over them.
+//! Sections that are a list of items, and the iterator over them.
 ghost use Rattle.std.specs.Prelude.{◌≡◌, ◌+◌, cond, Ok, IfOk, IfErr};
 ghost use Rattle.std.specs.Iterator.{at_most};
 ghost use Rattle.wasm_operators_readers.specs.below.Number.{EncodesUnsigned};
@@ -9,9 +9,9 @@ use std::alloc::Global;
 use std::marker::{Model, PhantomData};
 use wasm_operators_readers::below::{BinaryReader, Error, FromReader, Message, Result};
 
-/// A section of items of one type, of which there are as many as the number in front of them says.
+/// A section of items of one type, with their number before them.
 ///
-/// Contracts see that number, and the reader behind it.
+/// Contracts see that number, and the reader after it.
 #[derive(Drop)]
 pub struct SectionLimited<'a, T> {
     alloc: Global,
@@ -29,11 +29,11 @@ impl<'a, T> Model for SectionLimited<'a, T> {
 }
 
 impl<'a, T: FromReader<'a>> SectionLimited<'a, T> {
-    /// The section that begins where this reader stands: reads how many items it has, an unsigned
-    /// LEB128 number of 32 bits. The items are read with this allocator.
+    /// Reads the number of items, an unsigned LEB128 number of 32 bits, and creates the section.
+    /// The items are read with this allocator.
     ///
-    /// Refused as that number: `EndOfData` where the data ends, `IntegerTooLong` or
-    /// `IntegerTooLarge` at the byte that breaks it.
+    /// Fails as the number does: with `EndOfData` at the end of the data, with `IntegerTooLong` or
+    /// `IntegerTooLarge` at the byte in error.
     pub fn new(alloc: Global, mut reader: BinaryReader<'a>) -> Result<SectionLimited<'a, T>>
         ensures count { IfOk result (λ s. Reads (EncodesUnsigned 32) (Ok s.count) reader.entry s.reader) }
         ensures refused { IfErr result (λ e. IsRefusal (EncodesUnsigned 32) e reader.entry) }
@@ -50,7 +50,7 @@ impl<'a, T: FromReader<'a>> SectionLimited<'a, T> {
         }
     }
 
-    /// How many items the section announces.
+    /// Returns the number of items that the section declares.
     pub fn count(&self) -> u32
         ensures { result ≡ self.now.count }
     {
@@ -82,10 +82,10 @@ impl<'a, T: FromReader<'a>> IntoIterator for SectionLimited<'a, T> {
     }
 }
 
-/// The items of a section, read one after another, up to a refusal.
+/// An iterator over the items of a section, which ends after an error.
 ///
-/// Behind the last item `DataAfterSection` comes once, where data is left. Contracts see how many
-/// items are left, the reader before the next of them, and whether an error was answered.
+/// After the last item it returns `DataAfterSection` once, if data is left. Contracts see how many
+/// items are left, the reader before the next item, and whether an error was returned.
 #[derive(Drop)]
 pub struct SectionLimitedIntoIter<'a, T> {
     alloc: Global,
@@ -111,9 +111,8 @@ impl<'a, T: FromReader<'a>> Iterator for SectionLimitedIntoIter<'a, T> {
 
     ghost remaining = { λ s. at_most (cond s.refused 0 (s.remaining + 1)) };
 
-    /// The next item; or an error: that of the item, or `DataAfterSection` where no item is left and
-    /// data is, at the offset where it begins. Nothing is taken by a refusal, and nothing comes
-    /// behind one.
+    /// Reads the next item. Returns the item's error, or `DataAfterSection` at the start of the
+    /// data if no item is left and data is. An error consumes nothing, and nothing follows it.
     fn next(&mut self) -> Option<Result<T>> {
         if self.refused {
             return None;

@@ -1,4 +1,4 @@
--- How an operator begins: what the calls before its immediates do is one of three things.
+-- How an operator starts: the calls before its immediates do one of three things.
 use Rattle.std.proofs.Common.{◌≡◌, ℕ, ◌+◌, ◌≤◌, List, [], ◌∷◌, ◌++◌, length, Some, None, Ok, inl, inr, refl, sym, subst, ap, ◌∙◌, arith}
 use Rattle.wasm_decode.specs.below.bytes.error.Error.{Error}
 use Rattle.wasm_decode.specs.below.bytes.message.Message.TheVariants as message
@@ -28,7 +28,7 @@ use Rattle.wasm_operators_readers.proofs.Taken.{refused_unchanged, room_refused,
 
 -- ---- the opcode
 
--- The reader stands behind the byte that it read.
+-- After reading a byte, the reader is directly after this opcode.
 stands : (old mid : Reader) (code start : ℕ) → Reads IsByte (Ok code) old mid → start ≡ old.position → (at_position mid start ≡ old) × StandsBehind start None code mid
 stands old mid code start r same =
     let f = first_byte_read old mid code r in
@@ -38,9 +38,9 @@ stands old mid code start r same =
       record { begun = omega (arith, same, position); opcode = (code ∷ [], refl, subst (λ z. Takes z mid (code ∷ [])) (sym back) f.2) },
     )
 
--- ---- no byte is left
+-- ---- the end of the data
 
--- No operator has no bytes.
+-- No operator is encoded by no bytes.
 none_empty : (Encodes : Taking) → IsSound Encodes → (f : WasmFeatures) (k : FrameKind) → NoPrefix (Encodes f k) []
 none_empty Encodes sound f k text left op s eq = not_empty f op text left (sound f k text op s) eq
 
@@ -73,7 +73,7 @@ scalar_end_fault k e old h end = λ some. inr ((λ b. no_first (rest old) b.0 (n
 
 -- ---- the call
 
--- The opcode was read, and there is room.
+-- The opcode was read, and there is capacity.
 pub begun : (old mid : Reader) (s t : OpenFrames) (kind : FrameKind) (code start : ℕ) (f : FrameStep) → innermost s.frames ≡ Some kind → Reads IsByte (Ok code) old mid →
     start ≡ old.position → f ≡ step_at code → t.frames ≡ s.frames → s.room ≤ t.room → GrowsByDoubling 1 s t → (Opens f → HasRoom t) →
     BeginsOperator (state_of old s) (state_of mid t) kind start code f
@@ -102,7 +102,7 @@ pub begun_closed : (Encodes : Taking) (Fault : Refusing) (old : Reader) (s : Ope
     e.offset ≡ offset_of old → StopsNext Encodes Fault e (state_of old s) (state_of old s)
 begun_closed Encodes Fault old s e none is at = none_open Encodes Fault (state_of old s) e (empty_of_innermost s.frames none) is at
 
--- No room was made.
+-- The capacity can't grow.
 pub begun_without_room : (Encodes : Taking) (Fault : Refusing) (old mid new : Reader) (s t : OpenFrames) (kind : FrameKind) (code start : ℕ) (f : FrameStep) (e : Error) →
     innermost s.frames ≡ Some kind → Reads IsByte (Ok code) old mid → start ≡ old.position → f ≡ step_at code → Opens f → s.room ≡ 0 → t ≡ s → new ≡ at_position mid start →
     e.message ≡ message.OutOfMemory → e.offset ≡ mid.start + start → StopsNext Encodes Fault e (state_of old s) (state_of new t)
@@ -115,7 +115,7 @@ begun_without_room Encodes Fault old mid new s t kind code start f e open_frame 
     (memory_stays (frame_memory s.frames s.room) (length s.frames) 10) (ap (λ (x : OpenFrames). frame_memory x.frames x.room) stays)) b.2
     (subst Opens step opens) (ap (λ (x : OpenFrames). x.room) stays ∙ none) is (omega (arith, at, begin, same))
 
--- No byte is left.
+-- The reader is at the end of the data.
 pub begun_at_end : (old new : Reader) (s : OpenFrames) (kind : FrameKind) (e : Error) → innermost s.frames ≡ Some kind → (new ≡ old) × IsRefusal IsByte e old → IsEndHere e old →
     StopsNext EncodesAllowed OperatorFault e (state_of old s) (state_of new s)
 begun_at_end old new s kind e open_frame r end =

@@ -1,4 +1,4 @@
--- What the theory of reads asks of a decoder, of this one.
+-- This decoder has the properties that the theory of reads requires.
 use Rattle.std.proofs.Common.{ℕ, inl, inr}
 use Rattle.wasm_decode.specs.below.bytes.features.WasmFeatures.{WasmFeatures}
 use Rattle.wasm_decode.specs.below.bytes.message.Message.{Message}

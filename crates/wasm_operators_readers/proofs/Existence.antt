@@ -1,4 +1,4 @@
--- That a longest list exists: of lists no longer than the bytes, one of which something is so.
+-- A longest list exists among lists no longer than the bytes, if one list has the property.
 use Rattle.std.proofs.Common.{◌≡◌, ℕ, zero, suc, ◌+◌, ◌≤◌, List, [], ◌++◌, length, refl, sym, subst, ap, ◌∙◌, length-append, arith, inl, inr}
 use Rattle.std.proofs.Math.Nat.{eq-or-lt_of_le}
 use Rattle.std.proofs.lemmas.List.{append-nil}
@@ -13,7 +13,7 @@ use Rattle.wasm_operators_readers.specs.Reading.{State}
 use Rattle.wasm_operators_readers.proofs.LayoutLemmas.{path_begins}
 use Rattle.wasm_operators_readers.proofs.Ranges.{laid_length}
 
--- Where none is the longest, none is as long as the bound, nor as one less, down to none at all.
+-- If no list is the longest, none is as long as the bound, nor one less, down to the empty list.
 no_longest : (P : OfPlaced) (first : Placed) → P first → ((x : Placed) → P x → ((y : Placed) → P y → length y ≤ length x) → ⊥) → (k : ℕ) →
     ((x : Placed) → P x → length x ≤ k) → ⊥
 no_longest P first p none zero bound = none first p (λ y q. let few = bound y q in omega (arith, few))
@@ -24,7 +24,7 @@ no_longest P first p none (suc k) bound =
       | inr less ↦ omega (arith, less)
     ])
 
--- A list in a prefix of some bytes is no longer than they are.
+-- A list that a prefix of some bytes encodes is no longer than they are.
 short : (f : WasmFeatures) (offset : ℕ) (placed : Placed) (bytes beginning more : List ℕ) → bytes ≡ beginning ++ more → LaidOut f offset placed beginning →
     length placed ≤ length bytes
 short f offset placed bytes beginning more parts laid =
@@ -32,7 +32,7 @@ short f offset placed bytes beginning more parts laid =
     let whole : length bytes ≡ length beginning + length more = ap length parts ∙ length-append beginning more in
     omega (arith, few, whole)
 
--- Behind operators that a reader stands behind.
+-- A longest list exists after the operators that a reader has read.
 pub longest_is_some : (Kept : OfPlaced) → Kept [] → (before : List Operator) (s : State) → StoodBefore before s →
     ((placed : Placed) → IsLongestOf Kept before (source_of s.reader) placed → ⊥) → ⊥
 longest_is_some Kept kept before s stood none =
@@ -49,7 +49,7 @@ longest_is_some Kept kept before s stood none =
     (λ x h long. none x (record { beginning = h.0; kept = h.1; longest = λ y b k. long y (b, k) })) (length source.bytes)
     (λ x h. short source.features source.offset x source.bytes h.0.beginning h.0.more h.0.parts h.0.laid)
 
--- By frames alone.
+-- A longest list exists by frames alone.
 pub flat_is_some : (Kept : OfPlaced) → Kept [] → (frames : List FrameKind) (s : Source) → ((placed : Placed) → IsFlatOf Kept frames s placed → ⊥) → ⊥
 flat_is_some Kept kept frames s none =
     let first : IsAllowedFrom frames s [] = record { beginning = []; more = s.bytes; parts = refl; laid = refl; allowed = refl } in

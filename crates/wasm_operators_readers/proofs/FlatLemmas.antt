@@ -1,4 +1,4 @@
--- Beginnings by trees, and beginnings by frames alone, are the same.
+-- Prefixes by trees and prefixes by frames alone are the same.
 use Rattle.std.proofs.Common.{List, [], ◌∷◌, ◌++◌, sym, subst}
 use Rattle.std.specs.Prelude.{◌↔◌}
 use Rattle.wasm_decode.specs.below.Source.{Source}
@@ -15,7 +15,7 @@ use Rattle.wasm_operators_readers.specs.Expression.{Placed, OfPlaced, IsAny, ope
 use Rattle.wasm_operators_readers.specs.Flat.{IsAllowedFrom, IsFlatOf, IsFlatBeginning}
 use Rattle.wasm_operators_readers.proofs.LayoutLemmas.{roles_of-append, laid_encoded, both_encoded, path_begins, begins_walk}
 
--- Behind operators that have encodings and an open path to the frames, a list that these allow begins an expression.
+-- After operators that have encodings and an open path to the frames, a list that these frames allow begins an expression.
 pub allowed_begins : (before : List Operator) (frames : List FrameKind) (s : Source) (placed : Placed) → AreEncoded s.features before →
     OpenPath (roles_of before) frames → IsAllowedFrom frames s placed → IsBeginningBehind before s placed
 allowed_begins before frames s placed encodes path h =
@@ -31,7 +31,7 @@ allowed_begins before frames s placed encodes path h =
           (both_encoded s.features before (operators placed) encodes (laid_encoded s.features s.offset placed h.beginning h.laid));
     }
 
--- And the other way round.
+-- A list that begins an expression is allowed by the frames.
 pub begins_allowed : (before : List Operator) (frames : List FrameKind) (s : Source) (placed : Placed) → OpenPath (roles_of before) frames →
     IsBeginningBehind before s placed → IsAllowedFrom frames s placed
 begins_allowed before frames s placed path h =

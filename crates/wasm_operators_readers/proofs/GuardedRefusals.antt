@@ -1,4 +1,4 @@
--- A missing feature and a wrong frame: where they are refused, and that they are refused nowhere else.
+-- A missing feature and a wrong frame: when they are reported, and that they are reported in no other case.
 use Rattle.std.proofs.Common.{◌≡◌, ℕ, ◌+◌, ◌<◌, List, [], ◌∷◌, Ok, None, inl, inr, refl, sym, subst, ap, ◌∙◌, arith}
 use Rattle.wasm_decode.specs.below.bytes.features.WasmFeatures.{WasmFeatures}
 use Rattle.wasm_decode.specs.below.bytes.message.FrameName.{FrameName}
@@ -17,7 +17,7 @@ use Rattle.wasm_decode.specs.opcodes.OperatorFaults.{LacksFeature, EntryFault, O
 use Rattle.wasm_operators_readers.specs.Guarded.{BeginsGuarded}
 use Rattle.wasm_operators_readers.proofs.Messages.{end_told, subopcode_told, free_told, kinds_told}
 
--- What a caller learns of a missing feature, and of a wrong frame.
+-- What a caller learns from a missing feature, and from a wrong frame.
 abbrev pub Lacking : WasmFeatures → InstructionName → Reader → ℕ → Type 0
 Lacking f name r offset = (g : Guard) × BeginsGuarded g r × LacksFeature f g × (name ≡ instruction_behind g) × (offset ≡ offset_of r)
 
@@ -26,7 +26,7 @@ Misplaced f k name wanted r offset =
     (g : Guard) × BeginsGuarded g r × (¬ LacksFeature f g) × (¬ Allows k (role_behind g)) × (name ≡ instruction_behind g) × (wanted ≡ frame_behind g) ×
     (offset ≡ offset_of r + 1)
 
--- behind the opcode
+-- The offset after the opcode.
 behind_code : (r new : Reader) (code : ℕ) → Reads IsByte (Ok code) r new → offset_of new ≡ offset_of r + 1
 behind_code r new code reads =
     let t = (first_byte_read r new code reads).2 in

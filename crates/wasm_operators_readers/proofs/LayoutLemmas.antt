@@ -1,4 +1,4 @@
--- What is laid out in bytes: one more operator, what stands behind a shorter list, and the longest list.
+-- Encoded lists: one more operator, what follows a shorter list, and the longest list.
 use Rattle.std.proofs.Common.{◌≡◌, ℕ, zero, suc, ◌+◌, ◌<◌, ◌≤◌, List, [], ◌∷◌, ◌++◌, length, replicate, Option, Some, None, refl, sym, subst, ap, ◌∙◌, append_assoc, length-append, arith, inl, inr}
 use Rattle.std.proofs.lemmas.Bool.{cases_lt}
 use Rattle.std.proofs.lemmas.List.{append-nil, map-append}
@@ -44,7 +44,7 @@ pub roles_of-ends : (n : ℕ) → roles_of (replicate n operator.End) ≡ replic
 roles_of-ends zero = refl
 roles_of-ends (suc n) = ap (λ roles. ends ∷ roles) (roles_of-ends n)
 
--- operators with an open path begin an expression
+-- Operators with an open path begin an expression.
 pub path_begins : (f : WasmFeatures) (ops : List Operator) (frames : List FrameKind) → OpenPath (roles_of ops) frames → AreEncoded f ops → Begins f ops
 path_begins f ops frames path encodes =
     let n = length frames in
@@ -56,7 +56,7 @@ path_begins f ops frames path encodes =
 pub begins_walk : (f : WasmFeatures) (ops : List Operator) → Begins f ops → BeginsWalk (roles_of ops)
 begins_walk f ops (more, (tree, e), encodes) = (roles_of more, tree, sym (roles_of-append ops more) ∙ e)
 
--- what stands behind ps in a longer list
+-- What follows ps in a longer list.
 pub record GoesOn (f : WasmFeatures) (ps qs : Placed) (behind : List ℕ) : Type 0 where
   pub next : Operator × ℕ
   pub others : Placed
@@ -111,7 +111,7 @@ none_some (b ∷ text) more e some = absurd (cc e)
 pub not_empty : (f : WasmFeatures) (op : Operator) (text more : List ℕ) → EncodesOperator f op text → [] ≡ text ++ more → ⊥
 not_empty f op text more s e = none_some text more e (encoded_some f op text s)
 
--- behind what takes all of the bytes no operator is laid out
+-- After a list that all of the bytes encode, no operator follows.
 pub laid_no_longer : (f : WasmFeatures) (offset : ℕ) (ps qs : Placed) (a b y : List ℕ) → LaidOut f offset ps a → LaidOut f offset qs b → a ++ [] ≡ b ++ y →
     length qs ≤ length ps
 laid_no_longer f offset ps qs a b y l m e =
@@ -120,7 +120,7 @@ laid_no_longer f offset ps qs a b y l m e =
       | inr le ↦ le
     ]
 
--- two lists of one length are laid out alike
+-- Two lists of one length at the start of the same bytes are equal.
 pub laid_same : (f : WasmFeatures) (offset : ℕ) (ps qs : Placed) (a b x y : List ℕ) → LaidOut f offset ps a → LaidOut f offset qs b → a ++ x ≡ b ++ y →
     length ps ≡ length qs → (ps ≡ qs) × (a ≡ b) × (x ≡ y)
 laid_same f offset [] [] a b x y l m e n = (refl, l ∙ sym m, ap (λ z. z ++ x) (sym l) ∙ e ∙ ap (λ z. z ++ y) m)
@@ -135,7 +135,7 @@ laid_same f offset (p ∷ ps) (q ∷ qs) a b x y (eo, t, r, ea, s, l) (eo2, t2, 
     let g = laid_same f (offset + length t) ps qs r r2 x y l m2 tail (cc n) in
     (cc (same, g.0), ea ∙ cc (h.1, g.1) ∙ sym eb, g.2)
 
--- one list behind another
+-- One list after another.
 pub laid_append : (f : WasmFeatures) (offset : ℕ) (ps qs : Placed) (a b : List ℕ) → LaidOut f offset ps a → LaidOut f (offset + length a) qs b →
     LaidOut f offset (ps ++ qs) (a ++ b)
 laid_append f offset [] qs a b l m =
@@ -152,7 +152,7 @@ laid_append f offset (p ∷ ps) qs a b (eo, text, more, ea, s, l) m =
       laid_append f (offset + length text) ps qs more b l (subst (λ n. LaidOut f n qs b) n m),
     )
 
--- Of two lists that are laid out at the start of the same bytes, the one that is not longer is a beginning of the other.
+-- If two lists are encoded at the start of the same bytes, the list that is not longer is a prefix of the other.
 pub laid_beginning : (f : WasmFeatures) (offset : ℕ) (ps qs : Placed) (a b x y : List ℕ) → LaidOut f offset ps a → LaidOut f offset qs b → a ++ x ≡ b ++ y →
     length ps ≤ length qs → IsBeginningOf ps qs
 laid_beginning f offset ps qs a b x y l m e le =
@@ -161,7 +161,7 @@ laid_beginning f offset ps qs a b x y l m e le =
       | inr ge ↦ ([], sym (laid_same f offset ps qs a b x y l m e (omega arith)).0 ∙ sym (append-nil ps))
     ]
 
--- The longest beginning is unique.
+-- The longest list is unique.
 pub one_longest : (Kept : OfPlaced) (before : List Operator) (s : Source) (first second : Placed) → IsLongestOf Kept before s first →
     IsLongestOf Kept before s second → first ≡ second
 one_longest Kept before s first second p q =
@@ -170,7 +170,7 @@ one_longest Kept before s first second p q =
     (laid_same s.features s.offset first second p.beginning.beginning q.beginning.beginning p.beginning.more q.beginning.more p.beginning.laid q.beginning.laid
     (sym p.beginning.parts ∙ q.beginning.parts) (omega arith)).0
 
--- What goes on behind a list, in a longer one that the frames allow, is allowed there.
+-- An operator that follows a list, in a longer list that the frames allow, is allowed there.
 pub next_allowed : (f : WasmFeatures) (frames there end : List FrameKind) (placed others : Placed) (behind : List ℕ) →
     frames_along frames (roles_of (operators placed)) ≡ Some there → frames_along frames (roles_of (operators others)) ≡ Some end →
     (g : GoesOn f placed others behind) → frames_after there (role_of g.next.0) ≡ None → ⊥
@@ -183,7 +183,7 @@ next_allowed f frames there end placed others behind e d g none =
     let b = bound (λ frames. frames_along frames (roles_of (operators g.others))) (frames_after there (role_of g.next.0)) end along in
     cc (none, b.1)
 
--- What goes on behind the list, in one that begins an expression, is allowed there.
+-- An operator that follows the list, in a list that begins an expression, is allowed there.
 pub goes_allowed : (before : List Operator) (f : WasmFeatures) (ps qs : Placed) (behind : List ℕ) (frames : List FrameKind) →
     OpenPath (roles_of (before ++ operators ps)) frames → BeginsWalk (roles_of (before ++ operators qs)) → (g : GoesOn f ps qs behind) →
     frames_after frames (role_of g.next.0) ≡ None → ⊥
@@ -207,7 +207,7 @@ not_longer_whole before f offset ps qs a b x y l m walk (tree, walked) e =
       | inr le ↦ le
     ]
 
--- No encoding of the rest of an expression is a proper prefix of another's, and one encoding belongs to one list.
+-- No encoding of the rest of an expression is a proper prefix of another, and an encoding belongs to one list.
 pub one_whole : (before : List Operator) (f : WasmFeatures) (offset : ℕ) (ps qs : Placed) (a b x y : List ℕ) → LaidOut f offset ps a → LaidOut f offset qs b →
     IsWalk (roles_of (before ++ operators ps)) → IsWalk (roles_of (before ++ operators qs)) → a ++ x ≡ b ++ y → (ps ≡ qs) × (a ≡ b)
 one_whole before f offset ps qs a b x y l m walk others e =

@@ -1,4 +1,4 @@
--- What an operator is refused by is a message of the reading of values; a missing feature and a wrong frame are said of guarded operators alone.
+-- An operator's errors have messages of reading values. A missing feature and a wrong frame are reported for guarded operators only.
 use Rattle.std.proofs.Common.{◌≡◌, ◌≢◌, ℕ, zero, suc, inl, inr, List, [], ◌∷◌, Option, Some, None, true, false, sym, subst}
 use Rattle.wasm_decode.specs.below.bytes.features.WasmFeatures.{WasmFeatures}
 use Rattle.wasm_decode.specs.below.bytes.message.LeadingByteName.{LeadingByteName}
@@ -38,7 +38,7 @@ use Rattle.wasm_decode.specs.opcodes.Entries.{entry_at}
 use Rattle.wasm_decode.specs.opcodes.Kinds.{EncodesKind}
 use Rattle.wasm_decode.specs.opcodes.OperatorFaults.{KindFault, KindsFault, FreeFault, SubopcodeFault, unknown_message, GuardFault, EntryFault, OperatorFault, ScalarOperatorFault}
 
--- One of reading values that asks for no feature and for no frame.
+-- A message of reading values that concerns no feature and no frame.
 abbrev pub IsUnguarded : Message → Type 0
 IsUnguarded (message.FeatureRequired _) = ⊥
 IsUnguarded (message.WrongFrame _ _) = ⊥
@@ -49,11 +49,11 @@ read_fault (message.FeatureRequired _) h = absurd h
 read_fault (message.WrongFrame _ _) h = absurd h
 read_fault _ h = h
 
--- Each refusal of this fault is of that kind.
+-- Every error of this kind has such a message.
 abbrev pub Told : (Message → Reader → ℕ → Type 0) → Type 0
 Told Fault = (m : Message) (r : Reader) (offset : ℕ) → Fault m r offset → IsUnguarded m
 
--- it is this message
+-- The message is this one.
 one : (m told : Message) → IsUnguarded told → m ≡ told → IsUnguarded m
 one m told h e = subst IsUnguarded (sym e) h
 
@@ -252,7 +252,7 @@ free_told f start p code (free ks) m r offset h = kinds_told f start ks m r offs
 free_told f start p code prefixes m r offset h = absurd h
 free_told f start p code (guarded g ks) m r offset h = absurd h
 
--- behind a prefix byte
+-- The errors after a prefix byte.
 pub subopcode_told : (f : WasmFeatures) (start code : ℕ) → Told (ThenFault (EncodesUnsigned 32) U32Fault (SubopcodeFault f start code))
 subopcode_told f start code =
     then_told (EncodesUnsigned 32) U32Fault (SubopcodeFault f start code) u32_told (λ sub. free_told f start (Some code) sub (entry_at (Some code) sub))

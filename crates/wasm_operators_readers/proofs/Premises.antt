@@ -1,5 +1,5 @@
--- What the lemmas on reads ask of a decoder's relations: which bytes encode an operator that is taken, and which refusal is
--- answered where none stands.
+-- The properties of a decoder that the lemmas about reads require of its relations: which bytes encode an operator that is read,
+-- and which error is returned if there is none.
 use Rattle.std.proofs.Common.{◌≡◌, ℕ, List, ◌∷◌, ◌++◌}
 use Rattle.wasm_decode.specs.below.bytes.features.WasmFeatures.{WasmFeatures}
 use Rattle.wasm_decode.specs.below.bytes.message.Message.{Message}
@@ -16,11 +16,11 @@ use Rattle.wasm_decode.specs.instr.Roles.{role_of}
 use Rattle.wasm_operators_readers.specs.Expression.{Placed, OfPlaced}
 use Rattle.wasm_operators_readers.specs.Reading.{Taking, Refusing}
 
--- What is taken is encoded.
+-- What is read is an encoding.
 abbrev pub IsSound : Taking → Type 0
 IsSound Encodes = (f : WasmFeatures) (kind : FrameKind) (text : List ℕ) (op : Operator) → Encodes f kind text op → EncodesOperator f op text
 
--- Each operator of this sort that is encoded and allowed is taken.
+-- Each operator of this sort that is encoded and allowed is read.
 abbrev pub TakesEach : (Operator → Type 0) → Taking → Type 0
 TakesEach Kept Encodes = (f : WasmFeatures) (kind : FrameKind) (text : List ℕ) (op : Operator) → EncodesOperator f op text → Allows kind (role_of op) →
     Kept op → Encodes f kind text op
@@ -31,7 +31,7 @@ Everything op = Unit {0}
 abbrev pub IsNoVector : Operator → Type 0
 IsNoVector op = IsVector op → ⊥
 
--- Each operator that is encoded and allowed is taken.
+-- Each operator that is encoded and allowed is read.
 abbrev pub TakesAll : Taking → Type 0
 TakesAll Encodes = TakesEach Everything Encodes
 
@@ -39,24 +39,24 @@ TakesAll Encodes = TakesEach Everything Encodes
 abbrev pub AreEach : (Operator → Type 0) → OfPlaced
 AreEach Sort placed = (before after : Placed) (p : Operator × ℕ) → placed ≡ before ++ p ∷ after → Sort p.0
 
--- Operators of this sort are taken, and the lists that are kept have no others.
+-- Operators of this sort are read, and the lists with the property have no others.
 pub record Keeps (Sort : Operator → Type 0) (Kept : OfPlaced) (Encodes : Taking) : Type 0 where
   pub takes : TakesEach Sort Encodes
   pub each : (placed : Placed) → Kept placed → AreEach Sort placed
 
--- No vector operator is taken.
+-- No SIMD operator is read.
 abbrev pub TakesNoVector : Taking → Type 0
 TakesNoVector Encodes = (f : WasmFeatures) (kind : FrameKind) (text : List ℕ) (op : Operator) → Encodes f kind text op → IsVector op → ⊥
 
--- The refusal is one of the reading of a value.
+-- The error has a message of reading a value.
 abbrev pub IsReading : Refusing → Type 0
 IsReading Fault = (f : WasmFeatures) (kind : FrameKind) (m : Message) (r : Reader) (offset : ℕ) → Fault f kind m r offset → IsReadFault m
 
--- It is determined.
+-- The error is determined.
 abbrev pub IsDetermined : Refusing → Type 0
 IsDetermined Fault = (f : WasmFeatures) (kind : FrameKind) → DeterminesRefusal (Fault f kind)
 
--- The prefix byte of vector operators has a refusal of its own.
+-- The prefix byte of SIMD operators has a separate error.
 abbrev pub RefusesVectors : Refusing → Type 0
 RefusesVectors Fault = (f : WasmFeatures) (kind : FrameKind) (m : Message) (r : Reader) (offset : ℕ) → Fault f kind m r offset → BeginsWith 0xfd (rest r) →
     m ≡ message.UnexpectedSimd

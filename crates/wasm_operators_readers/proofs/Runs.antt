@@ -1,4 +1,4 @@
--- A run of reads, and what its end says.
+-- A run of reads, and what its end means.
 use Rattle.std.proofs.Common.{◌≡◌, ℕ, ◌+◌, ◌<◌, ◌≤◌, List, [], ◌∷◌, ◌++◌, length, Bool, true, cond, None, Some, Result, Ok, Err, refl, sym, subst, ap, ◌∙◌, append_assoc, length-append, arith, inl, inr}
 use Rattle.std.proofs.lemmas.Bool.{cases_lt}
 use Rattle.std.proofs.lemmas.List.{append-nil}
@@ -38,7 +38,7 @@ ran_start s = record { text = []; takes = takes_none s.reader; laid = refl; fram
 pub features_stay : (old new : Reader) (text : List ℕ) → Takes old new text → new.features ≡ old.features
 features_stay old new text t = ap (λ (r : Reader). r.features) t.moved
 
--- One read,
+-- A run of one read.
 pub ran_one : (Encodes : Taking) → IsSound Encodes → (old new : State) (op : Operator) → TakesOperator Encodes op old new →
     TakesOperators old new ((op, offset_of old.reader) ∷ [])
 ran_one Encodes sound old new op t = record {
@@ -50,7 +50,7 @@ ran_one Encodes sound old new op t = record {
   memory = little_longer (frame_memory old.frames old.room) (length old.frames) (length t.text) (frame_memory new.frames new.room) t.memory;
 }
 
--- and reads behind others.
+-- Two runs, one after the other.
 pub ran_join : (old mid new : State) (first second : Placed) → TakesOperators old mid first → TakesOperators mid new second →
     TakesOperators old new (first ++ second)
 ran_join old mid new first second r t =
@@ -85,7 +85,7 @@ ran_push Encodes sound old mid new placed op r t =
 right-zero : (n : ℕ) → n + 0 ≡ n
 right-zero n = omega arith
 
--- A read that is refused adds nothing.
+-- A read that fails adds nothing.
 pub ran_unchanged : (old mid new : State) (placed : Placed) → TakesOperators old mid placed → IsUnchanged mid new → TakesOperators old new placed
 ran_unchanged old mid new placed r (reader, frames, room, memory) =
     record {
@@ -99,16 +99,16 @@ ran_unchanged old mid new placed r (reader, frames, room, memory) =
           (frame_memory new.frames new.room) r.memory memory (few_frames old.reader.features (offset_of old.reader) placed r.text old.frames mid.frames r.laid r.frames));
     }
 
--- It ends the run, where data was left.
+-- A read that fails ends the run, if data was left.
 pub run_stops : (Encodes : Taking) (Fault : Refusing) (Allocates : Allocating) (e : Error) (mid new : State) → (rest mid.reader ≡ [] → ⊥) → IsUnchanged mid new →
     StopsRead Encodes Fault Allocates e new → StopsRun Encodes Fault Allocates e new
 run_stops Encodes Fault Allocates e mid new left same stops = inr (λ none. left (ap rest (sym same.0) ∙ none), stops)
 
--- before a fresh reader no operator stood
+-- No operator was read before a new reader.
 pub fresh_before : (s : State) → IsFresh s → StoodBefore [] s
 fresh_before s fresh = record { encodes = tt; path = subst (OpenPath []) (sym fresh) path_start }
 
--- the list goes on with what was read
+-- The operators before the reader, after more were read.
 pub stood_on : (before : List Operator) (old new : State) (placed : Placed) → StoodBefore before old → TakesOperators old new placed →
     StoodBefore (before ++ operators placed) new
 stood_on before old new placed h r =
@@ -121,7 +121,7 @@ stood_on before old new placed h r =
       path = subst (λ roles. OpenPath roles new.frames) (sym (roles_of-append before (operators placed))) path;
     }
 
--- One operator more stands before the reader, where it was taken,
+-- After a read, the operators before the reader are one more.
 pub stood_push : (Encodes : Taking) → IsSound Encodes → (before : List Operator) (op : Operator) (old new : State) → TakesOperator Encodes op old new →
     StoodBefore before old → StoodBefore (before ++ op ∷ []) new
 stood_push Encodes sound before op old new t h =
@@ -132,7 +132,7 @@ stood_push Encodes sound before op old new t h =
       path = path_on before op old.frames new.frames h.path t.frames;
     }
 
--- and none where nothing changed.
+-- If nothing changed, the operators before the reader are the same.
 pub stood_still : (before : List Operator) (old new : State) → IsUnchanged old new → StoodBefore before old → StoodBefore before new
 stood_still before old new same h =
     record {
@@ -140,14 +140,14 @@ stood_still before old new same h =
       path = subst (OpenPath (roles_of before)) (sym same.1) h.path;
     }
 
--- Twice the frames that one operator added is at most the bytes that it took.
+-- The number of frames that one operator added, doubled, is at most the number of bytes that were read.
 pub taken_depth : (Encodes : Taking) → IsSound Encodes → (op : Operator) (old new : State) → TakesOperator Encodes op old new → IsWithinDepth old new
 taken_depth Encodes sound op old new t =
     let few = read_depth Encodes sound op old new t in
     let position : new.reader.position ≡ old.reader.position + length t.text = ap (λ (r : Reader). r.position) t.takes.moved in
     omega (arith, few, position)
 
--- It took a byte at the least.
+-- A read consumes at least one byte.
 pub taken_ahead : (Encodes : Taking) → IsSound Encodes → (op : Operator) (old new : State) → TakesOperator Encodes op old new →
     offset_of old.reader < offset_of new.reader
 taken_ahead Encodes sound op old new t =
@@ -155,7 +155,7 @@ taken_ahead Encodes sound op old new t =
     let offset : offset_of new.reader ≡ offset_of old.reader + length t.text = ap offset_of t.takes.moved ∙ omega arith in
     omega (arith, some, offset)
 
--- Twice the frames that were added is at most the bytes that were taken.
+-- The number of added frames, doubled, is at most the number of bytes that were read.
 pub run_depth : (old new : State) (placed : Placed) → TakesOperators old new placed → IsWithinDepth old new
 run_depth old new placed r =
     let a = twice_opened_along old.reader.features (offset_of old.reader) placed r.text r.laid in
@@ -163,7 +163,7 @@ run_depth old new placed r =
     let position : new.reader.position ≡ old.reader.position + length r.text = ap (λ (r : Reader). r.position) r.takes.moved in
     omega (arith, a, b, position)
 
--- all that was left, where nothing is
+-- If nothing is left, the run read all of the bytes.
 all_taken : (old new : State) (placed : Placed) (r : TakesOperators old new placed) → rest new.reader ≡ [] → r.text ≡ rest old.reader
 all_taken old new placed r all = sym (r.takes.parts ∙ ap (λ x. r.text ++ x) all ∙ append-nil r.text)
 
@@ -182,7 +182,7 @@ run_tree before old new placed h r closed all =
       takes = subst (Takes old.reader new.reader) whole r.takes;
     }
 
--- No operator of this sort that is encoded behind the run may follow.
+-- No operator of this sort that is encoded after the run may follow.
 abbrev pub IsStuckFor : (Operator → Type 0) → State → Type 0
 IsStuckFor Kept s = (text more : List ℕ) (op : Operator) → EncodesOperator s.reader.features op text → Kept op → rest s.reader ≡ text ++ more →
     frames_after s.frames (role_of op) ≡ None
@@ -216,7 +216,7 @@ ran_allowed old new placed r =
       allowed = IsSome_of (frames_along old.frames (roles_of (operators placed))) new.frames r.frames;
     }
 
--- Where no operator of this sort may follow it is the longest list of those that are kept.
+-- If no operator of this sort may follow, the run read the longest list with the property.
 pub run_flat : (Sort : Operator → Type 0) (Kept : OfPlaced) → ((ps : Placed) → Kept ps → AreEach Sort ps) → (old new : State) (placed : Placed) →
     TakesOperators old new placed → Kept placed → IsStuckFor Sort new → IsFlatOf Kept old.frames (source_of old.reader) placed
 run_flat Sort Kept each old new placed r kept none = record { beginning = ran_allowed old new placed r; kept = kept; longest = not_longer }
@@ -242,7 +242,7 @@ pub beginning_of_run : (before : List Operator) (old new : State) (placed : Plac
 beginning_of_run before old new placed h r =
     allowed_begins before old.frames (source_of old.reader) placed h.encodes h.path (ran_allowed old new placed r)
 
--- What the bytes encode whole is the longest list.
+-- A list that all of the bytes encode is the longest list.
 pub encoded_longest : (Kept : OfPlaced) (before : List Operator) (s : Source) (whole : Placed) → AreEncoded s.features before → EncodesRest before s whole →
     Kept whole → IsLongestOf Kept before s whole
 encoded_longest Kept before s whole encodes (laid, walked) kept =
@@ -260,7 +260,7 @@ encoded_longest Kept before s whole encodes (laid, walked) kept =
           laid_no_longer s.features s.offset whole others s.bytes other.beginning other.more laid other.laid (append-nil s.bytes ∙ other.parts);
     }
 
--- Where it is what was read, all is taken and no frame is open.
+-- If the run read that list, all data was read and no frame is open.
 pub whole_run : (before : List Operator) (old new : State) (placed whole : Placed) → StoodBefore before old → TakesOperators old new placed →
     EncodesRest before (source_of old.reader) whole → placed ≡ whole → (new.frames ≡ []) × (rest new.reader ≡ [])
 whole_run before old new placed whole h r (laid, walked) same =
@@ -272,14 +272,14 @@ whole_run before old new placed whole h r (laid, walked) same =
       (laid_same f o placed whole r.text (rest old.reader) (rest new.reader) [] r.laid laid both (ap length same)).2,
     )
 
--- no refusal comes where all is closed and taken
+-- No error is returned if all frames are closed and all data was read.
 pub no_refusal : (Encodes : Taking) (Fault : Refusing) (Allocates : Allocating) (e : Error) (s : State) → StopsRun Encodes Fault Allocates e s → s.frames ≡ [] →
     rest s.reader ≡ [] → ⊥
 no_refusal Encodes Fault Allocates e s (inl left) closed all = left.1 closed
 no_refusal Encodes Fault Allocates e s (inr (left, stops)) closed all = left all
 
 module _ (Sort : Operator → Type 0) (Kept : OfPlaced) (Encodes : Taking) (Fault : Refusing) (Allocates : Allocating) (keeps : Keeps Sort Kept Encodes) where
-  -- What was read is the longest list of those that are kept, memory aside.
+  -- The run read the longest list with the property, unless allocation failed.
   pub run_longest : (before : List Operator) (e : Error) (old new : State) (placed : Placed) → StoodBefore before old → TakesOperators old new placed → Kept placed →
       StopsRun Encodes Fault Allocates e new → (e.message ≡ message.OutOfMemory → ⊥) → IsLongestOf Kept before (source_of old.reader) placed
   run_longest before e old new placed h r kept stops other =
@@ -303,7 +303,7 @@ module _ (Sort : Operator → Type 0) (Kept : OfPlaced) (Encodes : Taking) (Faul
         stops = stops;
       }
 
-  -- Where the bytes encode the rest of an expression that is kept, memory alone is refused.
+  -- If the bytes encode the rest of an expression with the property, only allocation can fail.
   pub run_only : (before : List Operator) (e : Error) (old new : State) (placed whole : Placed) → StoodBefore before old → TakesOperators old new placed →
       Kept placed → StopsRun Encodes Fault Allocates e new → EncodesRest before (source_of old.reader) whole → Kept whole → e.message ≡ message.OutOfMemory
   run_only before e old new placed whole h r kept stops encodes too =
@@ -318,20 +318,20 @@ module _ (Sort : Operator → Type 0) (Kept : OfPlaced) (Encodes : Taking) (Faul
             )
       ]
 
--- Finishing at the end of the data refuses frames that are left open.
+-- Finishing at the end of the data fails if frames are open.
 pub finish_left : (m : Message) (e : Error) (s : State) → e.message ≡ m → rest s.reader ≡ [] → e.offset ≡ offset_of s.reader →
     StopsFinish m (s.frames ≡ []) s.reader → FramesLeft e s
 finish_left message.FramesRemain e s is all at h = (all, h, is, at)
 finish_left message.UnexpectedData e s is all at h = absurd (h.1 all)
 finish_left _ e s is all at h = absurd h
 
--- The reader's answer, by what it finds at the end of the data.
+-- The result of finishing at the end of the data.
 pub finish_ends : {X : Type 0} (Encodes : Taking) (Fault : Refusing) (Allocates : Allocating) (result : Result X Error) (s : State) → rest s.reader ≡ [] →
     Finishes result s → EndsRun Encodes Fault Allocates result s
 finish_ends Encodes Fault Allocates (Ok x) s all h = h
 finish_ends Encodes Fault Allocates (Err e) s all (at, h) = inl (finish_left e.message e s refl all at h)
 
--- one operator more at the end
+-- One more operator at the end.
 pub pushed : (b : Bool) (new now old placed : Placed) (p q : Operator × ℕ) → new ≡ cond b (now ++ p ∷ []) now → b ≡ true → now ≡ old ++ placed → p ≡ q →
     new ≡ old ++ (placed ++ q ∷ [])
 pushed b new now old placed p q e eb en ep =

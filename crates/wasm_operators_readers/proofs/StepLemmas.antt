@@ -1,4 +1,4 @@
--- From the step of a byte to what the operator that it leads does to the frames.
+-- From the step of a byte to the frames after the operator that starts with it.
 use Rattle.std.proofs.Common.{◌≡◌, ℕ, ◌+◌, ◌≤◌, List, ◌∷◌, ◌++◌, Some, Bool, true, false, cond, eqb, refl, sym, subst, ap, ◌∙◌, arith, inl, inr}
 use Rattle.std.proofs.lemmas.Bool.{eqb-true}
 use Rattle.std.specs.Prelude.{IsSome}
@@ -33,7 +33,7 @@ step_by_first (operator.Numeric op) = numeric_stays op
 step_by_first operator.Unreachable = refl
 step_by_first _ = refl
 
--- The step of an operator's first byte is that of its role.
+-- The step of an operator's first byte is the step of its role.
 pub leading_step : (f : WasmFeatures) (op : Operator) (text : List ℕ) (byte : ℕ) → EncodesOperator f op text → BeginsWith byte text →
     step_at byte ≡ step_of (role_of op)
 leading_step f op text byte s (more, e) =
@@ -41,7 +41,7 @@ leading_step f op text byte s (more, e) =
     let same : byte ≡ first_byte (prefix_of op) (opcode_of op) = cc (sym e ∙ h.1) in
     ap step_at same ∙ step_by_first op
 
--- The same of the byte that stands first where the operator was read.
+-- The same for the first byte of the rest, from which the operator was read.
 pub step_there : (f : WasmFeatures) (op : Operator) (text more left : List ℕ) (byte : ℕ) → EncodesOperator f op text → left ≡ text ++ more →
     BeginsWith byte left → step_at byte ≡ step_of (role_of op)
 step_there f op text more left byte s e (others, d) =
@@ -50,7 +50,7 @@ step_there f op text more left byte s e (others, d) =
     let same : byte ≡ first_byte (prefix_of op) (opcode_of op) = cc whole in
     ap step_at same ∙ step_by_first op
 
--- the steps of the bytes from one on
+-- The steps of the bytes after the first ones.
 abbrev from_9 : ℕ → FrameStep
 from_9 byte = cond (eqb byte 0x1f) step.OpensTryTable step.Stays
 
@@ -78,7 +78,7 @@ from_2 byte = cond (eqb byte 0x04) step.OpensIf (from_3 byte)
 abbrev from_1 : ℕ → FrameStep
 from_1 byte = cond (eqb byte 0x03) step.OpensLoop (from_2 byte)
 
--- at each byte in turn
+-- Each byte in turn.
 at_byte : (byte n : ℕ) (first no_step : FrameStep) (P : Type 0) → Opens (cond (eqb byte n) first no_step) → (byte ≡ n → Opens first → P) →
     (Opens no_step → P) → P
 at_byte byte n first no_step P h is other = go (eqb byte n) refl h
@@ -87,7 +87,7 @@ at_byte byte n first no_step P h is other = go (eqb byte n) refl h
     go true e h = is (eqb-true byte n e) h
     go false e h = other h
 
--- A step that opens a frame has the byte of one.
+-- A step that opens a frame belongs to an opcode of such an operator.
 pub opens_leads : (byte : ℕ) → Opens (step_at byte) → LeadsFrame byte
 opens_leads byte h =
     at_byte byte 0x02 step.OpensBlock (from_1 byte) (LeadsFrame byte) h (λ is _. inl is) (λ h.
@@ -101,7 +101,7 @@ opens_leads byte h =
     at_byte byte 0x19 step.TurnsCatchAll (from_9 byte) (LeadsFrame byte) h (λ is h. absurd h) (λ h.
     at_byte byte 0x1f step.OpensTryTable step.Stays (LeadsFrame byte) h (λ is _. inr (inr (inr (inr is)))) (λ h. absurd h))))))))))
 
--- A step opens a frame exactly where its role does.
+-- A step opens a frame if and only if its role does.
 opened_by_step : {A : Type 0} (role : Role A) → Opens (step_of role) → opened_by_role role ≡ 1
 opened_by_step (opens block a) h = refl
 opened_by_step (opens loop a) h = refl
@@ -122,7 +122,7 @@ step_allowed frames kind op s open_frame allows is =
     subst IsSome (stepped_alike frames (role_of op) ∙ ap (λ (s : FrameStep). frames_after frames (role_of_step s)) (sym is))
     (may_step frames kind (role_of op) open_frame allows)
 
--- The frames behind the step are those behind the operator.
+-- The frames after the step are the frames after the operator.
 pub step_frames : (frames next : List FrameKind) (op : Operator) (s : FrameStep) → s ≡ step_of (role_of op) →
     frames_after frames (role_of_step s) ≡ Some next → frames_after frames (role_of op) ≡ Some next
 step_frames frames next op s is e =
@@ -136,7 +136,7 @@ opens_or_not step.OpensIf P first none = first tt
 opens_or_not step.OpensTry P first none = first tt
 opens_or_not _ P first none = none (λ h. h)
 
--- A step uses no more of the room than its operator may.
+-- A step uses no more of the capacity than its operator may.
 pub step_room : (op : Operator) (s : FrameStep) (old new : ℕ) → s ≡ step_of (role_of op) → old ≤ new + 1 → ((Opens s → ⊥) → old ≤ new) →
     old ≤ new + opened_by op
 step_room op s old new is used other =
@@ -144,7 +144,7 @@ step_room op s old new is used other =
     (λ h. let n : opened_by op ≡ 1 = opened_by_step (role_of op) (subst Opens is h) in omega (arith, n, used))
     (λ none. let le = other none in omega (arith, le))
 
--- An operator was taken and the stack made its step.
+-- An operator was read and the stack made its step.
 pub took_operator : (Encodes : Taking) (op : Operator) (old new : State) (kind : FrameKind) (text : List ℕ) (s : FrameStep) → innermost old.frames ≡ Some kind →
     Encodes old.reader.features kind text op → Takes old.reader new.reader text → s ≡ step_of (role_of op) →
     frames_after old.frames (role_of_step s) ≡ Some new.frames → old.room ≤ new.room + 1 → ((Opens s → ⊥) → old.room ≤ new.room) → GrowsLittle 0 old new →

@@ -1,4 +1,4 @@
--- Lists of operators with their offsets: which bytes they lie in, which are an expression, and which begin one.
+-- Lists of operators with their offsets: which bytes encode them, which lists are an expression, and which begin one.
 -- WebAssembly Core Specification 3.0: Binary Format, Instructions, Expressions.
 use Rattle.std.specs.Prelude.{◌≡◌, ℕ, ◌+◌, ◌≤◌, List, [], ◌∷◌, ◌++◌, length, map}
 use Rattle.wasm_decode.specs.below.bytes.features.WasmFeatures.{WasmFeatures}
@@ -8,28 +8,28 @@ use Rattle.wasm_decode.specs.instr.declared.operator.Operator.{Operator}
 use Rattle.wasm_decode.specs.instr.Encoding.{EncodesOperator}
 use Rattle.wasm_decode.specs.instr.Roles.{roles_of}
 
--- Operators, each with the offset at which it begins.
+-- Operators, each with the offset of its first byte.
 abbrev pub Placed : Type 0
 Placed = List (Operator × ℕ)
 
 abbrev pub operators : Placed → List Operator
 operators placed = map (λ p. p.0) placed
 
--- What is said of such a list.
+-- A property of such a list.
 abbrev pub OfPlaced : Type 1
 OfPlaced = Placed → Type 0
 
--- Nothing is: any list will do.
+-- The property that every list has.
 abbrev pub IsAny : OfPlaced
 IsAny placed = Unit {0}
 
--- The bytes are one encoding of each operator, joined, and each offset is where that encoding stands.
+-- The bytes are the encodings of the operators, one after another, and each offset is that of the operator's first byte.
 abbrev pub LaidOut : WasmFeatures → ℕ → Placed → List ℕ → Type 0
 LaidOut f offset [] bytes = bytes ≡ []
 LaidOut f offset (p ∷ ps) bytes = (p.1 ≡ offset) × (text more : List ℕ) × (bytes ≡ text ++ more) × EncodesOperator f p.0 text ×
     LaidOut f (offset + length text) ps more
 
--- The operator's bytes, the first of them at its offset, end before this one.
+-- The encoding of the operator, which starts at the operator's offset, ends before this offset.
 abbrev pub EndsAt : WasmFeatures → Operator × ℕ → ℕ → Type 0
 EndsAt f p end = (text : List ℕ) × EncodesOperator f p.0 text × (end ≡ p.1 + length text)
 
@@ -42,11 +42,11 @@ abbrev pub AreEncoded : WasmFeatures → List Operator → Type 0
 AreEncoded f [] = Unit {0}
 AreEncoded f (op ∷ ops) = ((text : List ℕ) × EncodesOperator f op text) × AreEncoded f ops
 
--- The operators are a beginning of the walk of an expression whose operators all have encodings.
+-- More operators can follow these so that all of them are the walk of an expression and have encodings.
 abbrev pub Begins : WasmFeatures → List Operator → Type 0
 Begins f ops = (more : List Operator) × AreWalk (ops ++ more) × AreEncoded f (ops ++ more)
 
--- Behind the operators before, all of the bytes encode the rest of an expression, and these are its operators.
+-- All of the bytes encode these operators, and the operators before followed by these are the walk of an expression.
 abbrev pub EncodesRest : List Operator → Source → Placed → Type 0
 EncodesRest before s placed = LaidOut s.features s.offset placed s.bytes × AreWalk (before ++ operators placed)
 
@@ -54,7 +54,7 @@ EncodesRest before s placed = LaidOut s.features s.offset placed s.bytes × AreW
 abbrev pub EncodesExpression : Source → Placed → Type 0
 EncodesExpression s placed = EncodesRest [] s placed
 
--- Some prefix of the bytes encodes these operators, and behind the operators before they go on with an expression.
+-- A prefix of the bytes encodes these operators, and the operators before followed by these begin an expression.
 pub record IsBeginningBehind (before : List Operator) (s : Source) (placed : Placed) : Type 0 where
   pub beginning : List ℕ
   pub more : List ℕ
@@ -62,20 +62,20 @@ pub record IsBeginningBehind (before : List Operator) (s : Source) (placed : Pla
   pub laid : LaidOut s.features s.offset placed beginning
   pub begins : Begins s.features (before ++ operators placed)
 
--- The longest such list of those of which this is so.
+-- The longest list with the property `Kept` that a prefix of the bytes encodes and that begins an expression after the operators before.
 pub record IsLongestOf (Kept : OfPlaced) (before : List Operator) (s : Source) (placed : Placed) : Type 0 where
   pub beginning : IsBeginningBehind before s placed
   pub kept : Kept placed
   pub longest : (others : Placed) → IsBeginningBehind before s others → Kept others → length others ≤ length placed
 
--- The longest such list.
+-- The longest list that a prefix of the bytes encodes and that, after the operators before, begins an expression.
 abbrev pub IsLongestBehind : List Operator → Source → Placed → Type 0
 IsLongestBehind before s placed = IsLongestOf IsAny before s placed
 
--- The longest list that some prefix of the bytes encodes and that begins an expression.
+-- The longest list that a prefix of the bytes encodes and that begins an expression.
 abbrev pub IsLongestBeginning : Source → Placed → Type 0
 IsLongestBeginning s placed = IsLongestBehind [] s placed
 
--- The first list is a beginning of the second.
+-- The first list is a prefix of the second.
 abbrev pub IsBeginningOf : {X : Type 0} → List X → List X → Type 0
 IsBeginningOf {X} first second = (more : List X) × (second ≡ first ++ more)

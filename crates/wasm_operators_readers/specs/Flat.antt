@@ -1,6 +1,5 @@
--- Beginnings without trees: each operator is allowed by the frame that those before it have left.
--- WebAssembly Core Specification 3.0: Validation, Instructions, Control Instructions; Appendix, Validation Algorithm,
--- control frames.
+-- Prefixes of expressions without trees: each operator is allowed by the frame that the operators before it leave.
+-- WebAssembly Core Specification 3.0: Validation, Instructions, Control Instructions; Appendix, Validation Algorithm, control frames.
 -- The legacy exception handling proposal: the frames of try, catch and catch_all.
 use Rattle.std.specs.Prelude.{◌≡◌, ℕ, ◌≤◌, List, [], ◌∷◌, ◌++◌, length, IsSome}
 use Rattle.wasm_decode.specs.below.Source.{Source}
@@ -10,7 +9,7 @@ use Rattle.wasm_decode.specs.grammar.Frames.{frames_along}
 use Rattle.wasm_decode.specs.instr.Roles.{roles_of}
 use Rattle.wasm_operators_readers.specs.Expression.{Placed, OfPlaced, IsAny, operators, LaidOut}
 
--- Some prefix of the bytes encodes these operators, and from these frames on each is allowed.
+-- A prefix of the bytes encodes these operators, and with these frames open at the start each operator is allowed.
 pub record IsAllowedFrom (frames : List FrameKind) (s : Source) (placed : Placed) : Type 0 where
   pub beginning : List ℕ
   pub more : List ℕ
@@ -18,16 +17,16 @@ pub record IsAllowedFrom (frames : List FrameKind) (s : Source) (placed : Placed
   pub laid : LaidOut s.features s.offset placed beginning
   pub allowed : IsSome (frames_along frames (roles_of (operators placed)))
 
--- The longest such list of those of which this is so.
+-- The list has the property `Kept`, a prefix of the bytes encodes it, the frames allow it, and no longer list does.
 pub record IsFlatOf (Kept : OfPlaced) (frames : List FrameKind) (s : Source) (placed : Placed) : Type 0 where
   pub beginning : IsAllowedFrom frames s placed
   pub kept : Kept placed
   pub longest : (others : Placed) → IsAllowedFrom frames s others → Kept others → length others ≤ length placed
 
--- The longest such list.
+-- The longest list that a prefix of the bytes encodes and that these frames allow.
 abbrev pub IsFlatFrom : List FrameKind → Source → Placed → Type 0
 IsFlatFrom frames s placed = IsFlatOf IsAny frames s placed
 
--- From the frame of the expression on.
+-- The longest list that a prefix of the bytes encodes and that is allowed after the frame of the expression.
 abbrev pub IsFlatBeginning : Source → Placed → Type 0
 IsFlatBeginning s placed = IsFlatFrom (frame.Block ∷ []) s placed

@@ -1,4 +1,4 @@
--- What reading to the end says of the recursive grammar.
+-- What reading to the end means for the grammar of expressions.
 use Rattle.std.specs.Prelude.{◌≡◌, ◌≢◌, ◌↔◌, ℕ, ◌+◌, ◌*◌, ◌≤◌, List, [], ◌++◌, length, replicate, Result, IsOk, IfErr, OnOk, Some, ◌⊎◌}
 use Rattle.wasm_decode.specs.below.bytes.error.Error.{Error}
 use Rattle.wasm_decode.specs.below.bytes.message.Message.{Message}
@@ -15,12 +15,12 @@ use Rattle.wasm_operators_readers.specs.Expression.{Placed, OfPlaced, operators,
 use Rattle.wasm_operators_readers.specs.Flat.{IsFlatOf}
 use Rattle.wasm_operators_readers.specs.Reading.{State, Taking, Refusing, Allocating, StopsRun}
 
--- These operators stood before: they have encodings, and their open path leads to the frames of the reader. Before a fresh reader none stood.
+-- The operators that were read before: they have encodings, and their open path leads to the reader's frames. For a new reader this list is empty.
 pub record StoodBefore (before : List Operator) (s : State) : Type 0 where
   pub encodes : AreEncoded s.reader.features before
   pub path : OpenPath (roles_of before) s.frames
 
--- What was read is the rest of the one expression that the bytes encode, and all of them were taken.
+-- The operators that were read are the rest of the one expression that the bytes encode, and all bytes were read.
 pub record ReadsTree (before : List Operator) (old new : State) (placed : Placed) : Type 0 where
   pub encodes : EncodesRest before (source_of old.reader) placed
   pub tree : Expression Operator
@@ -29,12 +29,14 @@ pub record ReadsTree (before : List Operator) (old new : State) (placed : Placed
   pub all : rest new.reader ≡ []
   pub takes : Takes old.reader new.reader (rest old.reader)
 
--- Which list was read where reading to the end fails: of those that are kept the longest, or where memory was refused a beginning.
+-- The list that was read before an error: the longest list with the property `Kept` that begins an expression.
+-- If allocation failed, it is some list that begins an expression.
 abbrev pub BeginningAt : OfPlaced → Message → List Operator → Reader → Placed → Type 0
 BeginningAt Kept message.OutOfMemory before r placed = IsBeginningBehind before (source_of r) placed
 BeginningAt Kept _ before r placed = IsLongestOf Kept before (source_of r) placed
 
--- What was read is the longest beginning of an expression of those that are kept, the reader stands behind it, and the refusal is of what stands there.
+-- The operators that were read are the longest list with the property `Kept` that begins an expression.
+-- The reader is after them, and the error describes the next bytes.
 pub record ReadsBeginning (Kept : OfPlaced) (Encodes : Taking) (Fault : Refusing) (Allocates : Allocating) (before : List Operator) (e : Error) (old new : State)
     (placed : Placed) : Type 0 where
   pub at : BeginningAt Kept e.message before old.reader placed
@@ -44,34 +46,34 @@ pub record ReadsBeginning (Kept : OfPlaced) (Encodes : Taking) (Fault : Refusing
   pub stood : StoodBefore (before ++ operators placed) new
   pub stops : StopsRun Encodes Fault Allocates e new
 
--- Some list of operators came, to which the first happened and of which the second is so.
+-- For some list of operators, the effect `Happened` took place and the property `Of` holds.
 abbrev pub SomeCame : OfPlaced → OfPlaced → Type 0
 SomeCame Happened Of = (placed : Placed) × Happened placed × Of placed
 
--- Memory was not refused.
+-- The result is not the error `OutOfMemory`.
 abbrev pub IsNotOutOfMemory : {X : Type 0} → Result X Error → Type 0
 IsNotOutOfMemory result = IfErr result (λ e. e.message ≢ message.OutOfMemory)
 
--- The list takes all of the bytes, and from these frames on closes every one.
+-- The list is encoded by all of the bytes, and closes all of these frames.
 abbrev pub ClosesFrom : List FrameKind → Source → Placed → Type 0
 ClosesFrom frames s placed = LaidOut s.features s.offset placed s.bytes × (frames_along frames (roles_of (operators placed)) ≡ Some [])
 
--- Without trees: the longest list of those that are kept that the frames allow step by step is the one that came, memory aside, and the answer is Ok exactly
--- where it takes all of the bytes and closes every frame.
+-- Without trees, unless allocation fails: `Happened` is true for the longest list with the property `Kept` that the frames allow step by step.
+-- The result is then `Ok` if and only if all of the bytes encode that list and it closes every frame.
 abbrev pub ReadsFlat : {X : Type 0} → OfPlaced → OfPlaced → Result X Error → State → Type 0
 ReadsFlat Happened Kept result old =
     (flat : Placed) → IsFlatOf Kept old.frames (source_of old.reader) flat → IsNotOutOfMemory result → Happened flat ×
     (IsOk result ↔ ClosesFrom old.frames (source_of old.reader) flat)
 
--- Twice the frames that were added is at most the bytes that were taken.
+-- The number of added frames, doubled, is at most the number of bytes that were read.
 abbrev pub IsWithinDepth : State → State → Type 0
 IsWithinDepth old new = 2 * length new.frames + old.reader.position ≤ 2 * length old.frames + new.reader.position
 
--- The same bytes with more behind them.
+-- The same bytes, followed by more.
 abbrev pub with_behind : Source → List ℕ → Source
 with_behind s more = record { features = s.features; offset = s.offset; bytes = s.bytes ++ more }
 
--- More bytes make them the rest of an expression whose operators are kept.
+-- With more bytes after them, the bytes encode the rest of an expression whose operators have the property `Kept`.
 pub record IsCut (Kept : OfPlaced) (before : List Operator) (s : Source) : Type 0 where
   pub more : List ℕ
   pub some : more ≡ [] → ⊥
@@ -79,36 +81,38 @@ pub record IsCut (Kept : OfPlaced) (before : List Operator) (s : Source) : Type 
   pub encodes : EncodesRest before (with_behind s more) whole
   pub kept : Kept whole
 
--- Which refusal such bytes get, where these are left: a frame is open and all is taken; or the data ended within an operator; or memory was refused.
+-- The error for bytes that are cut off, and the bytes that are then left: `FramesRemain` if all bytes were read and a frame is open.
+-- It is `EndOfData` if the data ends within an operator, or `OutOfMemory`.
 abbrev pub CutFault : Message → List ℕ → Type 0
 CutFault message.OutOfMemory left = Unit {0}
 CutFault message.FramesRemain left = left ≡ []
 CutFault message.EndOfData left = left ≡ [] → ⊥
 CutFault _ left = ⊥
 
--- As many bytes 0x0b behind them make them the rest of an expression.
+-- With this many bytes 0x0b after them, the bytes encode the rest of an expression.
 abbrev pub IsCompletedByEnds : List Operator → Source → ℕ → Type 0
 IsCompletedByEnds before s n = (whole : Placed) × EncodesRest before (with_behind s (replicate n 0x0b)) whole
 
--- A frame is open at the end of the data only where as many bytes 0x0b as frames are open make it the rest of an expression.
+-- If the error is `FramesRemain`, then one byte 0x0b for each open frame completes the rest of an expression.
 abbrev pub IsCompletedIfCut : {X : Type 0} → List Operator → Result X Error → State → State → Type 0
 IsCompletedIfCut before result old new =
     IfErr result (λ e. e.message ≡ message.FramesRemain → IsCompletedByEnds before (source_of old.reader) (length new.frames))
 
--- What reading or visiting to the end does behind these operators. The first word says what happened to the list that came (it was added to another, or
--- visited), and the second which lists are kept (all, or those without vector operators).
+-- What reading or visiting to the end does after the operators `before`. `Happened` is the effect on the list of operators: it was added to another list, or
+-- visited.
+-- `Kept` is the property of the lists that may be read: all lists, or the lists without SIMD operators.
 pub record ReadsRest {X : Type 0} (Happened Kept : OfPlaced) (Encodes : Taking) (Fault : Refusing) (Allocates : Allocating) (before : List Operator)
     (result : Result X Error) (old new : State) : Type 0 where
-  -- On Ok what came is the rest of the one expression that the bytes encode: the walk of its tree.
+  -- On `Ok`, the operators are the rest of the one expression that the bytes encode: the walk of its tree.
   pub tree : OnOk result (SomeCame Happened (ReadsTree before old new))
-  -- Where the bytes encode the rest of an expression that is kept, the answer is Ok, unless memory is refused.
+  -- If the bytes encode the rest of an expression with the property `Kept`, the result is `Ok`, unless allocation fails.
   pub only : (whole : Placed) → EncodesRest before (source_of old.reader) whole → Kept whole → IfErr result (λ e. e.message ≡ message.OutOfMemory)
-  -- On Err what came is the longest beginning of an expression of those that are kept, and the refusal is of what stands behind it.
+  -- On `Err`, the operators are the longest list with the property `Kept` that begins an expression, and the error describes the next bytes.
   pub beginning : IfErr result (λ e. SomeCame Happened (ReadsBeginning Kept Encodes Fault Allocates before e old new))
-  -- Data that more bytes would make such an expression is refused by its end alone.
+  -- If more bytes would complete such an expression, an error reports only the end of the data or an allocation failure.
   pub cut : IsCut Kept before (source_of old.reader) → IfErr result (λ e. CutFault e.message (rest new.reader))
-  -- Where all of it was taken and frames are open, as many bytes 0x0b complete it.
+  -- If all bytes were read and frames are open, one byte 0x0b for each of them completes the expression.
   pub completed : IsCompletedIfCut before result old new
-  -- Where the longest beginning is not kept, its first vector operator is what is refused.
+  -- If the longest list that begins an expression does not have the property `Kept`, an error is `UnexpectedSimd` or `OutOfMemory`.
   pub vector : (longest : Placed) → IsLongestBehind before (source_of old.reader) longest → (Kept longest → ⊥) →
       IfErr result (λ e. (e.message ≡ message.UnexpectedSimd) ⊎ (e.message ≡ message.OutOfMemory))

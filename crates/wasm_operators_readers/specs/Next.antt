@@ -1,4 +1,4 @@
--- One read or visit of a reader of operators, by the decoder: which bytes it takes, which refusal it answers, and where memory may be refused.
+-- One read or visit of a reader of operators: which bytes it consumes, which errors it returns, and when allocation may fail.
 use Rattle.std.specs.Prelude.{◌≡◌, ℕ, ◌<◌, ◌≤◌, [], Some, None, Result, ◌⊎◌}
 use Rattle.wasm_decode.specs.below.bytes.error.Error.{Error}
 use Rattle.wasm_decode.specs.grammar.declared.frame_kind.FrameKind.{FrameKind}
@@ -14,35 +14,35 @@ use Rattle.wasm_operators_readers.specs.Stack.{OpenFrames}
 use Rattle.wasm_operators_readers.specs.Step.{step_at, Opens}
 use Rattle.wasm_operators_readers.specs.Reading.{Taking, Refusing, Allocating, State, GrowsLittle, FrameMayAllocate, IsUnchanged, StopsRead, ReadsOperator, VisitsOperator}
 
--- The next operator may own a list, which asks for memory.
+-- The next operator may own a list, which allocates.
 abbrev pub ListMayAllocate : Taking → Allocating
 ListMayAllocate Encodes s = (kind : FrameKind) × (innermost s.frames ≡ Some kind) × MayAllocate (Encodes s.reader.features kind) s.reader
 
--- Memory may be refused to the frame that the next operator opens, where no room is left, or to the list that it owns.
+-- Allocation may fail for the frame that the next operator opens, if no capacity is left, or for the list that the operator owns.
 abbrev pub NextMayAllocate : Taking → Allocating
 NextMayAllocate Encodes s = FrameMayAllocate s ⊎ ListMayAllocate Encodes s
 
--- One read.
+-- One read of an operator.
 abbrev pub ReadsNext : Result Operator Error → State → State → Type 0
 ReadsNext = ReadsOperator EncodesAllowed OperatorFault (NextMayAllocate EncodesAllowed)
 
--- One visit, of a visitor that takes every operator.
+-- One visit by a visitor of all operators.
 abbrev pub VisitsNext : {V A : Type 0} → (V → Operator → A → V → Type 0) → Result A Error → State → State → V → V → Type 0
 VisitsNext visits = VisitsOperator visits EncodesAllowed OperatorFault (NextMayAllocate EncodesAllowed)
 
--- One visit, of a visitor that takes no vector operator.
+-- One visit by a visitor without SIMD operators.
 abbrev pub VisitsNextScalar : {V A : Type 0} → (V → Operator → A → V → Type 0) → Result A Error → State → State → V → V → Type 0
 VisitsNextScalar visits = VisitsOperator visits EncodesScalar ScalarOperatorFault (NextMayAllocate EncodesScalar)
 
--- A reader and its stack of open frames.
+-- The state that consists of this reader and this stack of open frames.
 abbrev pub state_of : Reader → OpenFrames → State
 state_of r s = record { reader = r; frames = s.frames; room = s.room }
 
--- Nothing changed, but that there may be more room, and the error is that of what stands there.
+-- Nothing changed, except that the capacity may have grown, and the error describes the next bytes.
 abbrev pub StopsNext : Taking → Refusing → Error → State → State → Type 0
 StopsNext Encodes Fault e old new = IsUnchanged old new × StopsRead Encodes Fault (NextMayAllocate Encodes) e new
 
--- The opcode of the next operator was read, from the position `start` on, and room was made for its step; nothing else changed.
+-- The opcode of the next operator was read from the position `start`, and there is capacity for its step. Nothing else changed.
 pub record BeginsOperator (old new : State) (kind : FrameKind) (start code : ℕ) (s : FrameStep) : Type 0 where
   pub open_frame : innermost old.frames ≡ Some kind
   pub behind : StandsBehind start None code new.reader

@@ -1,4 +1,4 @@
--- How many frames operators open, and the bytes that lead them.
+-- How many frames operators open, and their first bytes.
 -- WebAssembly Core Specification 3.0: Binary Format, Instructions, Control Instructions.
 -- The legacy exception handling proposal: try.
 use Rattle.std.specs.Prelude.{◌≡◌, ℕ, ◌+◌, [], ◌∷◌, ◌⊎◌}
@@ -7,18 +7,18 @@ use Rattle.wasm_decode.specs.instr.declared.operator.Operator.{Operator}
 use Rattle.wasm_decode.specs.instr.Roles.{role_of}
 use Rattle.wasm_operators_readers.specs.Expression.{Placed}
 
--- How many frames more are open behind a role, at the most.
+-- How many more frames are open after a role, at most.
 abbrev pub opened_by_role : {A : Type 0} → Role A → ℕ
 opened_by_role (opens n a) = 1
 opened_by_role (opens_if a) = 1
 opened_by_role (opens_try a) = 1
 opened_by_role _ = 0
 
--- Behind an operator.
+-- How many more frames are open after an operator, at most.
 abbrev pub opened_by : Operator → ℕ
 opened_by op = opened_by_role (role_of op)
 
--- Behind several.
+-- How many more frames are open after these operators, at most.
 abbrev pub opened_along : Placed → ℕ
 opened_along [] = 0
 opened_along (p ∷ ps) = opened_by p.0 + opened_along ps

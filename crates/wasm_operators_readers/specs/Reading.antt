@@ -1,6 +1,6 @@
--- A reader of operators, one read or visit of it, and several.
--- The words below take three relations: which bytes encode an operator that is taken, in a frame of a given kind; which
--- refusal is answered there; and where memory may be refused. So they serve reads, and both sorts of visits.
+-- A reader of operators, one read or visit, and several of them.
+-- The definitions take three relations: which bytes encode an operator that is read, which error is returned, and when allocation may fail.
+-- So they serve reads, visits, and visits without SIMD operators.
 use Rattle.std.specs.Prelude.{◌≡◌, ℕ, ◌+◌, ◌≤◌, List, [], ◌∷◌, ◌++◌, length, Some, Result, Ok, Err, ◌⊎◌}
 use Rattle.wasm_decode.specs.below.bytes.error.Error.{Error}
 use Rattle.wasm_decode.specs.below.bytes.features.WasmFeatures.{WasmFeatures}
@@ -16,42 +16,44 @@ use Rattle.wasm_operators_readers.specs.Expression.{Placed, OfPlaced, operators,
 use Rattle.wasm_operators_readers.specs.Openings.{opened_by, opened_along, LeadsFrame}
 use Rattle.wasm_operators_readers.specs.Stack.{frame_memory, IsLittleMemory}
 
--- The text encodes an operator that is taken, under these features and in a frame of this kind.
+-- The bytes encode an operator that is read, with these features and in a frame of this kind.
 abbrev pub Taking : Type 1
 Taking = WasmFeatures → FrameKind → List ℕ → Operator → Type 0
 
--- Which refusal is answered there: a message, the reader, and the offset that the refusal names.
+-- Which error is returned: its message, the reader, and the error's offset.
 abbrev pub Refusing : Type 1
 Refusing = WasmFeatures → FrameKind → Message → Reader → ℕ → Type 0
 
--- What is before the reader, the open frames from the outermost to the innermost, and how many more can be opened without asking for memory.
+-- The reader of the bytes, the open frames from the outermost to the innermost, and how many more can be opened without allocating.
 pub record State : Type 0 where
   pub reader : Reader
   pub frames : List FrameKind
   pub room : ℕ
 
--- Where memory may be refused.
+-- The states in which allocation may fail.
 abbrev pub Allocating : Type 1
 Allocating = State → Type 0
 
--- A reader that has read nothing: the frame of the expression is open.
+-- Nothing was read: only the frame of the expression is open.
 abbrev pub IsFresh : State → Type 0
 IsFresh s = s.frames ≡ frame.Block ∷ []
 
--- The memory of the frames, over this many bytes: it serves as many as before, or at most two for each frame that was open, one for each of the bytes, and ten.
+-- After this many bytes, the memory of the frames is within a bound: not larger than before, or with space for two for each frame that was open,
+-- one for each byte, and ten.
 abbrev pub GrowsLittle : ℕ → State → State → Type 0
 GrowsLittle bytes old new =
     IsLittleMemory (frame_memory old.frames old.room) (length old.frames) (bytes + 10) (frame_memory new.frames new.room)
 
--- Nothing changed, but that there may be more room, and little.
+-- Nothing changed, except that the capacity may have grown within the bound.
 abbrev pub IsUnchanged : State → State → Type 0
 IsUnchanged old new = (new.reader ≡ old.reader) × (new.frames ≡ old.frames) × (old.room ≤ new.room) × GrowsLittle 0 old new
 
--- The second reader stands where the first does, in the same bytes and under the same frames; their room may differ.
+-- Two readers are at one place of the same bytes, with the same frames. Their capacities may differ.
 abbrev pub StandAlike : State → State → Type 0
 StandAlike first second = (second.reader ≡ first.reader) × (second.frames ≡ first.frames)
 
--- A prefix of the rest encoded this operator, which the innermost frame allows, and was taken. Where it opens a frame, that used at most one of the room.
+-- A prefix of the rest, which was read, encodes this operator, and the innermost frame allows it. An operator that opens a frame uses at most one of the
+-- capacity.
 pub record TakesOperator (Encodes : Taking) (op : Operator) (old new : State) : Type 0 where
   pub kind : FrameKind
   pub open_frame : innermost old.frames ≡ Some kind
@@ -66,7 +68,7 @@ pub record TakesOperator (Encodes : Taking) (op : Operator) (old new : State) : 
 abbrev pub NoFrameOpen : Error → State → Type 0
 NoFrameOpen e s = (s.frames ≡ []) × (e.message ≡ message.OperatorsRemaining) × (e.offset ≡ offset_of s.reader)
 
--- What stands there is refused: no prefix of the rest encodes an operator that is taken.
+-- No prefix of the rest encodes an operator that is read, and the error describes these bytes.
 pub record IsRefusedThere (Encodes : Taking) (Fault : Refusing) (e : Error) (s : State) : Type 0 where
   pub kind : FrameKind
   pub open_frame : innermost s.frames ≡ Some kind
@@ -74,33 +76,33 @@ pub record IsRefusedThere (Encodes : Taking) (Fault : Refusing) (e : Error) (s :
   pub ahead : IsAhead s.reader e.offset
   pub fault : Fault s.reader.features kind e.message s.reader e.offset
 
--- Memory was refused, which is possible there.
+-- Allocation failed, which is possible in this state.
 abbrev pub NoMemory : Allocating → Error → State → Type 0
 NoMemory Allocates e s = (e.message ≡ message.OutOfMemory) × (e.offset ≡ offset_of s.reader) × Allocates s
 
--- Memory may be refused anywhere.
+-- Allocation may fail in every state.
 abbrev pub Anywhere : Allocating
 Anywhere s = Unit {0}
 
--- Memory may be refused to the frame that the next operator opens inside the open ones: no room is left.
+-- Allocation may fail for the frame that the next operator opens inside the open ones: no capacity is left.
 abbrev pub FrameMayAllocate : Allocating
 FrameMayAllocate s = (kind : FrameKind) × (innermost s.frames ≡ Some kind) × (byte : ℕ) × BeginsWith byte (rest s.reader) × LeadsFrame byte × (s.room ≡ 0)
 
--- What is so where a read answers this error.
+-- Why a read returns this error: no frame is open, no operator can be read, or allocation fails.
 abbrev pub StopsRead : Taking → Refusing → Allocating → Error → State → Type 0
 StopsRead Encodes Fault Allocates e s = NoFrameOpen e s ⊎ (IsRefusedThere Encodes Fault e s ⊎ NoMemory Allocates e s)
 
--- One read. Where it is refused, what is said of the refusal holds of the reader as it stands then.
+-- One read. On an error, the reasons hold for the state after the read.
 abbrev pub ReadsOperator : Taking → Refusing → Allocating → Result Operator Error → State → State → Type 0
 ReadsOperator Encodes Fault Allocates (Ok op) old new = TakesOperator Encodes op old new
 ReadsOperator Encodes Fault Allocates (Err e) old new = IsUnchanged old new × StopsRead Encodes Fault Allocates e new
 
--- One visit, with the visitor before and after it. None is made of an operator that is refused.
+-- One visit, with the visitor before and after it. A read that fails makes no visit.
 abbrev pub VisitsOperator : {V A : Type 0} → (V → Operator → A → V → Type 0) → Taking → Refusing → Allocating → Result A Error → State → State → V → V → Type 0
 VisitsOperator visits Encodes Fault Allocates (Ok a) old new before after = (op : Operator) × TakesOperator Encodes op old new × visits before op a after
 VisitsOperator visits Encodes Fault Allocates (Err e) old new before after = IsUnchanged old new × (after ≡ before) × StopsRead Encodes Fault Allocates e new
 
--- Reads of these operators, one after another.
+-- Successful reads of these operators, one after another.
 pub record TakesOperators (old new : State) (placed : Placed) : Type 0 where
   pub text : List ℕ
   pub takes : Takes old.reader new.reader text
@@ -109,27 +111,27 @@ pub record TakesOperators (old new : State) (placed : Placed) : Type 0 where
   pub room : old.room ≤ new.room + opened_along placed
   pub memory : GrowsLittle (length text) old new
 
--- What is so where finishing answers this refusal, at the position.
+-- Why finishing returns this message, at the reader's position.
 abbrev pub StopsFinish : Message → Type 0 → Reader → Type 0
 StopsFinish message.FramesRemain Closed r = Closed → ⊥
 StopsFinish message.UnexpectedData Closed r = Closed × (rest r ≡ [] → ⊥)
 StopsFinish _ Closed r = ⊥
 
--- An expression ends here: Ok exactly where its frames are closed, as the second word says, and all data is taken.
+-- The end of an expression: `Ok` if and only if its frames are closed, as `Closed` says, and all data was read.
 abbrev pub EndsExpression : {X : Type 0} → Result X Error → Type 0 → Reader → Type 0
 EndsExpression (Ok x) Closed r = Closed × (rest r ≡ [])
 EndsExpression (Err e) Closed r = (e.offset ≡ offset_of r) × StopsFinish e.message Closed r
 
--- The same of a reader that keeps the open frames.
+-- The end of an expression for a reader that has a stack of open frames.
 abbrev pub Finishes : {X : Type 0} → Result X Error → State → Type 0
 Finishes result s = EndsExpression result (s.frames ≡ []) s.reader
 
--- All data is taken, and a frame is open.
+-- All data was read, and a frame is open.
 abbrev pub FramesLeft : Error → State → Type 0
 FramesLeft e s = (rest s.reader ≡ []) × (s.frames ≡ [] → ⊥) × (e.message ≡ message.FramesRemain) × (e.offset ≡ offset_of s.reader)
 
--- What is so where reading to the end answers this error: frames are left at the end of the data; or data is left, and what stands there is refused, or
--- memory is.
+-- Why reading to the end returns this error: frames are open at the end of the data,
+-- or data is left and no operator can be read, or allocation fails.
 abbrev pub StopsRun : Taking → Refusing → Allocating → Error → State → Type 0
 StopsRun Encodes Fault Allocates e s = FramesLeft e s ⊎ ((rest s.reader ≡ [] → ⊥) × StopsRead Encodes Fault Allocates e s)
 
@@ -137,11 +139,11 @@ abbrev pub EndsRun : {X : Type 0} → Taking → Refusing → Allocating → Res
 EndsRun Encodes Fault Allocates (Ok x) s = (s.frames ≡ []) × (rest s.reader ≡ [])
 EndsRun Encodes Fault Allocates (Err e) s = StopsRun Encodes Fault Allocates e s
 
--- The list was added to another.
+-- The new list is the old list followed by this list.
 abbrev pub Adds : Placed → Placed → Placed → Type 0
 Adds out_old out_new placed = out_new ≡ out_old ++ placed
 
--- Reading or visiting to the end: which operators came, what happened to them, and why no more.
+-- Reading or visiting to the end: which operators were read, the effect on them, and why reading ended.
 abbrev pub RunsToEnd : {X : Type 0} → OfPlaced → Taking → Refusing → Allocating → Result X Error → State → State → Type 0
 RunsToEnd Happened Encodes Fault Allocates result old new =
     (placed : Placed) × Happened placed × TakesOperators old new placed × EndsRun Encodes Fault Allocates result new

@@ -1,6 +1,5 @@
 -- The steps of the open frames: roles without what operators carry.
--- WebAssembly Core Specification 3.0: Structure, Instructions, Control Instructions; Appendix, Validation Algorithm,
--- control frames.
+-- WebAssembly Core Specification 3.0: Structure, Instructions, Control Instructions; Appendix, Validation Algorithm, control frames.
 -- The opcodes of step_at: Binary Format, Instructions, Control Instructions and Expressions.
 -- The legacy exception handling proposal: try, catch, catch_all and delegate.
 use Rattle.std.specs.Prelude.{ℕ, ◌==◌, if◌then◌else◌}
@@ -22,7 +21,7 @@ step_of turns_catch_all = step.TurnsCatchAll
 step_of (delegates depth) = step.Delegates
 step_of ends = step.Ends
 
--- The role of a step, of an operator that carries nothing.
+-- The role of a step, for an operator that carries nothing.
 abbrev pub role_of_step : FrameStep → Role (Unit {0})
 role_of_step step.Stays = plain tt
 role_of_step step.OpensBlock = opens block tt
@@ -36,7 +35,7 @@ role_of_step step.TurnsCatchAll = turns_catch_all
 role_of_step step.Delegates = delegates 0
 role_of_step step.Ends = ends
 
--- A frame more is open behind the step.
+-- One more frame is open after the step.
 abbrev pub Opens : FrameStep → Type 0
 Opens step.OpensBlock = Unit {0}
 Opens step.OpensLoop = Unit {0}
@@ -45,7 +44,7 @@ Opens step.OpensIf = Unit {0}
 Opens step.OpensTry = Unit {0}
 Opens _ = ⊥
 
--- The step of the operators that begin with this byte.
+-- The step of the operators whose encoding starts with this byte.
 abbrev pub step_at : ℕ → FrameStep
 step_at byte =
     if byte == 0x02 then step.OpensBlock else (

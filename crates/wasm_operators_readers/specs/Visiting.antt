@@ -1,34 +1,34 @@
--- Visitors along lists of operators, and lists without vector operators.
+-- Visitors along lists of operators, and lists without SIMD operators.
 -- WebAssembly Core Specification 3.0: Binary Format, Instructions, Vector Instructions.
 use Rattle.std.specs.Prelude.{◌≡◌, Bool, true, false, if◌then◌else◌, List, [], ◌∷◌}
 use Rattle.wasm_decode.specs.instr.declared.operator.Operator.{Operator}
 use Rattle.wasm_decode.specs.instr.declared.operator.Operator.TheVariants as operator
 use Rattle.wasm_operators_readers.specs.Expression.{Placed}
 
--- A visitor's run along a list: one visit at each operator, in order, with its answer.
+-- A visitor's run along a list: one visit for each operator, in order, with its result.
 abbrev pub VisitRun : {V A : Type 0} → (V → Operator → A → V → Type 0) → V → Placed → List A → V → Type 0
 VisitRun visits before [] answers after = (answers ≡ []) × (after ≡ before)
 VisitRun {V} {A} visits before (p ∷ ps) answers after =
     (first : A) × (others : List A) × (between : V) × (answers ≡ first ∷ others) × visits before p.0 first between × VisitRun visits between ps others after
 
--- The same, whatever the answers.
+-- A visitor's run along a list, with any results.
 abbrev pub Visited : {V A : Type 0} → (V → Operator → A → V → Type 0) → V → V → Placed → Type 0
 Visited {V} {A} visits before after placed = (answers : List A) × VisitRun visits before placed answers after
 
--- Whether it is a vector operator.
+-- Whether the operator is a SIMD operator.
 abbrev pub is_vector : Operator → Bool
 is_vector (operator.Simd _) = true
 is_vector _ = false
 
--- The longest beginning of a list that has no vector operator.
+-- The longest prefix of a list that has no SIMD operator.
 abbrev pub scalar_beginning : Placed → Placed
 scalar_beginning [] = []
 scalar_beginning (p ∷ ps) = if is_vector p.0 then [] else (p ∷ scalar_beginning ps)
 
--- The list has no vector operator.
+-- The list has no SIMD operator.
 abbrev pub IsScalar : Placed → Type 0
 IsScalar placed = scalar_beginning placed ≡ placed
 
--- A list without vector operators was visited.
+-- The visitor ran along a list without SIMD operators.
 abbrev pub VisitedScalar : {V A : Type 0} → (V → Operator → A → V → Type 0) → V → V → Placed → Type 0
 VisitedScalar visits before after placed = Visited visits before after placed × IsScalar placed

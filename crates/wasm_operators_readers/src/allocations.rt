@@ -7,8 +7,8 @@ use std::marker::Model;
 use wasm_decode::below::{Error, Message, Result};
 use wasm_decode::grammar::FrameKind;
 
-/// The memory of a reader of operators, to be used by one reader after another. Contracts see how
-/// many frames there is room for.
+/// The memory of a reader of operators, which one reader after another can use. Contracts see for
+/// how many frames it has capacity.
 #[derive(Debug, Drop)]
 pub struct OperatorsReaderAllocations {
     frames: Vec<FrameKind>,
@@ -26,7 +26,7 @@ impl Model for OperatorsReaderAllocations {
 }
 
 impl OperatorsReaderAllocations {
-    /// No memory. It takes none.
+    /// Creates allocations without capacity. Does not allocate.
     pub fn new(alloc: Global) -> OperatorsReaderAllocations
         ensures { result ≡ 0 }
     {
@@ -35,10 +35,10 @@ impl OperatorsReaderAllocations {
         }
     }
 
-    /// Makes room for this many frames.
+    /// Reserves capacity for this many frames. Does not allocate if the capacity suffices;
+    /// otherwise allocates the capacity that is asked for and no more.
     ///
-    /// `OutOfMemory` at offset 0; nothing changes then. It takes no memory where the room is there, else
-    /// just as much as is wanted.
+    /// Fails with `OutOfMemory` at offset 0. Then nothing changes.
     pub fn reserve(&mut self, frames: usize) -> Result<()>
         ensures room { OnOk result (frames ≤ self.new) }
         ensures kept { self.old ≤ self.new }
@@ -52,7 +52,7 @@ impl OperatorsReaderAllocations {
         Ok(())
     }
 
-    /// The memory of this vector, whose elements go.
+    /// Takes the memory of this vector and drops the elements.
     pub(crate) fn from_frames(mut frames: Vec<FrameKind>) -> OperatorsReaderAllocations
         ensures { result ≡ vec_capacity frames }
     {
@@ -60,7 +60,7 @@ impl OperatorsReaderAllocations {
         OperatorsReaderAllocations { frames }
     }
 
-    /// A vector without elements.
+    /// Returns the memory as a vector without elements.
     pub(crate) fn into_frames(self) -> Vec<FrameKind>
         ensures empty { result.items ≡ [] }
         ensures room { vec_capacity result ≡ self }

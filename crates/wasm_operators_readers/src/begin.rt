@@ -1,5 +1,5 @@
-//! What comes before the immediates of an operator: its frame, its opcode, and room for its step; and
-//! the step, behind them.
+//! The steps before the immediates of an operator (its frame, its opcode, and capacity for its
+//! step), and the step after them.
 ghost use Rattle.std.specs.Prelude.{◌≡◌, ◌+◌, ◌≤◌, Some, IsSome, IfOk, IfErr};
 ghost use Rattle.wasm_decode.specs.grammar.Frames.{frames_after};
 ghost use Rattle.wasm_decode.specs.opcodes.Allowed.{EncodesAllowed, EncodesScalar};
@@ -14,7 +14,7 @@ use wasm_decode::below::{BinaryReader, Message, Result};
 use wasm_decode::grammar::FrameKind;
 use wasm_decode::no_frame;
 
-/// The innermost frame, the position at which the operator began, and its opcode.
+/// The innermost frame, the position at which the operator starts, and its opcode.
 #[derive(Clone, Copy, Debug)]
 pub struct OperatorStart {
     pub frame: FrameKind,
@@ -22,11 +22,12 @@ pub struct OperatorStart {
     pub code: u8,
 }
 
-/// Reads the opcode of the next operator, and makes room for the frame that it opens, if it opens
+/// Reads the opcode of the next operator, and reserves capacity for a frame if the operator opens
 /// one.
 ///
-/// `OperatorsRemaining` where no frame is open, `EndOfData` where no byte is left, and `OutOfMemory`
-/// where no room could be made. The reader and the frames are unchanged then.
+/// Fails with `OperatorsRemaining` if no frame is open, with `EndOfData` at the end of the data,
+/// and with `OutOfMemory` if the capacity can't grow. On an error the reader and the frames are
+/// unchanged.
 #[inline(always)]
 pub fn begin(reader: &mut BinaryReader<'_>, control: &mut ControlStack) -> Result<OperatorStart>
     ensures begun { IfOk result
@@ -59,8 +60,8 @@ pub fn begin(reader: &mut BinaryReader<'_>, control: &mut ControlStack) -> Resul
 
 /// Makes the step of an operator that was read.
 ///
-/// The step is found again from the opcode, which is known where the operator was decoded; a step
-/// that was kept would be told apart by a jump of its own.
+/// The step is found again from the opcode, which is a constant where the operator is decoded. A
+/// stored step would need a branch to distinguish it.
 #[inline(always)]
 pub fn advance(control: &mut ControlStack, code: u8)
     requires allowed { IsSome (frames_after control.old.frames (role_of_step (step_at code))) }

@@ -1,4 +1,4 @@
-//! The visitor that adds operators to a list.
+//! The visitor that appends operators to a list.
 ghost use Rattle.std.specs.Prelude.{◌<◌, vec_capacity, vec_len};
 ghost use Rattle.wasm_decode.specs.instr.declared.operator.Operator.{Operator};
 ghost use Rattle.wasm_operators_readers.specs.Collecting.{CollectsOne};
@@ -8,9 +8,10 @@ use wasm_decode::visitors::{
     HoldOperator, HoldTable, VisitGroups, VisitOperator, VisitSimdOperator, Visitor,
 };
 
-/// Adds what is made of each operator to a list, with the offset that was set before the visit.
+/// A visitor that appends what is made of each operator to a list, with the offset that was set
+/// before the visit.
 ///
-/// So the operator is made where it is added, and no answer is copied into the list.
+/// So the operator is made in place in the list, and no result is copied there.
 #[derive(Drop)]
 pub struct Collector<T> {
     pub items: Vec<(T, u64)>,
@@ -20,7 +21,7 @@ pub struct Collector<T> {
 impl<T: HoldOperator + Drop> Visitor for Collector<T> {
     type Output = ();
 
-    // Where the list has room it has one more, made of the operator.
+    // If the list has capacity, a visit appends one item, which is made of the operator.
     ghost visits = { λ before op answer after. vec_len before.items < vec_capacity before.items
         → CollectsOne T.holds before.offset before.items.items op after.items.items };
 

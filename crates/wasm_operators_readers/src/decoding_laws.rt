@@ -1,4 +1,4 @@
-//! Laws on one read of an operator, each the contract of a function that does nothing.
+//! Laws about one read of an operator. Each is the contract of a function that does nothing.
 ghost use Rattle.std.specs.Prelude.{◌≡◌, ◌↔◌, ◌+◌, ℕ, []};
 ghost use Rattle.wasm_decode.specs.below.bytes.error.Error.{Error};
 ghost use Rattle.wasm_decode.specs.below.Refusal.{IsReadFault};
@@ -15,16 +15,16 @@ ghost use Rattle.wasm_operators_readers.specs.Reading.{State, StopsRead, StopsRu
 use wasm_decode::below::{FrameName, InstructionName, Message, WasmFeatures};
 use wasm_decode::grammar::FrameKind;
 
-/// What stands where an operator should is refused by no message about frames, about data behind
-/// the expression, or about memory.
+/// States that no error of an operator has a message about frames, about data after the expression,
+/// or about allocation failure.
 pub fn refusal_messages(features: WasmFeatures, frame: FrameKind)
     ensures any { (m : Message) (r : Reader) (offset : ℕ) → OperatorFault features frame m r offset → IsReadFault m }
     ensures scalar { (m : Message) (r : Reader) (offset : ℕ) → ScalarOperatorFault features frame m r offset
         → IsReadFault m }
 {}
 
-/// The prefix byte of vector operators has a refusal of its own, where none is taken; what else stands
-/// there is refused alike.
+/// States that a visitor without SIMD operators fails with `UnexpectedSimd` at their prefix byte
+/// `0xfd`, and elsewhere like any other visitor.
 pub fn vector_refusals(features: WasmFeatures, frame: FrameKind)
     ensures there { (m : Message) (r : Reader) (offset : ℕ) → ScalarOperatorFault features frame m r offset
         → BeginsWith 0xfd (rest r) → m ≡ Message.UnexpectedSimd }
@@ -32,8 +32,8 @@ pub fn vector_refusals(features: WasmFeatures, frame: FrameKind)
         → ¬ BeginsWith 0xfd (rest r) → OperatorFault features frame m r offset }
 {}
 
-/// `FeatureRequired` is answered of `try`, `catch` and `catch_all`, where they begin, where the feature
-/// is wanting that they are read with; and of nothing else.
+/// States that `FeatureRequired` is returned if and only if the next operator is `try`, `catch` or
+/// `catch_all` without its feature. Its offset is that of the opcode.
 pub fn features_required(features: WasmFeatures, frame: FrameKind)
     ensures only { (name : InstructionName) (r : Reader) (offset : ℕ)
         → OperatorFault features frame (Message.FeatureRequired name) r offset
@@ -42,8 +42,9 @@ pub fn features_required(features: WasmFeatures, frame: FrameKind)
         → OperatorFault features frame (Message.FeatureRequired (instruction_behind g)) r (offset_of r) }
 {}
 
-/// `WrongFrame` is answered of `else`, `catch`, `catch_all` and `delegate`, behind their opcode, where
-/// the innermost frame does not allow them and no feature is wanting; and of nothing else.
+/// States that `WrongFrame` is returned for `else`, `catch`, `catch_all` and `delegate` only. It is
+/// returned if and only if the feature is enabled and the innermost frame does not allow the
+/// operator. Its offset is one byte after the opcode.
 pub fn wrong_frames(features: WasmFeatures, frame: FrameKind)
     ensures only { (name : InstructionName) (wanted : FrameName) (r : Reader) (offset : ℕ)
         → OperatorFault features frame (Message.WrongFrame name wanted) r offset
@@ -53,9 +54,9 @@ pub fn wrong_frames(features: WasmFeatures, frame: FrameKind)
         → OperatorFault features frame (Message.WrongFrame (instruction_behind g) (frame_behind g)) r (offset_of r + 1) }
 {}
 
-/// Where reading or visiting to the end is refused, the message tells whether a frame is open:
-/// allocation failure aside, it is `OperatorsRemaining` exactly where none is; and it is `FramesRemain`
-/// exactly where one is and all data is taken.
+/// States that, when reading or visiting to the end fails, the message says whether a frame is
+/// open. Unless allocation fails, it is `OperatorsRemaining` if and only if no frame is open.
+/// It is `FramesRemain` if and only if a frame is open and all data was read.
 pub fn run_messages()
     ensures closed { (e : Error) (s : State) → StopsRun EncodesAllowed OperatorFault Anywhere e s
         → (e.message ≡ Message.OutOfMemory → ⊥) → (e.message ≡ Message.OperatorsRemaining) ↔ (s.frames ≡ []) }
@@ -75,8 +76,8 @@ pub fn run_messages()
         → (e.message ≡ Message.FramesRemain) ↔ ((rest s.reader ≡ []) × (s.frames ≡ [] → ⊥)) }
 {}
 
-/// Where memory is refused, the next operator may ask for it: it opens a frame for which no room is
-/// left, or it owns a list.
+/// States that if an allocation fails, the next operator may allocate: it opens a frame for which
+/// no capacity is left, or it owns a list.
 pub fn memory_asked()
     ensures read { (e : Error) (s : State) → StopsRead EncodesAllowed OperatorFault (NextMayAllocate EncodesAllowed) e s
         → e.message ≡ Message.OutOfMemory → NextMayAllocate EncodesAllowed s }

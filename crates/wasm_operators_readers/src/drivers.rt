@@ -18,7 +18,7 @@ use wasm_decode::instr::Operator;
 use wasm_decode::visitors::{HoldTable, VisitOperator, VisitSimdOperator};
 
 impl<'a> OperatorsReader<'a> {
-    /// Reads up to the end of the data or a refusal, and finishes. The items are added to this list.
+    /// Reads to the end of the data or to an error, and finishes. Appends the items to `out`.
     fn read_to_end<T>(&mut self, out: &mut Vec<(T, u64)>) -> Result<()>
     where
         T: HoldTable<'a> + Drop,
@@ -36,37 +36,40 @@ impl<'a> OperatorsReader<'a> {
         answer
     }
 
-    /// Reads all operators up to the end of the data or a refusal, and finishes. They are added to
+    /// Reads all operators to the end of the data or to an error, and finishes. Appends them to
     /// `out` with their offsets.
     ///
-    /// Refusals are those of `read` and `finish`; `OutOfMemory` also where `out` can't grow, at the
-    /// position. The reader then stands behind what was added, and the call can be made again.
+    /// Fails as `read` and `finish` do, and with `OutOfMemory` at the position if `out` can't grow.
+    /// The reader is then after the operators that were added, and the call can be repeated.
     ///
-    /// The clause `rest` is of a reader that has read operators before, and puts these before the
-    /// list. Before a new one none stood (`OperatorsReader::new`, clause `stood`).
+    /// The clause `rest` is for a reader that has already read operators; `before` lists them. For
+    /// a new reader this list is empty (`OperatorsReader::new`, clause `stood`).
     ///
     /// # Examples
     ///
-    /// What this answers of bytes that encode an expression is its walk, unless memory is refused;
-    /// a caller has it from `read_all.ensures.rest [] (new.ensures.stood)`, fields `tree` and `only`.
+    /// If the bytes encode an expression, the call appends its walk, unless allocation fails. A
+    /// caller proves this with `read_all.ensures.rest [] (new.ensures.stood)`, fields `tree` and
+    /// `only`.
     ///
     /// ```
     /// let mut found = Vec::new(alloc);
     /// OperatorsReader::new(alloc, BinaryReader::new(bytes, 0)).read_all(&mut found)?;
     /// ```
     pub fn read_all(&mut self, out: &mut Vec<(Operator<'a>, u64)>) -> Result<()>
-        // On Ok what was added is the walk of the one tree that the bytes encode; else the longest beginning of one.
+        // On `Ok`, the added operators are the walk of the one tree that the bytes encode;
+        // otherwise they are the longest prefix of one.
         ensures rest { (before : List Operator) → StoodBefore before self.old
             → ReadsRest (Adds out.old.items out.new.items) IsAny EncodesAllowed OperatorFault Anywhere
             before result self.old self.new }
-        // Whatever was read before: which operators were added, where the reader stands, and why no more came.
+        // After any earlier reads: which operators were added, where the reader is, and why reading
+        // ended.
         ensures runs { RunsToEnd (Adds out.old.items out.new.items) EncodesAllowed OperatorFault Anywhere
             result self.old self.new }
         // The same without trees, by the frames alone.
         ensures flat { ReadsFlat (Adds out.old.items out.new.items) IsAny result self.old }
-        // Few frames are opened.
+        // The number of added frames, doubled, is at most the number of bytes that were read.
         ensures depth { IsWithinDepth self.old self.new }
-        // Memory is refused only where one read may ask for it, or where `out` is full.
+        // Allocation fails only if one read may allocate, or if `out` is full.
         ensures memory { IfErr result
             (λ e. e.message ≡ Message.OutOfMemory
             → NextMayAllocate EncodesAllowed self.new ⊎ (vec_capacity out.new < vec_len out.new + 1)) }
@@ -74,63 +77,67 @@ impl<'a> OperatorsReader<'a> {
         self.read_to_end(out)
     }
 
-    /// Visits all operators up to the end of the data or a refusal, vector operators too, and
-    /// finishes. What the visits answer is not kept.
+    /// Visits all operators to the end of the data or to an error, SIMD operators too, and
+    /// finishes. Drops the results of the visits.
     ///
-    /// Refusals are those of `visit_operator_simd` and `finish`. The reader then stands behind what
-    /// was visited, and the call can be made again. The clauses are those of `read_all`, of what was
-    /// visited.
+    /// Fails as `visit_operator_simd` and `finish` do. The reader is then after the operators that
+    /// were visited, and the call can be repeated. The clauses are those of `read_all`, about
+    /// visits.
     ///
     /// # Examples
     ///
     /// ```
     /// let mut count = Count { operators: 0 };
-    /// let mut reader = OperatorsReader::new(alloc, BinaryReader::new_features(bytes, 0, features));
+    /// let mut reader = OperatorsReader::new(alloc, BinaryReader::new_features(bytes, 0,
+    /// features));
     /// reader.visit_all_simd(&mut count)?;
     /// ```
     pub fn visit_all_simd<V>(&mut self, v: &mut V) -> Result<()>
     where
         V: VisitOperator<'a> + VisitSimdOperator,
         V::Output: Copy,
-        // On Ok the visitor went along the walk of the one tree that the bytes encode; else along the longest beginning
-        // of one.
+        // On `Ok`, the visitor ran along the walk of the one tree that the bytes encode; otherwise
+        // along the longest prefix of one.
         ensures rest { (before : List Operator) → StoodBefore before self.old
             → ReadsRest (Visited V.visits v.old v.new) IsAny EncodesAllowed OperatorFault
             (NextMayAllocate EncodesAllowed)
             before result self.old self.new }
-        // Whatever was read before: which operators were visited, where the reader stands, and why no more came.
+        // After any earlier reads: which operators were visited, where the reader is, and why
+        // reading ended.
         ensures runs { RunsToEnd (Visited V.visits v.old v.new) EncodesAllowed OperatorFault
             (NextMayAllocate EncodesAllowed)
             result self.old self.new }
         // The same without trees, by the frames alone.
         ensures flat { ReadsFlat (Visited V.visits v.old v.new) IsAny result self.old }
-        // Few frames are opened.
+        // The number of added frames, doubled, is at most the number of bytes that were read.
         ensures depth { IsWithinDepth self.old self.new }
     {
         self.visit_to_end_simd(v)
     }
 
-    /// Visits all operators up to the end of the data, a vector operator or another refusal, and
-    /// finishes. What the visits answer is not kept.
+    /// Visits all operators to the end of the data, to a SIMD operator or to another error, and
+    /// finishes. Drops the results of the visits.
     ///
-    /// Refusals are those of `visit_operator` and `finish`. The reader then stands behind what was
-    /// visited, and the call can be made again. The clauses are those of `read_all`, of what was
-    /// visited, where lists without vector operators are kept.
+    /// Fails as `visit_operator` and `finish` do. The reader is then after the operators that were
+    /// visited, and the call can be repeated. The clauses are those of `read_all`, about visits of
+    /// lists without SIMD operators.
     pub fn visit_all<V: VisitOperator<'a>>(&mut self, v: &mut V) -> Result<()>
     where
         V::Output: Copy,
-        // On Ok the visitor went along the walk of the one tree that the bytes encode, which has no vector operator;
-        // else along the longest beginning of one that has none, and a vector operator behind it is refused as such.
+        // On `Ok`, the visitor ran along the walk of the one tree that the bytes encode, which has
+        // no SIMD operator.
+        // Otherwise it ran along the longest prefix of one without SIMD operators. The error for a
+        // SIMD operator after it is `UnexpectedSimd`.
         ensures rest { (before : List Operator) → StoodBefore before self.old
             → ReadsRest (VisitedScalar V.visits v.old v.new) IsScalar EncodesScalar ScalarOperatorFault
             (NextMayAllocate EncodesScalar) before result self.old self.new }
-        // Whatever was read before: which operators were visited, none a vector operator, where the reader stands, and
-        // why no more came.
+        // After any earlier reads: which operators were visited, none of them a SIMD operator,
+        // where the reader is, and why reading ended.
         ensures runs { RunsToEnd (VisitedScalar V.visits v.old v.new) EncodesScalar ScalarOperatorFault
             (NextMayAllocate EncodesScalar) result self.old self.new }
         // The same without trees, by the frames alone.
         ensures flat { ReadsFlat (VisitedScalar V.visits v.old v.new) IsScalar result self.old }
-        // Few frames are opened.
+        // The number of added frames, doubled, is at most the number of bytes that were read.
         ensures depth { IsWithinDepth self.old self.new }
     {
         self.visit_to_end(v)

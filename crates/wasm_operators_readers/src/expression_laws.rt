@@ -1,5 +1,5 @@
-//! Laws of expressions, of their beginnings, and of what visitors are handed. Each is the contract of
-//! a function that does nothing.
+//! Laws about expressions, their prefixes, and what visitors receive. Each is the contract of a
+//! function that does nothing.
 ghost use Rattle.std.specs.Prelude.{◌≡◌, ◌↔◌, ◌*◌, ◌<◌, ◌≤◌, ℕ, List, [], ◌∷◌, ◌++◌, ◌+◌, length};
 ghost use Rattle.wasm_decode.specs.below.Source.{Source, Reader, source_of, offset_of, Takes, BeginsWith};
 ghost use Rattle.wasm_decode.specs.grammar.declared.frame_kind.FrameKind.{FrameKind};
@@ -16,9 +16,10 @@ ghost use Rattle.wasm_operators_readers.specs.Visiting.{scalar_beginning, IsScal
 
 use wasm_decode::below::WasmFeatures;
 
-/// Of two lists that are laid out at the start of the same bytes, the one that is not longer is a
-/// beginning of the other; and lists of one length are the same, in the same bytes. For no encoding
-/// of an operator is a proper prefix of another's, and one encoding belongs to one operator.
+/// States that if two lists are encoded at the start of the same bytes, the list that is not longer
+/// is a prefix of the other. Lists of the same length are equal, and so are their bytes.
+/// The reason: no encoding of an operator is a proper prefix of another encoding, and an encoding
+/// belongs to one operator.
 pub fn one_layout(features: WasmFeatures)
     ensures beginning { BeginsLonger features }
     ensures same { (offset : ℕ) (first second : Placed) (a b x y : List ℕ)
@@ -27,8 +28,10 @@ pub fn one_layout(features: WasmFeatures)
         → (first ≡ second) × (a ≡ b) × (x ≡ y) }
 {}
 
-/// A list that is laid out is no longer than its bytes, and its operators have encodings; and where it
-/// is two lists, one behind the other, so are its bytes.
+/// States that a list is no longer than the bytes that encode it, and that its operators have
+/// encodings.
+/// If a list is the join of two lists, its bytes are the join of their encodings, and the other way
+/// round.
 pub fn layouts(features: WasmFeatures)
     ensures length { IsNoLonger features }
     ensures encoded { HasEncodings features }
@@ -37,8 +40,8 @@ pub fn layouts(features: WasmFeatures)
     ensures joined { LaysOutBoth features }
 {}
 
-/// Each operator of a list that is laid out ends where the next begins, and the last where the bytes
-/// do; of a list that was read, where the reader stands.
+/// States that the encoding of each operator of an encoded list ends where the next starts, and the
+/// last where the bytes end. After a list was read, that is the reader's position.
 pub fn ranges(features: WasmFeatures)
     ensures next { (offset : ℕ) (before after : Placed) (p q : Operator × ℕ) (bytes : List ℕ)
         → LaidOut features offset (before ++ p ∷ q ∷ after) bytes → EndsAt features p q.1 }
@@ -48,8 +51,8 @@ pub fn ranges(features: WasmFeatures)
         → LaidOut old.features (offset_of old) (before ++ p ∷ []) text → EndsAt old.features p (offset_of new) }
 {}
 
-/// No encoding of an expression is a proper prefix of another's, and one encoding belongs to one
-/// list of operators.
+/// States that no encoding of an expression is a proper prefix of another, and that an encoding
+/// belongs to one list of operators.
 pub fn one_expression(features: WasmFeatures)
     ensures { (offset : ℕ) (first second : Placed) (a b x y : List ℕ)
         → EncodesExpression (record { features = features; offset = offset; bytes = a }) first
@@ -57,14 +60,16 @@ pub fn one_expression(features: WasmFeatures)
         → a ++ x ≡ b ++ y → (first ≡ second) × (a ≡ b) }
 {}
 
-/// The longest list that some prefix of the bytes encodes and that begins an expression is unique.
+/// States that the longest list that a prefix of the bytes encodes and that begins an expression is
+/// unique.
 pub fn one_longest_beginning()
     ensures { (s : Source) (first second : Placed)
         → IsLongestBeginning s first → IsLongestBeginning s second → first ≡ second }
 {}
 
-/// A longest beginning exists, behind the operators that a reader stands behind, and one without vector
-/// operators; by frames alone too. That no list is one can't be: which one is, `read_all` finds out.
+/// States that a longest list exists after the operators that a reader has read, and a longest one
+/// without SIMD operators; also by frames alone. The law says that there can't be none; `read_all`
+/// finds the list.
 pub fn longest_exists()
     ensures any { (before : List Operator) (s : State) → StoodBefore before s
         → ¬ ((placed : Placed) → ¬ IsLongestBehind before (source_of s.reader) placed) }
@@ -75,18 +80,20 @@ pub fn longest_exists()
         → ¬ ((placed : Placed) → ¬ IsFlatOf IsScalar frames s placed) }
 {}
 
-/// What the bytes encode whole is the longest beginning, behind the operators before it.
+/// States that a list which all of the bytes encode as the rest of an expression is the longest
+/// after the operators before it.
 pub fn whole_is_longest()
     ensures { (before : List Operator) (s : Source) (whole : Placed)
         → AreEncoded s.features before → EncodesRest before s whole → IsLongestBehind before s whole }
 {}
 
-/// It is the longest of which each operator is allowed by the frame that those before it have left.
+/// States that the longest list which begins an expression is the longest that the frames allow.
+/// Each of its operators is allowed by the frame that the operators before it leave.
 pub fn flat_beginnings()
     ensures { (s : Source) (placed : Placed) → IsFlatBeginning s placed ↔ IsLongestBeginning s placed }
 {}
 
-/// The scalar beginning of a list is the longest one that has no vector operator.
+/// States that the scalar prefix of a list is the longest prefix without SIMD operators.
 pub fn scalar_beginnings()
     ensures beginning { (placed : Placed) → IsBeginningOf (scalar_beginning placed) placed }
     ensures none { (placed before after : Placed) (op : Operator) (at : ℕ)
@@ -95,9 +102,11 @@ pub fn scalar_beginnings()
         → IsBeginningOf others placed → IsScalar others → IsBeginningOf others (scalar_beginning placed) }
 {}
 
-/// The longest beginning without vector operators is the scalar beginning of the longest one, and each
-/// beginning without them is a beginning of that; by frames alone too. That it takes all of the bytes
-/// and closes every frame, the longest does where it is scalar.
+/// States that the longest list without SIMD operators which begins an expression is the scalar
+/// prefix of the longest list. Each list without SIMD operators which begins one is a prefix of it.
+/// The same holds by frames alone.
+/// All of the bytes encode the scalar prefix and it closes every frame, if and only if the longest
+/// list is scalar and does so.
 pub fn scalar_longest()
     ensures exactly { (before : List Operator) (s : Source) (longest placed : Placed) → IsLongestBehind before s longest
         → IsLongestOf IsScalar before s placed ↔ (placed ≡ scalar_beginning longest) }
@@ -109,8 +118,9 @@ pub fn scalar_longest()
         → ClosesFrom frames s (scalar_beginning flat) ↔ (ClosesFrom frames s flat × IsScalar flat) }
 {}
 
-/// Twice the frames that an operator opens is at most the bytes that it takes; and it opens one
-/// exactly where the first of these is the opcode of `block`, `loop`, `if`, `try` or `try_table`.
+/// States that the number of frames that an operator opens, doubled, is at most the number of its
+/// bytes. It opens one if and only if its first byte is the opcode of `block`, `loop`, `if`, `try`
+/// or `try_table`.
 pub fn frames_opened(features: WasmFeatures)
     ensures half { (op : Operator) (text : List ℕ) → EncodesOperator features op text → 2 * opened_by op ≤ length text }
     ensures leads { (op : Operator) (text : List ℕ) → EncodesOperator features op text

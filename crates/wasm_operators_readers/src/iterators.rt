@@ -1,4 +1,4 @@
-//! Operators by iterators, alone and with the offsets at which they begin.
+//! Iterators over operators, alone or with the offsets of their first bytes.
 ghost use Rattle.std.specs.Prelude.{◌≡◌, ◌≤◌};
 ghost use Rattle.wasm_operators_readers.specs.Next.{ReadsNext};
 ghost use Rattle.wasm_operators_readers.specs.Stack.{frame_memory};
@@ -11,8 +11,8 @@ use wasm_decode::below::Result;
 use wasm_decode::instr::Operator;
 
 impl<'a> OperatorsReader<'a> {
-    /// The next operator, with the original position at which it begins. It is read as by `read`,
-    /// and refused as there.
+    /// Reads the next operator and returns it with the original position of its first byte. Fails
+    /// as `read` does.
     #[inline(always)]
     pub fn read_with_offset(&mut self) -> Result<(Operator<'a>, u64)>
         ensures { ReadsNextPlaced result self.old self.new }
@@ -24,7 +24,8 @@ impl<'a> OperatorsReader<'a> {
         }
     }
 
-    /// The operators one after another, each with the original position at which it begins.
+    /// Converts the reader into an iterator over operators, each with the original position of its
+    /// first byte.
     pub fn into_iter_with_offsets(self) -> OperatorsIteratorWithOffsets<'a>
         ensures { result ≡ iterating_over self.entry }
     {
@@ -50,10 +51,10 @@ impl<'a> IntoIterator for OperatorsReader<'a> {
     }
 }
 
-/// The operators of a reader, one after another.
+/// An iterator over the operators of a reader.
 ///
-/// Each item is one `read`. It ends where all data is taken and behind an `Err`, and does not ask
-/// whether frames are open then. Contracts see the reader, and whether a read was refused.
+/// Each item is one `read`. The iterator ends at the end of the data and after an `Err`, and does
+/// not check whether frames are open then. Contracts see the reader, and whether a read failed.
 #[derive(Drop)]
 pub struct OperatorsIterator<'a> {
     reader: OperatorsReader<'a>,
@@ -69,7 +70,7 @@ impl<'a> Model for OperatorsIterator<'a> {
 }
 
 impl<'a> OperatorsIterator<'a> {
-    /// The memory of the frames, for another reader.
+    /// Returns the memory of the frames, for another reader.
     pub fn into_allocations(self) -> OperatorsReaderAllocations
         ensures { result ≡ frame_memory self.entry.reader.frames self.entry.reader.room }
     {
@@ -96,11 +97,11 @@ impl<'a> Iterator for OperatorsIterator<'a> {
     }
 }
 
-/// The operators of a reader, one after another, each with the original position at which it begins.
+/// An iterator over the operators of a reader, each with the original position of its first byte.
 ///
-/// Each item is one `read_with_offset`. It ends where all data is taken and behind an `Err`, and
-/// does not ask whether frames are open then. Contracts see the reader, and whether a read was
-/// refused.
+/// Each item is one `read_with_offset`. The iterator ends at the end of the data and after an
+/// `Err`, and does not check whether frames are open then. Contracts see the reader, and whether a
+/// read failed.
 #[derive(Drop)]
 pub struct OperatorsIteratorWithOffsets<'a> {
     reader: OperatorsReader<'a>,
@@ -116,7 +117,7 @@ impl<'a> Model for OperatorsIteratorWithOffsets<'a> {
 }
 
 impl<'a> OperatorsIteratorWithOffsets<'a> {
-    /// The memory of the frames, for another reader.
+    /// Returns the memory of the frames, for another reader.
     pub fn into_allocations(self) -> OperatorsReaderAllocations
         ensures { result ≡ frame_memory self.entry.reader.frames self.entry.reader.room }
     {

@@ -1,4 +1,4 @@
-//! Laws of reads, visits and drivers. Each is the contract of a function that does nothing.
+//! Laws about reads, visits and drivers. Each is the contract of a function that does nothing.
 ghost use Rattle.std.specs.Prelude.{◌≡◌, ◌≢◌, List};
 ghost use Rattle.wasm_decode.specs.below.bytes.error.Error.{Error};
 ghost use Rattle.wasm_decode.specs.instr.declared.operator.Operator.{Operator};
@@ -12,8 +12,8 @@ ghost use Rattle.wasm_operators_readers.specs.Visiting.{IsScalar};
 
 use wasm_decode::below::Message;
 
-/// A read or a visit that was refused is refused again, by the same message and at the same offset,
-/// allocation failure aside.
+/// States that a read or a visit that fails, and is repeated, fails with the same message at the
+/// same offset, unless allocation fails.
 pub fn refused_again()
     ensures any { (d e : Error) (old mid new : State)
         → StopsNext EncodesAllowed OperatorFault d old mid → d.message ≢ Message.OutOfMemory
@@ -25,7 +25,8 @@ pub fn refused_again()
         → (d.message ≡ e.message) × (d.offset ≡ e.offset) }
 {}
 
-/// What was refused is not taken when the same read is made again, allocation failure aside.
+/// States that repeating a read that failed reads no operator, unless the failure was an allocation
+/// failure.
 pub fn not_taken()
     ensures any { (e : Error) (old mid new : State) (op : Operator)
         → StopsNext EncodesAllowed OperatorFault e old mid → e.message ≢ Message.OutOfMemory
@@ -35,9 +36,10 @@ pub fn not_taken()
         → ¬ TakesOperator EncodesScalar op mid new }
 {}
 
-/// Two reads or visits from readers that stand alike answer alike, allocation failure aside: they take
-/// the same operator, or are refused by one message at one offset; and they stand alike then. Where
-/// one takes an operator, the other is refused for memory alone.
+/// States that two reads or visits from readers at one place with the same frames have the same
+/// result, unless allocation fails. They read the same operator or return the same message and
+/// offset, and are at one place again.
+/// If one reads an operator, the other can fail with `OutOfMemory` only.
 pub fn same_answer()
     ensures taken { (op other : Operator) (old new start end : State) → StandAlike old start
         → TakesOperator EncodesAllowed op old new → TakesOperator EncodesAllowed other start end
@@ -61,9 +63,9 @@ pub fn same_answer()
         → e.message ≡ Message.OutOfMemory }
 {}
 
-/// Where reading or visiting to the end is refused, the whole answer is determined, allocation
-/// failure aside: which operators came, where the reader stands, which frames are open, and message
-/// and offset.
+/// States that when reading or visiting to the end fails, the whole result is determined, unless
+/// allocation fails: the operators, the reader's place, the open frames, the message and the
+/// offset.
 pub fn one_answer()
     ensures reads { (before : List Operator) (d e : Error) (old new end : State) (placed others : Placed)
         → ReadsBeginning IsAny EncodesAllowed OperatorFault Anywhere before d old new placed

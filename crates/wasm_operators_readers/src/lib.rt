@@ -1,8 +1,11 @@
-//! The reader of operators: one read or visit after another, with the stack of open frames, the
-//! calls that read or visit to the end of the data, and iterators over operators.
+//! The reader of operators, with its stack of open frames: one read or visit after another, the
+//! calls that read or visit to the end of the data, and iterators.
 //!
-//! `specs/` has what an expression is (`Expression`), what one read does (`Next`), what several do
-//! (`Reading`), and what that says of the recursive grammar (`Headline`).
+//! Every call that allocates may fail with `OutOfMemory`. The reader and its open frames are then
+//! as after the last operator that was read.
+//!
+//! `specs/` defines what an expression is (`Expression`), what one read does (`Next`) and what
+//! several do (`Reading`). `Headline` says what that means for the grammar of expressions.
 #![tactic(auto)]
 
 mod allocations;

@@ -1,8 +1,8 @@
-//! The next operator of a reader with its stack of open frames, visited, and all that follow up to the end
-//! of the data.
+//! Visiting the next operator of a reader with its stack of open frames, and all operators to the
+//! end of the data.
 //!
-//! Reader and stack are lent apart, so that a loop can hold the reader in a variable of its own: that stays
-//! in registers, as long as no call out of line is lent it.
+//! The reader and the stack are borrowed separately, so that a loop can hold the reader in a local
+//! variable. That variable stays in registers as long as no call out of line borrows it.
 ghost use Rattle.std.specs.Prelude.{◌≡◌, ◌+◌, ◌<◌, ◌⊎◌, IfErr, vec_capacity, vec_len};
 ghost use Rattle.wasm_decode.specs.opcodes.Allowed.{EncodesAllowed, EncodesScalar};
 ghost use Rattle.wasm_decode.specs.opcodes.OperatorFaults.{OperatorFault, ScalarOperatorFault};
@@ -20,7 +20,7 @@ use wasm_decode::below::{BinaryReader, Error, Message, Result};
 use wasm_decode::visitors::{HoldTable, VisitOperator, VisitSimdOperator};
 use wasm_decode::{visit_behind, visit_behind_simd, visit_below_0x20};
 
-/// Visits the next operator, a vector operator too.
+/// Visits the next operator, which may be a SIMD operator.
 #[inline(always)]
 pub fn visit_next_simd<'a, V>(
     v: &mut V,
@@ -50,7 +50,7 @@ where
     }
 }
 
-/// Visits the next operator, which is no vector operator.
+/// Visits the next operator. A SIMD operator is an error.
 #[inline(always)]
 pub fn visit_next<'a, V: VisitOperator<'a>>(
     v: &mut V,
@@ -78,7 +78,7 @@ pub fn visit_next<'a, V: VisitOperator<'a>>(
     }
 }
 
-/// Whether all frames are closed and all data is taken.
+/// Checks that all frames are closed and all data was read.
 pub fn finish(reader: &BinaryReader<'_>, control: &ControlStack) -> Result<()>
     ensures { Finishes result (state_of reader.now control.now) }
 {
@@ -92,7 +92,7 @@ pub fn finish(reader: &BinaryReader<'_>, control: &ControlStack) -> Result<()>
     Ok(())
 }
 
-/// Visits up to the end of the data or a refusal, and finishes.
+/// Visits to the end of the data or to an error, and finishes.
 #[inline(always)]
 pub fn visit_rest_simd<'a, V>(
     v: &mut V,
@@ -115,7 +115,7 @@ where
     finish(reader, control)
 }
 
-/// Visits up to the end of the data, a vector operator or another refusal, and finishes.
+/// Visits to the end of the data, to a SIMD operator or to another error, and finishes.
 #[inline(always)]
 pub fn visit_rest<'a, V: VisitOperator<'a>>(
     v: &mut V,
@@ -137,10 +137,10 @@ where
     finish(reader, control)
 }
 
-/// Visits up to the end of the data or a refusal, and finishes. Each visit adds an item to the list,
-/// where it is made: an operator that is read is copied there.
+/// Visits to the end of the data or to an error, and finishes. Each visit appends an item that is
+/// made in place in the list; an operator that is read would be copied there.
 ///
-/// It is generic over the items, since the prover compares all calls of a visitor that is known.
+/// The function is generic over the items, since the prover compares all calls of a known visitor.
 #[inline(always)]
 pub fn collect_rest<'a, T>(
     list: &mut Collector<T>,

@@ -20,10 +20,10 @@ use wasm_decode::instr::Operator;
 use wasm_decode::read_behind;
 use wasm_decode::visitors::{VisitOperator, VisitSimdOperator};
 
-/// Reads the operators of an expression one after another, and keeps the kinds of the open frames.
+/// A reader of the operators of an expression, with the kinds of the open frames.
 ///
 /// Contracts see the reader of the bytes, the open frames from the outermost to the innermost, and
-/// the room: how many frames more can be opened without asking for memory.
+/// the field `room`: how many more frames can be opened without allocating.
 #[derive(Drop)]
 pub struct OperatorsReader<'a> {
     alloc: Global,
@@ -40,8 +40,8 @@ impl<'a> Model for OperatorsReader<'a> {
 }
 
 impl<'a> OperatorsReader<'a> {
-    /// A reader of the expression that begins where this reader stands: one frame is open, and no
-    /// operator stood before it. It takes no memory.
+    /// Creates a reader of the expression that starts at the position of `reader`. One frame is
+    /// open, and no operator was read before. Does not allocate.
     ///
     /// # Examples
     ///
@@ -56,7 +56,8 @@ impl<'a> OperatorsReader<'a> {
         OperatorsReader::new_with_allocs(alloc, reader, OperatorsReaderAllocations::new(alloc))
     }
 
-    /// The same with the memory of another reader. It takes no memory, and uses none of the room.
+    /// Creates a reader like `new`, with the memory of another reader. Does not allocate, and uses
+    /// none of the capacity.
     pub fn new_with_allocs(
         alloc: Global,
         reader: BinaryReader<'a>,
@@ -74,7 +75,7 @@ impl<'a> OperatorsReader<'a> {
         }
     }
 
-    /// The memory of the frames, for another reader.
+    /// Returns the memory of the frames, for another reader.
     pub fn into_allocations(self) -> OperatorsReaderAllocations
         ensures { result ≡ frame_memory self.entry.frames self.entry.room }
     {
@@ -82,14 +83,14 @@ impl<'a> OperatorsReader<'a> {
         control.into_allocations()
     }
 
-    /// The reader of the bytes, where it stands.
+    /// Returns a copy of the reader of the bytes, at its current position.
     pub fn get_binary_reader(&self) -> BinaryReader<'a>
         ensures { result ≡ self.now.reader }
     {
         self.reader.clone()
     }
 
-    /// Whether no byte is left.
+    /// Returns whether the reader is at the end of the data.
     #[inline(always)]
     pub fn eof(&self) -> bool
         ensures { IsTrue result ↔ (rest self.now.reader ≡ []) }
@@ -97,7 +98,7 @@ impl<'a> OperatorsReader<'a> {
         self.reader.eof()
     }
 
-    /// The offset of the next byte.
+    /// Returns the offset of the next byte.
     #[inline(always)]
     pub fn original_position(&self) -> u64
         ensures { result ≡ offset_of self.now.reader }
@@ -105,20 +106,22 @@ impl<'a> OperatorsReader<'a> {
         self.reader.original_position()
     }
 
-    /// Whether what is left is the byte of one `end`.
+    /// Returns whether the rest is the one byte of `end`.
     pub fn is_end_then_eof(&self) -> bool
         ensures { IsTrue result ↔ (rest self.now.reader ≡ 0x0b ∷ []) }
     {
         self.reader.is_end_then_eof()
     }
 
-    /// The next operator, a vector operator too: `Ok` exactly where a frame is open and a prefix of
-    /// the rest encodes an operator that the innermost frame allows, memory aside. That prefix is
-    /// taken, and the frames step.
+    /// Reads the next operator, which may be a SIMD operator. The prefix that encodes it is
+    /// consumed, and the open frames change as its role requires. Returns `Ok` if and only if a
+    /// prefix of the rest encodes an operator that the innermost open frame allows, unless
+    /// allocation fails.
     ///
-    /// `OperatorsRemaining` where no frame is open; else what `docs/REFUSALS.md` says of operators.
-    /// `OutOfMemory` at the position, where the operator opens a frame and no room is left, or where
-    /// it owns a list. On an error reader and frames are unchanged; there may be more room.
+    /// Fails with `OperatorsRemaining` if no frame is open; otherwise as
+    /// `docs/ERRORS-AND-FEATURES.md` says for operators. May fail with `OutOfMemory` at the
+    /// position, but only if the operator opens a frame and no capacity is left, or owns a list. On
+    /// an error the reader and the frames are unchanged; the capacity may have grown.
     ///
     /// # Examples
     ///
@@ -146,9 +149,9 @@ impl<'a> OperatorsReader<'a> {
         }
     }
 
-    /// Visits the next operator, a vector operator too: as `read`, with the answer of the visit.
+    /// Visits the next operator, which may be a SIMD operator, and returns the result of the visit.
     ///
-    /// Refusals are those of `read`; then no visit was made.
+    /// Fails as `read` does; then no visit was made.
     ///
     /// # Examples
     ///
@@ -165,9 +168,10 @@ impl<'a> OperatorsReader<'a> {
         visit_next_simd(v, self.alloc, &mut self.reader, &mut self.control)
     }
 
-    /// Visits the next operator, which is no vector operator.
+    /// Visits the next operator and returns the result of the visit.
     ///
-    /// `UnexpectedSimd` at the position where the byte 0xfd stands; else as `visit_operator_simd`.
+    /// Fails with `UnexpectedSimd` at the position if the next byte is 0xfd; otherwise as
+    /// `visit_operator_simd` does.
     #[inline(always)]
     pub fn visit_operator<V: VisitOperator<'a>>(&mut self, v: &mut V) -> Result<V::Output>
         ensures { VisitsNextScalar V.visits result self.old self.new v.old v.new }
@@ -175,10 +179,10 @@ impl<'a> OperatorsReader<'a> {
         visit_next(v, self.alloc, &mut self.reader, &mut self.control)
     }
 
-    /// Whether all frames are closed and all data is taken.
+    /// Checks that all frames are closed and all data was read.
     ///
-    /// `FramesRemain` where a frame is open, else `UnexpectedData` where a byte is left; both at the
-    /// position.
+    /// Fails with `FramesRemain` if a frame is open, otherwise with `UnexpectedData` if a byte is
+    /// left; both at the position.
     ///
     /// # Examples
     ///

@@ -1,4 +1,4 @@
-//! Laws of readers of operators. Each is the contract of a function that does nothing.
+//! Laws about readers of operators. Each is the contract of a function that does nothing.
 ghost use Rattle.std.specs.Prelude.{◌≡◌, [], ◌∷◌, ◌++◌, ◌+◌, List, Err};
 ghost use Rattle.wasm_decode.specs.below.bytes.error.Error.{Error};
 ghost use Rattle.wasm_decode.specs.below.Source.{rest, source_of};
@@ -13,13 +13,15 @@ ghost use Rattle.wasm_operators_readers.specs.Headline.{StoodBefore, ReadsTree, 
 
 use wasm_decode::below::Message;
 
-/// Before a reader that has read nothing, no operator stood.
+/// States that no operator was read before a new reader.
 pub fn fresh_readers()
     ensures { (s : State) → IsFresh s → StoodBefore [] s }
 {}
 
-/// Behind one operator that was taken it stands with those before it; behind a refusal these stand
-/// alone. So the clauses of `read_all` and its kin are of use behind single reads and visits too.
+/// States which operators were read before the reader: after a successful read, those before it and
+/// the operator; after an error, those before it.
+/// So the clauses of `read_all` and the other drivers can be used after single reads and visits
+/// too.
 pub fn one_operator()
     ensures any { (before : List Operator) (op : Operator) (old new : State)
         → TakesOperator EncodesAllowed op old new → StoodBefore before old → StoodBefore (before ++ op ∷ []) new }
@@ -29,22 +31,24 @@ pub fn one_operator()
         → IsUnchanged old new → StoodBefore before old → StoodBefore before new }
 {}
 
-/// Twice the frames that one operator added is at most the bytes that it took.
+/// States that the number of frames that one operator added, doubled, is at most the number of
+/// bytes that were read.
 pub fn one_depth()
     ensures any { AddsFewFrames }
     ensures scalar { (op : Operator) (old new : State) → TakesOperator EncodesScalar op old new
         → IsWithinDepth old new }
 {}
 
-/// The memory of the frames stays little over one step and another, where the first opened no more
-/// frames than half of its bytes: as every read and visit does.
+/// States that the bound on the memory of the frames holds over two steps, if the first opened no
+/// more frames than half of its bytes. Every read and visit does so.
 pub fn memory_adds_up()
     ensures { MemoryAddsUp }
 {}
 
-/// Single reads, one behind the other, take a list: before the first it is empty, each that is taken
-/// adds its operator, at the offset where the reader stood, and one that is refused adds none. Each
-/// that is taken takes a byte at the least. And the lists of two runs of reads are one list.
+/// States that single reads, one after the other, read a list. Before the first the list is empty;
+/// a successful read appends its operator, with the offset at which the reader was; an error
+/// appends none.
+/// Each successful read consumes at least one byte. The lists of two runs of reads form one list.
 pub fn single_reads()
     ensures first { TakesNone }
     ensures next { TakesOneMore }
@@ -53,10 +57,11 @@ pub fn single_reads()
     ensures progress { TakesBytes }
 {}
 
-/// What single reads took, up to the end of the data or a refusal, is what `read_all` takes: where the
-/// data and the frames end it is the walk of the one tree, else the longest beginning of one; and
-/// where the bytes encode the rest of an expression, memory alone is refused. At the end of the data
-/// `finish` refuses frames that are left open, and nothing else.
+/// States that single reads to the end of the data or to an error read what `read_all` reads. If
+/// the data and the frames end, it is the walk of the one tree; otherwise the longest prefix of
+/// one.
+/// If the bytes encode the rest of an expression, only allocation can fail. At the end of the data,
+/// `finish` fails for open frames and for nothing else.
 pub fn read_to_the_end()
     ensures tree { (before : List Operator) (old new : State) (placed : Placed) → StoodBefore before old
         → TakesOperators old new placed → new.frames ≡ [] → rest new.reader ≡ [] → ReadsTree before old new placed }
@@ -66,7 +71,7 @@ pub fn read_to_the_end()
     ensures only { (before : List Operator) (e : Error) (old new : State) (placed whole : Placed)
         → StoodBefore before old → TakesOperators old new placed → StopsRun EncodesAllowed OperatorFault Anywhere e new
         → EncodesRest before (source_of old.reader) whole → e.message ≡ Message.OutOfMemory }
-    // As a read that is refused is.
+    // The same for a read that fails.
     ensures refused { (e : Error) (s : State)
         → StopsRead EncodesAllowed OperatorFault (NextMayAllocate EncodesAllowed) e s
         → StopsRead EncodesAllowed OperatorFault Anywhere e s }

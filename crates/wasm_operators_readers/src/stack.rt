@@ -13,11 +13,11 @@ use std::mem::replace;
 use wasm_decode::below::{Error, Message, Result};
 use wasm_decode::grammar::FrameKind;
 
-/// The fewest frames that memory is asked for.
+/// The smallest number of frames to allocate for.
 const LEAST: usize = 8;
 
-/// The kinds of the open frames. The innermost stands in the value itself, those around it in
-/// memory, and the room is that for those: onto an empty stack a frame takes none.
+/// The kinds of the open frames. The innermost is stored in the value itself, and the frames around
+/// it in a vector. The capacity is that of the vector: pushing onto an empty stack needs none.
 #[derive(Debug, Drop)]
 pub struct ControlStack {
     around: Vec<FrameKind>,
@@ -38,7 +38,7 @@ impl Model for ControlStack {
 }
 
 impl ControlStack {
-    /// No frame, and no room. It takes no memory.
+    /// Creates a stack without frames and without capacity. Does not allocate.
     pub fn new(alloc: Global) -> ControlStack
         ensures frames { result.frames ≡ [] }
         ensures room { result.room ≡ 0 }
@@ -49,7 +49,7 @@ impl ControlStack {
         }
     }
 
-    /// This one frame, with the room of the allocations. It takes no memory.
+    /// Creates a stack with this one frame and the capacity of the allocations. Does not allocate.
     pub fn with_allocations(
         allocations: OperatorsReaderAllocations,
         frame: FrameKind,
@@ -63,7 +63,7 @@ impl ControlStack {
         }
     }
 
-    /// The room, and that of the frames.
+    /// Returns the memory: the capacity that is left and the space of the frames.
     pub fn into_allocations(self) -> OperatorsReaderAllocations
         ensures { result ≡ frame_memory self.frames self.room }
     {
@@ -71,7 +71,7 @@ impl ControlStack {
         OperatorsReaderAllocations::from_frames(around)
     }
 
-    /// Closes all frames and keeps the room.
+    /// Closes all frames and keeps the capacity.
     pub fn clear(&mut self)
         ensures frames { self.new.frames ≡ [] }
         ensures room { self.old.room ≤ self.new.room }
@@ -81,7 +81,7 @@ impl ControlStack {
         self.current = None;
     }
 
-    /// Whether no frame is open.
+    /// Returns whether no frame is open.
     #[inline(always)]
     pub fn is_empty(&self) -> bool
         ensures { IsTrue result ↔ (self.now.frames ≡ []) }
@@ -89,7 +89,7 @@ impl ControlStack {
         self.current.is_none()
     }
 
-    /// The innermost frame.
+    /// Returns the innermost frame.
     #[inline(always)]
     pub fn last(&self) -> Option<FrameKind>
         ensures { result ≡ innermost self.now.frames }
@@ -97,10 +97,10 @@ impl ControlStack {
         self.current
     }
 
-    /// Makes room for this many frames more.
+    /// Reserves capacity for this many more frames. Does not allocate if the capacity suffices.
+    /// Otherwise allocates for at most twice as many frames as needed, and eight.
     ///
-    /// `OutOfMemory` at offset 0; nothing changes then. It takes no memory where the room is there,
-    /// else at most twice what is needed, and that of eight frames.
+    /// Fails with `OutOfMemory` at offset 0. Then nothing changes.
     #[inline(always)]
     pub fn reserve(&mut self, frames: usize) -> Result<()>
         ensures frames { self.new.frames ≡ self.old.frames }
@@ -116,10 +116,11 @@ impl ControlStack {
         self.grow(frames)
     }
 
-    /// Asks for room for this many frames, or for as many as are open, or for the least.
+    /// Allocates for this many more frames, for as many as are open, or for the smallest number,
+    /// whichever is most.
     ///
-    /// The memory is moved into a variable, which is lent: so a stack that stands in a variable itself
-    /// stays in registers.
+    /// The vector is moved into a variable, which is then borrowed. So a stack that is itself in a
+    /// local variable stays in registers.
     #[inline(always)]
     fn grow(&mut self, frames: usize) -> Result<()>
         ensures frames { self.new.frames ≡ self.old.frames }
@@ -139,10 +140,10 @@ impl ControlStack {
         Ok(())
     }
 
-    /// Makes room for the frame that this step opens, if it opens one.
+    /// Reserves capacity for the frame that this step opens, if it opens one.
     ///
-    /// `OutOfMemory` at offset 0, and only where the step opens a frame and no room is left; nothing
-    /// changes then.
+    /// Fails with `OutOfMemory` at offset 0, and only if the step opens a frame and no capacity is
+    /// left. Then nothing changes.
     #[inline(always)]
     pub fn make_room(&mut self, step: FrameStep) -> Result<()>
         ensures frames { self.new.frames ≡ self.old.frames }
@@ -158,10 +159,10 @@ impl ControlStack {
         Ok(())
     }
 
-    /// Opens a frame inside the others. It uses at most one of the room.
+    /// Opens a frame inside the others, which uses at most one of the capacity.
     ///
-    /// `OutOfMemory` at offset 0; nothing changes then. It succeeds onto an empty stack and into
-    /// room.
+    /// Fails with `OutOfMemory` at offset 0. Then nothing changes. Succeeds if the stack is empty
+    /// or has capacity.
     pub fn push(&mut self, frame: FrameKind) -> Result<()>
         ensures frames { OnOk result (self.new.frames ≡ self.old.frames ++ frame ∷ []) }
         ensures room { self.old.room ≤ self.new.room + 1 }
@@ -176,7 +177,7 @@ impl ControlStack {
         Ok(())
     }
 
-    /// Opens a frame inside the others, into room that is there. It uses at most one of it.
+    /// Opens a frame inside the others, with capacity that is reserved, and uses at most one of it.
     #[inline(always)]
     pub fn open(&mut self, frame: FrameKind)
         requires { HasRoom self.old }
@@ -190,7 +191,7 @@ impl ControlStack {
         self.current = Some(frame);
     }
 
-    /// Turns the innermost frame into one of another kind.
+    /// Replaces the innermost frame by a frame of another kind.
     #[inline(always)]
     pub fn turn(&mut self, frame: FrameKind)
         requires { IsSome (innermost self.old.frames) }
@@ -201,7 +202,7 @@ impl ControlStack {
         self.current = Some(frame);
     }
 
-    /// Closes the innermost frame.
+    /// Closes the innermost frame and returns its kind.
     #[inline(always)]
     pub fn pop(&mut self) -> Option<FrameKind>
         ensures frame { result ≡ innermost self.old.frames }
@@ -214,8 +215,8 @@ impl ControlStack {
         frame
     }
 
-    /// Goes on to the frames behind an operator that the innermost frame allows. A step that opens a
-    /// frame needs room, and uses at most one of it; no other lessens it.
+    /// Changes the frames as an operator of this step does, which the innermost frame allows. A
+    /// step that opens a frame needs capacity and uses at most one of it; other steps use none.
     #[inline(always)]
     pub fn advance(&mut self, step: FrameStep)
         requires allowed { IsSome (frames_after self.old.frames (role_of_step step)) }
@@ -241,9 +242,10 @@ impl ControlStack {
         }
     }
 
-    /// The same frames in memory of their own, of the same allocator. Of its room nothing is known.
+    /// Clones the frames into other memory of the same allocator. The capacity of the clone is not
+    /// specified.
     ///
-    /// `OutOfMemory` at offset 0, and only where more than one frame is open.
+    /// Fails with `OutOfMemory` at offset 0, and only if more than one frame is open.
     pub fn clone(&self) -> Result<ControlStack>
         ensures frames { IfOk result (λ copy. copy.frames ≡ self.now.frames) }
         ensures refused { IfErr result (λ e. IsOutOfMemoryAt 0 e × (1 < length self.now.frames)) }
@@ -259,7 +261,7 @@ impl ControlStack {
     }
 }
 
-/// Asks for memory for just this many frames more.
+/// Allocates capacity for this many more frames and no more.
 #[cold]
 #[inline(never)]
 fn reserve_exact(around: &mut Vec<FrameKind>, more: usize) -> std::result::Result<(), AllocError>

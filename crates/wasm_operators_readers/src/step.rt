@@ -1,10 +1,12 @@
-//! What operators do to the open frames.
+//! The changes that operators make to the open frames.
 ghost use Rattle.std.specs.Prelude.{◌≡◌, ◌↔◌, ◌≤◌, IsTrue};
 ghost use Rattle.wasm_operators_readers.specs.Step.{Opens, step_at};
 
-/// What an operator does to the open frames: its role in the structure, without what it carries.
+/// The change that an operator makes to the open frames: its role in the structure, without what it
+/// carries.
 ///
-/// Control Instructions; the last five belong to `if`, to legacy exceptions and to every construct.
+/// Specification: Control Instructions. The last five variants belong to `if`, to legacy exceptions
+/// and to every construct.
 #[derive(Clone, Copy, Debug, PartialEq, Eq)]
 pub enum FrameStep {
     /// The frames stay.
@@ -32,8 +34,9 @@ pub enum FrameStep {
 }
 
 impl FrameStep {
-    /// The step of the operators that begin with this byte, an opcode or a prefix byte. No others of
-    /// one byte do anything to the frames, and none behind a prefix byte.
+    /// Returns the step of the operators whose encoding starts with this byte, an opcode or a
+    /// prefix byte. No other operator of one byte changes the frames, and no operator with a prefix
+    /// byte.
     #[inline(always)]
     pub fn at(byte: u8) -> FrameStep
         ensures { result ≡ step_at byte }
@@ -53,7 +56,7 @@ impl FrameStep {
         }
     }
 
-    /// Whether a frame more is open behind it.
+    /// Returns whether one more frame is open after the step.
     #[inline(always)]
     pub fn opens(self) -> bool
         ensures { IsTrue result ↔ Opens self }
@@ -74,8 +77,7 @@ impl FrameStep {
     }
 }
 
-/// Whether the opcode stands behind all those whose operators do anything to the frames: these are
-/// below 0x20.
+/// Returns whether the opcode is 0x20 or more. No operator with such an opcode changes the frames.
 #[inline(always)]
 pub fn leaves_frames(opcode: u8) -> bool
     ensures { IsTrue result ↔ (0x20 ≤ opcode) }

@@ -1,10 +1,10 @@
--- Where a reader stands behind a prefix byte and a subopcode.
+-- The position of a reader after a prefix byte and a subopcode.
 use Rattle.std.proofs.Common.{◌≡◌, ℕ, suc, ◌+◌, List, [], ◌∷◌, length, Ok, Some, refl, sym, subst, ap, ◌∙◌, arith}
 use Rattle.wasm_decode.specs.below.Number.{EncodesUnsigned}
 use Rattle.wasm_decode.specs.below.Source.{Reader, at_position, Takes, Reads, IsByte}
 use Rattle.wasm_decode.specs.opcodes.Decoding.{StandsBehind}
 
--- It is behind both, since it took one after the other.
+-- The reader is after both, since it read one after the other.
 pub behind_both : (old mid new : Reader) (start byte code : ℕ) → start ≡ old.position → Reads IsByte (Ok byte) old mid → Reads (EncodesUnsigned 32) (Ok code) mid new →
     StandsBehind start (Some byte) code new
 behind_both old mid new start byte code same (text, is, first) (number, encodes, second) =

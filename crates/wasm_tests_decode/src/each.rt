@@ -1,4 +1,4 @@
-//! One operator by each of the calls, written into one line.
+//! One operator by each call, written into one line.
 
 use crate::half;
 use crate::runs::{
@@ -10,22 +10,22 @@ use crate::teller::Teller;
 use std::alloc::{AllocError, Global};
 use wasm_tests_texts::Written;
 
-/// The texts that are written while a line is.
+/// The buffers for one line.
 #[derive(Drop)]
 pub struct Texts {
-    /// The line.
+    /// The text of the line.
     pub line: String,
-    /// What the reading call answered.
+    /// The result of the reading call.
     pub read: String,
-    /// What another call answered.
+    /// The result of another call.
     pub other: String,
     pub teller: Teller,
-    /// Another, in a box.
+    /// Another visitor, in a `Box`.
     pub boxed: Box<Teller>,
 }
 
 impl Texts {
-    /// Texts without a letter.
+    /// Creates empty buffers.
     pub fn new(alloc: Global) -> Result<Texts, AllocError> {
         Ok(Texts {
             line: String::new(alloc),
@@ -36,7 +36,7 @@ impl Texts {
         })
     }
 
-    /// The texts for another line.
+    /// Clears the buffers for the next line.
     pub fn clear(&mut self) {
         self.line.clear();
         self.read.clear();
@@ -46,14 +46,14 @@ impl Texts {
     }
 }
 
-/// What a visit answers, and where it leaves the reader.
+/// Writes the result of a visit, and the position of the reader after it.
 fn write_visit(texts: &mut Texts, told: (Told, usize)) -> Written {
     write_told(texts, told.0)?;
     let position = told.1;
     write!(texts.line, "; at {position}")
 }
 
-/// What was visited, and by which call of the visitor.
+/// Writes what was visited, and by which call of the visitor.
 fn write_told(texts: &mut Texts, answer: Told) -> Written {
     let Texts { line, teller, .. } = texts;
     let visited = &teller.text;
@@ -69,8 +69,8 @@ fn write_told(texts: &mut Texts, answer: Told) -> Written {
     }
 }
 
-/// What the reading call answers, whether each other call answers the same, and how the operator is
-/// refused where it is cut.
+/// Writes the result of the reading call, whether each other call has the same result, and the
+/// errors on cut data.
 pub fn write_each(alloc: Global, texts: &mut Texts, task: Task, bytes: &[u8]) -> Written {
     let (answer, end) = run_read(alloc, task, bytes);
     write_answer(&mut texts.read, &answer)?;
@@ -103,7 +103,7 @@ pub fn write_each(alloc: Global, texts: &mut Texts, task: Task, bytes: &[u8]) ->
     Ok(())
 }
 
-/// So many bytes, or all where there are fewer.
+/// Returns the first `size` bytes, or all if there are fewer.
 fn start_of(bytes: &[u8], size: usize) -> &[u8] {
     if size < bytes.len() {
         &bytes[..size]
@@ -112,7 +112,7 @@ fn start_of(bytes: &[u8], size: usize) -> &[u8] {
     }
 }
 
-/// Whether the factory answers what the reading call did.
+/// Writes whether the factory returns the same as the reading call.
 fn compare_factory(
     alloc: Global,
     texts: &mut Texts,
@@ -130,7 +130,8 @@ fn compare_factory(
     }
 }
 
-/// Whether a visit is made of what the reading call answered, and by which call of the visitor.
+/// Writes whether a visit is of the operator that the reading call returned, and by which call of
+/// the visitor.
 fn compare_visit(texts: &mut Texts, told: (Told, usize), end: usize) -> Written {
     let is_same = texts.teller.text == texts.read && told.1 == end;
     match told.0 {
@@ -141,8 +142,8 @@ fn compare_visit(texts: &mut Texts, told: (Told, usize), end: usize) -> Written 
     Ok(())
 }
 
-/// Whether a visitor gets the same visit through a reference, in a box, and through a reference to
-/// the box. The text of the direct visit stands in `other`.
+/// Writes whether a visitor receives the same visit through a reference, in a `Box`, and through a
+/// reference to the `Box`. `other` has the text of the direct visit.
 fn compare_ways(
     alloc: Global,
     texts: &mut Texts,
@@ -165,8 +166,9 @@ fn compare_ways(
     write_way(line, direct, told, other, &mut boxed.text)
 }
 
-/// Of a vector operator, whether the call of its half visits the same by itself: of the visitor,
-/// through a reference, in a box, and through a reference to the box. Of another nothing is written.
+/// Writes whether `decode_simd_low` or `decode_simd_high` alone visits the same SIMD operator:
+/// directly, through a reference, in a `Box`, and through a reference to the `Box`. For any other
+/// operator, writes nothing.
 fn compare_halves(texts: &mut Texts, task: Task, bytes: &[u8], direct: (Told, usize)) -> Written {
     let Texts {
         line,
@@ -189,7 +191,7 @@ fn compare_halves(texts: &mut Texts, task: Task, bytes: &[u8], direct: (Told, us
     write_half(line, direct, told, other, &mut boxed.text)
 }
 
-/// Whether two visits answer the same, and leave the reader at the same place.
+/// Returns whether two visits have the same result, and leave the reader at the same position.
 fn is_same_visit(a: (Told, usize), b: (Told, usize)) -> bool {
     let is_same = match (a.0, b.0) {
         (Ok(Ok(call)), Ok(Ok(other))) => call == other,
@@ -199,8 +201,8 @@ fn is_same_visit(a: (Told, usize), b: (Told, usize)) -> bool {
     is_same && a.1 == b.1
 }
 
-/// That a visit is the direct one, whose text is `other`, or what it visited and where it left the
-/// reader. Its text is cleared.
+/// Writes that a visit equals the direct one, whose text is `other`; else what it visited, and the
+/// position of the reader. Clears the text of the visit.
 fn write_way(
     line: &mut String,
     direct: (Told, usize),
@@ -218,7 +220,7 @@ fn write_way(
     Ok(())
 }
 
-/// The same of a visit by the call of a half, if it was made.
+/// Writes the same of a visit by the call of one half, if it was made.
 fn write_half(
     line: &mut String,
     direct: (Told, usize),
@@ -232,7 +234,7 @@ fn write_half(
     write_way(line, direct, told, other, text)
 }
 
-/// The offset at which cut data are found to end; more where anything else comes of them.
+/// Writes the offset of `EndOfData` on cut data; or more, if the result is anything else.
 fn write_cut(alloc: Global, texts: &mut Texts, task: Task, bytes: &[u8]) -> Written {
     let (answer, position) = run_read(alloc, task, bytes);
     let told = run_simd(alloc, &mut texts.teller, task, bytes);

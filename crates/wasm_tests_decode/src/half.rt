@@ -1,5 +1,5 @@
-//! A vector operator, visited by the call of the half that its subopcode is of, which is made by
-//! itself: a visit from bytes makes it of operators with immediates alone.
+//! A SIMD operator, visited by the visitor's call for its half of the subopcodes: below 0x80, or
+//! from 0x80 on. A visit from bytes makes that call only for operators with immediates.
 ghost use Rattle.std.specs.Prelude.{◌≡◌, Some, IfSome};
 ghost use Rattle.wasm_decode.specs.opcodes.Decoding.{StandsBehind};
 
@@ -9,8 +9,8 @@ use crate::teller::Teller;
 use wasm_decode::below::{BinaryReader, Result};
 use wasm_decode::visitors::{VisitSimdOperator, Visitor};
 
-/// What a visitor's call of its half answers, and the position of the reader, where the byte 0xfd and a
-/// subopcode stand.
+/// Returns the result of the call for the operator's half, and the position of the reader. Returns
+/// `None` unless the data has the byte 0xfd and a subopcode.
 fn run_half<V: VisitSimdOperator>(
     v: &mut V,
     task: Task,
@@ -27,7 +27,7 @@ fn run_half<V: VisitSimdOperator>(
     Some((answer, reader.current_position()))
 }
 
-/// The subopcode behind the byte 0xfd, where both stand.
+/// Reads the byte 0xfd and a subopcode. Returns the subopcode, or `None` if one of them is missing.
 fn read_vector_subopcode(reader: &mut BinaryReader<'_>, start: usize) -> Option<u32>
     requires { start ≡ reader.old.position }
     ensures { IfSome result (λ code. StandsBehind start (Some 0xfd) code reader.new) }
@@ -41,23 +41,23 @@ fn read_vector_subopcode(reader: &mut BinaryReader<'_>, start: usize) -> Option<
     }
 }
 
-/// The teller by itself.
+/// Visits with the visitor itself.
 pub fn run_own(teller: &mut Teller, task: Task, bytes: &[u8]) -> Option<(Told, usize)> {
     run_half(teller, task, bytes)
 }
 
-/// The same, through a reference to the visitor.
+/// Visits through a reference to the visitor.
 pub fn run_lent(teller: &mut Teller, task: Task, bytes: &[u8]) -> Option<(Told, usize)> {
     let mut lent = teller;
     run_half(&mut lent, task, bytes)
 }
 
-/// The same of a visitor in a box.
+/// Visits with a visitor in a `Box`.
 pub fn run_boxed(boxed: &mut Box<Teller>, task: Task, bytes: &[u8]) -> Option<(Told, usize)> {
     run_half(boxed, task, bytes)
 }
 
-/// The same through a reference to the box.
+/// Visits through a reference to the `Box`.
 pub fn run_both(boxed: &mut Box<Teller>, task: Task, bytes: &[u8]) -> Option<(Told, usize)> {
     let mut lent = boxed;
     run_half(&mut lent, task, bytes)

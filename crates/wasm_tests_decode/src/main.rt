@@ -1,5 +1,4 @@
-//! Reads operators as the lines of its input ask, one a line, and prints what the reading calls
-//! answer.
+//! Reads one operator for each line of its input, and prints the results of the reading calls.
 #![tactic(auto)]
 
 mod each;
@@ -29,7 +28,7 @@ fn main(rt: HostRuntime) -> io::Result<()> {
     Ok(())
 }
 
-/// One line of the input: the words of a task, and bytes in hexadecimal.
+/// Runs one line of the input: the fields of a task, and bytes in hexadecimal.
 fn run_line<R: Print>(
     rt: &R,
     alloc: Global,

@@ -1,4 +1,5 @@
-//! The teller's own visits: some of each group, its first and its last operator among them.
+//! The visits that `Teller` overrides: some of each group, among them its first and its last
+//! operator.
 
 use crate::teller::Teller;
 use wasm_decode::imm::{MemArg, Ordering};
@@ -10,7 +11,7 @@ use wasm_decode::visitors::{
     Visitor,
 };
 
-/// Which of its calls a visitor got.
+/// The call that a visitor received.
 #[derive(Clone, Copy, Debug, PartialEq, Eq)]
 pub enum Call {
     Own,

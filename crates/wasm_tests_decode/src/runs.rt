@@ -10,21 +10,21 @@ use wasm_decode::visitors::OperatorFactory;
 use wasm_decode::{read_operator, visit_operator, visit_operator_simd};
 use wasm_tests_texts::{Written, write_operator};
 
-/// A reader that stands at the operator of a task, or at the end of data that are too short.
+/// Creates a reader at the operator of a task, or at the end of the data if they are too short.
 pub fn reader_at<'a>(task: Task, bytes: &'a [u8]) -> BinaryReader<'a> {
     let mut reader = BinaryReader::new_features(bytes, 0, task.features);
     let _ = reader.read_bytes(task.before);
     reader
 }
 
-/// What the reading call answers, and the position of the reader behind it.
+/// Reads an operator. Returns the result, and the position of the reader after it.
 pub fn run_read<'a>(alloc: Global, task: Task, bytes: &'a [u8]) -> (Result<Operator<'a>>, usize) {
     let mut reader = reader_at(task, bytes);
     let answer = read_operator(alloc, &mut reader, task.frame);
     (answer, reader.current_position())
 }
 
-/// The same of a visit by the factory.
+/// Visits with the factory. Returns the result, and the position of the reader after it.
 pub fn run_factory<'a>(
     alloc: Global,
     task: Task,
@@ -35,24 +35,24 @@ pub fn run_factory<'a>(
     (answer, reader.current_position())
 }
 
-/// How a visit that writes ended.
+/// The result of a visit that writes.
 pub type Told = Result<std::result::Result<Call, AllocError>>;
 
-/// What a visit by a visitor of vector operators answers, and the position of the reader.
+/// Visits with `visit_operator_simd`. Returns the result, and the position of the reader after it.
 pub fn run_simd(alloc: Global, teller: &mut Teller, task: Task, bytes: &[u8]) -> (Told, usize) {
     let mut reader = reader_at(task, bytes);
     let answer = visit_operator_simd(teller, alloc, &mut reader, task.frame);
     (answer, reader.current_position())
 }
 
-/// The same of a plain visitor.
+/// Visits with `visit_operator`. Returns the result, and the position of the reader after it.
 pub fn run_plain(alloc: Global, teller: &mut Teller, task: Task, bytes: &[u8]) -> (Told, usize) {
     let mut reader = reader_at(task, bytes);
     let answer = visit_operator(teller, alloc, &mut reader, task.frame);
     (answer, reader.current_position())
 }
 
-/// The same as `run_simd`, through a reference to the visitor.
+/// Visits as [`run_simd`] does, through a reference to the visitor.
 pub fn run_lent(alloc: Global, teller: &mut Teller, task: Task, bytes: &[u8]) -> (Told, usize) {
     let mut reader = reader_at(task, bytes);
     let mut lent = teller;
@@ -60,7 +60,7 @@ pub fn run_lent(alloc: Global, teller: &mut Teller, task: Task, bytes: &[u8]) ->
     (answer, reader.current_position())
 }
 
-/// The same of a visitor in a box.
+/// Visits as [`run_simd`] does, with a visitor in a `Box`.
 pub fn run_boxed(
     alloc: Global,
     boxed: &mut Box<Teller>,
@@ -72,7 +72,7 @@ pub fn run_boxed(
     (answer, reader.current_position())
 }
 
-/// The same through a reference to the box.
+/// Visits as [`run_simd`] does, through a reference to the `Box`.
 pub fn run_both(alloc: Global, boxed: &mut Box<Teller>, task: Task, bytes: &[u8]) -> (Told, usize) {
     let mut reader = reader_at(task, bytes);
     let mut lent = boxed;
@@ -80,7 +80,7 @@ pub fn run_both(alloc: Global, boxed: &mut Box<Teller>, task: Task, bytes: &[u8]
     (answer, reader.current_position())
 }
 
-/// Whether each call that is refused is refused alike by the same reader once more.
+/// Returns whether each call that fails has the same error if the same reader repeats it.
 pub fn is_refused_again(alloc: Global, teller: &mut Teller, task: Task, bytes: &[u8]) -> bool {
     let mut reader = reader_at(task, bytes);
     let read = read_operator(alloc, &mut reader, task.frame).err();
@@ -96,7 +96,7 @@ pub fn is_refused_again(alloc: Global, teller: &mut Teller, task: Task, bytes: &
         && reader.current_position() == task.before
 }
 
-/// A refusal: its number, its offset and its text.
+/// Writes an error: its number, its offset and its text.
 pub fn write_refusal(out: &mut String, e: Error) -> Written {
     let number = e.message().number();
     let offset = e.offset();
@@ -104,7 +104,7 @@ pub fn write_refusal(out: &mut String, e: Error) -> Written {
     write!(out, "E{number} at {offset}: {message}")
 }
 
-/// An operator that was read, or the refusal.
+/// Writes the operator that was read, or the error.
 pub fn write_answer(out: &mut String, answer: &Result<Operator<'_>>) -> Written {
     match answer {
         Ok(op) => write_operator(out, op),

@@ -1,20 +1,20 @@
-//! What a line of the input asks for.
+//! The meaning of an input line.
 
 use bitflags::Flags;
 use wasm_decode::below::WasmFeatures;
 use wasm_decode::instr::FrameKind;
 
-/// How one operator is read.
+/// The settings for reading one operator.
 #[derive(Clone, Copy, Debug)]
 pub struct Task {
     pub features: WasmFeatures,
     /// The kind of the innermost frame.
     pub frame: Option<FrameKind>,
-    /// How many bytes stand before the operator.
+    /// The number of bytes before the operator.
     pub before: usize,
 }
 
-/// The task of a line's words: the features as a number, the frame, and how many bytes stand before
+/// Parses the fields of a line: the features as a number, the frame, and the number of bytes before
 /// the operator.
 pub fn task_of(features: &str, frame: &str, before: &str) -> Option<Task> {
     Some(Task {
@@ -24,7 +24,7 @@ pub fn task_of(features: &str, frame: &str, before: &str) -> Option<Task> {
     })
 }
 
-/// The frame of this name, or that none is open.
+/// Returns the frame kind with this name; the name `None` means that no frame is open.
 fn frame_of(word: &str) -> Option<Option<FrameKind>> {
     Some(Some(match word {
         "None" => return Some(None),

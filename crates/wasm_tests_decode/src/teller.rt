@@ -1,4 +1,4 @@
-//! A visitor with visits of its own in each group.
+//! A visitor that overrides visits in each group.
 
 use crate::own::Call;
 use std::alloc::{AllocError, Global};
@@ -12,21 +12,21 @@ use wasm_decode::visitors::{
 };
 use wasm_tests_texts::write_operator;
 
-/// Writes the operators that it visits, and answers which of its calls was made.
+/// A visitor that writes the operators that it visits, and returns which call it received.
 #[derive(Drop)]
 pub struct Teller {
     pub text: String,
 }
 
 impl Teller {
-    /// One that has visited nothing.
+    /// Creates a visitor that has visited nothing.
     pub fn new(alloc: Global) -> Teller {
         Teller {
             text: String::new(alloc),
         }
     }
 
-    /// A visit of its own of this operator.
+    /// Records an overridden visit of this operator.
     pub fn own(&mut self, op: Operator<'static>) -> std::result::Result<Call, AllocError> {
         write_operator(&mut self.text, &op)?;
         Ok(Call::Own)
@@ -36,7 +36,7 @@ impl Teller {
 impl Visitor for Teller {
     type Output = std::result::Result<Call, AllocError>;
 
-    // Whatever the operator.
+    // Holds for every operator.
     ghost visits = { λ before op answer after. Unit {0} };
 
     fn visit_any(&mut self, op: Operator<'static>) -> Self::Output {

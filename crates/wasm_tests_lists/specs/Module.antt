@@ -1,11 +1,11 @@
--- What the module answers in which arities are printed.
+-- The results of the queries of the modules in which arities are printed.
 use Rattle.std.specs.Prelude.{ℕ, ◌==◌, if◌then◌else◌, Option, Some, None}
 use Rattle.wasm_visit.specs.grammar.declared.frame_kind.FrameKind.TheVariants as frame
 use Rattle.wasm_visit.specs.imm.control.block_type.BlockType.TheVariants as block
 use Rattle.wasm_visit.specs.instr.Answers.{Answers}
 use Rattle.wasm_tests_lists.specs.declared.uniform.Uniform.{Uniform}
 
--- This answer at one index, another elsewhere.
+-- One result at an index, and another function's result elsewhere.
 abbrev pub at_index : {X : Type 0} → ℕ → X → (ℕ → Option X) → ℕ → Option X
 at_index index answer others i = if i == index then Some answer else others i
 
@@ -24,7 +24,7 @@ answers_of_module = record {
   label_block = at_index 0 (block.FuncType 0, frame.Loop) (at_index 1 (block.Empty, frame.Block) nowhere);
 }
 
--- What the module answers that answers alike at all indices.
+-- The results of a module whose queries have the same result at all indices.
 abbrev pub answers_of_uniform : Uniform → Answers
 answers_of_uniform m = record {
   func_type_arity = λ _. m.function;

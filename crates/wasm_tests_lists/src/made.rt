@@ -1,4 +1,4 @@
-//! The operators that calls make. Written by tools/lists.py from tools/operators.tsv.
+//! The operators made by calls. Written by tools/lists.py from tools/operators.tsv.
 use crate::parts::{
     branch_table, float_32, float_64, not_nullable, nullable, resume_table, select, try_table,
     vector,
@@ -6,10 +6,10 @@ use crate::parts::{
 use std::alloc::Global;
 use wasm_visit::instr::{GcOperator, Operator, SimdOperator};
 
-/// How many operators are made here.
+/// The number of operators made here.
 pub const COUNT: u32 = 13;
 
-/// The operators with fields that no constant makes, by number. `None` where memory was refused.
+/// Returns the operator with this number, one that no constant can make. `None` after an allocation failure.
 pub fn made(alloc: Global, number: u32) -> Option<Operator<'static>> {
     Some(match number {
         0 => Operator::BrTable {

@@ -1,7 +1,7 @@
-//! Prints each of the operators: its row, what it takes and leaves in one module, whether it is a
-//! vector operator, whether its clone equals it, whether a visit finds it to be an end, whether a
-//! visit by the factory gives it back, and itself; and which of its calls each of several visitors
-//! gets.
+//! Prints each operator: its row; its arity in one module; whether it is a SIMD operator; and
+//! whether its clone equals it. Further whether a visitor takes it for an `end`, whether
+//! `OperatorFactory` returns it, and its `Debug` text. Then prints which calls several visitors
+//! receive.
 #![tactic(auto)]
 
 mod made;
@@ -71,7 +71,7 @@ fn main(rt: HostRuntime) -> io::Result<()> {
     print_visitors(&rt, rt.alloc())
 }
 
-/// The line of an operator.
+/// Prints the line of an operator.
 fn print<R: Print>(rt: &R, alloc: Global, op: &Operator<'_>) -> io::Result<()> {
     let info = op.info();
     let arity = op.operator_arity(&Module);
@@ -88,7 +88,7 @@ fn print<R: Print>(rt: &R, alloc: Global, op: &Operator<'_>) -> io::Result<()> {
     )
 }
 
-/// Whether a visit finds the operator to be an end.
+/// Returns whether a visitor takes the operator for an `end`.
 fn ends(alloc: Global, op: &Operator<'_>) -> bool {
     let mut visitor = IsEndOperatorVisitor;
     match visit_operator_with_simd(alloc, &mut visitor, op) {
@@ -97,7 +97,7 @@ fn ends(alloc: Global, op: &Operator<'_>) -> bool {
     }
 }
 
-/// Whether a visit of a copy by the factory gives the operator back.
+/// Returns whether the factory returns an operator equal to this one.
 fn returned(alloc: Global, op: &Operator<'_>) -> bool {
     let mut factory = OperatorFactory::new();
     match op.clone(alloc) {

@@ -1,12 +1,12 @@
-//! A module whose answers the printed arities rest on.
+//! The module in which arities are printed.
 use wasm_visit::imm::BlockType;
 use wasm_visit::instr::{FrameKind, ModuleArity};
 
-/// A module in which each question has an answer for the index 0, or for the other indices named.
+/// A module in which each query has a result for the index 0, or for the indices below.
 ///
-/// Type 0 is a function type of two parameters and one result, type 1 a structure of three fields,
-/// type 2 a continuation of type 0, type 3 one of type 4, and type 4 a function type of one
-/// parameter and one result. The last parameter of type 0 refers to type 3.
+/// Type 0 is a function type with two parameters and one result, whose last parameter refers to
+/// type 3. Type 1 is a structure type with three fields, type 2 a continuation of type 0, and type
+/// 3 a continuation of type 4. Type 4 is a function type with one parameter and one result.
 #[derive(Drop)]
 pub struct Module;
 

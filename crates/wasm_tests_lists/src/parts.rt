@@ -1,4 +1,4 @@
-//! The values of fields that no constant has.
+//! Values of fields that no constant can have.
 
 use std::alloc::Global;
 use wasm_visit::below::{BinaryReader, HeapType, RefType, ValType};
@@ -7,7 +7,7 @@ use wasm_visit::imm::{
     TryTable, V128,
 };
 
-/// One target, 1, and the default target 0.
+/// The bytes of a branch table with the target 1 and the default target 0.
 static TABLE: [u8; 3] = [1, 1, 0];
 
 pub fn float_32() -> Ieee32 {
@@ -34,13 +34,13 @@ pub fn branch_table() -> Option<BrTable<'static>> {
     BrTable::read(&mut BinaryReader::new(&TABLE, 0)).ok()
 }
 
-/// The types i32 and i64.
+/// Creates the types of a `select`: `i32` and `i64`.
 pub fn select(alloc: Global) -> Option<SelectTypes> {
     let tys = Vec::from_slice(alloc, &[ValType::I32, ValType::I64]).ok()?;
     Some(SelectTypes::from_vec(tys))
 }
 
-/// One catch of all, to label 1.
+/// Creates a `try_table` with one `catch_all` clause, to label 1.
 pub fn try_table(alloc: Global) -> Option<TryTable> {
     let catches = Vec::from_slice(alloc, &[Catch::All { label: 1 }]).ok()?;
     Some(TryTable {
@@ -49,7 +49,7 @@ pub fn try_table(alloc: Global) -> Option<TryTable> {
     })
 }
 
-/// One clause, which switches on tag 0.
+/// Creates a resume table with one clause, which switches on tag 0.
 pub fn resume_table(alloc: Global) -> Option<ResumeTable> {
     let handlers = Vec::from_slice(alloc, &[Handle::OnSwitch { tag: 0 }]).ok()?;
     Some(ResumeTable {

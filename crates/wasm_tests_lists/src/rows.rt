@@ -1,12 +1,12 @@
-//! The arities at the edges, printed.
+//! Arities in edge cases.
 use crate::module::Module;
 use crate::uniform::Uniform;
 use std::io::{self, Print};
 use wasm_visit::imm::{BlockType, MemArg, MemArgTarget};
 use wasm_visit::instr::{AtomicOperator, GcOperator, ModuleArity, Operator, SimdOperator};
 
-/// Prints what operators take and leave at the edges: a question without an answer, numbers that
-/// are too large or too small, and targets that are arrays.
+/// Prints arities in edge cases: a query without a result, numbers that are too large or too small,
+/// and targets that are arrays.
 pub fn print_rows<R: Print>(rt: &R) -> io::Result<()> {
     print_elsewhere(rt)?;
     print_unanswered(rt)?;
@@ -15,7 +15,7 @@ pub fn print_rows<R: Print>(rt: &R) -> io::Result<()> {
     print_arrays(rt)
 }
 
-/// The line of an operator in a module.
+/// Prints the arity of an operator in a module.
 fn print<R: Print, M: ModuleArity>(
     rt: &R,
     what: &str,
@@ -25,7 +25,7 @@ fn print<R: Print, M: ModuleArity>(
     println!(rt; "{what}: {:?}", op.operator_arity(module))
 }
 
-/// At other depths and indices than those of the list of all operators.
+/// Prints arities at other depths and indices than in the list of all operators.
 fn print_elsewhere<R: Print>(rt: &R) -> io::Result<()> {
     let branch = Operator::BrIf { relative_depth: 1 };
     print(rt, "branch to an empty block", &Module, &branch)?;
@@ -35,7 +35,7 @@ fn print_elsewhere<R: Print>(rt: &R) -> io::Result<()> {
     print(rt, "another function", &Module, &call)
 }
 
-/// Without the answer of each call in turn.
+/// Prints arities in modules that each lack the result of one query.
 fn print_unanswered<R: Print>(rt: &R) -> io::Result<()> {
     let mut module = Uniform::new();
     module.function = None;
@@ -83,7 +83,7 @@ fn switch() -> Operator<'static> {
     }
 }
 
-/// With as many parameters as 32 bits can say.
+/// Prints arities with the largest number of parameters that fits in 32 bits.
 fn print_large<R: Print>(rt: &R) -> io::Result<()> {
     let mut module = Uniform::new();
     module.function = Some((4294967295, 1));
@@ -115,7 +115,7 @@ fn print_large<R: Print>(rt: &R) -> io::Result<()> {
     )
 }
 
-/// Where less than nothing would be left or taken.
+/// Prints arities that would be negative.
 fn print_small<R: Print>(rt: &R) -> io::Result<()> {
     let bound = Operator::ContBind {
         argument_index: 3,
@@ -129,7 +129,7 @@ fn print_small<R: Print>(rt: &R) -> io::Result<()> {
     println!(rt; "nothing carried: {:?}", branch.operator_arity(&Module))
 }
 
-/// Where an array is reached.
+/// Prints arities of operators that access an array.
 fn print_arrays<R: Print>(rt: &R) -> io::Result<()> {
     let module = Uniform::new();
     let memarg = MemArg {

@@ -1,8 +1,8 @@
-//! A module that answers a question alike at all indices.
+//! A module whose queries have the same result at all indices.
 use wasm_visit::imm::BlockType;
 use wasm_visit::instr::{FrameKind, ModuleArity};
 
-/// A module that answers a question alike at all indices.
+/// A module whose queries have the same result at all indices.
 #[derive(Drop)]
 pub struct Uniform {
     pub function: Option<(u32, u32)>,
@@ -16,7 +16,7 @@ pub struct Uniform {
 }
 
 impl Uniform {
-    /// One that has an answer to each question.
+    /// Creates a module in which each query has a result.
     pub fn new() -> Uniform {
         Uniform {
             function: Some((2, 1)),

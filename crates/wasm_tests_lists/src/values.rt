@@ -1,4 +1,4 @@
-//! The operators that constants make. Written by tools/lists.py from tools/operators.tsv.
+//! The operators made by constants. Written by tools/lists.py from tools/operators.tsv.
 use wasm_visit::below::{HeapType, ValType};
 use wasm_visit::imm::{BlockType, MemArg, MemArgTarget, Ordering};
 use wasm_visit::instr::{
@@ -17,7 +17,7 @@ const MEMARG: MemArg = MemArg {
 /// The lanes of the shuffle.
 const LANES: [u8; 16] = [0, 1, 2, 3, 4, 5, 6, 7, 8, 9, 10, 11, 12, 13, 14, 15];
 
-/// The numeric operators of one byte.
+/// Returns the numeric operators of one byte.
 pub fn numeric() -> [NumericOperator; 128] {
     [
         NumericOperator::I32Eqz,
@@ -151,7 +151,7 @@ pub fn numeric() -> [NumericOperator; 128] {
     ]
 }
 
-/// The operators behind the byte 0xfb.
+/// Returns the operators with the prefix byte 0xfb.
 pub fn gc() -> [GcOperator; 34] {
     [
         GcOperator::StructNew {
@@ -255,7 +255,7 @@ pub fn gc() -> [GcOperator; 34] {
     ]
 }
 
-/// The operators behind the byte 0xfc.
+/// Returns the operators with the prefix byte 0xfc.
 pub fn misc() -> [MiscOperator; 23] {
     [
         MiscOperator::I32TruncSatF32S,
@@ -296,7 +296,7 @@ pub fn misc() -> [MiscOperator; 23] {
     ]
 }
 
-/// The operators behind the byte 0xfd.
+/// Returns the operators with the prefix byte 0xfd.
 pub fn simd() -> [SimdOperator; 255] {
     [
         SimdOperator::V128Load { memarg: MEMARG },
@@ -581,7 +581,7 @@ pub fn simd() -> [SimdOperator; 255] {
     ]
 }
 
-/// The operators behind the byte 0xfe.
+/// Returns the operators with the prefix byte 0xfe.
 pub fn atomic() -> [AtomicOperator; 104] {
     [
         AtomicOperator::MemoryAtomicNotify { memarg: MEMARG },
@@ -809,7 +809,7 @@ pub fn atomic() -> [AtomicOperator; 104] {
     ]
 }
 
-/// The other operators of one byte, in part.
+/// Returns a part of the other operators of one byte.
 pub fn first_own() -> [Operator<'static>; 12] {
     [
         Operator::Unreachable,
@@ -836,7 +836,7 @@ pub fn first_own() -> [Operator<'static>; 12] {
     ]
 }
 
-/// The other operators of one byte, in part.
+/// Returns a part of the other operators of one byte.
 pub fn second_own() -> [Operator<'static>; 12] {
     [
         Operator::Drop,
@@ -854,7 +854,7 @@ pub fn second_own() -> [Operator<'static>; 12] {
     ]
 }
 
-/// The other operators of one byte, in part.
+/// Returns a part of the other operators of one byte.
 pub fn third_own() -> [Operator<'static>; 12] {
     [
         Operator::I32Load8U { memarg: MEMARG },
@@ -872,7 +872,7 @@ pub fn third_own() -> [Operator<'static>; 12] {
     ]
 }
 
-/// The other operators of one byte, in part.
+/// Returns a part of the other operators of one byte.
 pub fn fourth_own() -> [Operator<'static>; 12] {
     [
         Operator::F64Store { memarg: MEMARG },
@@ -890,7 +890,7 @@ pub fn fourth_own() -> [Operator<'static>; 12] {
     ]
 }
 
-/// The other operators of one byte, in part.
+/// Returns a part of the other operators of one byte.
 pub fn fifth_own() -> [Operator<'static>; 12] {
     [
         Operator::RefNull {
@@ -915,7 +915,7 @@ pub fn fifth_own() -> [Operator<'static>; 12] {
     ]
 }
 
-/// The other operators of one byte, in part.
+/// Returns a part of the other operators of one byte.
 pub fn sixth_own() -> [Operator<'static>; 11] {
     [
         Operator::Delegate { relative_depth: 0 },

@@ -1,5 +1,5 @@
-//! Which of its calls each of several visitors gets: directly, through a reference, through a
-//! box and through both; what the factory answers, an answer that is large, and the visit of a copy.
+//! Which of its calls each of several visitors receives: directly, through a reference, through a
+//! `Box`, and through both. Also the results of the factory, a large result, and visits of copies.
 mod counter;
 mod hand_over;
 mod interp;
@@ -23,7 +23,7 @@ use wasm_visit::{
     OperatorFactory, OperatorMaker, visit_operator, visit_operator_with_simd, visit_owned_simd,
 };
 
-/// Prints it.
+/// Prints the results of all visitors.
 pub fn print_visitors<R: Print>(rt: &R, alloc: Global) -> io::Result<()> {
     print_tells(rt, alloc)?;
     print_counter(rt, alloc)?;
@@ -42,7 +42,7 @@ pub fn print_visitors<R: Print>(rt: &R, alloc: Global) -> io::Result<()> {
     println!(rt; "an operator with a list: {answer}, {counter:?}")
 }
 
-/// The answers of a visitor without fields.
+/// Prints the results of a visitor without fields.
 fn print_tells<R: Print>(rt: &R, alloc: Global) -> io::Result<()> {
     println!(rt; "unit: {:?}", hand_over(&mut Tells, table()))?;
     let mut tells = Tells;
@@ -54,7 +54,7 @@ fn print_tells<R: Print>(rt: &R, alloc: Global) -> io::Result<()> {
     println!(rt; "unit, both: {:?}", hand_over(&mut lent, table()))
 }
 
-/// The counts of a visitor with five fields.
+/// Prints the counts of a visitor with five fields.
 fn print_counter<R: Print>(rt: &R, alloc: Global) -> io::Result<()> {
     let mut counter = Counter::new(alloc);
     hand_over(&mut counter, table());
@@ -71,7 +71,7 @@ fn print_counter<R: Print>(rt: &R, alloc: Global) -> io::Result<()> {
     println!(rt; "fields, both: {:?}", *boxed)
 }
 
-/// The text of a visitor that holds a reference.
+/// Prints the text of a visitor that holds a reference.
 fn print_printer<R: Print>(rt: &R, alloc: Global) -> io::Result<()> {
     let mut out = String::new(alloc);
     let mut printer = Printer {
@@ -96,7 +96,7 @@ fn print_printer<R: Print>(rt: &R, alloc: Global) -> io::Result<()> {
     print!(rt; "{out}")
 }
 
-/// What a visitor with a lifetime and a type parameter counts.
+/// Prints the counts of a visitor with a lifetime and a type parameter.
 fn print_interp<R: Print>(rt: &R, alloc: Global) -> io::Result<()> {
     let module = Module {
         types: Vec::new(alloc),
@@ -120,14 +120,14 @@ fn print_interp<R: Print>(rt: &R, alloc: Global) -> io::Result<()> {
     println!(rt; "parameter, both: {answers:?}, {} unknown", boxed.unknown)
 }
 
-/// What the factory answers.
+/// Prints the results of the factory.
 fn print_factory<R: Print>(rt: &R) -> io::Result<()> {
     let answers = hand_over(&mut OperatorFactory::new(), table());
     println!(rt; "factory: {answers:?}")
 }
 
-/// Visits copies of an operator with a list of two types, by each of the two calls, and says how that
-/// ended.
+/// Visits copies of an operator that owns a list of two types, by each of the two calls, and
+/// returns how that ended.
 fn visit_list(alloc: Global) -> (&'static str, Counter) {
     let mut counter = Counter::new(alloc);
     let Ok(tys) = Vec::from_array(alloc, [ValType::I32, ValType::I64]) else {

@@ -1,20 +1,20 @@
-//! The input: all of it, and its rows. Nothing here takes memory.
+//! The input and its rows. No call here allocates.
 
 use std::io::{self, Read};
 
-/// Under which sets of features a row is read.
+/// The sets of features under which a row is read.
 #[derive(Clone, Copy, Debug)]
 pub enum Features {
-    /// Under this set.
+    /// This set.
     These(u32),
-    /// Under all sets that have this feature.
+    /// All sets that contain this feature.
     With(u32),
-    /// Under all sets that do not have it.
+    /// All sets that don't contain this feature.
     Without(u32),
 }
 
 impl Features {
-    /// The set of the lowest number.
+    /// Returns the set with the lowest number.
     pub fn first(self) -> u32 {
         match self {
             Features::These(set) => set,
@@ -23,7 +23,7 @@ impl Features {
         }
     }
 
-    /// Whether the row is read under this set.
+    /// Returns whether the row is read under this set.
     pub fn take(self, bits: u32) -> bool {
         match self {
             Features::These(set) => bits == set,
@@ -33,7 +33,7 @@ impl Features {
     }
 }
 
-/// Reads all that the reader has, as far as there is room, and answers how many bytes that is.
+/// Reads to the end of the data, or until the buffer is full. Returns the number of bytes.
 pub fn read_input<R: Read>(reader: &mut R, room: &mut [u8]) -> io::Result<usize> {
     let mut size = 0;
     for _ in 0..u64::MAX {
@@ -49,7 +49,8 @@ pub fn read_input<R: Read>(reader: &mut R, room: &mut [u8]) -> io::Result<usize>
     Ok(size)
 }
 
-/// The features of a row, and how many bytes its expression has. These are written into the room.
+/// Parses the features of a row, and writes the bytes of its expression into `room`. Returns the
+/// features and the number of bytes.
 pub fn row_of(room: &mut [u8], line: &str) -> Option<(Features, usize)> {
     let mut words = line.split_whitespace();
     let features = features_of(words.next()?)?;
@@ -66,7 +67,7 @@ pub fn row_of(room: &mut [u8], line: &str) -> Option<(Features, usize)> {
     Some((features, size))
 }
 
-/// The features that a word names: a number, `+` and a feature, or `-` and one.
+/// Parses the features: a number, `+` and a feature, or `-` and a feature.
 fn features_of(word: &str) -> Option<Features> {
     if let Some(feature) = word.strip_prefix('+') {
         return Some(Features::With(feature.parse::<u32>().ok()?));
@@ -77,8 +78,8 @@ fn features_of(word: &str) -> Option<Features> {
     Some(Features::These(word.parse::<u32>().ok()?))
 }
 
-/// Writes bytes in hexadecimal behind those that stand there, and answers how many do then. What is
-/// no digit is 0.
+/// Appends bytes in hexadecimal to the first `size` bytes, and returns the new size. A character
+/// that is not a digit counts as 0.
 fn write_bytes(room: &mut [u8], size: usize, digits: &str) -> usize {
     let mut end = size;
     let mut high = None;

@@ -4,7 +4,7 @@ use crate::told::{Listed, Told};
 use std::alloc::Global;
 use wasm_operators::{BinaryReader, OperatorsReader, OperatorsReaderAllocations};
 
-/// The items of `OperatorsIterator`. Where memory was refused they are taken again.
+/// Takes the items of `OperatorsIterator`, once more if allocation failed.
 pub fn items<'a>(alloc: Global, reader: &BinaryReader<'a>, list: Listed<'_, 'a>) -> Told {
     let told = items_once(alloc, reader, list);
     if told.lacked_memory() {
@@ -32,7 +32,8 @@ fn items_once<'a>(alloc: Global, reader: &BinaryReader<'a>, list: Listed<'_, 'a>
     told
 }
 
-/// The items of `OperatorsIteratorWithOffsets`, and the memory that it hands on.
+/// Takes the items of `OperatorsIteratorWithOffsets`, once more if allocation failed. Also returns
+/// its allocations.
 pub fn items_with_offsets<'a>(
     alloc: Global,
     reader: &BinaryReader<'a>,

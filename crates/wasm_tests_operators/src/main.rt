@@ -1,5 +1,5 @@
-//! Reads and visits expressions as the rows of its input say, by each call of `OperatorsReader`, and
-//! prints what was read and whether the calls agree.
+//! Reads and visits the expressions in the rows of its input by each call of `OperatorsReader`.
+//! Prints what was read, and whether the calls agree.
 #![tactic(auto)]
 
 mod input;
@@ -38,7 +38,7 @@ fn main(rt: HostRuntime) -> io::Result<()> {
     print_texts(&rt, alloc)
 }
 
-/// One line of the input: a heading, or the features and the bytes of an expression.
+/// Runs one line of the input: a heading, or the features and the bytes of an expression.
 fn run_line<R: Print>(rt: &R, alloc: Global, bytes: &mut [u8], line: &str) -> io::Result<()> {
     if line.starts_with('#') {
         return println!(rt; "{line}");

@@ -1,4 +1,4 @@
-//! A visitor that keeps a fingerprint of what it visits.
+//! A visitor that hashes what it visits.
 
 use crate::told::Listed;
 use std::fmt::{self, Write};
@@ -7,7 +7,7 @@ use wasm_operators::{
     VisitSimdOperator, Visitor, decode, dispatch,
 };
 
-/// How many operators there were, and a fingerprint (FNV-1a, 64 bits) of their texts.
+/// The number of operators, and the FNV-1a hash of their texts in 64 bits.
 #[derive(Clone, Copy, Debug, PartialEq, Eq)]
 pub struct Prints {
     pub operators: usize,
@@ -15,7 +15,7 @@ pub struct Prints {
 }
 
 impl Prints {
-    /// Of no operator.
+    /// Creates the hash of no operators.
     pub fn new() -> Prints {
         Prints {
             operators: 0,
@@ -23,7 +23,7 @@ impl Prints {
         }
     }
 
-    /// Of the first operators of a list.
+    /// Hashes the first operators of a list.
     pub fn of(list: Listed<'_, '_>, operators: usize) -> Prints {
         let mut prints = Prints::new();
         for (op, _) in list.get(..operators).unwrap_or(&[]).iter() {
@@ -32,7 +32,7 @@ impl Prints {
         prints
     }
 
-    /// One operator more.
+    /// Adds one operator.
     fn add(&mut self, op: &Operator<'_>) {
         self.operators = self.operators.saturating_add(1);
         let _ = write!(self, "{op:?}");
@@ -51,7 +51,7 @@ impl Write for Prints {
 impl Visitor for Prints {
     type Output = ();
 
-    // Whatever the operator.
+    // Holds for every operator.
     ghost visits = { λ before op answer after. Unit {0} };
 
     fn visit_any(&mut self, op: Operator<'static>) {
@@ -69,7 +69,7 @@ impl<'a> VisitOperator<'a> for Prints {
 
 impl VisitSimdOperator for Prints {}
 
-/// The same, with an answer of 4096 bytes: the fingerprint, again and again.
+/// A visitor with results of 4096 bytes: the hash, repeated.
 #[derive(Clone, Copy, Debug, PartialEq, Eq)]
 pub struct LargePrints {
     pub prints: Prints,
@@ -78,7 +78,7 @@ pub struct LargePrints {
 impl Visitor for LargePrints {
     type Output = [u64; 512];
 
-    // Whatever the operator.
+    // Holds for every operator.
     ghost visits = { λ before op answer after. Unit {0} };
 
     fn visit_any(&mut self, op: Operator<'static>) -> [u64; 512] {
@@ -98,7 +98,7 @@ impl<'a> VisitOperator<'a> for LargePrints {
 
 impl VisitSimdOperator for LargePrints {}
 
-/// The same, with a visit of its own for each operator behind 0xfc, which are counted too.
+/// A visitor that overrides the visit of each operator with the prefix byte 0xfc, and counts these.
 #[derive(Clone, Copy, Debug, PartialEq, Eq)]
 pub struct OwnPrints {
     pub prints: Prints,
@@ -106,7 +106,7 @@ pub struct OwnPrints {
 }
 
 impl OwnPrints {
-    /// A visit of its own.
+    /// Records an overridden visit.
     pub fn own(&mut self, op: MiscOperator) {
         self.own = self.own.saturating_add(1);
         self.prints.add(&Operator::Misc(op));
@@ -116,7 +116,7 @@ impl OwnPrints {
 impl Visitor for OwnPrints {
     type Output = ();
 
-    // Whatever the operator.
+    // Holds for every operator.
     ghost visits = { λ before op answer after. Unit {0} };
 
     fn visit_any(&mut self, op: Operator<'static>) {

@@ -3,7 +3,7 @@
 use crate::told::{Listed, Told, is_memory};
 use wasm_operators::{FrameStack, Operator, OperatorsReader, Result};
 
-/// What `read_all` adds to the list. Once more it adds nothing, and ends in the same way.
+/// Reads an expression by `read_all`. A second call must add nothing, and end in the same way.
 pub fn read_all<'a>(
     operators: &mut OperatorsReader<'a>,
     list: &mut Vec<(Operator<'a>, u64)>,
@@ -20,7 +20,8 @@ pub fn read_all<'a>(
     told
 }
 
-/// `read_all`. Where memory is refused, what was read stays, and a second call goes on from there.
+/// Calls `read_all`. If allocation fails, what was read is kept, and a second call continues after
+/// it.
 fn read_to_end<'a>(
     operators: &mut OperatorsReader<'a>,
     list: &mut Vec<(Operator<'a>, u64)>,
@@ -35,7 +36,7 @@ fn read_to_end<'a>(
     }
 }
 
-/// One read after another, and `finish` at the end of the data.
+/// Reads the operators one by one, and calls `finish` at the end of the data.
 pub fn read_each<'a>(operators: &mut OperatorsReader<'a>, list: Listed<'_, 'a>) -> Told {
     let mut told = Told::new();
     let count = list.len() as u64;
@@ -55,7 +56,7 @@ pub fn read_each<'a>(operators: &mut OperatorsReader<'a>, list: Listed<'_, 'a>) 
     told
 }
 
-/// One read; where it is refused, the next one is refused in the same way.
+/// Reads one operator. If that fails, a second read must fail with the same error.
 fn read_twice<'a>(
     operators: &mut OperatorsReader<'a>,
     told: &mut Told,
@@ -68,8 +69,8 @@ fn read_twice<'a>(
     answer
 }
 
-/// One read, once more where memory was refused. A refusal changes nothing, and memory is refused
-/// only of the operators that open a frame or own a list.
+/// Reads one operator, once more if allocation failed. A failed read changes nothing. Allocation
+/// may fail only for operators that open a frame or own a list.
 fn read_with_memory<'a>(
     operators: &mut OperatorsReader<'a>,
     told: &mut Told,
@@ -88,7 +89,7 @@ fn read_with_memory<'a>(
     answer
 }
 
-/// Whether the next operator may take memory.
+/// Returns whether reading the next operator may allocate.
 fn may_take_memory(operators: &OperatorsReader<'_>) -> bool {
     match operators.get_binary_reader().peek() {
         Ok(code) => matches!(code, 0x02..=0x04 | 0x06 | 0x1c | 0x1f | 0xe3..=0xe5),
@@ -96,7 +97,7 @@ fn may_take_memory(operators: &OperatorsReader<'_>) -> bool {
     }
 }
 
-/// The reads of clones, each of which reads one operator.
+/// Reads one operator from each of several clones.
 pub fn read_clones<'a>(operators: &mut OperatorsReader<'a>, list: Listed<'_, 'a>) -> Told {
     let mut told = Told::new();
     let count = list.len() as u64;

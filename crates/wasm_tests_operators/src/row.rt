@@ -1,4 +1,4 @@
-//! One row, by each of the calls.
+//! One row, by each call.
 
 use crate::input::Features;
 use crate::items::{items, items_with_offsets};
@@ -12,10 +12,10 @@ use wasm_operators::{
     BinaryReader, Error, FrameKind, FrameStack, Operator, OperatorsReader, WasmFeatures,
 };
 
-/// How many operators are printed one by one, and read by clones.
+/// The number of operators that are printed in full, and read by clones.
 const FEW: usize = 16;
 
-/// What the calls answer to an expression.
+/// The results of the calls for an expression.
 #[derive(Clone, Copy, Debug, PartialEq, Eq)]
 struct Answers {
     read: Told,
@@ -24,11 +24,11 @@ struct Answers {
     finish: Option<Error>,
     items: Told,
     plain: Told,
-    /// Whether the other calls gave the same.
+    /// Whether the other calls have the same results.
     agree: Agree,
 }
 
-/// Whether calls gave what `read_all` does.
+/// Whether each call has the same result as `read_all`.
 #[derive(Clone, Copy, Debug, PartialEq, Eq)]
 struct Agree {
     reads: bool,
@@ -40,7 +40,7 @@ struct Agree {
     own: bool,
 }
 
-/// That all gave the same.
+/// All calls have the same result.
 const ALL_AGREE: Agree = Agree {
     reads: true,
     clones: true,
@@ -51,8 +51,8 @@ const ALL_AGREE: Agree = Agree {
     own: true,
 };
 
-/// Prints what is read of an expression, how the calls answer, and in how many sets of features
-/// `read_all` answers otherwise than in the first.
+/// Prints the operators that are read, and the results of the calls. Also prints under how many
+/// sets of features `read_all` has another result than under the first.
 pub fn run_row<R: Print>(
     rt: &R,
     alloc: Global,
@@ -79,7 +79,7 @@ pub fn run_row<R: Print>(
     println!(rt; "; {sets} sets, {others} with another answer")
 }
 
-/// Whether `read_all` reads this list under these features, and is refused in this way.
+/// Returns whether `read_all` reads this list under these features, and ends in this way.
 fn is_read(alloc: Global, bits: u32, bytes: &[u8], list: Listed<'_, '_>, wanted: Told) -> bool {
     let reader = BinaryReader::new_features(bytes, 0, WasmFeatures::from_bits_retain(bits));
     let mut found = Vec::new(alloc);
@@ -91,7 +91,7 @@ fn is_read(alloc: Global, bits: u32, bytes: &[u8], list: Listed<'_, '_>, wanted:
     told == wanted
 }
 
-/// What the calls answer under these features. The list is what `read_all` reads.
+/// Returns the results of the calls under these features. `list` is what `read_all` reads.
 fn answers_to<'a>(
     alloc: Global,
     bits: u32,
@@ -125,14 +125,14 @@ fn answers_to<'a>(
     }
 }
 
-/// Whether the clones read the list.
+/// Returns whether the clones read the list.
 fn are_clones<'a>(alloc: Global, reader: &BinaryReader<'a>, list: Listed<'_, 'a>) -> bool {
     let mut operators = OperatorsReader::new(alloc, reader.clone());
     let told = read_clones(&mut operators, list);
     told.is_right && told.operators == list.len()
 }
 
-/// The operators with their offsets, or how many there are and the last.
+/// Prints the operators with their offsets, or their number and the last one.
 fn print_list<R: Print>(rt: &R, list: Listed<'_, '_>) -> io::Result<()> {
     match list.last() {
         None => print!(rt; "nothing"),
@@ -149,7 +149,7 @@ fn print_list<R: Print>(rt: &R, list: Listed<'_, '_>) -> io::Result<()> {
     }
 }
 
-/// How the calls answer.
+/// Prints the results of the calls.
 fn print_answers<R: Print>(rt: &R, answers: Answers) -> io::Result<()> {
     print!(rt; "; ")?;
     print_end(rt, answers.read.refusal)?;
@@ -172,7 +172,7 @@ fn print_answers<R: Print>(rt: &R, answers: Answers) -> io::Result<()> {
     }
 }
 
-/// How many operators a call gave, and its refusal.
+/// Prints how many operators a call returned, and its error.
 fn print_told<R: Print>(rt: &R, name: &str, told: Told) -> io::Result<()> {
     print!(rt; "; {name}: {}", told.operators)?;
     if !told.is_right {
@@ -187,7 +187,7 @@ fn print_told<R: Print>(rt: &R, name: &str, told: Told) -> io::Result<()> {
     }
 }
 
-/// The number of a refusal, and its offset.
+/// Prints the number of an error, and its offset.
 fn print_end<R: Print>(rt: &R, refusal: Option<Error>) -> io::Result<()> {
     match refusal {
         Some(e) => print!(rt; "E{} at {}", e.message().number(), e.offset()),

@@ -1,4 +1,4 @@
-//! The stack of open frames, and the memory of readers.
+//! The stack of open frames, and the allocations of readers.
 
 use crate::prints::Prints;
 use crate::told::is_memory;
@@ -9,13 +9,13 @@ use wasm_operators::{
     Result,
 };
 
-/// Three blocks inside one another, which are not closed.
+/// Three nested blocks that are not closed.
 static OPEN: [u8; 6] = [0x02, 0x40, 0x03, 0x40, 0x02, 0x40];
 
-/// Three frames inside one another, and the ends of all.
+/// Three nested frames, and the `end` of each.
 static CLOSED: [u8; 10] = [0x02, 0x40, 0x03, 0x40, 0x04, 0x40, 0x0b, 0x0b, 0x0b, 0x0b];
 
-/// Prints what a stack and allocations do.
+/// Prints the behaviour of a stack and of allocations.
 pub fn print_stacks<R: Print>(rt: &R, alloc: Global) -> io::Result<()> {
     print_stack(rt, alloc)?;
     print_handed_on(rt, alloc)?;
@@ -23,8 +23,8 @@ pub fn print_stacks<R: Print>(rt: &R, alloc: Global) -> io::Result<()> {
     print_rests(rt, alloc)
 }
 
-/// Two frames are opened and closed. Where memory is refused the stack stays, and the second call is
-/// not refused. The first frame takes none.
+/// Opens and closes two frames. If allocation fails the stack is unchanged, and the second call
+/// succeeds. The first frame does not allocate.
 fn print_stack<R: Print>(rt: &R, alloc: Global) -> io::Result<()> {
     let mut stack = ControlStack::new(alloc);
     let first = stack.push(FrameKind::Block);
@@ -49,7 +49,7 @@ fn print_stack<R: Print>(rt: &R, alloc: Global) -> io::Result<()> {
     println!(rt; ", is empty {}, pop {:?}", stack.is_empty(), stack.pop())
 }
 
-/// Opens a frame, in two tries where memory is refused in the first.
+/// Opens a frame, and tries again if allocation fails.
 fn push_with_memory(stack: &mut ControlStack, kind: FrameKind) -> Result<()> {
     let before = stack.last();
     match stack.push(kind) {
@@ -58,7 +58,7 @@ fn push_with_memory(stack: &mut ControlStack, kind: FrameKind) -> Result<()> {
     }
 }
 
-/// A clone, in two tries where memory is refused in the first.
+/// Clones a stack, and tries again if allocation fails.
 fn clone_with_memory(stack: &ControlStack) -> Result<ControlStack> {
     match stack.clone() {
         Err(e) if is_memory(e) && e.offset() == 0 => stack.clone(),
@@ -66,7 +66,7 @@ fn clone_with_memory(stack: &ControlStack) -> Result<ControlStack> {
     }
 }
 
-/// The allocations of a reader with four open frames make a reader with one.
+/// Reuses the allocations of a reader with four open frames for a reader with one.
 fn print_handed_on<R: Print>(rt: &R, alloc: Global) -> io::Result<()> {
     let mut operators = OperatorsReader::new(alloc, BinaryReader::new(&OPEN, 0));
     let mut out = Vec::new(alloc);
@@ -84,7 +84,7 @@ fn print_handed_on<R: Print>(rt: &R, alloc: Global) -> io::Result<()> {
     println!(rt; ", then in {:?}", operators.current_frame())
 }
 
-/// What `reserve` has made room for is opened without memory.
+/// Opens frames within the capacity that `reserve` has allocated, which does not allocate.
 fn print_reserved<R: Print>(rt: &R, alloc: Global) -> io::Result<()> {
     let mut allocations = OperatorsReaderAllocations::new(alloc);
     let mut room = allocations.reserve(4);
@@ -102,7 +102,7 @@ fn print_reserved<R: Print>(rt: &R, alloc: Global) -> io::Result<()> {
     println!(rt; ", {} visits, {answer:?}", prints.operators)
 }
 
-/// What readers tell of their rest.
+/// Prints what readers return about the rest of their data.
 fn print_rests<R: Print>(rt: &R, alloc: Global) -> io::Result<()> {
     for rest in [&CLOSED[9..], &CLOSED[8..], &CLOSED[10..]] {
         let operators = OperatorsReader::new(alloc, BinaryReader::new(rest, 0));

@@ -1,4 +1,4 @@
-//! A visitor with visits of its own.
+//! A visitor that overrides visits.
 
 use std::alloc::Global;
 use std::io::{self, Print};
@@ -7,16 +7,17 @@ use wasm_operators::{
     VisitMisc, VisitOneByte, VisitOperator, VisitSimdOperator, Visitor, decode, dispatch,
 };
 
-/// Twice `data.drop`, then `drop` and `end`.
+/// `data.drop` twice, then `drop` and `end`.
 static DATA_DROPS: [u8; 8] = [0xfc, 0x09, 0x07, 0xfc, 0x09, 0x07, 0x1a, 0x0b];
 
-/// Twice `nop`, then `drop` and `end`: opcodes below 0x20 alone.
+/// `nop` twice, then `drop` and `end`: only opcodes below 0x20.
 static NOPS: [u8; 4] = [0x01, 0x01, 0x1a, 0x0b];
 
-/// `i32.const 5`, `local.get 3`, `drop` and `end`: one opcode from 0x20 on has a visit of its own.
+/// `i32.const 5`, `local.get 3`, `drop` and `end`: the visit of one opcode from 0x20 on is
+/// overridden.
 static CONSTANT: [u8; 6] = [0x41, 0x05, 0x20, 0x03, 0x1a, 0x0b];
 
-/// Counts visits, those of `Nop`, `LocalGet` and `DataDrop` by visits of its own.
+/// A visitor that counts visits, and overrides those of `Nop`, `LocalGet` and `DataDrop`.
 #[derive(Debug, Drop)]
 pub struct Tally {
     pub own: u32,
@@ -26,7 +27,7 @@ pub struct Tally {
 impl Visitor for Tally {
     type Output = ();
 
-    // Whatever the operator.
+    // Holds for every operator.
     ghost visits = { λ before op answer after. Unit {0} };
 
     fn visit_any(&mut self, _op: Operator<'static>) {
@@ -99,8 +100,8 @@ impl<'a> VisitOperator<'a> for Tally {
 
 impl VisitSimdOperator for Tally {}
 
-/// Prints how often each visit ran, by both drivers: directly, through a reference, in a box, and
-/// through a reference to a box.
+/// Prints how often each visit ran, by both drivers: directly, through a reference, in a `Box`, and
+/// through a reference to a `Box`.
 pub fn print_tallies<R: Print>(rt: &R, alloc: Global) -> io::Result<()> {
     print_visits(rt, alloc, "data drops", &DATA_DROPS)?;
     print_visits(rt, alloc, "nops", &NOPS)?;

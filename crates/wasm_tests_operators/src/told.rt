@@ -1,21 +1,21 @@
-//! How a call went along a row.
+//! The result of a call for a row.
 
 use wasm_operators::{Error, Operator};
 
 /// The operators of an expression, each with the offset of its first byte.
 pub type Listed<'l, 'a> = &'l [(Operator<'a>, u64)];
 
-/// How many operators a call gave, and why it gave no more.
+/// The number of operators that a call returned, and the error after them.
 #[derive(Clone, Copy, Debug, PartialEq, Eq)]
 pub struct Told {
     pub operators: usize,
     pub refusal: Option<Error>,
-    /// Whether each operator was that of the list at its place, and a refusal changed nothing.
+    /// Whether each operator equals that of the list at its index, and an error changed nothing.
     pub is_right: bool,
 }
 
 impl Told {
-    /// Nothing given yet.
+    /// Creates the result without operators.
     pub fn new() -> Told {
         Told {
             operators: 0,
@@ -24,7 +24,7 @@ impl Told {
         }
     }
 
-    /// One operator more, which should be the next of the list.
+    /// Adds one operator, which should be the next of the list.
     pub fn give(&mut self, list: Listed<'_, '_>, op: &Operator<'_>) {
         let is_listed = match list.get(self.operators) {
             Some((listed, _)) => *listed == *op,
@@ -34,19 +34,19 @@ impl Told {
         self.operators = self.operators.saturating_add(1);
     }
 
-    /// The same with the offset of its first byte.
+    /// Adds one operator with the offset of its first byte.
     pub fn give_at(&mut self, list: Listed<'_, '_>, op: &Operator<'_>, offset: u64) {
         let place = offset_at(list, self.operators);
         self.check(place == Some(offset));
         self.give(list, op);
     }
 
-    /// Something that should be so.
+    /// Records a condition that should hold.
     pub fn check(&mut self, is_so: bool) {
         self.is_right = self.is_right && is_so;
     }
 
-    /// Whether memory was refused.
+    /// Returns whether allocation failed.
     pub fn lacked_memory(&self) -> bool {
         match self.refusal {
             Some(e) => is_memory(e),
@@ -55,12 +55,12 @@ impl Told {
     }
 }
 
-/// Whether memory was refused.
+/// Returns whether this is the error `OutOfMemory`.
 pub fn is_memory(e: Error) -> bool {
     e.message().number() == 3
 }
 
-/// Where the operator at this place of the list begins.
+/// Returns the offset of the operator at this index of the list.
 pub fn offset_at(list: Listed<'_, '_>, place: usize) -> Option<u64> {
     match list.get(place) {
         Some((_, offset)) => Some(*offset),

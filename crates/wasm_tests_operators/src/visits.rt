@@ -5,7 +5,8 @@ use crate::told::{Listed, Told, is_memory, offset_at};
 use std::alloc::Global;
 use wasm_operators::{BinaryReader, Error, Message, Operator, OperatorsReader, Result};
 
-/// The visits of `visit_all_simd`. Once more it makes none, and ends in the same way.
+/// Visits an expression by `visit_all_simd`. A second call must make no visit, and end in the same
+/// way.
 pub fn visit_all_simd<'a>(operators: &mut OperatorsReader<'a>, list: Listed<'_, 'a>) -> Told {
     let mut prints = Prints::new();
     let mut told = Told::new();
@@ -15,8 +16,8 @@ pub fn visit_all_simd<'a>(operators: &mut OperatorsReader<'a>, list: Listed<'_, 
     end(told, list, prints, answer)
 }
 
-/// `visit_all_simd`. Where memory was refused, no visit was made of that operator, and a second call
-/// goes on from there.
+/// Calls `visit_all_simd`. If allocation fails, the operator is not visited, and a second call
+/// continues with it.
 fn simd_to_end<'a>(
     operators: &mut OperatorsReader<'a>,
     list: Listed<'_, 'a>,
@@ -31,7 +32,7 @@ fn simd_to_end<'a>(
     answer
 }
 
-/// The same by a plain visitor.
+/// Visits an expression by `visit_all`.
 pub fn visit_all<'a>(operators: &mut OperatorsReader<'a>, list: Listed<'_, 'a>) -> Told {
     let mut prints = Prints::new();
     let mut told = Told::new();
@@ -55,7 +56,7 @@ fn plain_to_end<'a>(
     answer
 }
 
-/// The visits of a visitor whose answers are large. Where memory was refused they go on.
+/// Visits with a visitor whose results are large. Continues after an allocation failure.
 pub fn visit_large<'a>(operators: &mut OperatorsReader<'a>, list: Listed<'_, 'a>) -> Told {
     let mut large = LargePrints {
         prints: Prints::new(),
@@ -69,7 +70,8 @@ pub fn visit_large<'a>(operators: &mut OperatorsReader<'a>, list: Listed<'_, 'a>
     end(told, list, large.prints, answer)
 }
 
-/// The visits of a visitor that has its own for each operator behind 0xfc: so many of them run.
+/// Visits with a visitor that overrides each operator with the prefix byte 0xfc, and counts these
+/// visits.
 pub fn visit_own<'a>(operators: &mut OperatorsReader<'a>, list: Listed<'_, 'a>) -> Told {
     let mut own = OwnPrints {
         prints: Prints::new(),
@@ -91,8 +93,7 @@ pub fn visit_own<'a>(operators: &mut OperatorsReader<'a>, list: Listed<'_, 'a>) 
     end(told, list, own.prints, answer)
 }
 
-/// The visits of a visitor in a box, through a reference to it. Where memory was refused they are
-/// made again.
+/// Visits with a visitor in a `Box`, through a reference to it; once more if allocation failed.
 pub fn visit_boxed<'a>(alloc: Global, reader: &BinaryReader<'a>, list: Listed<'_, 'a>) -> Told {
     let told = boxed_once(alloc, reader, list);
     if told.lacked_memory() {
@@ -117,7 +118,7 @@ fn boxed_once<'a>(alloc: Global, reader: &BinaryReader<'a>, list: Listed<'_, 'a>
     }
 }
 
-/// The refusal, where it is one of memory.
+/// Returns the error if it is `OutOfMemory`.
 fn memory_refused(answer: Result<()>) -> Option<Error> {
     match answer {
         Err(e) if is_memory(e) => Some(e),
@@ -125,7 +126,8 @@ fn memory_refused(answer: Result<()>) -> Option<Error> {
     }
 }
 
-/// The reader stands at the operator of which memory was refused, and the visitor did not see it.
+/// Checks that the reader is at the operator for which allocation failed, and that the visitor did
+/// not see it.
 fn check_stop(
     told: &mut Told,
     operators: &OperatorsReader<'_>,
@@ -139,7 +141,7 @@ fn check_stop(
     told.check(next == Some(position) || next.is_none());
 }
 
-/// What was told at the end, and whether the operators visited are the first of the list.
+/// Returns the final result, after checking that the visited operators are the first of the list.
 fn end(told: Told, list: Listed<'_, '_>, prints: Prints, answer: Result<()>) -> Told {
     let mut told = told;
     told.operators = prints.operators;

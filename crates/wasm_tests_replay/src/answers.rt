@@ -1,16 +1,16 @@
-//! Answers in the words of the input.
+//! Results in the format of the input.
 
 use wasm_listing::operators::{Error, Result};
 use wasm_tests_texts::Written;
 
-/// A refusal: its number and its offset.
+/// Writes an error: its number and its offset.
 pub fn write_refusal(out: &mut String, e: Error) -> Written {
     let number = e.message().number();
     let offset = e.offset();
     write!(out, "E{number}@{offset}")
 }
 
-/// How many operators a call gave, and how it ended.
+/// Writes how many operators a call visited, and how it ended.
 pub fn write_visits(out: &mut String, visits: u64, answer: Result<()>) -> Written {
     write!(out, "{visits} ")?;
     match answer {
@@ -19,7 +19,7 @@ pub fn write_visits(out: &mut String, visits: u64, answer: Result<()>) -> Writte
     }
 }
 
-/// A fingerprint of a text: FNV-1a, 64 bits.
+/// Returns the FNV-1a hash of a text, in 64 bits.
 pub fn fingerprint(text: &[u8]) -> u64 {
     let mut print = 0xcbf2_9ce4_8422_2325;
     for byte in text {

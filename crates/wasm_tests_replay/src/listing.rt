@@ -6,7 +6,7 @@ use wasm_listing::operators::{Error, WasmFeatures};
 use wasm_listing::{DumpFault, run};
 use wasm_tests_texts::Written;
 
-/// The lines that `run` wrote, and how it ended.
+/// The lines that `run` wrote, and its result.
 #[derive(Drop)]
 pub struct Listing {
     pub text: Vec<u8>,
@@ -14,7 +14,7 @@ pub struct Listing {
 }
 
 impl Listing {
-    /// The listing of a body.
+    /// Lists a body.
     pub fn of(alloc: Global, features: WasmFeatures, body: &[u8]) -> Listing {
         let mut reader = body;
         let mut text = Vec::new(alloc);
@@ -22,12 +22,12 @@ impl Listing {
         Listing { text, end }
     }
 
-    /// The lines.
+    /// Returns the lines, or an empty text if they are not UTF-8.
     pub fn lines(&self) -> &str {
         str::from_utf8(self.text.as_slice()).unwrap_or("")
     }
 
-    /// The refusal, where the body was refused.
+    /// Returns the error, if the body has one.
     pub fn refusal(&self) -> Option<Error> {
         match self.end {
             Err(DumpFault::Refused(e)) => Some(e),
@@ -35,7 +35,7 @@ impl Listing {
         }
     }
 
-    /// The status that the program would end with.
+    /// Writes the exit status of the program.
     pub fn write_status(&self, out: &mut String) -> Written {
         match self.end {
             Ok(()) => out.push_str("0"),
@@ -46,7 +46,7 @@ impl Listing {
         }
     }
 
-    /// The number of the refusal, or 0.
+    /// Writes the number of the error, or 0.
     pub fn write_number(&self, out: &mut String) -> Written {
         let number = match self.refusal() {
             None => 0,
@@ -55,7 +55,7 @@ impl Listing {
         write!(out, "{number}")
     }
 
-    /// The offset of the refusal, or nothing.
+    /// Writes the offset of the error, or nothing.
     pub fn write_offset(&self, out: &mut String) -> Written {
         match self.refusal() {
             None => Ok(()),
@@ -66,7 +66,7 @@ impl Listing {
         }
     }
 
-    /// The text of the refusal, or nothing.
+    /// Writes the text of the error, or nothing.
     pub fn write_text(&self, out: &mut String) -> Written {
         match self.refusal() {
             None => Ok(()),
@@ -77,19 +77,19 @@ impl Listing {
         }
     }
 
-    /// How many lines there are.
+    /// Writes the number of lines.
     pub fn write_count(&self, out: &mut String) -> Written {
         let count = self.lines().lines().count();
         write!(out, "{count}")
     }
 
-    /// The lines' fingerprint.
+    /// Writes the hash of the lines.
     pub fn write_print(&self, out: &mut String) -> Written {
         let print = fingerprint(self.text.as_slice());
         write!(out, "{print:016x}")
     }
 
-    /// The lines with a semicolon between them; `*` where there are more than six.
+    /// Writes the lines, separated by semicolons; or `*` if there are more than six.
     pub fn write_lines(&self, out: &mut String) -> Written {
         if self.lines().lines().count() > 6 {
             return out.push_str("*");

@@ -1,5 +1,5 @@
-//! Replays answers of the original: reads the same bodies of functions by each call that reads one,
-//! and prints each answer that differs.
+//! Replays results of wasmparser: reads the same function bodies by each call, and prints each
+//! result that differs.
 #![tactic(auto)]
 
 mod answers;

@@ -1,4 +1,4 @@
-//! Bytes as a constant expression, as locals and as a code section.
+//! Bytes read as a constant expression, as locals and as a code section.
 
 use crate::answers::write_refusal;
 use std::alloc::Global;
@@ -7,7 +7,7 @@ use wasm_listing::operators::{
 };
 use wasm_tests_texts::{Written, write_value_type};
 
-/// Where a constant expression ends, or why there is none.
+/// Writes the offset at which a constant expression ends, or the error.
 pub fn write_constant(
     alloc: Global,
     features: WasmFeatures,
@@ -24,7 +24,7 @@ pub fn write_constant(
     }
 }
 
-/// How many declarations of locals are announced, the first five, and the refusal.
+/// Writes the number of local declarations, the first five of them, and the error.
 pub fn write_locals(features: WasmFeatures, bytes: &[u8], out: &mut String) -> Written {
     let reader = BinaryReader::new_features(bytes, 0, features);
     match LocalsReader::new(reader) {
@@ -51,7 +51,8 @@ fn write_declarations(locals: LocalsReader<'_>, out: &mut String) -> Written {
     Ok(())
 }
 
-/// How many bodies a code section gives, where the first four stand, and the refusal.
+/// Writes how many bodies are read from a code section, the ranges of the first four, and the
+/// error.
 pub fn write_section(
     alloc: Global,
     features: WasmFeatures,

@@ -1,4 +1,4 @@
-//! A body's operators with all their fields.
+//! The operators of a body, with all fields.
 
 use std::alloc::{AllocError, Global};
 use wasm_listing::operators::{BinaryReader, FunctionBody, Operator, Result, WasmFeatures};
@@ -19,7 +19,7 @@ pub fn write_fields(
     Ok(answer)
 }
 
-/// Reads the operators behind the locals.
+/// Reads the operators after the locals.
 fn read_body<'a>(
     alloc: Global,
     features: WasmFeatures,

@@ -1,4 +1,4 @@
-//! Answers beside those of the original.
+//! The comparison of results with those of wasmparser.
 
 use crate::answers::{fingerprint, write_visits};
 use crate::listing::Listing;
@@ -12,21 +12,21 @@ use std::io::{self, Print};
 use wasm_listing::operators::WasmFeatures;
 use wasm_tests_texts::read_hex;
 
-/// The cases so far.
+/// The state of the comparison.
 #[derive(Drop)]
 pub struct Replay {
     alloc: Global,
     pub cases: u64,
-    /// How many of them differ.
+    /// The number of rows that differ.
     pub differ: u64,
-    /// Whether this one does.
+    /// Whether the current row differs.
     differs: bool,
-    /// The answer of a call.
+    /// The result of a call as text.
     answer: String,
 }
 
 impl Replay {
-    /// No case yet.
+    /// Creates a comparison without rows.
     pub fn new(alloc: Global) -> Replay {
         Replay {
             alloc,
@@ -37,7 +37,7 @@ impl Replay {
         }
     }
 
-    /// One line of the input. Behind its differences it is printed itself.
+    /// Runs one line of the input. If it differs, prints the line after its differences.
     pub fn line<R: Print>(&mut self, rt: &R, line: &str) -> io::Result<()> {
         if is_heading(line) {
             return Ok(());
@@ -58,7 +58,7 @@ impl Replay {
         Ok(())
     }
 
-    /// One body, by each call.
+    /// Compares the results of each call for one body.
     fn row<R: Print>(&mut self, rt: &R, row: &Row<'_>) -> io::Result<()> {
         let mut bytes = Vec::new(self.alloc);
         read_hex(&mut bytes, row.body)?;
@@ -69,7 +69,7 @@ impl Replay {
         self.parts(rt, row, body)
     }
 
-    /// The listing, and how it ends.
+    /// Compares the listing, and how it ends.
     fn listing<R: Print>(&mut self, rt: &R, row: &Row<'_>, body: &[u8]) -> io::Result<()> {
         let listing = Listing::of(self.alloc, row.features, body);
         listing.write_status(&mut self.answer)?;
@@ -88,7 +88,7 @@ impl Replay {
         self.compare(rt, "lines", row.lines)
     }
 
-    /// The operators with all their fields, which are printed where they differ.
+    /// Compares the operators with all fields, and prints these if they differ.
     fn reading<R: Print>(&mut self, rt: &R, row: &Row<'_>, body: &[u8]) -> io::Result<()> {
         let mut text = String::new(self.alloc);
         let end = write_fields(self.alloc, row.features, body, &mut text)?;
@@ -102,7 +102,7 @@ impl Replay {
         self.compare_end(rt, "read_all", row)
     }
 
-    /// The visits of visitors that count.
+    /// Compares the number of visits of visitors that count.
     fn visits<R: Print>(&mut self, rt: &R, row: &Row<'_>, body: &[u8]) -> io::Result<()> {
         write_all(self.alloc, row.features, body, &mut self.answer)?;
         self.compare_end(rt, "visit_all_simd", row)?;
@@ -110,7 +110,7 @@ impl Replay {
         self.compare(rt, "visit_all", row.plain)
     }
 
-    /// The same bytes as what else they may be.
+    /// Compares the results for the same bytes as a constant expression, locals and a code section.
     fn parts<R: Print>(&mut self, rt: &R, row: &Row<'_>, body: &[u8]) -> io::Result<()> {
         write_constant(self.alloc, row.features, body, &mut self.answer)?;
         self.compare(rt, "constant expression", row.constant)?;
@@ -120,7 +120,8 @@ impl Replay {
         self.compare(rt, "code section", row.section)
     }
 
-    /// Compares the answer with how many operators the original reads, and how that ends.
+    /// Compares the result with the number of operators that wasmparser reads, and with how that
+    /// ends.
     fn compare_end<R: Print>(&mut self, rt: &R, what: &str, row: &Row<'_>) -> io::Result<()> {
         let mut wanted = String::new(self.alloc);
         match row.status {
@@ -130,7 +131,7 @@ impl Replay {
         self.compare(rt, what, wanted.as_str())
     }
 
-    /// Compares the answer with the wanted one, and forgets it.
+    /// Compares the result with the expected one, and clears it.
     fn compare<R: Print>(&mut self, rt: &R, what: &str, wanted: &str) -> io::Result<()> {
         if self.answer.as_str() != wanted {
             self.differs = true;
@@ -140,7 +141,7 @@ impl Replay {
         Ok(())
     }
 
-    /// One operator in a body: its line in the listing, and the one with all its fields.
+    /// Compares one operator in a body: its line in the listing, and its line with all fields.
     fn sample<R: Print>(&mut self, rt: &R, sample: &Sample<'_>) -> io::Result<()> {
         let hexadecimal = format!(in self.alloc;
             "{}{}{}",
@@ -161,7 +162,7 @@ impl Replay {
         self.find(rt, text.as_str(), wanted.as_str())
     }
 
-    /// Looks for a line, and prints all where it is not there.
+    /// Searches for a line, and prints the whole text if it is missing.
     fn find<R: Print>(&mut self, rt: &R, text: &str, wanted: &str) -> io::Result<()> {
         if text.lines().any(|line| line == wanted) {
             return Ok(());

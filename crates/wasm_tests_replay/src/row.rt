@@ -1,35 +1,35 @@
-//! The lines of the input: columns, parted by tabs.
+//! The lines of the input: columns, separated by tabs.
 
 use bitflags::Flags;
 use wasm_listing::operators::WasmFeatures;
 
-/// What the original answers on one body.
+/// The results of wasmparser for one body.
 #[derive(Clone, Copy, Debug)]
 pub struct Row<'r> {
     pub features: WasmFeatures,
     /// The body in hexadecimal.
     pub body: &'r str,
-    /// How a listing ends, with the number of the refusal, its offset and its text.
+    /// How a listing ends: the exit status, and the number, the offset and the text of the error.
     pub status: &'r str,
     pub number: &'r str,
     pub offset: &'r str,
     pub text: &'r str,
-    /// How many operators are read.
+    /// The number of operators that are read.
     pub operators: &'r str,
-    /// Fingerprints of the listing, and of the same with all fields.
+    /// The hashes of the listing, and of the listing with all fields.
     pub listing: &'r str,
     pub fields: &'r str,
     /// The lines of the listing, or `*`.
     pub lines: &'r str,
-    /// How many visits a visitor of no vector operators gets, and how they end.
+    /// How many visits a visitor without SIMD operators receives, and how they end.
     pub plain: &'r str,
-    /// The answers where the same bytes are a constant expression, locals, a code section.
+    /// The results for the same bytes as a constant expression, locals and a code section.
     pub constant: &'r str,
     pub locals: &'r str,
     pub section: &'r str,
 }
 
-/// The row of a line.
+/// Parses a line with the results for one body.
 pub fn row_of<'r>(line: &'r str) -> Option<Row<'r>> {
     let mut columns = line.split('\t');
     let _group = columns.next()?;
@@ -52,19 +52,19 @@ pub fn row_of<'r>(line: &'r str) -> Option<Row<'r>> {
     })
 }
 
-/// An operator in a body that is read whole under all features.
+/// An operator in a valid body, under all features.
 #[derive(Clone, Copy, Debug)]
 pub struct Sample<'r> {
     pub name: &'r str,
-    /// The bytes before the operator, its own and those behind it, in hexadecimal.
+    /// The bytes before the operator, those of the operator, and those after it, in hexadecimal.
     pub before: &'r str,
     pub operator: &'r str,
     pub behind: &'r str,
-    /// Its name and its fields.
+    /// The operator's name and its fields.
     pub fields: &'r str,
 }
 
-/// The sample of a line.
+/// Parses a line with a sample.
 pub fn sample_of<'r>(line: &'r str) -> Option<Sample<'r>> {
     let mut columns = line.split('\t');
     let name = columns.next()?;
@@ -80,7 +80,7 @@ pub fn sample_of<'r>(line: &'r str) -> Option<Sample<'r>> {
     })
 }
 
-/// Whether a line has the names of columns.
+/// Returns whether a line has the names of columns.
 pub fn is_heading(line: &str) -> bool {
     line.starts_with("group\tfeatures\t") || line.starts_with("name\tfeatures\t")
 }

@@ -8,7 +8,7 @@ use wasm_listing::operators::{
 };
 use wasm_tests_texts::Written;
 
-/// Counts visits, and takes no vector operator.
+/// A visitor that counts visits, without SIMD operators.
 #[derive(Debug, Drop)]
 struct Plain {
     visits: u64,
@@ -17,7 +17,7 @@ struct Plain {
 impl Visitor for Plain {
     type Output = ();
 
-    // Whatever the operator.
+    // Holds for every operator.
     ghost visits = { λ before op answer after. Unit {0} };
 
     fn visit_any(&mut self, _op: Operator<'static>) {
@@ -33,7 +33,7 @@ impl<'a> VisitOperator<'a> for Plain {
     }
 }
 
-/// Counts visits, those of vector operators too.
+/// A visitor that counts visits, also of SIMD operators.
 #[derive(Debug, Drop)]
 struct All {
     visits: u64,
@@ -42,7 +42,7 @@ struct All {
 impl Visitor for All {
     type Output = ();
 
-    // Whatever the operator.
+    // Holds for every operator.
     ghost visits = { λ before op answer after. Unit {0} };
 
     fn visit_any(&mut self, _op: Operator<'static>) {
@@ -60,7 +60,7 @@ impl<'a> VisitOperator<'a> for All {
 
 impl VisitSimdOperator for All {}
 
-/// The reader behind a body's locals.
+/// Creates a reader after the locals of a body.
 fn behind_locals<'a>(
     alloc: Global,
     features: WasmFeatures,
@@ -69,7 +69,7 @@ fn behind_locals<'a>(
     FunctionBody::new(BinaryReader::new_features(body, 0, features)).get_operators_reader(alloc)
 }
 
-/// How many visits `visit_all` makes of a visitor that takes no vector operator, and how it ends.
+/// Writes how many visits `visit_all` makes of a visitor without SIMD operators, and how it ends.
 pub fn write_plain(
     alloc: Global,
     features: WasmFeatures,
@@ -84,7 +84,7 @@ pub fn write_plain(
     write_visits(out, plain.visits, answer)
 }
 
-/// How many visits `visit_all_simd` makes, and how it ends.
+/// Writes how many visits `visit_all_simd` makes, and how it ends.
 pub fn write_all(alloc: Global, features: WasmFeatures, body: &[u8], out: &mut String) -> Written {
     let mut all = All { visits: 0 };
     let answer = match behind_locals(alloc, features, body) {

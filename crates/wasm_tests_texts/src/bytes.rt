@@ -1,9 +1,9 @@
-//! The input: all of it, and bytes in hexadecimal.
+//! The input, and bytes in hexadecimal.
 
 use std::alloc::{AllocError, Global};
 use std::io::{self, Read};
 
-/// All that the reader has.
+/// Reads to the end of the data.
 pub fn read_input<R: Read>(alloc: Global, reader: &mut R) -> io::Result<Vec<u8>> {
     let mut input = Vec::new(alloc);
     let mut chunk = [0u8; 4096];
@@ -17,7 +17,8 @@ pub fn read_input<R: Read>(alloc: Global, reader: &mut R) -> io::Result<Vec<u8>>
     Ok(input)
 }
 
-/// The bytes that a text has in hexadecimal, in place of those before. What is no digit is 0.
+/// Replaces the contents of `out` by the bytes that `text` has in hexadecimal. A character that is
+/// not a digit counts as 0.
 pub fn read_hex(out: &mut Vec<u8>, text: &str) -> Result<(), AllocError> {
     out.clear();
     let mut high = None;

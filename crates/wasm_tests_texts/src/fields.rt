@@ -10,7 +10,7 @@ pub mod simd;
 use crate::values::Written;
 use wasm_instr::Operator;
 
-/// Writes the operator's name, and its fields.
+/// Writes the operator's name and its fields.
 pub fn write_operator(out: &mut String, op: &Operator<'_>) -> Written {
     out.push_str(op.info().name)?;
     own::own(out, op)

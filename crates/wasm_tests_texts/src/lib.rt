@@ -1,4 +1,4 @@
-//! What test programs share: their input, bytes in hexadecimal, and operators as text with all their
+//! Code that test programs share: their input, bytes in hexadecimal, and operators as text with all
 //! fields.
 #![tactic(auto)]
 

@@ -1,4 +1,4 @@
-//! The values of fields, in the words of `tools/original/samples.tsv`.
+//! The values of fields, in the format of `tools/original/samples.tsv`.
 
 use std::alloc::AllocError;
 use wasm_instr::below::{HeapType, RefType, ValType};
@@ -7,7 +7,7 @@ use wasm_instr::imm::{
     Ordering, ResumeTable, SelectTypes, TryTable, V128,
 };
 
-/// How writing into a text ends.
+/// The result of writing into a `String`.
 pub type Written = Result<(), AllocError>;
 
 pub fn number(out: &mut String, name: &str, value: &u32) -> Written {
@@ -40,7 +40,7 @@ pub fn vector(out: &mut String, name: &str, value: &V128) -> Written {
     lanes(out, name, value.bytes())
 }
 
-/// Bytes in hexadecimal, the first one first.
+/// Writes bytes in hexadecimal, the first byte first.
 pub fn lanes(out: &mut String, name: &str, value: &[u8; 16]) -> Written {
     write!(out, " {name}=")?;
     for byte in value {
@@ -93,7 +93,7 @@ pub fn block_type(out: &mut String, name: &str, value: &BlockType) -> Written {
     write_block_type(out, *value)
 }
 
-/// The targets, and behind them the default target.
+/// Writes the targets, and then the default target.
 pub fn branch_table(out: &mut String, name: &str, value: &BrTable<'_>) -> Written {
     write!(out, " {name}=[")?;
     let mut is_first = true;

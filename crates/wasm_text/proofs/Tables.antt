@@ -1,4 +1,4 @@
--- Tables that have a text for each byte.
+-- Tables with one text per byte.
 use Rattle.std.proofs.Common.{◌≡◌, ◌∙◌, ◌<◌, ℕ, List, map, sym, ap, arith, get_or, slice_index_or}
 use Rattle.std.specs.List.{range_with_len}
 use Rattle.std.proofs.Math.ListN.{get_or-map}

@@ -1,5 +1,6 @@
--- What operators carry, in the text: each value behind a space.
--- WebAssembly Core Specification 3.0, Text Format: Values, Types, Instructions. Where a disassembly writes another form than the text format, the comment says so.
+-- The values of immediates as text, each after a space.
+-- WebAssembly Core Specification 3.0, Text Format: Values, Types, Instructions. Where a disassembly uses another form than the text format, the comment says
+-- so.
 use Rattle.std.specs.Prelude.{ℕ, ℤ, ◌+◌, ◌/◌, ◌%◌, eqb, Bool, true, false, List, [], ◌∷◌, ◌++◌, Option, Some, None, codes, decimal, flat_map, cond, slice_index}
 use Rattle.std.specs.Fmt.{digit_glyph, signed_decimal}
 use Rattle.wasm_instr.specs.below.declared.types.AbstractHeapType.{AbstractHeapType}
@@ -25,30 +26,31 @@ use Rattle.wasm_instr.specs.imm.declared.memory_argument.MemArgTarget.TheVariant
 use Rattle.wasm_instr.specs.imm.declared.ordering.Ordering.{Ordering}
 use Rattle.wasm_instr.specs.imm.declared.ordering.Ordering.TheVariants.{AcqRel, SeqCst}
 
--- An index or another number.
+-- An index or another unsigned number.
 abbrev pub number_text : ℕ → List ℕ
 number_text n = codes " " ++ decimal n
 
 abbrev pub signed_text : ℤ → List ℕ
 signed_text n = codes " " ++ signed_decimal n
 
--- Two digits in hexadecimal.
+-- A byte as two hexadecimal digits.
 abbrev pub byte_text : ℕ → List ℕ
 byte_text byte = digit_glyph false (byte / 16) ∷ digit_glyph false (byte % 16) ∷ []
 
--- The same behind a space.
+-- A space and a byte as two hexadecimal digits.
 abbrev pub spaced_byte : ℕ → List ℕ
 spaced_byte byte = 32 ∷ byte_text byte
 
--- Four bytes from a place on, the highest first.
+-- The four bytes from an index on as one hexadecimal word, the highest byte first.
 abbrev pub word_text : List ℕ → ℕ → List ℕ
 word_text bytes at = codes " 0x" ++ (byte_text (slice_index bytes (at + 3)) ++ (byte_text (slice_index bytes (at + 2)) ++ (byte_text (slice_index bytes (at + 1)) ++ byte_text (slice_index bytes at))))
 
--- Sixteen bytes as four words, the lowest first: a vector, or the lanes of a shuffle. (The text format writes a shape before the words of a vector, and each lane by itself.)
+-- Sixteen bytes as four words, the lowest word first: a vector or the lane indices of a shuffle. (The text format writes a shape before the words of a vector,
+-- and each lane index as a number.)
 abbrev pub words_text : List ℕ → List ℕ
 words_text bytes = word_text bytes 0 ++ (word_text bytes 4 ++ (word_text bytes 8 ++ word_text bytes 12))
 
--- A type that stands for many, by its name.
+-- The name of an abstract heap type.
 abbrev pub abstract_name : AbstractHeapType → List ℕ
 abstract_name ty.Func = codes "func"
 abstract_name ty.Extern = codes "extern"
@@ -75,7 +77,7 @@ abbrev pub reference_words : Bool → HeapType → List ℕ
 reference_words true heap = codes " (ref null" ++ (heap_type_text heap ++ codes ")")
 reference_words false heap = codes " (ref" ++ (heap_type_text heap ++ codes ")")
 
--- A reference type. Those of functions and of what is outside have short forms.
+-- A reference type, in the short form `funcref` or `externref` if it has one.
 abbrev pub reference_text : Bool → HeapType → List ℕ
 reference_text true (heap.Abstract false ty.Func) = codes " funcref"
 reference_text true (heap.Abstract false ty.Extern) = codes " externref"
@@ -89,13 +91,13 @@ value_type_text value.F64 = codes " f64"
 value_type_text value.V128 = codes " v128"
 value_type_text (value.Ref r) = reference_text r.nullable r.heap_type
 
--- Nothing, the one result, or the index of a type. (In the text format `(result i32)` and `(type 1)`.)
+-- A block type: nothing, the one result type, or the index of a function type. (The text format writes `(result i32)` and `(type 1)`.)
 abbrev pub block_type_text : BlockType → List ℕ
 block_type_text block.Empty = []
 block_type_text (block.Value ty) = value_type_text ty
 block_type_text (block.FuncType index) = codes " type[" ++ (decimal index ++ codes "]")
 
--- The targets, and behind them the default target.
+-- The targets of a branch table, and then the default target.
 abbrev pub branch_table_text : BranchTable → List ℕ
 branch_table_text t = flat_map number_text (numbers_of t.targets) ++ number_text t.default
 
@@ -108,7 +110,7 @@ catch_text (clause.AllRef label) = codes " (catch_all_ref" ++ (number_text label
 abbrev pub try_table_text : TryTable → List ℕ
 try_table_text t = block_type_text t.ty ++ flat_map catch_text t.catches
 
--- Proposal stack switching.
+-- A clause of a resume table. Proposal stack switching.
 abbrev pub handle_text : Handle → List ℕ
 handle_text (handle.OnLabel tag label) = codes " (on" ++ (number_text tag ++ (number_text label ++ codes ")"))
 handle_text (handle.OnSwitch tag) = codes " (on" ++ (number_text tag ++ codes " switch)")
@@ -116,17 +118,17 @@ handle_text (handle.OnSwitch tag) = codes " (on" ++ (number_text tag ++ codes " 
 abbrev pub resume_table_text : ResumeTable → List ℕ
 resume_table_text t = flat_map handle_text t.handlers
 
--- Proposal shared-everything threads.
+-- A memory ordering. Proposal shared-everything threads.
 abbrev pub order_text : Ordering → List ℕ
 order_text SeqCst = codes " seq_cst"
 order_text AcqRel = codes " acq_rel"
 
--- The ordering of a fence: its byte where it is the one of the proposal threads. (The text format writes nothing there.)
+-- The ordering of a fence: the byte 0 for the one ordering of the proposal threads. (The text format writes nothing.)
 abbrev pub fence_text : Ordering → List ℕ
 fence_text SeqCst = codes " 0"
 fence_text AcqRel = codes " acq_rel"
 
--- A memory that is not the first, or the type of an array.
+-- What a memory argument accesses: the index of a memory, unless it is 0, or the type of an array.
 abbrev pub target_text : MemArgTarget → List ℕ
 target_text (target.Memory index) = cond (eqb index 0) [] (number_text index)
 target_text (target.Array index) = codes " (type " ++ (decimal index ++ codes ")")
@@ -136,6 +138,7 @@ announced_text None = []
 announced_text (Some (ordering.Op o)) = order_text o
 announced_text (Some (ordering.Rmw o)) = order_text o
 
--- The alignment as the exponent of a power of two, what is accessed, the offset in bytes, and the ordering. (The text format has `offset=` and `align=`, and the alignment itself.)
+-- The alignment as the exponent of a power of two, what is accessed, the offset in bytes, and the ordering. (The text format has `offset=` and `align=`, and
+-- the alignment itself.)
 abbrev pub memory_argument_text : MemArg → List ℕ
 memory_argument_text m = number_text m.align ++ (target_text m.target ++ (number_text m.offset ++ announced_text m.ordering))

@@ -1,11 +1,11 @@
-//! Bytes in hexadecimal, each by one text of a table.
+//! Bytes in hexadecimal, taken from a table of 256 texts.
 ghost use Rattle.std.specs.Prelude.{◌≡◌, ◌++◌, ℕ, List, map, OnOk, string_bytes};
 ghost use Rattle.std.specs.List.{range_with_len};
 ghost use Rattle.wasm_text.specs.Values.{byte_text, spaced_byte};
 
 use crate::values::Written;
 
-/// Each byte as two digits.
+/// The two digits of each byte.
 static BYTES: [&str; 256] = [
     "00", "01", "02", "03", "04", "05", "06", "07", "08", "09", "0a", "0b", "0c", "0d", "0e", "0f",
     "10", "11", "12", "13", "14", "15", "16", "17", "18", "19", "1a", "1b", "1c", "1d", "1e", "1f",
@@ -25,7 +25,7 @@ static BYTES: [&str; 256] = [
     "f0", "f1", "f2", "f3", "f4", "f5", "f6", "f7", "f8", "f9", "fa", "fb", "fc", "fd", "fe", "ff",
 ];
 
-/// Each byte as two digits, behind a space.
+/// The two digits of each byte, after a space.
 static SPACED: [&str; 256] = [
     " 00", " 01", " 02", " 03", " 04", " 05", " 06", " 07", " 08", " 09", " 0a", " 0b", " 0c",
     " 0d", " 0e", " 0f", " 10", " 11", " 12", " 13", " 14", " 15", " 16", " 17", " 18", " 19",
@@ -49,7 +49,7 @@ static SPACED: [&str; 256] = [
     " f7", " f8", " f9", " fa", " fb", " fc", " fd", " fe", " ff",
 ];
 
-/// The text of a byte in a table of them all.
+/// Returns the text of `byte` in a table with one entry per byte.
 #[inline(always)]
 fn text_in(texts: &[&'static str; 256], byte: u8) -> &'static str
     ensures { (text : ℕ → List ℕ) → map (λ t. t.now) texts.now ≡ map text (range_with_len 0 256) → result.now ≡ text byte }
@@ -57,18 +57,14 @@ fn text_in(texts: &[&'static str; 256], byte: u8) -> &'static str
     texts[byte as usize]
 }
 
-/// Writes a byte as two digits.
-///
-/// Where memory is refused, nothing is said of how much of it was written.
+/// Writes the two hexadecimal digits of a byte.
 pub fn write_byte(out: &mut String, byte: u8) -> Written
     ensures { OnOk result (string_bytes out.new ≡ string_bytes out.old ++ byte_text byte) }
 {
     out.push_str(text_in(&BYTES, byte))
 }
 
-/// Writes a byte as two digits, behind a space.
-///
-/// Where memory is refused, nothing is said of how much of it was written.
+/// Writes a space and the two hexadecimal digits of a byte.
 pub fn write_spaced_byte(out: &mut String, byte: u8) -> Written
     ensures { OnOk result (string_bytes out.new ≡ string_bytes out.old ++ spaced_byte byte) }
 {

@@ -6,12 +6,12 @@ ghost use Rattle.wasm_text.specs.Values.{words_text, word_text};
 use crate::bytes::write_byte;
 use crate::values::Written;
 
-/// The digits.
+/// The sixteen digits, in lower case.
 static DIGITS: [&str; 16] = [
     "0", "1", "2", "3", "4", "5", "6", "7", "8", "9", "a", "b", "c", "d", "e", "f",
 ];
 
-/// The digit of a number below sixteen.
+/// Returns the digit of a number below 16.
 fn digit_of(value: u8) -> &'static str
     requires { value < 16 }
     ensures { result.now ≡ digit_glyph false value ∷ [] }
@@ -19,7 +19,7 @@ fn digit_of(value: u8) -> &'static str
     DIGITS[value as usize]
 }
 
-/// Writes a digit.
+/// Writes one hexadecimal digit.
 pub fn write_digit(out: &mut String, value: u8) -> Written
     requires { value < 16 }
     ensures { OnOk result (string_bytes out.new ≡ string_bytes out.old ++ digit_glyph false value ∷ []) }
@@ -27,7 +27,7 @@ pub fn write_digit(out: &mut String, value: u8) -> Written
     out.push_str(digit_of(value))
 }
 
-/// Writes four bytes from a place on, the highest first.
+/// Writes a space, `0x` and the four bytes from index `at` on, the highest byte first.
 fn write_word(out: &mut String, bytes: &[u8; 16], at: usize) -> Written
     requires { at < 13 }
     ensures { OnOk result (string_bytes out.new ≡ string_bytes out.old ++ word_text bytes.now at) }
@@ -39,7 +39,7 @@ fn write_word(out: &mut String, bytes: &[u8; 16], at: usize) -> Written
     write_byte(out, bytes[at])
 }
 
-/// Writes sixteen bytes as four words, the lowest first.
+/// Writes sixteen bytes as four words, the lowest word first.
 pub fn write_words(out: &mut String, bytes: &[u8; 16]) -> Written
     ensures { OnOk result (string_bytes out.new ≡ string_bytes out.old ++ words_text bytes.now) }
 {

@@ -6,10 +6,10 @@ use crate::digits::write_digit;
 use crate::values::Written;
 use wasm_instr::{Ieee32, Ieee64};
 
-/// How much a fraction's first digit stands for, where the whole has 52 bits.
+/// The weight of the first hexadecimal digit of a fraction of 52 bits, 2 to the power of 48.
 const FIRST_DIGIT: u64 = 0x1_0000_0000_0000;
 
-/// Writes the digits of a fraction of 52 bits.
+/// Writes the hexadecimal digits of a fraction of 52 bits, up to its last digit that is not 0.
 fn write_digits(out: &mut String, fraction: u64) -> Written
     requires { fraction < 2 ^ 52 }
     ensures { OnOk result (string_bytes out.new ≡ string_bytes out.old ++ fraction_digits 13 fraction) }
@@ -25,7 +25,7 @@ fn write_digits(out: &mut String, fraction: u64) -> Written
     Ok(())
 }
 
-/// Writes a fraction of 52 bits, behind a point.
+/// Writes a point and the digits of a fraction of 52 bits; nothing if the fraction is 0.
 fn write_fraction(out: &mut String, fraction: u64) -> Written
     requires { fraction < 2 ^ 52 }
     ensures { OnOk result (string_bytes out.new ≡ string_bytes out.old ++ fraction_text fraction) }
@@ -37,7 +37,7 @@ fn write_fraction(out: &mut String, fraction: u64) -> Written
     write_digits(out, fraction)
 }
 
-/// Writes an exponent of two that is by `bias` too large.
+/// Writes the exponent of two, `biased - bias`, with its sign.
 fn write_exponent(out: &mut String, biased: u64, bias: u64) -> Written
     ensures { OnOk result (string_bytes out.new ≡ string_bytes out.old ++ exponent_text biased bias) }
 {
@@ -50,7 +50,7 @@ fn write_exponent(out: &mut String, biased: u64, bias: u64) -> Written
     }
 }
 
-/// Writes a number by its exponent and its fraction of 52 bits.
+/// Writes a finite number without its sign, from its biased exponent and its fraction of 52 bits.
 fn write_finite(out: &mut String, bias: u64, biased: u64, fraction: u64) -> Written
     requires { fraction < 2 ^ 52 }
     ensures { OnOk result (string_bytes out.new ≡ string_bytes out.old ++ finite_text bias biased fraction) }
@@ -68,7 +68,7 @@ fn write_finite(out: &mut String, bias: u64, biased: u64, fraction: u64) -> Writ
     write_exponent(out, 1, bias)
 }
 
-/// Writes infinity, or what is no number.
+/// Writes infinity or a NaN. `canonical` is the payload of the canonical NaN.
 fn write_special(out: &mut String, canonical: u64, payload: u64) -> Written
     ensures { OnOk result (string_bytes out.new ≡ string_bytes out.old ++ special_text canonical payload) }
 {
@@ -81,7 +81,7 @@ fn write_special(out: &mut String, canonical: u64, payload: u64) -> Written
     write!(out, "nan:0x{payload:x}")
 }
 
-/// Writes a space, and the sign of a number.
+/// Writes a space, and a minus sign if `sign` is not 0.
 fn write_sign(out: &mut String, sign: u64) -> Written
     ensures { OnOk result (string_bytes out.new ≡ string_bytes out.old ++ sign_text sign) }
 {
@@ -92,7 +92,7 @@ fn write_sign(out: &mut String, sign: u64) -> Written
     }
 }
 
-/// Writes a number of 32 bits behind a space.
+/// Writes a space and a floating-point number of 32 bits.
 pub fn write_float_32(out: &mut String, value: Ieee32) -> Written
     ensures { OnOk result (string_bytes out.new ≡ string_bytes out.old ++ float_32_text value) }
 {
@@ -106,7 +106,7 @@ pub fn write_float_32(out: &mut String, value: Ieee32) -> Written
     write_finite(out, 127, biased, fraction * 0x2000_0000)
 }
 
-/// Writes a number of 64 bits behind a space.
+/// Writes a space and a floating-point number of 64 bits.
 pub fn write_float_64(out: &mut String, value: Ieee64) -> Written
     ensures { OnOk result (string_bytes out.new ≡ string_bytes out.old ++ float_64_text value) }
 {

@@ -1,6 +1,9 @@
-//! Operators in the text format: their names, and their operands as a disassembly shows them.
+//! Operators in the text format: their names and operands, as a disassembly shows them.
 //!
-//! The theorem stands on [`write_operator`].
+//! The main theorem is the contract of [`write_operator`].
+//!
+//! Every call that writes may allocate, and fails with `AllocError` if allocation fails. `out` may
+//! then end with a part of the text.
 #![tactic(auto)]
 
 mod bytes;

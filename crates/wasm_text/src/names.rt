@@ -6,7 +6,7 @@ use wasm_instr::{
     AtomicOperator, GcOperator, MiscOperator, NumericOperator, Operator, SimdOperator,
 };
 
-/// The operator's name in the text format.
+/// Returns the operator's name in the text format.
 pub fn text_name(op: &Operator<'_>) -> &'static str
     ensures { result.now ≡ text_name op.now }
 {
@@ -98,7 +98,7 @@ pub fn text_name(op: &Operator<'_>) -> &'static str
     }
 }
 
-/// The name of such an operator.
+/// Returns the name of the `NumericOperator` in the text format.
 fn numeric_text_name(op: &NumericOperator) -> &'static str
     ensures { result.now ≡ numeric_text_name op.now }
 {
@@ -234,7 +234,7 @@ fn numeric_text_name(op: &NumericOperator) -> &'static str
     }
 }
 
-/// The name of such an operator.
+/// Returns the name of the `GcOperator` in the text format.
 fn gc_text_name(op: &GcOperator) -> &'static str
     ensures { result.now ≡ gc_text_name op.now }
 {
@@ -280,7 +280,7 @@ fn gc_text_name(op: &GcOperator) -> &'static str
     }
 }
 
-/// The name of such an operator.
+/// Returns the name of the `MiscOperator` in the text format.
 fn misc_text_name(op: &MiscOperator) -> &'static str
     ensures { result.now ≡ misc_text_name op.now }
 {
@@ -311,7 +311,7 @@ fn misc_text_name(op: &MiscOperator) -> &'static str
     }
 }
 
-/// The name of such an operator.
+/// Returns the name of the `SimdOperator` in the text format.
 fn simd_text_name(op: &SimdOperator) -> &'static str
     ensures { result.now ≡ simd_text_name op.now }
 {
@@ -575,7 +575,7 @@ fn simd_text_name(op: &SimdOperator) -> &'static str
     }
 }
 
-/// The name of such an operator.
+/// Returns the name of the `AtomicOperator` in the text format.
 fn atomic_text_name(op: &AtomicOperator) -> &'static str
     ensures { result.now ≡ atomic_text_name op.now }
 {

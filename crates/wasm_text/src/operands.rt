@@ -1,4 +1,4 @@
-//! Operands by the kinds of the immediates that they are, each behind a space.
+//! Operands by the kinds of their immediates, each after a space.
 ghost use Rattle.std.specs.Prelude.{◌≡◌, ◌++◌, ◌∷◌, [], true, false, OnOk, string_bytes};
 ghost use Rattle.wasm_instr.specs.Immediate.{unsigned_32, signed_32, signed_64, float_32, float_64, vector, one_lane, sixteen_lanes, order, fence_order, heap_type, cast, block_type, branch_table, select_types, try_clauses, resume_clauses};
 ghost use Rattle.wasm_instr.specs.imm.control.select.Select.TheVariants as select;
@@ -18,7 +18,7 @@ use wasm_instr::{
     BlockType, BrTable, Ieee32, Ieee64, MemArg, Ordering, ResumeTable, SelectTypes, TryTable, V128,
 };
 
-/// Writes an index.
+/// Writes an index or another number of 32 bits.
 pub fn one_number(out: &mut String, value: &u32) -> Written
     ensures { OnOk result (string_bytes out.new ≡ string_bytes out.old ++ (immediates_text (unsigned_32 value.now ∷ []))) }
 {
@@ -33,56 +33,56 @@ pub fn two_numbers(out: &mut String, first: &u32, second: &u32) -> Written
     write_number(out, *second)
 }
 
-/// Writes a table, and the type of the function that is called through it.
+/// Writes the table of an indirect call, and then the type of the called function.
 pub fn indirect(out: &mut String, type_index: &u32, table_index: &u32) -> Written
     ensures { OnOk result (string_bytes out.new ≡ string_bytes out.old ++ (indirect_text type_index.now table_index.now)) }
 {
     write!(out, " {table_index} (type {type_index})")
 }
 
-/// Writes a constant of 32 bits.
+/// Writes the constant of `i32.const`.
 pub fn signed_32(out: &mut String, value: &i32) -> Written
     ensures { OnOk result (string_bytes out.new ≡ string_bytes out.old ++ (immediates_text (signed_32 value.now ∷ []))) }
 {
     write_signed(out, i64::from(*value))
 }
 
-/// Writes a constant of 64 bits.
+/// Writes the constant of `i64.const`.
 pub fn signed_64(out: &mut String, value: &i64) -> Written
     ensures { OnOk result (string_bytes out.new ≡ string_bytes out.old ++ (immediates_text (signed_64 value.now ∷ []))) }
 {
     write_signed(out, *value)
 }
 
-/// Writes a constant of 32 bits.
+/// Writes the constant of `f32.const`.
 pub fn float_32(out: &mut String, value: &Ieee32) -> Written
     ensures { OnOk result (string_bytes out.new ≡ string_bytes out.old ++ (immediates_text (float_32 value.now ∷ []))) }
 {
     write_float_32(out, *value)
 }
 
-/// Writes a constant of 64 bits.
+/// Writes the constant of `f64.const`.
 pub fn float_64(out: &mut String, value: &Ieee64) -> Written
     ensures { OnOk result (string_bytes out.new ≡ string_bytes out.old ++ (immediates_text (float_64 value.now ∷ []))) }
 {
     write_float_64(out, *value)
 }
 
-/// Writes a constant vector.
+/// Writes the constant of `v128.const` as four words.
 pub fn vector(out: &mut String, value: &V128) -> Written
     ensures { OnOk result (string_bytes out.new ≡ string_bytes out.old ++ (immediates_text (vector value.now ∷ []))) }
 {
     write_words(out, value.bytes())
 }
 
-/// Writes the index of a lane.
+/// Writes a lane index.
 pub fn lane(out: &mut String, lane: &u8) -> Written
     ensures { OnOk result (string_bytes out.new ≡ string_bytes out.old ++ (immediates_text (one_lane lane.now ∷ []))) }
 {
     write_number(out, u32::from(*lane))
 }
 
-/// Writes the lanes of a shuffle.
+/// Writes the lane indices of a shuffle as four words.
 pub fn lanes(out: &mut String, lanes: &[u8; 16]) -> Written
     ensures { OnOk result (string_bytes out.new ≡ string_bytes out.old ++ (immediates_text (sixteen_lanes lanes.now ∷ []))) }
 {
@@ -142,21 +142,21 @@ pub fn heap_type(out: &mut String, hty: &HeapType) -> Written
     write_heap_type(out, *hty)
 }
 
-/// Writes the type of references to this with null.
+/// Writes a nullable reference type to this heap type.
 pub fn reference_with_null(out: &mut String, hty: &HeapType) -> Written
     ensures { OnOk result (string_bytes out.new ≡ string_bytes out.old ++ (reference_text true hty.now)) }
 {
     write_reference(out, true, *hty)
 }
 
-/// Writes the type of references to this without null.
+/// Writes a non-nullable reference type to this heap type.
 pub fn reference_without_null(out: &mut String, hty: &HeapType) -> Written
     ensures { OnOk result (string_bytes out.new ≡ string_bytes out.old ++ (reference_text false hty.now)) }
 {
     write_reference(out, false, *hty)
 }
 
-/// Writes a label and the two types of a cast.
+/// Writes a label and the two reference types of a cast.
 pub fn cast(
     out: &mut String,
     relative_depth: &u32,
@@ -184,21 +184,21 @@ pub fn branch_table(out: &mut String, targets: &BrTable<'_>) -> Written
     write_branch_table(out, targets)
 }
 
-/// Writes the type of a select.
+/// Writes the result type of a `select` that has one.
 pub fn one_type(out: &mut String, ty: &ValType) -> Written
     ensures { OnOk result (string_bytes out.new ≡ string_bytes out.old ++ (immediates_text (select_types (select.One ty.now) ∷ []))) }
 {
     write_value_type(out, *ty)
 }
 
-/// Writes the types of a select.
+/// Writes the result types of a `select`.
 pub fn types(out: &mut String, tys: &SelectTypes) -> Written
     ensures { OnOk result (string_bytes out.new ≡ string_bytes out.old ++ (immediates_text (select_types (select.Multi tys.now) ∷ []))) }
 {
     write_types(out, tys.as_slice())
 }
 
-/// Writes a block type and catches.
+/// Writes the block type and the clauses of a `try_table`.
 pub fn try_table(out: &mut String, try_table: &TryTable) -> Written
     ensures { OnOk result (string_bytes out.new ≡ string_bytes out.old ++ (immediates_text (try_clauses try_table.now ∷ []))) }
 {

@@ -1,4 +1,4 @@
-//! The operands of the operators, enum by enum.
+//! The operands of the operators, one module per enum.
 
 mod atomic;
 mod gc;

@@ -1,4 +1,4 @@
-//! Types, each behind a space.
+//! Types, each after a space.
 ghost use Rattle.std.specs.Prelude.{◌≡◌, ◌++◌, OnOk, string_bytes};
 ghost use Rattle.wasm_text.specs.Values.{abstract_name, heap_type_text, reference_words, reference_text, value_type_text, block_type_text};
 
@@ -6,7 +6,7 @@ use crate::values::{Written, write_number};
 use wasm_instr::BlockType;
 use wasm_instr::below::{AbstractHeapType, HeapType, RefType, ValType};
 
-/// The name of a type that stands for many.
+/// Returns the name of an abstract heap type.
 fn abstract_name(ty: AbstractHeapType) -> &'static str
     ensures { result.now ≡ abstract_name ty }
 {
@@ -46,7 +46,7 @@ pub fn write_heap_type(out: &mut String, value: HeapType) -> Written
     }
 }
 
-/// Writes a reference type in full.
+/// Writes a reference type in full, such as `(ref null func)`.
 fn write_reference_words(out: &mut String, nullable: bool, heap_type: HeapType) -> Written
     ensures { OnOk result (string_bytes out.new ≡ string_bytes out.old ++ reference_words nullable heap_type) }
 {
@@ -59,7 +59,7 @@ fn write_reference_words(out: &mut String, nullable: bool, heap_type: HeapType) 
     out.push_str(")")
 }
 
-/// Writes the type of references to this, with the null reference or without.
+/// Writes a reference type to this heap type, in its short form if it has one.
 pub fn write_reference(out: &mut String, nullable: bool, heap_type: HeapType) -> Written
     ensures { OnOk result (string_bytes out.new ≡ string_bytes out.old ++ reference_text nullable heap_type) }
 {
@@ -86,9 +86,7 @@ pub fn write_reference_type(out: &mut String, value: RefType) -> Written
     write_reference(out, value.is_nullable(), value.heap_type())
 }
 
-/// Writes a value type behind a space.
-///
-/// Where memory is refused, nothing is said of how much of it was written.
+/// Writes a space and a value type.
 pub fn write_value_type(out: &mut String, value: ValType) -> Written
     ensures { OnOk result (string_bytes out.new ≡ string_bytes out.old ++ value_type_text value) }
 {

@@ -1,35 +1,35 @@
-//! Numbers, orderings and memory arguments, each behind a space.
+//! Numbers, orderings and memory arguments, each after a space.
 ghost use Rattle.std.specs.Prelude.{◌≡◌, ◌++◌, OnOk, string_bytes};
 ghost use Rattle.wasm_text.specs.Values.{number_text, signed_text, order_text, fence_text, target_text, announced_text, memory_argument_text};
 
 use std::alloc::AllocError;
 use wasm_instr::{MemArg, MemArgOrdering, MemArgTarget, Ordering};
 
-/// How writing into a text ends.
+/// The result of writing into a `String`.
 pub type Written = Result<(), AllocError>;
 
-/// Writes a number.
+/// Writes an unsigned number of 32 bits.
 pub fn write_number(out: &mut String, value: u32) -> Written
     ensures { OnOk result (string_bytes out.new ≡ string_bytes out.old ++ number_text value) }
 {
     write!(out, " {value}")
 }
 
-/// Writes a number of 64 bits.
+/// Writes an unsigned number of 64 bits.
 pub fn write_long(out: &mut String, value: u64) -> Written
     ensures { OnOk result (string_bytes out.new ≡ string_bytes out.old ++ number_text value) }
 {
     write!(out, " {value}")
 }
 
-/// Writes a number with a sign.
+/// Writes a signed number of 64 bits.
 pub fn write_signed(out: &mut String, value: i64) -> Written
     ensures { OnOk result (string_bytes out.new ≡ string_bytes out.old ++ signed_text value) }
 {
     write!(out, " {value}")
 }
 
-/// Writes an ordering.
+/// Writes a memory ordering.
 pub fn write_order(out: &mut String, value: Ordering) -> Written
     ensures { OnOk result (string_bytes out.new ≡ string_bytes out.old ++ order_text value) }
 {
@@ -39,7 +39,7 @@ pub fn write_order(out: &mut String, value: Ordering) -> Written
     }
 }
 
-/// Writes the ordering of a fence.
+/// Writes the ordering of a fence: `0` for `seq_cst`.
 pub fn write_fence(out: &mut String, value: Ordering) -> Written
     ensures { OnOk result (string_bytes out.new ≡ string_bytes out.old ++ fence_text value) }
 {
@@ -49,7 +49,7 @@ pub fn write_fence(out: &mut String, value: Ordering) -> Written
     }
 }
 
-/// Writes what a memory argument accesses.
+/// Writes the memory or the array type that a memory argument accesses; nothing for memory 0.
 fn write_target(out: &mut String, target: MemArgTarget) -> Written
     ensures { OnOk result (string_bytes out.new ≡ string_bytes out.old ++ target_text target) }
 {
@@ -65,7 +65,7 @@ fn write_target(out: &mut String, target: MemArgTarget) -> Written
     }
 }
 
-/// Writes the ordering that a memory argument announces.
+/// Writes the ordering of a memory argument, if it has one.
 fn write_announced(out: &mut String, ordering: Option<MemArgOrdering>) -> Written
     ensures { OnOk result (string_bytes out.new ≡ string_bytes out.old ++ announced_text ordering) }
 {
@@ -76,7 +76,7 @@ fn write_announced(out: &mut String, ordering: Option<MemArgOrdering>) -> Writte
     }
 }
 
-/// Writes a memory argument.
+/// Writes the alignment's exponent, what is accessed, the offset and the ordering, if there is one.
 pub fn write_memory_argument(out: &mut String, value: &MemArg) -> Written
     ensures { OnOk result (string_bytes out.new ≡ string_bytes out.old ++ memory_argument_text value.now) }
 {

@@ -7,10 +7,7 @@ use crate::operators::own;
 use crate::values::Written;
 use wasm_instr::Operator;
 
-/// Writes the text of an operator at the end of a text: its name, and its operands each behind a
-/// space.
-///
-/// Where memory is refused, nothing is said of how much of it was written.
+/// Appends the text of an operator to `out`: its name and its operands, each after a space.
 pub fn write_operator(out: &mut String, op: &Operator<'_>) -> Written
     ensures { OnOk result (string_bytes out.new ≡ string_bytes out.old ++ text_of op.now) }
 {

@@ -1,4 +1,4 @@
--- Immediates that plain data tells whole.
+-- Immediates that the C struct determines completely.
 use Rattle.std.proofs.Common.{◌≡◌, ℕ, ℤ, ◌-◌, Bool, true, false, cond, eqb, ltb, List, [], ◌∷◌, Option, Some, None, map, refl, sym, ap, ◌∙◌, FitsSigned}
 use Rattle.std.specs.Int.{w64, cast_signed}
 use Rattle.std.proofs.lemmas.Int.{to_z-of_z}
@@ -24,7 +24,7 @@ use Rattle.wasm_view.specs.Numbers.{heap_kind, heap_index, reference_kind, value
 use Rattle.wasm_view.specs.View.{view}
 use Rattle.wasm_view.specs.declared.view.WasmOperator.{WasmOperator}
 
--- Types from their numbers.
+-- The types with these numbers, so that a kind and an index determine a type.
 abbrev abstract_at : ℕ → AbstractHeapType
 abstract_at n = cond (eqb n 0x75) ty.NoCont (cond (eqb n 0x74) ty.NoExn (cond (eqb n 0x73) ty.NoFunc (cond (eqb n 0x72) ty.NoExtern (cond (eqb n 0x71) ty.None
     (cond (eqb n 0x70) ty.Func (cond (eqb n 0x6f) ty.Extern (cond (eqb n 0x6e) ty.Any (cond (eqb n 0x6d) ty.Eq (cond (eqb n 0x6c) ty.I31
@@ -71,7 +71,7 @@ abbrev reference_at : ℕ → ℕ → Reference
 reference_at kind index =
     cond (ltb kind 512) (record { nullable = false; heap_type = heap_at kind index }) (record { nullable = true; heap_type = heap_at (kind - 512) index })
 
--- Kinds are small.
+-- The kind and the index of a reference type determine it.
 reference_again : (null : Bool) (h : HeapType) → (let r : Reference = record { nullable = null; heap_type = h } in reference_at (reference_kind r) (heap_index h) ≡ r)
 reference_again false (heap.Abstract false ty.NoCont) = refl
 reference_again false (heap.Abstract false ty.NoExn) = refl
@@ -285,7 +285,7 @@ block_again (block.Value value.V128) = refl
 block_again (block.Value (value.Ref r)) = reference_block r.nullable r.heap_type
 block_again (block.FuncType index) = refl
 
--- What a memory argument accesses, and orderings.
+-- The targets and the orderings of memory arguments with these numbers.
 abbrev target_at : ℕ → ℕ → MemArgTarget
 target_at number index = cond (eqb number 0) (target.Memory index) (target.Array index)
 
@@ -322,7 +322,7 @@ argument_again m t o target ordering =
     ap (λ (s : MemArgTarget). (let same : MemArg = record { align = m.align; max_align = m.max_align; offset = m.offset; target = s; ordering = o } in same)) target ∙
     ap (λ (s : Option MemArgOrdering). (let same : MemArg = record { align = m.align; max_align = m.max_align; offset = m.offset; target = m.target; ordering = s } in same)) ordering
 
--- The immediates of these kinds that plain data tells.
+-- The immediates of these kinds that the fields of the struct hold.
 abbrev told_by : List Kind → WasmOperator → List Immediate
 told_by (is_unsigned_32 ∷ []) v = unsigned_32 v.first ∷ []
 told_by (is_memory_index ∷ []) v = memory_index v.first ∷ []
@@ -347,7 +347,7 @@ told_by (is_block_type ∷ []) v = block_type (block_at v.kind v.first) ∷ []
 told_by (is_select_types ∷ []) v = select_types (select.One (value_at v.kind v.first)) ∷ []
 told_by _ v = []
 
--- Those that it tells whole.
+-- The immediates that the struct determines completely.
 abbrev pub AreWhole : List Immediate → Type 0
 AreWhole [] = Unit {0}
 AreWhole (unsigned_32 a ∷ []) = Unit {0}
@@ -402,13 +402,13 @@ told_again offset opcode (block_type ty ∷ []) whole = ap (λ (b : BlockType). 
 told_again offset opcode (select_types (select.One ty) ∷ []) whole = ap (λ (v : ValType). select_types (select.One v) ∷ []) (value_again ty)
 told_again offset opcode _ whole = absurd whole
 
--- So they are determined by it and by their kinds.
+-- So the struct and the kinds determine the immediates.
 pub same_immediates : (offset opcode at code : ℕ) (is js : List Immediate) → AreWhole is → AreWhole js → map kind_of is ≡ map kind_of js →
     view offset opcode is ≡ view at code js → is ≡ js
 same_immediates offset opcode at code is js w x kinds same =
     sym (told_again offset opcode is w) ∙ ap (λ ks. told_by ks (view offset opcode is)) kinds ∙ ap (told_by (map kind_of js)) same ∙ told_again at code js x
 
--- The opcode and the offset stand in their own fields.
+-- The opcode and the offset are in fields of their own.
 pub view_offset : (offset opcode : ℕ) (is : List Immediate) → (view offset opcode is).offset ≡ offset
 view_offset offset opcode [] = refl
 view_offset offset opcode (unsigned_32 a ∷ []) = refl

@@ -1,4 +1,4 @@
--- The targets of a branch table, as its bytes encode them and as an iterator answers them.
+-- The targets of a branch table, as its bytes encode them and as an iterator returns them.
 use Rattle.std.proofs.Common.{◌≡◌, ℕ, ◌+◌, ◌-◌, ◌*◌, ◌<◌, ◌≤◌, ◌^◌, List, [], ◌∷◌, ◌++◌, Result, Ok, Err, length, map, drop, refl, sym, ap, subst, ◌∙◌, append_assoc, append-nil, length-append, arith}
 use Rattle.std.proofs.lemmas.Bool.{le-ltb, lt-ltb}
 use Rattle.wasm_instr.specs.below.bytes.error.Error.{Error}
@@ -22,13 +22,13 @@ first_number width (c ∷ d ∷ text) behind n (w, le, lt, high, sum, p) =
     let value : 128 * high + (c - 128) ≡ n = omega arith in
     ap (with_byte c) below ∙ with_more c high (numbers_of behind) le ∙ ap (λ z. z ∷ numbers_of behind) value
 
--- bytes that encode numbers are read back as these
+-- Reading the bytes of encoded numbers returns these numbers.
 pub numbers_are : (text : List ℕ) (numbers : List ℕ) → EncodesEach (EncodesUnsigned 32) text numbers → numbers_of text ≡ numbers
 numbers_are text [] p = ap numbers_of p
 numbers_are text (n ∷ numbers) (first, behind, e, p, ps) =
     ap numbers_of e ∙ first_number 32 first behind n p ∙ ap (λ z. n ∷ z) (numbers_are behind numbers ps)
 
--- ---- the targets that an iterator has left, each of which it answers as `Ok`
+-- ---- the targets that an iterator has left; it returns each as `Ok`
 
 abbrev oks : List ℕ → List (Result ℕ Error)
 oks ns = map Ok ns
@@ -59,9 +59,9 @@ firsts_ok (n ∷ ns) = tt
 pub never_refused : (old new : List ℕ) (target : Result ℕ Error) (e : Error) → oks old ≡ target ∷ oks new → target ≡ Err e → ⊥
 never_refused old new target e steps is = subst (λ t. IsFirstOk (t ∷ oks new)) is (subst IsFirstOk steps (firsts_ok old))
 
--- ---- the targets that were placed, and those that are left
+-- ---- the targets that are written, and those that are left
 
--- One is left or more, so that the index is below the count.
+-- If at least one is left, the index is below the count.
 pub fits_below : (all seen old left : List ℕ) (label index count : ℕ) → old ≡ label ∷ left → all ≡ seen ++ old → index ≡ length seen → count ≡ length all →
     count < 2 ^ 32 → index + 1 < 2 ^ 64
 fits_below all seen old left label index count is parts at n few =

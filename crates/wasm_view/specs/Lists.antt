@@ -1,4 +1,4 @@
--- The members of the list that an operator carries, and arrays that they are placed in.
+-- The list that an operator carries, and arrays that it is copied to.
 -- WebAssembly Core Specification 3.0: Binary Format, Instructions, Control Instructions and Parametric Instructions; proposal stack switching (clauses).
 use Rattle.std.specs.Prelude.{◌≡◌, ℕ, List, [], ◌∷◌, ◌++◌, length, map, drop, Option, Some, None}
 use Rattle.wasm_instr.specs.declared.operator.Operator.{Operator}
@@ -8,45 +8,46 @@ use Rattle.wasm_view.specs.Members.{type_of, catch_of, handle_of}
 use Rattle.wasm_view.specs.declared.members.WasmType.{WasmType}
 use Rattle.wasm_view.specs.declared.members.WasmHandler.{WasmHandler}
 
--- The second list with the first in place of its beginning, as far as it has room.
+-- The second list, whose prefix is replaced by the first list, or as much of that as fits.
 abbrev pub written : {X : Type 0} → List X → List X → List X
 written items [] = []
 written [] (old ∷ olds) = old ∷ olds
 written (item ∷ items) (old ∷ olds) = item ∷ written items olds
 
--- The targets of a br_table, without the default one.
+-- The targets of a `br_table`, without the default target.
 abbrev pub targets_of : Operator → Option (List ℕ)
 targets_of (operator.BrTable t) = Some (numbers_of t.targets)
 targets_of _ = None
 
--- The types of a select that has them.
+-- The types of a `select` that has types.
 abbrev pub types_of : Operator → Option (List WasmType)
 types_of (operator.TypedSelect ty) = Some (type_of ty ∷ [])
 types_of (operator.TypedSelectMulti tys) = Some (map type_of tys)
 types_of _ = None
 
--- The catches of a try_table.
+-- The clauses of a `try_table`.
 abbrev pub catches_of : Operator → Option (List WasmHandler)
 catches_of (operator.TryTable t) = Some (map catch_of t.catches)
 catches_of _ = None
 
--- The clauses of a resume, a resume_throw or a resume_throw_ref.
+-- The clauses of a `resume`, a `resume_throw` or a `resume_throw_ref`.
 abbrev pub handles_of : Operator → Option (List WasmHandler)
 handles_of (operator.Resume ty t) = Some (map handle_of t.handlers)
 handles_of (operator.ResumeThrow ty tag t) = Some (map handle_of t.handlers)
 handles_of (operator.ResumeThrowRef ty t) = Some (map handle_of t.handlers)
 handles_of _ = None
 
--- The members from this index on stand at the beginning of the array, as far as it has room, which else is as it was; and how many members there are.
+-- The members from index `from` on are written to the start of the array, as far as it has space. Its other elements are unchanged, and `count` is the number
+-- of all members.
 abbrev pub PlacesMembers : {X : Type 0} → List X → ℕ → List X → ℕ → List X → Type 0
 PlacesMembers members from old count new = (count ≡ length members) × (new ≡ written (drop from members) old)
 
--- The same of the list that an operator carries; where it carries none, nothing changes.
+-- The same for the list of an operator; if it has none, nothing changes.
 abbrev pub AnswersMembers : {X : Type 0} → Option (List X) → ℕ → List X → Option ℕ → List X → Type 0
 AnswersMembers None from old result new = (result ≡ None) × (new ≡ old)
 AnswersMembers (Some members) from old result new = (count : ℕ) × (result ≡ Some count) × PlacesMembers members from old count new
 
--- The same of one member more, behind those that are placed, of which this is the index.
+-- One more member is written, after those with a lower index.
 abbrev pub PlacesOne : {X : Type 0} → X → ℕ → ℕ → List X → List X → Type 0
 PlacesOne {X} member index from old new =
     (seen base : List X) → index ≡ length seen → old ≡ written (drop from seen) base → new ≡ written (drop from (seen ++ member ∷ [])) base

@@ -1,4 +1,4 @@
--- Operators as plain data.
+-- Operators as C structs.
 -- WebAssembly Core Specification 3.0: Binary Format, Instructions.
 use Rattle.std.specs.Prelude.{ℕ, ◌+◌, ◌*◌, List, [], ◌∷◌, Option, Some, None, map, replicate}
 use Rattle.std.specs.Int.{w64, cast_unsigned}
@@ -9,12 +9,12 @@ use Rattle.wasm_instr.specs.imm.control.select.Select.TheVariants as select
 use Rattle.wasm_view.specs.Numbers.{heap_kind, heap_index, reference_kind, value_kind, value_index, block_kind, block_index, target_number, target_index, order_number, ordering_number, count}
 use Rattle.wasm_view.specs.declared.view.WasmOperator.{WasmOperator}
 
--- The opcode; behind a prefix byte the subopcode, and 65536 times that byte.
+-- The opcode; after a prefix byte the subopcode, plus 65536 times that byte.
 abbrev pub opcode_number : Option ℕ → ℕ → ℕ
 opcode_number None code = code
 opcode_number (Some prefix) code = 65536 * prefix + code
 
--- An operator of this shape, all of whose other fields are 0.
+-- An operator of this shape, with 0 in all other fields.
 abbrev pub bare : ℕ → ℕ → ℕ → WasmOperator
 bare offset opcode shape = record {
   offset = offset;
@@ -34,7 +34,7 @@ bare offset opcode shape = record {
   bytes = replicate 16 0;
 }
 
--- An operator with these immediates. The shape tells which they are.
+-- An operator with these immediates. The shape determines their kinds.
 abbrev pub view : ℕ → ℕ → List Immediate → WasmOperator
 view offset opcode [] = bare offset opcode 0
 view offset opcode (unsigned_32 a ∷ []) = record (bare offset opcode 1) { first = a }
@@ -85,10 +85,10 @@ view offset opcode (unsigned_32 a ∷ resume_clauses t ∷ []) = record (bare of
 view offset opcode (unsigned_32 a ∷ unsigned_32 b ∷ resume_clauses t ∷ []) = record (bare offset opcode 23) { first = a; second = b; third = count t.handlers }
 view offset opcode _ = bare offset opcode 255
 
--- The plain data of an operator that begins at this offset.
+-- The C struct of an operator whose first byte has this offset.
 abbrev pub view_of : Operator × ℕ → WasmOperator
 view_of p = view p.1 (opcode_number (prefix_of p.0) (opcode_of p.0)) (immediates_of p.0)
 
--- The plain data of operators, in their order.
+-- The C structs of operators, in their order.
 abbrev pub views : List (Operator × ℕ) → List WasmOperator
 views placed = map view_of placed

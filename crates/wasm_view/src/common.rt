@@ -1,4 +1,4 @@
-//! The plain data of an operator, that of the common ones inline. Written by tools/lists.py from tools/operators.tsv.
+//! The C struct of an operator, made inline for frequent operators. Written by tools/lists.py from tools/operators.tsv.
 ghost use Rattle.std.specs.Prelude.{◌≡◌};
 ghost use Rattle.wasm_instr.specs.Row.{immediates_of};
 ghost use Rattle.wasm_view.specs.View.{view, view_of};
@@ -9,7 +9,7 @@ use crate::view::WasmOperator;
 use crate::views::own;
 use wasm_instr::Operator;
 
-/// The plain data of an operator that begins at this offset. It takes no memory.
+/// Converts an operator to a C struct, without allocating. `offset` is the offset of its first byte.
 #[inline(always)]
 pub fn view_of(op: &Operator<'_>, offset: u64) -> WasmOperator
     ensures { result ≡ view_of (op.now, offset) }
@@ -17,7 +17,7 @@ pub fn view_of(op: &Operator<'_>, offset: u64) -> WasmOperator
     common(offset, opcode_of(op), op)
 }
 
-/// The fields of an operator of this number. Those of the operators that bodies are full of are made here.
+/// Converts an operator with this number. Frequent operators are handled here, the others by a call.
 #[inline(always)]
 fn common(offset: u64, opcode: u32, op: &Operator<'_>) -> WasmOperator
     ensures { result ≡ view offset opcode (immediates_of op.now) }

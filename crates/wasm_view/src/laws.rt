@@ -1,4 +1,4 @@
-//! Laws of plain data. Each is the contract of a function that does nothing.
+//! Laws of the C structs of operators. Each law is the contract of a function that does nothing.
 ghost use Rattle.std.specs.Prelude.{◌≡◌, ℕ};
 ghost use Rattle.wasm_instr.specs.declared.operator.Operator.{Operator};
 ghost use Rattle.wasm_instr.specs.Row.{name_of};
@@ -6,8 +6,8 @@ ghost use Rattle.wasm_view.specs.Determined.{IsWhole};
 ghost use Rattle.wasm_view.specs.Names.{name_at};
 ghost use Rattle.wasm_view.specs.View.{view_of};
 
-/// Plain data tells which operator it is of, and where that begins; and of operators that carry no
-/// list it tells all.
+/// States that equal C structs are of operators of the same name and offset; and of equal
+/// operators, if neither carries a list.
 pub fn one_operator()
     ensures named { (op other : Operator) (offset at : ℕ) → view_of (op, offset) ≡ view_of (other, at)
         → (name_of op ≡ name_of other) × (offset ≡ at) }
@@ -15,7 +15,7 @@ pub fn one_operator()
         → view_of (op, offset) ≡ view_of (other, at) → (op ≡ other) × (offset ≡ at) }
 {}
 
-/// The name at the number and the shape of an operator's plain data is that of the operator.
+/// States that the opcode and the shape in the C struct of an operator determine its name.
 pub fn names()
     ensures { (op : Operator) (offset : ℕ) → name_at (view_of (op, offset)).opcode (view_of (op, offset)).shape ≡ name_of op }
 {}

@@ -1,5 +1,7 @@
-//! Operators as plain data: numbers in places of their own, without references and without memory, as
-//! languages beside Rust take them.
+//! Operators as C structs of fixed size, without references or allocations, for callers in other
+//! languages.
+//!
+//! No call allocates.
 #![tactic(auto)]
 
 mod common;

@@ -1,4 +1,4 @@
-//! The members of the list that an operator carries, into an array.
+//! Copies of the list that an operator carries, in an array of the caller.
 ghost use Rattle.std.specs.Prelude.{◌≡◌, [], ◌∷◌, ◌<◌, ◌^◌, map, length};
 ghost use Rattle.wasm_instr.specs.imm.BranchTables.{numbers_of};
 ghost use Rattle.wasm_view.specs.Members.{type_of, catch_of, handle_of};
@@ -8,7 +8,8 @@ use crate::members::{WasmHandler, WasmType, catch_of, handle_of, type_of};
 use wasm_instr::below::ValType;
 use wasm_instr::{BrTable, Catch, Handle, Operator};
 
-/// Places the member of this index, if it is one of those from `from` on and there is room for it.
+/// Writes `member`, whose index in the list is `index`, to `out[index - from]`, if there is such an
+/// element.
 fn place<T: Copy>(member: T, index: usize, from: usize, out: &mut [T])
     ensures { PlacesOne member index from out.old out.new }
 {
@@ -17,7 +18,8 @@ fn place<T: Copy>(member: T, index: usize, from: usize, out: &mut [T])
     }
 }
 
-/// Places the targets of a branch table.
+/// Writes the targets of a branch table from index `from` on, without the default target. Returns
+/// the length of the whole list.
 fn place_targets(table: &BrTable<'_>, from: usize, out: &mut [u32]) -> usize
     ensures { PlacesMembers (numbers_of table.now.targets) from out.old result out.new }
 {
@@ -32,7 +34,7 @@ fn place_targets(table: &BrTable<'_>, from: usize, out: &mut [u32]) -> usize
     count
 }
 
-/// Places types.
+/// Writes the value types from index `from` on. Returns the length of the whole list.
 fn place_types(types: &[ValType], from: usize, out: &mut [WasmType]) -> usize
     ensures { PlacesMembers (map type_of types.now) from out.old result out.new }
 {
@@ -43,7 +45,7 @@ fn place_types(types: &[ValType], from: usize, out: &mut [WasmType]) -> usize
     count
 }
 
-/// Places catches.
+/// Writes the catch clauses from index `from` on. Returns the length of the whole list.
 fn place_catches(catches: &[Catch], from: usize, out: &mut [WasmHandler]) -> usize
     ensures { PlacesMembers (map catch_of catches.now) from out.old result out.new }
 {
@@ -54,7 +56,7 @@ fn place_catches(catches: &[Catch], from: usize, out: &mut [WasmHandler]) -> usi
     count
 }
 
-/// Places clauses.
+/// Writes the resume clauses from index `from` on. Returns the length of the whole list.
 fn place_handles(handles: &[Handle], from: usize, out: &mut [WasmHandler]) -> usize
     ensures { PlacesMembers (map handle_of handles.now) from out.old result out.new }
 {
@@ -65,8 +67,9 @@ fn place_handles(handles: &[Handle], from: usize, out: &mut [WasmHandler]) -> us
     count
 }
 
-/// The targets of a `br_table` from this index on, without the default one, as many as there is room
-/// for; and how many it has. `None` of all other operators, and nothing changes.
+/// Writes the targets of a `br_table` from index `from` on, without the default target, as far as
+/// `out` has space. Returns how many targets the operator has. For any other operator, returns
+/// `None` and leaves `out` unchanged.
 pub fn targets_of(op: &Operator<'_>, from: usize, out: &mut [u32]) -> Option<usize>
     ensures { AnswersMembers (targets_of op.now) from out.old result out.new }
 {
@@ -76,7 +79,7 @@ pub fn targets_of(op: &Operator<'_>, from: usize, out: &mut [u32]) -> Option<usi
     }
 }
 
-/// The types of a `select` that has them, likewise.
+/// Writes the types of a `select` that has types, in the same way as [`targets_of`].
 pub fn types_of(op: &Operator<'_>, from: usize, out: &mut [WasmType]) -> Option<usize>
     ensures { AnswersMembers (types_of op.now) from out.old result out.new }
 {
@@ -90,7 +93,7 @@ pub fn types_of(op: &Operator<'_>, from: usize, out: &mut [WasmType]) -> Option<
     }
 }
 
-/// The catches of a `try_table`, likewise.
+/// Writes the clauses of a `try_table`, in the same way as [`targets_of`].
 pub fn catches_of(op: &Operator<'_>, from: usize, out: &mut [WasmHandler]) -> Option<usize>
     ensures { AnswersMembers (catches_of op.now) from out.old result out.new }
 {
@@ -102,7 +105,8 @@ pub fn catches_of(op: &Operator<'_>, from: usize, out: &mut [WasmHandler]) -> Op
     }
 }
 
-/// The clauses of a `resume`, a `resume_throw` or a `resume_throw_ref`, likewise.
+/// Writes the clauses of a `resume`, a `resume_throw` or a `resume_throw_ref`, in the same way as
+/// [`targets_of`].
 pub fn handles_of(op: &Operator<'_>, from: usize, out: &mut [WasmHandler]) -> Option<usize>
     ensures { AnswersMembers (handles_of op.now) from out.old result out.new }
 {

@@ -1,4 +1,4 @@
-//! The plain data of the members of lists.
+//! The C structs of list members.
 ghost use Rattle.std.specs.Prelude.{◌≡◌};
 ghost use Rattle.wasm_view.specs.Members.{type_of, handler, catch_of, handle_of};
 
@@ -6,29 +6,29 @@ use crate::numbers::{value_index, value_kind};
 use wasm_instr::below::ValType;
 use wasm_instr::{Catch, Handle};
 
-/// A value type as plain data: 8 bytes without gaps.
+/// A value type as a C struct of 8 bytes without padding.
 #[repr(C)]
 #[derive(Clone, Copy, Debug, PartialEq, Eq)]
 pub struct WasmType {
-    /// The byte of a number or vector type; that of a reference type with what is added to it.
+    /// The byte of a number or vector type; for a reference type, its kind and 1024.
     pub kind: u32,
-    /// The index in a reference type, else 0.
+    /// The type index of a reference type, else 0.
     pub index: u32,
 }
 
-/// A catch of a try table, or a clause of a resume table, as plain data: 12 bytes without gaps.
+/// A clause of a `try_table`, or of a resume table, as a C struct of 12 bytes without padding.
 #[repr(C)]
 #[derive(Clone, Copy, Debug, PartialEq, Eq)]
 pub struct WasmHandler {
-    /// The byte that it begins with: from 0 to 3 of a catch, 0 or 1 of a clause.
+    /// The byte that the clause starts with: 0 to 3 in a `try_table`, 0 or 1 in a resume table.
     pub kind: u32,
-    /// The index of its tag, else 0.
+    /// The tag index, or 0 if the clause has none.
     pub tag: u32,
-    /// Its label, else 0.
+    /// The label, or 0 if the clause has none.
     pub label: u32,
 }
 
-/// The plain data of a value type.
+/// Returns the C struct of a value type.
 pub fn type_of(ty: &ValType) -> WasmType
     ensures { result ≡ type_of ty.now }
 {
@@ -44,7 +44,7 @@ fn handler(kind: u32, tag: u32, label: u32) -> WasmHandler
     WasmHandler { kind, tag, label }
 }
 
-/// The plain data of a catch.
+/// Returns the C struct of a clause of a `try_table`.
 pub fn catch_of(catch: &Catch) -> WasmHandler
     ensures { result ≡ catch_of catch.now }
 {
@@ -56,7 +56,7 @@ pub fn catch_of(catch: &Catch) -> WasmHandler
     }
 }
 
-/// The plain data of a clause.
+/// Returns the C struct of a clause of a resume table.
 pub fn handle_of(handle: &Handle) -> WasmHandler
     ensures { result ≡ handle_of handle.now }
 {

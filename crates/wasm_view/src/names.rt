@@ -2,8 +2,8 @@
 ghost use Rattle.std.specs.Prelude.{◌≡◌};
 ghost use Rattle.wasm_view.specs.Names.{atomic_names_0, atomic_names_1, atomic_names_2, gc_names_0, misc_names_0, numeric_names_0, numeric_names_1, numeric_names_2, own_names_0, own_names_1, simd_names_0, simd_names_1, simd_names_2, simd_names_3, simd_names_4, simd_names_5, name_at};
 
-/// The name of the operator of this number, which is the subopcode and 65536 times the prefix byte
-/// where it has one, and of this shape; nothing where the number is that of none.
+/// Returns the name of the operator with this number and shape, or an empty name if no operator has them.
+/// The number is the opcode, or the subopcode plus 65536 times the prefix byte.
 pub fn name_at(number: u32, shape: u8) -> &'static str
     ensures { result.now ≡ name_at number shape }
 {
@@ -17,7 +17,7 @@ pub fn name_at(number: u32, shape: u8) -> &'static str
     own_names_0(number)
 }
 
-/// The name of one of these, or of those behind them.
+/// Returns the name of an operator of this part or of a later one.
 fn own_names_0(number: u32) -> &'static str
     ensures { result.now ≡ own_names_0 number }
 {
@@ -74,7 +74,7 @@ fn own_names_0(number: u32) -> &'static str
     }
 }
 
-/// The name of one of these, or of those behind them.
+/// Returns the name of an operator of this part or of a later one.
 fn own_names_1(number: u32) -> &'static str
     ensures { result.now ≡ own_names_1 number }
 {
@@ -113,7 +113,7 @@ fn own_names_1(number: u32) -> &'static str
     }
 }
 
-/// The name of one of these, or of those behind them.
+/// Returns the name of an operator of this part or of a later one.
 fn numeric_names_0(number: u32) -> &'static str
     ensures { result.now ≡ numeric_names_0 number }
 {
@@ -170,7 +170,7 @@ fn numeric_names_0(number: u32) -> &'static str
     }
 }
 
-/// The name of one of these, or of those behind them.
+/// Returns the name of an operator of this part or of a later one.
 fn numeric_names_1(number: u32) -> &'static str
     ensures { result.now ≡ numeric_names_1 number }
 {
@@ -227,7 +227,7 @@ fn numeric_names_1(number: u32) -> &'static str
     }
 }
 
-/// The name of one of these, or of those behind them.
+/// Returns the name of an operator of this part or of a later one.
 fn numeric_names_2(number: u32) -> &'static str
     ensures { result.now ≡ numeric_names_2 number }
 {
@@ -268,7 +268,7 @@ fn numeric_names_2(number: u32) -> &'static str
     }
 }
 
-/// The name of one of these, or of those behind them.
+/// Returns the name of an operator of this part or of a later one.
 fn gc_names_0(number: u32) -> &'static str
     ensures { result.now ≡ gc_names_0 number }
 {
@@ -315,7 +315,7 @@ fn gc_names_0(number: u32) -> &'static str
     }
 }
 
-/// The name of one of these, or of those behind them.
+/// Returns the name of an operator of this part or of a later one.
 fn misc_names_0(number: u32) -> &'static str
     ensures { result.now ≡ misc_names_0 number }
 {
@@ -347,7 +347,7 @@ fn misc_names_0(number: u32) -> &'static str
     }
 }
 
-/// The name of one of these, or of those behind them.
+/// Returns the name of an operator of this part or of a later one.
 fn simd_names_0(number: u32) -> &'static str
     ensures { result.now ≡ simd_names_0 number }
 {
@@ -404,7 +404,7 @@ fn simd_names_0(number: u32) -> &'static str
     }
 }
 
-/// The name of one of these, or of those behind them.
+/// Returns the name of an operator of this part or of a later one.
 fn simd_names_1(number: u32) -> &'static str
     ensures { result.now ≡ simd_names_1 number }
 {
@@ -461,7 +461,7 @@ fn simd_names_1(number: u32) -> &'static str
     }
 }
 
-/// The name of one of these, or of those behind them.
+/// Returns the name of an operator of this part or of a later one.
 fn simd_names_2(number: u32) -> &'static str
     ensures { result.now ≡ simd_names_2 number }
 {
@@ -518,7 +518,7 @@ fn simd_names_2(number: u32) -> &'static str
     }
 }
 
-/// The name of one of these, or of those behind them.
+/// Returns the name of an operator of this part or of a later one.
 fn simd_names_3(number: u32) -> &'static str
     ensures { result.now ≡ simd_names_3 number }
 {
@@ -575,7 +575,7 @@ fn simd_names_3(number: u32) -> &'static str
     }
 }
 
-/// The name of one of these, or of those behind them.
+/// Returns the name of an operator of this part or of a later one.
 fn simd_names_4(number: u32) -> &'static str
     ensures { result.now ≡ simd_names_4 number }
 {
@@ -632,7 +632,7 @@ fn simd_names_4(number: u32) -> &'static str
     }
 }
 
-/// The name of one of these, or of those behind them.
+/// Returns the name of an operator of this part or of a later one.
 fn simd_names_5(number: u32) -> &'static str
     ensures { result.now ≡ simd_names_5 number }
 {
@@ -657,7 +657,7 @@ fn simd_names_5(number: u32) -> &'static str
     }
 }
 
-/// The name of one of these, or of those behind them.
+/// Returns the name of an operator of this part or of a later one.
 fn atomic_names_0(number: u32) -> &'static str
     ensures { result.now ≡ atomic_names_0 number }
 {
@@ -714,7 +714,7 @@ fn atomic_names_0(number: u32) -> &'static str
     }
 }
 
-/// The name of one of these, or of those behind them.
+/// Returns the name of an operator of this part or of a later one.
 fn atomic_names_1(number: u32) -> &'static str
     ensures { result.now ≡ atomic_names_1 number }
 {
@@ -771,7 +771,7 @@ fn atomic_names_1(number: u32) -> &'static str
     }
 }
 
-/// The name of one of these, or of those behind them.
+/// Returns the name of an operator of this part or of a later one.
 fn atomic_names_2(number: u32) -> &'static str
     ensures { result.now ≡ atomic_names_2 number }
 {

@@ -7,7 +7,7 @@ ghost use Rattle.wasm_view.specs.Numbers.{heap_kind, heap_index, reference_kind,
 use wasm_instr::below::{AbstractHeapType, HeapType, RefType, ValType};
 use wasm_instr::imm::{BlockType, MemArgOrdering, MemArgTarget, Ordering};
 
-/// The byte of an abstract heap type. Heap Types.
+/// Returns the byte of an abstract heap type (section Heap Types).
 fn heap_type_byte(ty: AbstractHeapType) -> u32
     ensures is { result ≡ heap_type_byte ty }
     ensures byte { result ≤ 0x75 }
@@ -30,8 +30,8 @@ fn heap_type_byte(ty: AbstractHeapType) -> u32
     }
 }
 
-/// The kind of a heap type: the byte of an abstract one, and 256 where it is shared; 1 for the type of
-/// an index and those below it, 2 for that type alone.
+/// Returns the kind of a heap type: the byte of an abstract one, plus 256 if it is shared. A type
+/// index has 1, and an exact type index 2.
 pub fn heap_kind(ty: HeapType) -> u32
     ensures is { result ≡ heap_kind ty }
     ensures small { result ≤ 0x175 }
@@ -44,7 +44,7 @@ pub fn heap_kind(ty: HeapType) -> u32
     }
 }
 
-/// The index in a heap type, else 0.
+/// Returns the type index of a heap type, or 0 if it has none.
 pub fn heap_index(ty: HeapType) -> u32
     ensures { result ≡ heap_index ty }
 {
@@ -54,7 +54,7 @@ pub fn heap_index(ty: HeapType) -> u32
     }
 }
 
-/// The kind of a reference type: that of its heap type, and 512 where null is in it.
+/// Returns the kind of a reference type: the kind of its heap type, plus 512 if it is nullable.
 pub fn reference_kind(ty: RefType) -> u32
     ensures is { result ≡ reference_kind ty }
     ensures small { result ≤ 0x375 }
@@ -63,14 +63,15 @@ pub fn reference_kind(ty: RefType) -> u32
     if ty.is_nullable() { kind + 512 } else { kind }
 }
 
-/// The index in a reference type, else 0.
+/// Returns the type index of a reference type, or 0 if it has none.
 pub fn reference_index(ty: RefType) -> u32
     ensures { result ≡ heap_index ty.heap_type }
 {
     heap_index(ty.heap_type())
 }
 
-/// The kind of a value type: the byte of a number or vector type; that of a reference type, and 1024.
+/// Returns the kind of a value type: the byte of a number or vector type; for a reference type, its
+/// kind and 1024.
 pub fn value_kind(ty: &ValType) -> u32
     ensures { result ≡ value_kind ty.now }
 {
@@ -84,7 +85,7 @@ pub fn value_kind(ty: &ValType) -> u32
     }
 }
 
-/// The index in a value type, else 0.
+/// Returns the type index of a value type, or 0 if it has none.
 pub fn value_index(ty: &ValType) -> u32
     ensures { result ≡ value_index ty.now }
 {
@@ -94,8 +95,8 @@ pub fn value_index(ty: &ValType) -> u32
     }
 }
 
-/// The kind of a block type: the byte 0x40 for none, that of a value type, or 0 at the index of a function
-/// type.
+/// Returns the kind of a block type: 0x40 for an empty one, the kind of its value type, or 0 for a
+/// function type index.
 pub fn block_kind(ty: &BlockType) -> u32
     ensures { result ≡ block_kind ty.now }
 {
@@ -106,7 +107,7 @@ pub fn block_kind(ty: &BlockType) -> u32
     }
 }
 
-/// The index in a block type, else 0.
+/// Returns the type index of a block type, or 0 if it has none.
 pub fn block_index(ty: &BlockType) -> u32
     ensures { result ≡ block_index ty.now }
 {
@@ -117,7 +118,7 @@ pub fn block_index(ty: &BlockType) -> u32
     }
 }
 
-/// What a memory argument accesses: 0 a memory, 1 an array.
+/// Returns what a memory argument accesses: 0 for a memory, 1 for an array.
 #[inline(always)]
 pub fn target_number(target: MemArgTarget) -> u16
     ensures { result ≡ target_number target }
@@ -128,7 +129,7 @@ pub fn target_number(target: MemArgTarget) -> u16
     }
 }
 
-/// The index of the memory or of the array's type.
+/// Returns the index of the memory or of the array's type.
 #[inline(always)]
 pub fn target_index(target: MemArgTarget) -> u32
     ensures { result ≡ target_index target }
@@ -138,7 +139,7 @@ pub fn target_index(target: MemArgTarget) -> u32
     }
 }
 
-/// An ordering: 1 sequentially consistent, 2 acquire and release.
+/// Returns the number of an ordering: 1 for `seq_cst`, 2 for `acq_rel`.
 pub fn order_number(order: Ordering) -> u16
     ensures { result ≡ order_number order }
 {
@@ -148,8 +149,8 @@ pub fn order_number(order: Ordering) -> u16
     }
 }
 
-/// The ordering of a memory argument: 0 where it has none, else as `order_number`; 2 more of a
-/// read-modify-write.
+/// Returns the number of a memory argument's ordering: 0 if it has none, else as `order_number`,
+/// plus 2 for a read-modify-write.
 #[inline(always)]
 pub fn ordering_number(ordering: Option<MemArgOrdering>) -> u16
     ensures { result ≡ ordering_number ordering }
@@ -163,7 +164,7 @@ pub fn ordering_number(ordering: Option<MemArgOrdering>) -> u16
     }
 }
 
-/// A length in 32 bits; a longer one is the largest number of these.
+/// Returns a length as 32 bits. A longer one becomes the largest `u32`.
 pub fn length_32(length: usize) -> u32
     ensures { result ≡ min length 4294967295 }
 {

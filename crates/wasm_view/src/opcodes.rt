@@ -12,7 +12,7 @@ use wasm_instr::{
     AtomicOperator, GcOperator, MiscOperator, NumericOperator, Operator, SimdOperator,
 };
 
-/// The opcode of an operator; behind a prefix byte its subopcode, and 65536 times that byte.
+/// Returns the opcode of an operator, or its subopcode plus 65536 times the prefix byte.
 #[inline(always)]
 pub fn opcode_of(op: &Operator<'_>) -> u32
     ensures { result ≡ opcode_number (prefix_of op.now) (opcode_of op.now) }
@@ -105,7 +105,7 @@ pub fn opcode_of(op: &Operator<'_>) -> u32
     }
 }
 
-/// The number of one of the numeric operators of one byte.
+/// Returns the number of a numeric operator of one byte.
 fn numeric_opcode(op: NumericOperator) -> u32
     ensures { result ≡ numeric_opcode op }
 {
@@ -241,7 +241,7 @@ fn numeric_opcode(op: NumericOperator) -> u32
     }
 }
 
-/// The number of one of the operators behind the byte 0xfb.
+/// Returns the number of an operator with the prefix byte 0xfb.
 fn gc_subopcode(op: GcOperator) -> u32
     ensures { result ≡ opcode_number (Some 0xfb) (gc_subopcode op) }
 {
@@ -287,7 +287,7 @@ fn gc_subopcode(op: GcOperator) -> u32
     }
 }
 
-/// The number of one of the operators behind the byte 0xfc.
+/// Returns the number of an operator with the prefix byte 0xfc.
 fn misc_subopcode(op: MiscOperator) -> u32
     ensures { result ≡ opcode_number (Some 0xfc) (misc_subopcode op) }
 {
@@ -318,7 +318,7 @@ fn misc_subopcode(op: MiscOperator) -> u32
     }
 }
 
-/// The number of one of the operators behind the byte 0xfd.
+/// Returns the number of an operator with the prefix byte 0xfd.
 fn simd_subopcode(op: SimdOperator) -> u32
     ensures { result ≡ opcode_number (Some 0xfd) (simd_subopcode op) }
 {
@@ -582,7 +582,7 @@ fn simd_subopcode(op: SimdOperator) -> u32
     }
 }
 
-/// The number of one of the operators behind the byte 0xfe.
+/// Returns the number of an operator with the prefix byte 0xfe.
 fn atomic_subopcode(op: AtomicOperator) -> u32
     ensures { result ≡ opcode_number (Some 0xfe) (atomic_subopcode op) }
 {

@@ -1,4 +1,5 @@
-//! The plain data of each shape: of operators whose immediates are of the same kinds.
+//! Constructors of the C struct, one per shape. Operators of a shape have immediates of the same
+//! kinds.
 ghost use Rattle.std.specs.Prelude.{◌≡◌, [], ◌∷◌};
 ghost use Rattle.wasm_instr.specs.Immediate.{unsigned_32, signed_32, signed_64, float_32, float_64, vector, one_lane, sixteen_lanes, memory_argument, memory_index, table_index_32, order, fence_order, heap_type, cast, block_type, branch_table, select_types, try_clauses, resume_clauses};
 ghost use Rattle.wasm_instr.specs.imm.declared.memory_argument.MemArgKind.TheVariants as kind;
@@ -15,7 +16,7 @@ use wasm_instr::imm::{
     BlockType, BrTable, Ieee32, Ieee64, MemArg, Ordering, ResumeTable, SelectTypes, TryTable, V128,
 };
 
-/// No immediates.
+/// Creates the struct of an operator without immediates.
 #[inline(always)]
 pub fn nothing(offset: u64, opcode: u32) -> WasmOperator
     ensures { result ≡ view offset opcode [] }
@@ -23,7 +24,7 @@ pub fn nothing(offset: u64, opcode: u32) -> WasmOperator
     WasmOperator::bare(offset, opcode, 0)
 }
 
-/// An index.
+/// Creates the struct of an operator with an index.
 #[inline(always)]
 pub fn index(offset: u64, opcode: u32, first: u32) -> WasmOperator
     ensures unsigned { result ≡ view offset opcode (unsigned_32 first ∷ []) }
@@ -35,7 +36,7 @@ pub fn index(offset: u64, opcode: u32, first: u32) -> WasmOperator
     }
 }
 
-/// Two indices.
+/// Creates the struct of an operator with two indices.
 #[inline(always)]
 pub fn two_indices(offset: u64, opcode: u32, first: u32, second: u32) -> WasmOperator
     ensures unsigned { result ≡ view offset opcode (unsigned_32 first ∷ unsigned_32 second ∷ []) }
@@ -48,7 +49,8 @@ pub fn two_indices(offset: u64, opcode: u32, first: u32, second: u32) -> WasmOpe
     }
 }
 
-/// A memory argument. Its operator's kind and alignment do not change it.
+/// Creates the struct of an operator with a memory argument. The contract names one operator kind
+/// and alignment; neither changes the struct.
 #[inline(always)]
 pub fn memory(offset: u64, opcode: u32, argument: MemArg) -> WasmOperator
     ensures { result ≡ view offset opcode (memory_argument kind.Plain 0 argument ∷ []) }
@@ -64,7 +66,7 @@ pub fn memory(offset: u64, opcode: u32, argument: MemArg) -> WasmOperator
     }
 }
 
-/// A memory argument and the index of a lane.
+/// Creates the struct of an operator with a memory argument and a lane index.
 #[inline(always)]
 pub fn memory_lane(offset: u64, opcode: u32, argument: MemArg, lane: u8) -> WasmOperator
     ensures { result ≡ view offset opcode (memory_argument kind.Plain 0 argument ∷ one_lane lane ∷ []) }
@@ -81,7 +83,7 @@ pub fn memory_lane(offset: u64, opcode: u32, argument: MemArg, lane: u8) -> Wasm
     }
 }
 
-/// The index of a lane.
+/// Creates the struct of an operator with a lane index.
 pub fn lane(offset: u64, opcode: u32, lane: u8) -> WasmOperator
     ensures { result ≡ view offset opcode (one_lane lane ∷ []) }
 {
@@ -91,7 +93,7 @@ pub fn lane(offset: u64, opcode: u32, lane: u8) -> WasmOperator
     }
 }
 
-/// An integer constant of 32 bits.
+/// Creates the struct of an `i32.const`.
 #[inline(always)]
 pub fn integer_32(offset: u64, opcode: u32, value: i32) -> WasmOperator
     ensures { result ≡ view offset opcode (signed_32 value ∷ []) }
@@ -102,7 +104,7 @@ pub fn integer_32(offset: u64, opcode: u32, value: i32) -> WasmOperator
     }
 }
 
-/// An integer constant of 64 bits.
+/// Creates the struct of an `i64.const`.
 #[inline(always)]
 pub fn integer_64(offset: u64, opcode: u32, value: i64) -> WasmOperator
     ensures { result ≡ view offset opcode (signed_64 value ∷ []) }
@@ -113,7 +115,7 @@ pub fn integer_64(offset: u64, opcode: u32, value: i64) -> WasmOperator
     }
 }
 
-/// A float constant of 32 bits.
+/// Creates the struct of an `f32.const`.
 #[inline(always)]
 pub fn float_32(offset: u64, opcode: u32, value: Ieee32) -> WasmOperator
     ensures { result ≡ view offset opcode (float_32 value ∷ []) }
@@ -124,7 +126,7 @@ pub fn float_32(offset: u64, opcode: u32, value: Ieee32) -> WasmOperator
     }
 }
 
-/// A float constant of 64 bits.
+/// Creates the struct of an `f64.const`.
 #[inline(always)]
 pub fn float_64(offset: u64, opcode: u32, value: Ieee64) -> WasmOperator
     ensures { result ≡ view offset opcode (float_64 value ∷ []) }
@@ -135,7 +137,7 @@ pub fn float_64(offset: u64, opcode: u32, value: Ieee64) -> WasmOperator
     }
 }
 
-/// A vector constant.
+/// Creates the struct of a `v128.const`.
 pub fn vector(offset: u64, opcode: u32, value: V128) -> WasmOperator
     ensures { result ≡ view offset opcode (vector value ∷ []) }
 {
@@ -146,7 +148,7 @@ pub fn vector(offset: u64, opcode: u32, value: V128) -> WasmOperator
     }
 }
 
-/// The lanes of a shuffle.
+/// Creates the struct of a shuffle.
 pub fn lanes(offset: u64, opcode: u32, lanes: [u8; 16]) -> WasmOperator
     ensures { result ≡ view offset opcode (sixteen_lanes lanes ∷ []) }
 {
@@ -156,7 +158,7 @@ pub fn lanes(offset: u64, opcode: u32, lanes: [u8; 16]) -> WasmOperator
     }
 }
 
-/// An ordering and an index.
+/// Creates the struct of an operator with an ordering and an index.
 pub fn ordered(offset: u64, opcode: u32, ordering: Ordering, first: u32) -> WasmOperator
     ensures { result ≡ view offset opcode (order ordering ∷ unsigned_32 first ∷ []) }
 {
@@ -167,7 +169,7 @@ pub fn ordered(offset: u64, opcode: u32, ordering: Ordering, first: u32) -> Wasm
     }
 }
 
-/// An ordering and two indices.
+/// Creates the struct of an operator with an ordering and two indices.
 pub fn ordered_two(
     offset: u64,
     opcode: u32,
@@ -185,7 +187,7 @@ pub fn ordered_two(
     }
 }
 
-/// The ordering of a fence.
+/// Creates the struct of a fence.
 pub fn fence(offset: u64, opcode: u32, ordering: Ordering) -> WasmOperator
     ensures { result ≡ view offset opcode (fence_order ordering ∷ []) }
 {
@@ -195,7 +197,7 @@ pub fn fence(offset: u64, opcode: u32, ordering: Ordering) -> WasmOperator
     }
 }
 
-/// A heap type.
+/// Creates the struct of an operator with a heap type.
 pub fn heap(offset: u64, opcode: u32, ty: HeapType) -> WasmOperator
     ensures { result ≡ view offset opcode (heap_type ty ∷ []) }
 {
@@ -206,7 +208,7 @@ pub fn heap(offset: u64, opcode: u32, ty: HeapType) -> WasmOperator
     }
 }
 
-/// A label and the two types of a cast.
+/// Creates the struct of a branch on a cast, with a label and two reference types.
 pub fn cast(offset: u64, opcode: u32, first: u32, from: RefType, to: RefType) -> WasmOperator
     ensures { result ≡ view offset opcode (cast (record { relative_depth = first; from = from; to = to }) ∷ []) }
 {
@@ -220,7 +222,7 @@ pub fn cast(offset: u64, opcode: u32, first: u32, from: RefType, to: RefType) ->
     }
 }
 
-/// A block type.
+/// Creates the struct of an operator with a block type.
 #[inline(always)]
 pub fn block(offset: u64, opcode: u32, ty: &BlockType) -> WasmOperator
     ensures { result ≡ view offset opcode (block_type ty.now ∷ []) }
@@ -232,7 +234,7 @@ pub fn block(offset: u64, opcode: u32, ty: &BlockType) -> WasmOperator
     }
 }
 
-/// How many targets a branch table has, and the default one.
+/// Creates the struct of a `br_table`, with the number of its targets and the default target.
 pub fn table(offset: u64, opcode: u32, targets: &BrTable<'_>) -> WasmOperator
     ensures { result ≡ view offset opcode (branch_table targets.now ∷ []) }
 {
@@ -243,7 +245,7 @@ pub fn table(offset: u64, opcode: u32, targets: &BrTable<'_>) -> WasmOperator
     }
 }
 
-/// The one type of a select.
+/// Creates the struct of a `select` with one type.
 pub fn select_one(offset: u64, opcode: u32, ty: &ValType) -> WasmOperator
     ensures { result ≡ view offset opcode (select_types (select.One ty.now) ∷ []) }
 {
@@ -254,7 +256,7 @@ pub fn select_one(offset: u64, opcode: u32, ty: &ValType) -> WasmOperator
     }
 }
 
-/// How many types a select has.
+/// Creates the struct of a `select` with a list of types, with their number.
 pub fn select_many(offset: u64, opcode: u32, tys: &SelectTypes) -> WasmOperator
     ensures { result ≡ view offset opcode (select_types (select.Multi tys.now) ∷ []) }
 {
@@ -264,7 +266,7 @@ pub fn select_many(offset: u64, opcode: u32, tys: &SelectTypes) -> WasmOperator
     }
 }
 
-/// The block type of a try table, and how many catches it has.
+/// Creates the struct of a `try_table`, with its block type and the number of its clauses.
 pub fn try_table(offset: u64, opcode: u32, table: &TryTable) -> WasmOperator
     ensures { result ≡ view offset opcode (try_clauses table.now ∷ []) }
 {
@@ -276,7 +278,8 @@ pub fn try_table(offset: u64, opcode: u32, table: &TryTable) -> WasmOperator
     }
 }
 
-/// An index, and how many clauses a resume table has.
+/// Creates the struct of an operator with an index and a resume table, with the number of its
+/// clauses.
 pub fn resume(offset: u64, opcode: u32, first: u32, table: &ResumeTable) -> WasmOperator
     ensures { result ≡ view offset opcode (unsigned_32 first ∷ resume_clauses table.now ∷ []) }
 {
@@ -287,7 +290,8 @@ pub fn resume(offset: u64, opcode: u32, first: u32, table: &ResumeTable) -> Wasm
     }
 }
 
-/// Two indices, and how many clauses a resume table has.
+/// Creates the struct of an operator with two indices and a resume table, with the number of its
+/// clauses.
 pub fn resume_throw(
     offset: u64,
     opcode: u32,

@@ -1,18 +1,18 @@
-//! The plain data of an operator.
+//! The C struct of an operator.
 ghost use Rattle.std.specs.Prelude.{◌≡◌};
 ghost use Rattle.wasm_view.specs.View.{bare};
 
-/// An operator as plain data: 64 bytes without gaps. `shape` says which of the fields have a meaning;
-/// the others are 0.
+/// An operator as a C struct of 64 bytes without padding. `shape` determines which fields have a
+/// meaning; the others are 0.
 #[repr(C)]
 #[derive(Clone, Copy, Debug, PartialEq, Eq)]
 pub struct WasmOperator {
-    /// The offset of its first byte.
+    /// The offset of the operator's first byte.
     pub offset: u64,
-    /// A constant: an integer in two's complement, its sign repeated up to bit 63, or the bits of a
-    /// float; or the static offset of a memory argument, in bytes.
+    /// A constant: an integer, sign-extended to 64 bits, or the bits of a float; or the static
+    /// offset of a memory argument, in bytes.
     pub wide: u64,
-    /// The opcode; behind a prefix byte the subopcode, and 65536 times the prefix byte.
+    /// The opcode; after a prefix byte the subopcode, plus 65536 times the prefix byte.
     pub opcode: u32,
     /// The first index, or the number of members of a list.
     pub first: u32,
@@ -22,27 +22,28 @@ pub struct WasmOperator {
     pub third: u32,
     /// A type: its byte in the binary format, and what is added to it.
     pub kind: u32,
-    /// The type that a cast tests for.
+    /// The target type of a cast.
     pub other_kind: u32,
-    /// Which fields have a meaning.
+    /// The shape, which determines the fields that have a meaning.
     pub shape: u8,
-    /// The alignment that a memory argument gives, as the exponent of a power of two.
+    /// The alignment of a memory argument, as the exponent of a power of two.
     pub align: u8,
     /// The operator's natural alignment, as the exponent of a power of two.
     pub max_align: u8,
-    /// The index of a lane.
+    /// A lane index.
     pub lane: u8,
-    /// What a memory argument accesses: 0 the memory of index `first`, 1 an array of that type.
+    /// What a memory argument accesses: 0 for the memory with index `first`, 1 for an array of that
+    /// type.
     pub target: u16,
-    /// The memory ordering: 0 none, 1 sequentially consistent, 2 acquire and release; of a memory
-    /// argument of a read-modify-write 3 and 4.
+    /// The memory ordering: 0 for none, 1 for `seq_cst`, 2 for `acq_rel`; 3 and 4 for the memory
+    /// argument of a read-modify-write.
     pub ordering: u16,
-    /// A vector of 128 bits, the lowest byte first; or the sixteen lanes of a shuffle.
+    /// A vector of 128 bits, the lowest byte first; or the sixteen lane indices of a shuffle.
     pub bytes: [u8; 16],
 }
 
 impl WasmOperator {
-    /// An operator of this shape whose immediates are not filled in.
+    /// Creates the struct of an operator of this shape, without its immediates.
     #[inline(always)]
     pub fn bare(offset: u64, opcode: u32, shape: u8) -> WasmOperator
         ensures { result ≡ bare offset opcode shape }

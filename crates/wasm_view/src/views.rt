@@ -1,4 +1,4 @@
-//! The fields of the plain data of each operator. Written by tools/lists.py from tools/operators.tsv.
+//! The fields of the C struct of each operator. Written by tools/lists.py from tools/operators.tsv.
 ghost use Rattle.std.specs.Prelude.{◌≡◌};
 ghost use Rattle.wasm_instr.specs.Gc.{gc_immediates};
 ghost use Rattle.wasm_instr.specs.Misc.{misc_immediates};
@@ -11,7 +11,7 @@ use crate::shapes;
 use crate::view::WasmOperator;
 use wasm_instr::{AtomicOperator, GcOperator, MiscOperator, Operator, SimdOperator};
 
-/// The fields of an operator of this number.
+/// Converts an operator with this number.
 pub fn own(offset: u64, opcode: u32, op: &Operator<'_>) -> WasmOperator
     ensures { result ≡ view offset opcode (immediates_of op.now) }
 {
@@ -126,7 +126,7 @@ pub fn own(offset: u64, opcode: u32, op: &Operator<'_>) -> WasmOperator
     }
 }
 
-/// The fields of one of the operators behind the byte 0xfb.
+/// Converts an operator with the prefix byte 0xfb.
 fn gc(offset: u64, opcode: u32, op: GcOperator) -> WasmOperator
     ensures { result ≡ view offset opcode (gc_immediates op) }
 {
@@ -240,7 +240,7 @@ fn gc(offset: u64, opcode: u32, op: GcOperator) -> WasmOperator
     }
 }
 
-/// The fields of one of the operators behind the byte 0xfc.
+/// Converts an operator with the prefix byte 0xfc.
 fn misc(offset: u64, opcode: u32, op: MiscOperator) -> WasmOperator
     ensures { result ≡ view offset opcode (misc_immediates op) }
 {
@@ -283,7 +283,7 @@ fn misc(offset: u64, opcode: u32, op: MiscOperator) -> WasmOperator
     }
 }
 
-/// The fields of one of the operators behind the byte 0xfd.
+/// Converts an operator with the prefix byte 0xfd.
 fn simd(offset: u64, opcode: u32, op: SimdOperator) -> WasmOperator
     ensures { result ≡ view offset opcode (simd_immediates op) }
 {
@@ -549,7 +549,7 @@ fn simd(offset: u64, opcode: u32, op: SimdOperator) -> WasmOperator
     }
 }
 
-/// The fields of one of the operators behind the byte 0xfe.
+/// Converts an operator with the prefix byte 0xfe.
 fn atomic(offset: u64, opcode: u32, op: AtomicOperator) -> WasmOperator
     ensures { result ≡ view offset opcode (atomic_immediates op) }
 {

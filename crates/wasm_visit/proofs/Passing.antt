@@ -1,4 +1,4 @@
--- What is decoded through a reference to a visitor, or through a box, is decoded by the visitor.
+-- Decoding through a reference to a visitor, or through a box, is decoding by the visitor.
 use Rattle.std.proofs.Common.{◌≡◌, ℕ, List, Option, Some, None, IfSome, Result, Ok, Err, refl, ap, sym, subst, ◌∙◌, Global, MutBor}
 use Rattle.std.specs.Prelude.{Box, box_value}
 use Rattle.std.specs.Box.{with_value}
@@ -24,7 +24,7 @@ pub through_box : {V A : Type 0} (visits : V → Operator → A → V → Type 0
 through_box visits E F (Ok a) old new b w p = p
 through_box visits E F (Err e) old new b w (same, h) = (ap (with_value b) same, h)
 
--- What is decoded by a visitor that holds a reference to another, and visits by that alone, is decoded by the other. It is left as the reference has it at its end, where that is still the same reference.
+-- Decoding by a visitor that holds a reference to another one, and visits only by it, is decoding by the other one. The other visitor ends in the final state of the reference, if the reference is unchanged.
 pub through_holder : {V A W : Type 0} (held : W → MutBor V) (visits : V → Operator → A → V → Type 0) (E : List ℕ → Operator → Type 0) (F : Message → Reader → ℕ → Type 0)
     (result : Result A Error) (old new : Reader) (s t : W) (x : V) → ((held s).ghost_name ≡ (held t).ghost_name → x ≡ (held t).now) →
     Decodes (λ s op a t. ((held s).ghost_name ≡ (held t).ghost_name) × visits (held s).now op a (held t).now) E F result old new s t →
@@ -32,7 +32,7 @@ pub through_holder : {V A W : Type 0} (held : W → MutBor V) (visits : V → Op
 through_holder held visits E F (Ok a) old new s t x left (text, op, enc, taken, (named, vis)) = (text, op, enc, taken, subst (λ z. visits (held s).now op a z) (sym (left named)) vis)
 through_holder held visits E F (Err e) old new s t x left (same, h) = (left (sym (ap (λ z. (held z).ghost_name) same)) ∙ ap (λ z. (held z).now) same, h)
 
--- The same of a call that decodes some opcodes, and answers nothing of the others.
+-- The same for a call that decodes some opcodes and returns `None` for the others.
 pub common_through_holder : {V A W : Type 0} (held : W → MutBor V) (visits : V → Operator → A → V → Type 0) (start : ℕ) (result : Option (Result A Error))
     (old new : Reader) (s t : W) (x : V) → ((held s).ghost_name ≡ (held t).ghost_name → x ≡ (held t).now) →
     IfSome result (λ answer. (frame : FrameKind) →

@@ -1,4 +1,4 @@
-//! A visitor whose operators all go to `visit_any`.
+//! A visitor that passes all operators to `visit_any`.
 ghost use Rattle.std.specs.Prelude.{◌≡◌, None, IfSome, IfNone};
 ghost use Rattle.wasm_decode_groups.specs.grammar.declared.frame_kind.FrameKind.{FrameKind};
 ghost use Rattle.wasm_decode_groups.specs.opcodes.Decoding.{StandsBehind, DecodesAt};
@@ -13,8 +13,8 @@ use wasm_decode_groups::groups::{
 };
 use wasm_decode_groups::instr::Operator;
 
-/// What visits by `visit_any` of this visitor alone. The decoder is handed it where a visitor has
-/// no visits of its own, so that the operators that it makes stand where they are visited.
+/// A visitor that calls only `visit_any` of the inner visitor. The decoder uses it if a visitor
+/// does not override visits of a group. The operators are then made inline, at their visits.
 #[derive(Drop)]
 pub struct ByAny<V> {
     pub visitor: V,
@@ -41,8 +41,7 @@ impl<V: Visitor> VisitAtomic for ByAny<V> {}
 
 impl<V: Visitor> VisitSimdLow for ByAny<V> {}
 
-/// Reads what stands behind the opcode of one of the operators of one byte, and visits the operator
-/// by `visit_any`.
+/// Reads the immediates of an operator of one byte and visits it by `visit_any`.
 #[inline(always)]
 pub fn one_byte<V: Visitor>(
     v: &mut V,
@@ -62,10 +61,10 @@ pub fn one_byte<V: Visitor>(
     }
 }
 
-/// The common ones of them, inline. `None` of another opcode, and nothing changes.
+/// Decodes the common operators inline. For another opcode it returns `None`, and nothing changes.
 ///
-/// What holds the visitor is made here, and once more where a call out of line is lent it: one for both
-/// would stand in memory wherever `one_byte` does.
+/// `ByAny` is made here, and a second one in `other_one_byte`. A single one for both
+/// would be in memory wherever `one_byte` is inlined.
 #[inline(always)]
 fn common_one_byte<V: Visitor>(
     v: &mut V,
@@ -82,7 +81,7 @@ fn common_one_byte<V: Visitor>(
     decode::common_one_byte(&mut ByAny { visitor: v }, reader, start, code)
 }
 
-/// The others, out of line.
+/// Decodes the other operators, by a call.
 #[inline(always)]
 fn other_one_byte<V: Visitor>(
     v: &mut V,

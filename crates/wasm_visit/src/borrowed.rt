@@ -1,4 +1,4 @@
-//! From a borrowed operator to the visit of a copy.
+//! Visits of a copy of a borrowed operator.
 ghost use Rattle.std.specs.Prelude.{◌≡◌, IsOk, IfOk, IfErr};
 ghost use Rattle.wasm_decode_groups.specs.imm.OutOfMemory.{IsOutOfMemoryAt};
 ghost use Rattle.wasm_decode_groups.specs.instr.Kinds.{IsVector, HoldsList};
@@ -10,9 +10,10 @@ use std::alloc::Global;
 use wasm_decode_groups::below::Result;
 use wasm_decode_groups::instr::Operator;
 
-/// Visits a copy of an operator that is no vector operator.
+/// Visits a copy of an operator that is not a SIMD operator.
 ///
-/// `OutOfMemory` at offset 0, and only where the operator holds a list; then no visit was made.
+/// Fails only with `OutOfMemory` at offset 0, and only if the operator owns a list. No visit is
+/// made then.
 pub fn visit_operator<'a, V: VisitOperator<'a>>(
     alloc: Global,
     v: &mut V,
@@ -29,9 +30,10 @@ pub fn visit_operator<'a, V: VisitOperator<'a>>(
     }
 }
 
-/// Visits a copy of an operator, a vector operator too.
+/// Visits a copy of an operator, including SIMD operators.
 ///
-/// `OutOfMemory` at offset 0, and only where the operator holds a list; then no visit was made.
+/// Fails only with `OutOfMemory` at offset 0, and only if the operator owns a list. No visit is
+/// made then.
 pub fn visit_operator_with_simd<'a, V>(
     alloc: Global,
     v: &mut V,

@@ -1,4 +1,4 @@
-//! A reference to a visitor is one: each call is that call of the visitor.
+//! A mutable reference to a visitor is a visitor that forwards every call.
 use crate::operator::VisitOperator;
 use crate::vectors::VisitSimdOperator;
 use crate::visit_groups::VisitGroups;

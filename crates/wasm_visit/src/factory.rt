@@ -1,4 +1,4 @@
-//! The factory of the layers is a visitor that reading calls can be handed.
+//! Implements the traits of visitors for `Factory`, so that it can be passed to the decoder.
 use crate::vectors::VisitSimdOperator;
 use crate::visit_groups::VisitGroups;
 use std::alloc::Global;

@@ -1,4 +1,4 @@
-//! The visitor that finds the end.
+//! The visitor that recognizes `end`.
 ghost use Rattle.std.specs.Prelude.{◌≡◌, ◌↔◌, IsTrue};
 ghost use Rattle.wasm_decode_groups.specs.instr.declared.operator.Operator.{Operator};
 
@@ -8,7 +8,7 @@ use crate::visit_groups::VisitGroups;
 use wasm_decode_groups::groups::Visitor;
 use wasm_decode_groups::instr::{BrTable, Operator};
 
-/// A visitor that answers whether the operator is `End`.
+/// A visitor that returns whether the operator is `End`.
 #[derive(Drop)]
 pub struct IsEndOperatorVisitor;
 

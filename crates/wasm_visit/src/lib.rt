@@ -1,5 +1,4 @@
-//! Visitors of operators: what they have, their visits in groups, and the calls that find the right
-//! one.
+//! Visitors of operators: their traits, and the functions that call the visit of an operator.
 #![tactic(auto)]
 
 mod any;
@@ -28,7 +27,7 @@ pub use wasm_decode_groups::groups::{
 };
 pub use wasm_decode_groups::{below, grammar, imm, instr, opcodes};
 
-/// The decoding of each group, for a visitor with visits of its own.
+/// The decoders of the groups, for a visitor that overrides visits.
 pub mod decode {
     pub use wasm_decode_groups::{
         atomic, gc, has_no_immediates, misc, numeric, one_byte, simd_high,
@@ -36,7 +35,7 @@ pub mod decode {
     };
 }
 
-/// The visitor that makes operators without borrows, in place.
+/// The visitor that makes the operators that borrow nothing, in place.
 pub mod layer_factory {
     pub use wasm_visit_factory::Factory;
 }

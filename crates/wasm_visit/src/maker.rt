@@ -1,4 +1,4 @@
-//! The visitor that answers what is made of an operator.
+//! The visitor that returns a value made from the operator.
 ghost use Rattle.std.specs.Prelude.{◌≡◌};
 ghost use Rattle.wasm_decode_groups.specs.instr.declared.operator.Operator.{Operator};
 
@@ -8,19 +8,19 @@ use crate::visit_groups::VisitGroups;
 use wasm_decode_groups::groups::Visitor;
 use wasm_decode_groups::instr::{BrTable, Operator};
 
-/// What can be made of an operator that borrows nothing.
+/// A type whose values can be made from an operator that borrows nothing.
 pub trait HoldOperator {
-    // This is made of the operator.
+    // The relation between an operator and the value made from it.
     ghost holds: { Operator → Self → Type 0 };
 
-    /// Makes it.
+    /// Makes the value from an operator.
     fn hold_operator(op: Operator<'static>) -> Self
         ensures { holds op.entry result };
 }
 
-/// What can be made of a branch table, too.
+/// A type whose values can also be made from a branch table.
 pub trait HoldTable<'a>: HoldOperator {
-    /// Makes it.
+    /// Makes the value from the targets of a branch table.
     fn hold_table(targets: BrTable<'a>) -> Self
         ensures { Self.holds (Operator.BrTable targets.entry) result };
 }
@@ -41,18 +41,18 @@ impl<'a> HoldTable<'a> for Operator<'a> {
     }
 }
 
-/// A visitor that answers what is made of the operator.
+/// A visitor that returns a value made from the operator.
 #[derive(Drop)]
 pub struct OperatorMaker<T> {
-    // None: it shows the lifetimes of what is made.
+    // Always `None`. It ties the visitor to the lifetimes of `T`.
     made: Option<Box<T>>,
 }
 
-/// A visitor that answers the operator itself.
+/// A visitor that returns the operator.
 pub type OperatorFactory<'a> = OperatorMaker<Operator<'a>>;
 
 impl<T> OperatorMaker<T> {
-    /// One that has visited nothing; it remembers nothing either.
+    /// Creates a visitor. It has no state.
     pub fn new() -> OperatorMaker<T> {
         OperatorMaker { made: None }
     }

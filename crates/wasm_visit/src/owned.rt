@@ -1,4 +1,4 @@
-//! From an operator to its visit.
+//! Visits of an operator that is passed by value.
 ghost use Rattle.wasm_decode_groups.specs.instr.declared.operator.Operator.{Operator};
 ghost use Rattle.wasm_decode_groups.specs.instr.Kinds.{IsVector};
 
@@ -6,7 +6,7 @@ use crate::operator::VisitOperator;
 use crate::vectors::VisitSimdOperator;
 use wasm_decode_groups::instr::{Operator, SimdOperator};
 
-/// Visits an operator that is no vector operator. It takes no memory.
+/// Visits an operator that is not a SIMD operator. The call itself does not allocate.
 pub fn visit_owned<'a, V: VisitOperator<'a>>(v: &mut V, op: Operator<'a>) -> V::Output
     requires { ¬ IsVector op }
     ensures { V.visits v.old op.entry result v.new }
@@ -22,7 +22,7 @@ pub fn visit_owned<'a, V: VisitOperator<'a>>(v: &mut V, op: Operator<'a>) -> V::
     }
 }
 
-/// Visits an operator, a vector operator too. It takes no memory.
+/// Visits an operator, including SIMD operators. The call itself does not allocate.
 pub fn visit_owned_simd<'a, V>(v: &mut V, op: Operator<'a>) -> V::Output
 where
     V: VisitOperator<'a> + VisitSimdOperator,
@@ -34,7 +34,7 @@ where
     }
 }
 
-/// Visits a vector operator. It takes no memory.
+/// Visits a SIMD operator. The call itself does not allocate.
 fn visit_vector<V: VisitSimdOperator>(v: &mut V, op: SimdOperator) -> V::Output
     ensures { V.visits v.old (Operator.Simd op) result v.new }
 {

@@ -1,4 +1,4 @@
-//! Visitors of the vector operators.
+//! Visitors of the SIMD operators.
 ghost use Rattle.std.specs.Prelude.{◌≤◌, ◌<◌, Some};
 ghost use Rattle.wasm_decode_groups.specs.grammar.declared.frame_kind.FrameKind.{FrameKind};
 ghost use Rattle.wasm_decode_groups.specs.instr.declared.operator.Operator.{Operator};
@@ -12,18 +12,18 @@ use wasm_decode_groups::groups::Visitor;
 use wasm_decode_groups::instr::{Operator, SimdOperator};
 use wasm_visit_factory::Factory;
 
-/// A visitor of the vector operators: for each of the two groups of their visits, the calls by
-/// which it is reached, from an operator and from bytes. Vector Instructions.
+/// A visitor of the SIMD operators. Vector Instructions.
 ///
-/// It does not stand on the groups. A visitor with visits of its own in a group names it in one
-/// line a call, as said at each; where it does not, the operators go to `visit_any`, and visits that
-/// it has in the group are not made. A visitor of all operators is bound by
-/// `VisitOperator<'a> + VisitSimdOperator`.
+/// For each of the two groups of visits it has a method that starts from an operator and one that
+/// starts from bytes. By default they call `visit_any`, even if the visitor overrides visits of the
+/// group. A visitor that overrides visits has to override both methods of the group, with the
+/// bodies given below. The bound of a visitor of all operators is `VisitOperator<'a> +
+/// VisitSimdOperator`.
 pub trait VisitSimdOperator: Visitor {
-    /// Visits a vector operator of a subopcode below 0x80. A decoder hands one without immediates to this
-    /// call as well.
+    /// Visits a SIMD operator with a subopcode below 0x80. The decoder also calls this method, for
+    /// operators without immediates.
     ///
-    /// A visitor with visits in `VisitSimdLow` says `dispatch::simd_low(self, op)` here.
+    /// A visitor that overrides visits of `VisitSimdLow` calls `dispatch::simd_low(self, op)` here.
     fn dispatch_simd_low(&mut self, op: SimdOperator) -> Self::Output
         requires { IsSimdLow op }
         ensures { Self.visits self.old (Operator.Simd op) result self.new }
@@ -31,10 +31,11 @@ pub trait VisitSimdOperator: Visitor {
         self.visit_any(Operator::Simd(op))
     }
 
-    /// Visits a vector operator of a subopcode from 0x80 on. A decoder hands one without immediates to this
-    /// call as well.
+    /// Visits a SIMD operator with a subopcode of at least 0x80. The decoder also calls this
+    /// method, for operators without immediates.
     ///
-    /// A visitor with visits in `VisitSimdHigh` says `dispatch::simd_high(self, op)` here.
+    /// A visitor that overrides visits of `VisitSimdHigh` calls `dispatch::simd_high(self, op)`
+    /// here.
     fn dispatch_simd_high(&mut self, op: SimdOperator) -> Self::Output
         requires { IsSimdHigh op }
         ensures { Self.visits self.old (Operator.Simd op) result self.new }
@@ -42,10 +43,13 @@ pub trait VisitSimdOperator: Visitor {
         self.visit_any(Operator::Simd(op))
     }
 
-    /// Reads what stands behind a subopcode, and visits the vector operator of this subopcode
-    /// below 0x80. `start` is the position of the prefix byte, to which a refused reader goes back.
+    /// Reads the immediates of the SIMD operator with the subopcode `code` below 0x80, and visits
+    /// it.
     ///
-    /// A visitor with visits in `VisitSimdLow` says `decode::simd_low(self, reader, start, code)` here.
+    /// `start` is the position of the prefix byte, to which the reader goes back on an error.
+    ///
+    /// A visitor that overrides visits of `VisitSimdLow` calls
+    /// `decode::simd_low(self, reader, start, code)` here.
     #[inline(always)]
     fn decode_simd_low(
         &mut self,
@@ -66,10 +70,13 @@ pub trait VisitSimdOperator: Visitor {
         decode::simd_low(&mut ByAny { visitor: self }, reader, start, code)
     }
 
-    /// Reads what stands behind a subopcode, and visits the vector operator of this subopcode
-    /// from 0x80 on. `start` is the position of the prefix byte, to which a refused reader goes back.
+    /// Reads the immediates of the SIMD operator with the subopcode `code` of at least 0x80, and
+    /// visits it.
     ///
-    /// A visitor with visits in `VisitSimdHigh` says `decode::simd_high(self, reader, start, code)` here.
+    /// `start` is the position of the prefix byte, to which the reader goes back on an error.
+    ///
+    /// A visitor that overrides visits of `VisitSimdHigh` calls
+    /// `decode::simd_high(self, reader, start, code)` here.
     #[inline(always)]
     fn decode_simd_high(
         &mut self,

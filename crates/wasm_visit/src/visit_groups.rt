@@ -1,4 +1,4 @@
-//! Visitors of the operators that are neither vector operators nor branch tables.
+//! Visitors of the operators that are neither SIMD operators nor branch tables.
 ghost use Rattle.std.specs.Prelude.{◌≡◌, ◌≤◌, ◌<◌, [], Some, None};
 ghost use Rattle.wasm_decode_groups.specs.grammar.declared.frame_kind.FrameKind.{FrameKind};
 ghost use Rattle.wasm_decode_groups.specs.instr.declared.operator.Operator.{Operator};
@@ -18,16 +18,16 @@ use wasm_decode_groups::instr::{
 };
 use wasm_visit_factory::Factory;
 
-/// A visitor of the operators that are neither vector operators nor branch tables: for each group
-/// of visits, the calls by which it is reached, from an operator and from bytes.
+/// A visitor of the operators that are neither SIMD operators nor branch tables.
 ///
-/// It does not stand on the groups. A visitor with visits of its own in a group names it in one
-/// line a call, as said at each; where it does not, the operators go to `visit_any`, and visits that
-/// it has in the group are not made.
+/// For each group of visits it has a method that starts from an operator and one that starts from
+/// bytes (two for `VisitOneByte`). By default they call `visit_any`, even if the visitor overrides
+/// visits of the group. A visitor that overrides visits has to override all methods of the group,
+/// with the bodies given below.
 pub trait VisitGroups: Visitor {
-    /// Visits an operator of one byte, neither a numeric one nor a branch table.
+    /// Visits an operator of one byte that is neither numeric nor a branch table.
     ///
-    /// A visitor with visits in `VisitOneByte` says `dispatch::one_byte(self, op)` here.
+    /// A visitor that overrides visits of `VisitOneByte` calls `dispatch::one_byte(self, op)` here.
     fn dispatch_one_byte(&mut self, op: Operator<'_>) -> Self::Output
         requires { IsOneByte op }
         ensures { Self.visits self.old op.entry result self.new }
@@ -37,45 +37,47 @@ pub trait VisitGroups: Visitor {
 
     /// Visits a numeric operator of one byte.
     ///
-    /// A visitor with visits in `VisitNumeric` says `dispatch::numeric(self, op)` here.
+    /// A visitor that overrides visits of `VisitNumeric` calls `dispatch::numeric(self, op)` here.
     fn dispatch_numeric(&mut self, op: NumericOperator) -> Self::Output
         ensures { Self.visits self.old (Operator.Numeric op) result self.new }
     {
         self.visit_any(Operator::Numeric(op))
     }
 
-    /// Visits an operator behind the byte 0xfb.
+    /// Visits an operator with the prefix byte 0xfb.
     ///
-    /// A visitor with visits in `VisitGc` says `dispatch::gc(self, op)` here.
+    /// A visitor that overrides visits of `VisitGc` calls `dispatch::gc(self, op)` here.
     fn dispatch_gc(&mut self, op: GcOperator) -> Self::Output
         ensures { Self.visits self.old (Operator.Gc op) result self.new }
     {
         self.visit_any(Operator::Gc(op))
     }
 
-    /// Visits an operator behind the byte 0xfc.
+    /// Visits an operator with the prefix byte 0xfc.
     ///
-    /// A visitor with visits in `VisitMisc` says `dispatch::misc(self, op)` here.
+    /// A visitor that overrides visits of `VisitMisc` calls `dispatch::misc(self, op)` here.
     fn dispatch_misc(&mut self, op: MiscOperator) -> Self::Output
         ensures { Self.visits self.old (Operator.Misc op) result self.new }
     {
         self.visit_any(Operator::Misc(op))
     }
 
-    /// Visits an operator behind the byte 0xfe.
+    /// Visits an operator with the prefix byte 0xfe.
     ///
-    /// A visitor with visits in `VisitAtomic` says `dispatch::atomic(self, op)` here.
+    /// A visitor that overrides visits of `VisitAtomic` calls `dispatch::atomic(self, op)` here.
     fn dispatch_atomic(&mut self, op: AtomicOperator) -> Self::Output
         ensures { Self.visits self.old (Operator.Atomic op) result self.new }
     {
         self.visit_any(Operator::Atomic(op))
     }
 
-    /// Reads what stands behind this opcode, and visits the operator of one byte, neither a numeric
-    /// one nor a branch table. `start` is the position of the opcode, to which a refused reader goes
-    /// back, and `frame` the innermost frame.
+    /// Reads the immediates of an operator of one byte that is neither numeric nor a branch table,
+    /// and visits it.
     ///
-    /// A visitor with visits in `VisitOneByte` says
+    /// `code` is the opcode, `start` its position, and `frame` the innermost frame. On an error the
+    /// reader goes back to `start`.
+    ///
+    /// A visitor that overrides visits of `VisitOneByte` calls
     /// `decode::one_byte(self, alloc, reader, start, frame, code)` here.
     #[inline(always)]
     fn decode_one_byte(
@@ -95,11 +97,13 @@ pub trait VisitGroups: Visitor {
         any::one_byte(self, alloc, reader, start, frame, code)
     }
 
-    /// The same of an opcode below 0x20, where control and parametric instructions stand. No other does
-    /// anything to the frames: so a reader that keeps frames calls this for them, and
-    /// `decode_one_byte` for opcodes from 0x20 on.
+    /// Does the same as `decode_one_byte`, for an opcode below 0x20: a control or parametric
+    /// instruction.
     ///
-    /// A visitor with visits in `VisitOneByte` says
+    /// Only operators with such opcodes can change the frames. So a reader that keeps frames calls
+    /// this method for them, and `decode_one_byte` for opcodes from 0x20 on.
+    ///
+    /// A visitor that overrides visits of `VisitOneByte` calls
     /// `decode::one_byte(self, alloc, reader, start, frame, code)` here too.
     #[inline(always)]
     fn decode_below_0x20(
@@ -120,9 +124,9 @@ pub trait VisitGroups: Visitor {
         any::one_byte(self, alloc, reader, start, frame, code)
     }
 
-    /// Visits the numeric operator of this opcode.
+    /// Visits the numeric operator with this opcode.
     ///
-    /// A visitor with visits in `VisitNumeric` says `decode::numeric(self, code)` here.
+    /// A visitor that overrides visits of `VisitNumeric` calls `decode::numeric(self, code)` here.
     #[inline(always)]
     fn decode_numeric(&mut self, code: u8) -> Self::Output
         requires from { 0x45 ≤ code }
@@ -132,10 +136,13 @@ pub trait VisitGroups: Visitor {
         self.visit_any(Factory.decode_numeric(code))
     }
 
-    /// Reads what stands behind a subopcode, and visits the operator of this subopcode behind the
-    /// byte 0xfb. `start` is the position of the prefix byte, to which a refused reader goes back.
+    /// Reads the immediates of the operator with the prefix byte 0xfb and the subopcode `code`, and
+    /// visits it.
     ///
-    /// A visitor with visits in `VisitGc` says `decode::gc(self, reader, start, code)` here.
+    /// `start` is the position of the prefix byte, to which the reader goes back on an error.
+    ///
+    /// A visitor that overrides visits of `VisitGc` calls `decode::gc(self, reader, start, code)`
+    /// here.
     #[inline(always)]
     fn decode_gc(
         &mut self,
@@ -152,10 +159,13 @@ pub trait VisitGroups: Visitor {
         decode::gc(&mut ByAny { visitor: self }, reader, start, code)
     }
 
-    /// Reads what stands behind a subopcode, and visits the operator of this subopcode behind the
-    /// byte 0xfc. `start` is the position of the prefix byte, to which a refused reader goes back.
+    /// Reads the immediates of the operator with the prefix byte 0xfc and the subopcode `code`, and
+    /// visits it.
     ///
-    /// A visitor with visits in `VisitMisc` says `decode::misc(self, reader, start, code)` here.
+    /// `start` is the position of the prefix byte, to which the reader goes back on an error.
+    ///
+    /// A visitor that overrides visits of `VisitMisc` calls `decode::misc(self, reader, start,
+    /// code)` here.
     #[inline(always)]
     fn decode_misc(
         &mut self,
@@ -172,10 +182,13 @@ pub trait VisitGroups: Visitor {
         decode::misc(&mut ByAny { visitor: self }, reader, start, code)
     }
 
-    /// Reads what stands behind a subopcode, and visits the operator of this subopcode behind the
-    /// byte 0xfe. `start` is the position of the prefix byte, to which a refused reader goes back.
+    /// Reads the immediates of the operator with the prefix byte 0xfe and the subopcode `code`, and
+    /// visits it.
     ///
-    /// A visitor with visits in `VisitAtomic` says `decode::atomic(self, reader, start, code)` here.
+    /// `start` is the position of the prefix byte, to which the reader goes back on an error.
+    ///
+    /// A visitor that overrides visits of `VisitAtomic` calls `decode::atomic(self, reader, start,
+    /// code)` here.
     #[inline(always)]
     fn decode_atomic(
         &mut self,

@@ -1,4 +1,4 @@
-//! Makes the operators behind 0xfe. Written by tools/lists.py from tools/operators.tsv.
+//! Makes the operators with prefix 0xfe. Written by tools/lists.py from tools/operators.tsv.
 use crate::factory::Factory;
 use wasm_visit_groups::VisitAtomic;
 use wasm_visit_groups::imm::{MemArg, Ordering};

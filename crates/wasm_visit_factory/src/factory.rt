@@ -1,14 +1,15 @@
-//! A visitor that answers the operator itself, made in its visit.
+//! A visitor that returns the operator, made in its visit.
 ghost use Rattle.std.specs.Prelude.{◌≡◌};
 ghost use Rattle.wasm_visit_groups.specs.instr.declared.operator.Operator.{Operator};
 
 use wasm_visit_groups::Visitor;
 use wasm_visit_groups::instr::Operator;
 
-/// Answers the operator itself: each of its visits makes that operator, and hands it to no other
+/// A visitor that returns the operator. Each visit makes its operator in place, without another
 /// call.
 ///
-/// It visits no branch table, whose operator borrows: who reads one makes that operator by itself.
+/// It has no visit of a branch table, whose operator borrows. A caller that reads a branch table
+/// makes the operator without a visitor.
 #[derive(Drop)]
 pub struct Factory;
 

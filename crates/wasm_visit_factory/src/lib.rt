@@ -1,4 +1,4 @@
-//! The visitor that makes each operator in place, of which the layers above make theirs.
+//! The visitor that makes each operator in place. Higher crates use it to make operators.
 #![tactic(auto)]
 
 mod atomic;

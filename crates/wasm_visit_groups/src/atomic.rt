@@ -1,4 +1,4 @@
-//! Visits of the operators behind 0xfe. Written by tools/lists.py from tools/operators.tsv.
+//! Visits of the operators with prefix 0xfe. Written by tools/lists.py from tools/operators.tsv.
 ghost use Rattle.wasm_instr.specs.declared.operator.Operator.{Operator};
 ghost use Rattle.wasm_instr.specs.ops.atomic.AtomicOperator.{AtomicOperator};
 
@@ -6,10 +6,13 @@ use crate::visitor::Visitor;
 use wasm_instr::imm::{MemArg, Ordering};
 use wasm_instr::{AtomicOperator, Operator};
 
-/// Visits of the operators behind the byte 0xfe. Proposal threads.
+/// Visits of the operators with the prefix byte 0xfe. Proposal threads.
 ///
-/// Each hands its operator to `visit_any` unless a visitor has its own. They are called only where
-/// the visitor's `VisitGroups` names them, by the line `dispatch::atomic(self, op)`.
+/// A visit passes its operator to `visit_any` unless it is overridden. Overridden visits are called
+/// only by methods of the visitor's `VisitGroups` that name the group:
+///
+/// - `dispatch_atomic`, by `dispatch::atomic(self, op)`
+/// - `decode_atomic`, by `decode::atomic(self, reader, start, code)`
 pub trait VisitAtomic: Visitor {
     /// Visits `MemoryAtomicNotify`.
     #[inline(always)]

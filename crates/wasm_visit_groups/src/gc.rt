@@ -1,4 +1,4 @@
-//! Visits of the operators behind 0xfb. Written by tools/lists.py from tools/operators.tsv.
+//! Visits of the operators with prefix 0xfb. Written by tools/lists.py from tools/operators.tsv.
 ghost use Rattle.wasm_instr.specs.declared.operator.Operator.{Operator};
 ghost use Rattle.wasm_instr.specs.ops.gc.GcOperator.{GcOperator};
 
@@ -6,10 +6,13 @@ use crate::visitor::Visitor;
 use wasm_instr::below::{HeapType, RefType};
 use wasm_instr::{GcOperator, Operator};
 
-/// Visits of the operators behind the byte 0xfb. Aggregate Instructions.
+/// Visits of the operators with the prefix byte 0xfb. Aggregate Instructions.
 ///
-/// Each hands its operator to `visit_any` unless a visitor has its own. They are called only where
-/// the visitor's `VisitGroups` names them, by the line `dispatch::gc(self, op)`.
+/// A visit passes its operator to `visit_any` unless it is overridden. Overridden visits are called
+/// only by methods of the visitor's `VisitGroups` that name the group:
+///
+/// - `dispatch_gc`, by `dispatch::gc(self, op)`
+/// - `decode_gc`, by `decode::gc(self, reader, start, code)`
 pub trait VisitGc: Visitor {
     /// Visits `StructNew`.
     #[inline(always)]

@@ -1,4 +1,4 @@
-//! What all visitors have, and the visits of operators in groups.
+//! The trait of all visitors, and the visits of operators in seven groups.
 #![tactic(auto)]
 
 mod atomic;

@@ -1,14 +1,17 @@
-//! Visits of the operators behind 0xfc. Written by tools/lists.py from tools/operators.tsv.
+//! Visits of the operators with prefix 0xfc. Written by tools/lists.py from tools/operators.tsv.
 ghost use Rattle.wasm_instr.specs.declared.operator.Operator.{Operator};
 ghost use Rattle.wasm_instr.specs.ops.misc.MiscOperator.{MiscOperator};
 
 use crate::visitor::Visitor;
 use wasm_instr::{MiscOperator, Operator};
 
-/// Visits of the operators behind the byte 0xfc. Numeric, Memory and Table Instructions.
+/// Visits of the operators with the prefix byte 0xfc. Numeric, Memory and Table Instructions.
 ///
-/// Each hands its operator to `visit_any` unless a visitor has its own. They are called only where
-/// the visitor's `VisitGroups` names them, by the line `dispatch::misc(self, op)`.
+/// A visit passes its operator to `visit_any` unless it is overridden. Overridden visits are called
+/// only by methods of the visitor's `VisitGroups` that name the group:
+///
+/// - `dispatch_misc`, by `dispatch::misc(self, op)`
+/// - `decode_misc`, by `decode::misc(self, reader, start, code)`
 pub trait VisitMisc: Visitor {
     /// Visits `I32TruncSatF32S`.
     #[inline(always)]

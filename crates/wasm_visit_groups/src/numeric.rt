@@ -7,8 +7,11 @@ use wasm_instr::{NumericOperator, Operator};
 
 /// Visits of the numeric operators of one byte, 0x45 to 0xc4. Numeric Instructions.
 ///
-/// Each hands its operator to `visit_any` unless a visitor has its own. They are called only where
-/// the visitor's `VisitGroups` names them, by the line `dispatch::numeric(self, op)`.
+/// A visit passes its operator to `visit_any` unless it is overridden. Overridden visits are called
+/// only by methods of the visitor's `VisitGroups` that name the group:
+///
+/// - `dispatch_numeric`, by `dispatch::numeric(self, op)`
+/// - `decode_numeric`, by `decode::numeric(self, code)`
 pub trait VisitNumeric: Visitor {
     /// Visits `I32Eqz`.
     #[inline(always)]

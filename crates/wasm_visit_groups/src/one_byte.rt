@@ -6,10 +6,14 @@ use wasm_instr::Operator;
 use wasm_instr::below::{HeapType, ValType};
 use wasm_instr::imm::{BlockType, Ieee32, Ieee64, MemArg, ResumeTable, SelectTypes, TryTable};
 
-/// Visits of the operators of one byte that are not numeric, but for the branch table. Instructions.
+/// Visits of the operators of one byte, except the numeric ones and the branch table. Instructions.
 ///
-/// Each hands its operator to `visit_any` unless a visitor has its own. They are called only where
-/// the visitor's `VisitGroups` names them, by the line `dispatch::one_byte(self, op)`.
+/// A visit passes its operator to `visit_any` unless it is overridden. Overridden visits are called
+/// only by methods of the visitor's `VisitGroups` that name the group:
+///
+/// - `dispatch_one_byte`, by `dispatch::one_byte(self, op)`
+/// - `decode_one_byte`, by `decode::one_byte(self, alloc, reader, start, frame, code)`
+/// - `decode_below_0x20`, by `decode::one_byte(self, alloc, reader, start, frame, code)`
 pub trait VisitOneByte: Visitor {
     /// Visits `Unreachable`.
     #[inline(always)]

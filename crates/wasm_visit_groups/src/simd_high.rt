@@ -1,14 +1,17 @@
-//! Visits of the vector operators from 0x80 on. Written by tools/lists.py from tools/operators.tsv.
+//! Visits of the SIMD operators from 0x80 on. Written by tools/lists.py from tools/operators.tsv.
 ghost use Rattle.wasm_instr.specs.declared.operator.Operator.{Operator};
 ghost use Rattle.wasm_instr.specs.simd.simd.SimdOperator.{SimdOperator};
 
 use crate::visitor::Visitor;
 use wasm_instr::{Operator, SimdOperator};
 
-/// Visits of the vector operators of a subopcode from 0x80 on. Vector Instructions.
+/// Visits of the SIMD operators with a subopcode of at least 0x80. Vector Instructions.
 ///
-/// Each hands its operator to `visit_any` unless a visitor has its own. They are called only where
-/// the visitor's `VisitSimdOperator` names them, by the line `dispatch::simd_high(self, op)`.
+/// A visit passes its operator to `visit_any` unless it is overridden. Overridden visits are called
+/// only by methods of the visitor's `VisitSimdOperator` that name the group:
+///
+/// - `dispatch_simd_high`, by `dispatch::simd_high(self, op)`
+/// - `decode_simd_high`, by `decode::simd_high(self, reader, start, code)`
 pub trait VisitSimdHigh: Visitor {
     /// Visits `I64x2Eq`.
     #[inline(always)]

@@ -1,4 +1,4 @@
-//! Visits of the vector operators below 0x80. Written by tools/lists.py from tools/operators.tsv.
+//! Visits of the SIMD operators below 0x80. Written by tools/lists.py from tools/operators.tsv.
 ghost use Rattle.wasm_instr.specs.declared.operator.Operator.{Operator};
 ghost use Rattle.wasm_instr.specs.simd.simd.SimdOperator.{SimdOperator};
 
@@ -6,10 +6,13 @@ use crate::visitor::Visitor;
 use wasm_instr::imm::{MemArg, V128};
 use wasm_instr::{Operator, SimdOperator};
 
-/// Visits of the vector operators of a subopcode below 0x80. Vector Instructions.
+/// Visits of the SIMD operators with a subopcode below 0x80. Vector Instructions.
 ///
-/// Each hands its operator to `visit_any` unless a visitor has its own. They are called only where
-/// the visitor's `VisitSimdOperator` names them, by the line `dispatch::simd_low(self, op)`.
+/// A visit passes its operator to `visit_any` unless it is overridden. Overridden visits are called
+/// only by methods of the visitor's `VisitSimdOperator` that name the group:
+///
+/// - `dispatch_simd_low`, by `dispatch::simd_low(self, op)`
+/// - `decode_simd_low`, by `decode::simd_low(self, reader, start, code)`
 pub trait VisitSimdLow: Visitor {
     /// Visits `V128Load`.
     #[inline(always)]

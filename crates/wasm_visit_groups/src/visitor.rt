@@ -1,18 +1,19 @@
-//! What all visitors have.
+//! The trait of all visitors.
 ghost use Rattle.std.specs.Prelude.{◌≡◌, box_value};
 ghost use Rattle.wasm_instr.specs.declared.operator.Operator.{Operator};
 
 use wasm_instr::Operator;
 
-/// What all visitors have: what their visits answer and promise, and the visit of any operator.
+/// A visitor: the type that its visits return, the relation that they satisfy, and the default
+/// visit.
 pub trait Visitor {
-    /// What a visit answers.
+    /// The type that a visit returns.
     type Output;
 
-    // What a visit of an operator answers, and to which state of the visitor it leads.
+    // The relation that a visit satisfies: visitor before, operator, result, visitor after.
     ghost visits: { Self → Operator → Self.Output → Self → Type 0 };
 
-    /// Visits an operator that has no visit of its own, vector operators too.
+    /// Visits an operator whose visit is not overridden, including SIMD operators.
     fn visit_any(&mut self, op: Operator<'static>) -> Self::Output
         ensures { Self.visits self.old op.entry result self.new };
 }

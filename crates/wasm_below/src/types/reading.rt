@@ -1,4 +1,4 @@
-//! Reading types: each from its first byte.
+//! Reading types: each is identified by its first byte.
 ghost use Rattle.std.specs.Prelude.{◌≡◌, ◌≢◌, ℕ, ◌+◌, ◌≤◌, ◌⊎◌, ◌∷◌, [], IsTrue, ◌↔◌, IfSome, IfNone, IfErr};
 ghost use Rattle.wasm_below.specs.declared.types.AbstractHeapType.{AbstractHeapType};
 ghost use Rattle.wasm_below_bytes.specs.Source.{Reads, BeginsWith, rest};
@@ -7,20 +7,20 @@ ghost use Rattle.wasm_below.specs.TypeEncoding.{heap_type_byte, ref_byte, behind
 use super::{AbstractHeapType, HeapType, MAX_TYPE_INDEX, RefType, ValType};
 use wasm_below_bytes::{BinaryReader, Message, Result, TypeName};
 
-/// Before an abstract heap type that is shared.
+/// The prefix byte of an abstract heap type that is shared.
 const SHARED: u8 = 0x65;
 
-/// Before the index of an exact heap type.
+/// The prefix byte of the index of an exact heap type.
 const EXACT: u8 = 0x62;
 
-/// Before the heap type of a reference type with null.
+/// The prefix byte of the heap type of a reference type with null.
 const REF_NULL: u8 = 0x63;
 
-/// Before the heap type of a reference type without null.
+/// The prefix byte of the heap type of a reference type without null.
 const REF: u8 = 0x64;
 
 impl AbstractHeapType {
-    /// The abstract heap type of this byte.
+    /// Returns the abstract heap type with this byte, if there is one.
     fn from_byte(code: u8) -> Option<AbstractHeapType>
         ensures some { IfSome result (λ ty. heap_type_byte ty ≡ code) }
         ensures none { IfNone result ((ty : AbstractHeapType) → heap_type_byte ty ≢ code) }
@@ -46,10 +46,12 @@ impl AbstractHeapType {
 }
 
 impl HeapType {
-    /// A heap type. Types, Heap Types.
+    /// Reads a heap type. Types, Heap Types.
     ///
-    /// `InvalidType` of `heap type` where it begins: a byte behind 0x65 that is no abstract heap
-    /// type, a negative index, or one above 1048575.
+    /// Fails with `InvalidType` of `heap type` at the start of the type. The reason is a byte after
+    /// 0x65 that is not an abstract heap type, or an index that is negative or above 1048575.
+    /// Otherwise fails with `EndOfData` at the end of the data, like `read_var_u32` at an index
+    /// after 0x62, or like `read_var_s33` at another index.
     #[inline(never)]
     pub fn read(reader: &mut BinaryReader<'_>) -> Result<HeapType>
         ensures reads { Reads EncodesHeapType result reader.old reader.new }
@@ -65,7 +67,7 @@ impl HeapType {
         HeapType::read_concrete(reader)
     }
 
-    /// A short form, refused as a type of this name.
+    /// Reads a short form. The error names `name` as the kind of type.
     fn read_short(reader: &mut BinaryReader<'_>, name: TypeName) -> Result<HeapType>
         ensures reads { Reads EncodesShort result reader.old reader.new }
         ensures fault { IfErr result (λ e. ShortFault name e.message reader.old e.offset) }
@@ -90,7 +92,7 @@ impl HeapType {
         }
     }
 
-    /// An index of a type.
+    /// Reads a type index.
     fn read_concrete(reader: &mut BinaryReader<'_>) -> Result<HeapType>
         ensures reads { Reads EncodesConcrete result reader.old reader.new }
         ensures fault { IfErr result (λ e. ConcreteFault e.message reader.old e.offset) }
@@ -103,7 +105,7 @@ impl HeapType {
         Ok(HeapType::Concrete(index as u32))
     }
 
-    /// An index of a type behind the byte 0x62.
+    /// Reads the byte 0x62 and a type index.
     fn read_exact(reader: &mut BinaryReader<'_>) -> Result<HeapType>
         requires { BeginsWith 0x62 (rest reader.old) }
         ensures reads { Reads EncodesExact result reader.old reader.new }
@@ -127,10 +129,12 @@ impl HeapType {
 }
 
 impl RefType {
-    /// A reference type. Types, Reference Types.
+    /// Reads a reference type. Types, Reference Types.
     ///
-    /// `InvalidType` of `reference type` where it begins: no reference type begins with this byte,
-    /// or a byte behind 0x65 is no abstract heap type. Else as its heap type.
+    /// Fails with `InvalidType` of `reference type` at the start of the type. The reason is a first
+    /// byte of no reference type, or a byte after 0x65 that is not an abstract heap type. Otherwise
+    /// fails with `EndOfData` at the end of the data, or after the byte 0x63 or 0x64 like
+    /// `HeapType::read`.
     #[inline(never)]
     pub fn read(reader: &mut BinaryReader<'_>) -> Result<RefType>
         ensures reads { Reads EncodesRefType result reader.old reader.new }
@@ -146,7 +150,7 @@ impl RefType {
         RefType::read_short(reader)
     }
 
-    /// A short form.
+    /// Reads a reference type in the short form.
     fn read_short(reader: &mut BinaryReader<'_>) -> Result<RefType>
         ensures reads { Reads EncodesShortRef result reader.old reader.new }
         ensures fault { IfErr result (λ e. ShortFault TypeName.ReferenceType e.message reader.old e.offset) }
@@ -155,7 +159,7 @@ impl RefType {
         Ok(RefType::of(true, heap_type))
     }
 
-    /// A heap type behind the byte 0x63 or 0x64.
+    /// Reads the byte 0x63 or 0x64 and a heap type.
     fn read_long(reader: &mut BinaryReader<'_>, nullable: bool) -> Result<RefType>
         requires { BeginsWith (ref_byte nullable) (rest reader.old) }
         ensures reads { Reads EncodesLongRef result reader.old reader.new }
@@ -174,10 +178,10 @@ impl RefType {
 }
 
 impl ValType {
-    /// A value type. Types, Value Types.
+    /// Reads a value type. Types, Value Types.
     ///
-    /// `InvalidType` of `value type` where it begins: no value type begins with this byte. Else as
-    /// its reference type.
+    /// Fails with `InvalidType` of `value type` at the start of the type if no value type starts
+    /// with the first byte. Otherwise fails like `RefType::read`.
     #[inline(always)]
     pub fn read(reader: &mut BinaryReader<'_>) -> Result<ValType>
         ensures reads { Reads EncodesValType result reader.old reader.new }
@@ -190,8 +194,8 @@ impl ValType {
         ValType::read_number(reader)
     }
 
-    /// A value type that is a reference type, where one begins. In a function of its own, so that
-    /// the answer of the call out of line stands on its path alone.
+    /// Reads a value type that starts like a reference type. It is a separate function so that the
+    /// result of the call that is not inlined is only on this path.
     #[inline(always)]
     fn read_reference(reader: &mut BinaryReader<'_>) -> Result<ValType>
         requires { LedBy LeadsRefType (rest reader.old) }
@@ -204,7 +208,7 @@ impl ValType {
         }
     }
 
-    /// A value type that is no reference type.
+    /// Reads a value type that is not a reference type.
     #[inline(always)]
     fn read_number(reader: &mut BinaryReader<'_>) -> Result<ValType>
         ensures reads { Reads EncodesNumberType result reader.old reader.new }
@@ -222,7 +226,7 @@ impl ValType {
     }
 }
 
-/// Whether a short form begins with this byte.
+/// Returns whether a short form starts with this byte.
 #[inline(always)]
 fn leads_short(byte: u8) -> bool
     ensures { IsTrue result ↔ LeadsShort byte }
@@ -230,7 +234,7 @@ fn leads_short(byte: u8) -> bool
     byte == SHARED || matches!(byte, 0x68..=0x75)
 }
 
-/// Whether a reference type begins with this byte.
+/// Returns whether a reference type starts with this byte.
 #[inline(always)]
 fn leads_ref_type(byte: u8) -> bool
     ensures { IsTrue result ↔ LeadsRefType byte }

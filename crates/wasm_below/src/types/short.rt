@@ -1,5 +1,5 @@
-//! Heap types in four bytes, as reference types hold them: so a value type takes six, and lists of value
-//! types and the operators stay small.
+//! Heap types in four bytes, as reference types store them. So a value type takes six bytes, and
+//! lists of value types and the operators stay small.
 ghost use Rattle.std.specs.Prelude.{◌≡◌, ◌<◌};
 ghost use Rattle.wasm_below.specs.Reference.{IsIndexed};
 ghost use Rattle.wasm_below.specs.ShortTypes.{heap_type_of};
@@ -7,7 +7,7 @@ ghost use Rattle.wasm_below.specs.ShortTypes.{heap_type_of};
 use super::{AbstractHeapType, HeapType};
 use std::marker::Model;
 
-/// An index of a type that is below 2^24, by its three bytes.
+/// A type index below 2^24, stored in three bytes.
 #[derive(Clone, Copy, PartialEq, Eq)]
 pub struct ShortIndex {
     high: u8,
@@ -36,7 +36,7 @@ impl Model for ShortIndex {
 }
 
 impl ShortIndex {
-    /// The bytes of this index.
+    /// Creates a `ShortIndex` from an index.
     #[inline(always)]
     fn new(index: u32) -> ShortIndex
         requires { index < 16777216 }
@@ -50,7 +50,7 @@ impl ShortIndex {
         }
     }
 
-    /// The index of these bytes.
+    /// Returns the index.
     #[inline(always)]
     fn index(self) -> u32
         ensures { result ≡ self }
@@ -68,7 +68,7 @@ pub enum ShortHeapType {
 }
 
 impl ShortHeapType {
-    /// The same heap type, in four bytes.
+    /// Converts a heap type to four bytes.
     #[inline(always)]
     pub fn new(heap_type: HeapType) -> ShortHeapType
         requires { IsIndexed heap_type }
@@ -81,7 +81,7 @@ impl ShortHeapType {
         }
     }
 
-    /// The heap type, as callers see it.
+    /// Returns the heap type as callers see it.
     #[inline(always)]
     pub fn heap_type(self) -> HeapType
         ensures { result ≡ heap_type_of self }

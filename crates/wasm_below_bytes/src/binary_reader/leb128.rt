@@ -13,9 +13,10 @@ use crate::message::{Message, NumberName};
 use crate::number_calls::{coded_error, long_i64, long_u32, long_u64};
 
 impl<'a> BinaryReader<'a> {
-    /// An unsigned LEB128 number of 32 bits, in at most five bytes. Values, Integers.
+    /// Reads an unsigned LEB128 number of 32 bits, in at most five bytes. Values, Integers.
     ///
-    /// `EndOfData` at the end of the data; `IntegerTooLong` or `IntegerTooLarge` at the fifth byte.
+    /// Fails with `EndOfData` at the end of the data, or with `IntegerTooLong` or `IntegerTooLarge`
+    /// at the fifth byte.
     #[inline(always)]
     pub fn read_var_u32(&mut self) -> Result<u32>
         ensures reads { Reads (EncodesUnsigned 32) result self.old self.new }
@@ -27,8 +28,8 @@ impl<'a> BinaryReader<'a> {
         self.read_long_u32()
     }
 
-    /// What `read_var_u32` reads, with all of its code where it is called: for a loop that goes past
-    /// many numbers and looks at none, so that their values are not computed.
+    /// Reads what `read_var_u32` reads, with all code inline. It is for a loop that skips many
+    /// numbers: their values are then not computed.
     #[inline(always)]
     pub fn read_var_u32_in_place(&mut self) -> Result<u32>
         ensures reads { Reads (EncodesUnsigned 32) result self.old self.new }
@@ -43,9 +44,10 @@ impl<'a> BinaryReader<'a> {
         }
     }
 
-    /// An unsigned LEB128 number of 64 bits, in at most ten bytes. Values, Integers.
+    /// Reads an unsigned LEB128 number of 64 bits, in at most ten bytes. Values, Integers.
     ///
-    /// `EndOfData` at the end of the data; `IntegerTooLong` or `IntegerTooLarge` at the tenth byte.
+    /// Fails with `EndOfData` at the end of the data, or with `IntegerTooLong` or `IntegerTooLarge`
+    /// at the tenth byte.
     #[inline(always)]
     pub fn read_var_u64(&mut self) -> Result<u64>
         ensures reads { Reads (EncodesUnsigned 64) result self.old self.new }
@@ -57,9 +59,10 @@ impl<'a> BinaryReader<'a> {
         self.read_long_u64()
     }
 
-    /// A signed LEB128 number of 32 bits, in at most five bytes. Values, Integers.
+    /// Reads a signed LEB128 number of 32 bits, in at most five bytes. Values, Integers.
     ///
-    /// `EndOfData` at the end of the data; `IntegerTooLong` or `IntegerTooLarge` at the fifth byte.
+    /// Fails with `EndOfData` at the end of the data, or with `IntegerTooLong` or `IntegerTooLarge`
+    /// at the fifth byte.
     #[inline(always)]
     pub fn read_var_i32(&mut self) -> Result<i32>
         ensures reads { Reads (EncodesSigned 32) result self.old self.new }
@@ -71,9 +74,9 @@ impl<'a> BinaryReader<'a> {
         self.read_long_i32()
     }
 
-    /// A signed LEB128 number of 33 bits, in at most five bytes. Values, Integers.
+    /// Reads a signed LEB128 number of 33 bits, in at most five bytes. Values, Integers.
     ///
-    /// `EndOfData` at the end of the data; `IntegerTooLong` at the fifth byte.
+    /// Fails with `EndOfData` at the end of the data, or with `IntegerTooLong` at the fifth byte.
     #[inline(always)]
     pub fn read_var_s33(&mut self) -> Result<i64>
         ensures reads { Reads (EncodesSigned 33) result self.old self.new }
@@ -85,9 +88,10 @@ impl<'a> BinaryReader<'a> {
         self.read_long_s33()
     }
 
-    /// A signed LEB128 number of 64 bits, in at most ten bytes. Values, Integers.
+    /// Reads a signed LEB128 number of 64 bits, in at most ten bytes. Values, Integers.
     ///
-    /// `EndOfData` at the end of the data; `IntegerTooLong` or `IntegerTooLarge` at the tenth byte.
+    /// Fails with `EndOfData` at the end of the data, or with `IntegerTooLong` or `IntegerTooLarge`
+    /// at the tenth byte.
     #[inline(always)]
     pub fn read_var_i64(&mut self) -> Result<i64>
         ensures reads { Reads (EncodesSigned 64) result self.old self.new }
@@ -99,7 +103,7 @@ impl<'a> BinaryReader<'a> {
         self.read_long_i64()
     }
 
-    /// The next byte, where it is a LEB128 number by itself.
+    /// Reads the next byte if it is below 128, and so a LEB128 number of one byte.
     #[inline(always)]
     fn take_last_byte(&mut self) -> Option<u8>
         ensures taken { IfSome result (λ b. (b < 128) × Takes self.old self.new (b ∷ [])) }
@@ -116,7 +120,7 @@ impl<'a> BinaryReader<'a> {
         Some(byte)
     }
 
-    /// The long form of `read_var_u32`.
+    /// Reads the number for `read_var_u32` if it is longer than one byte.
     #[inline(always)]
     fn read_long_u32(&mut self) -> Result<u32>
         ensures reads { Reads (EncodesUnsigned 32) result self.old self.new }
@@ -134,7 +138,7 @@ impl<'a> BinaryReader<'a> {
         Ok(number.value as u32)
     }
 
-    /// The long form of `read_var_u64`.
+    /// Reads the number for `read_var_u64` if it is longer than one byte.
     #[inline(always)]
     fn read_long_u64(&mut self) -> Result<u64>
         ensures reads { Reads (EncodesUnsigned 64) result self.old self.new }
@@ -152,7 +156,7 @@ impl<'a> BinaryReader<'a> {
         Ok(number.value)
     }
 
-    /// The long form of `read_var_i32`.
+    /// Reads the number for `read_var_i32` if it is longer than one byte.
     #[inline(always)]
     fn read_long_i32(&mut self) -> Result<i32>
         ensures reads { Reads (EncodesSigned 32) result self.old self.new }
@@ -167,7 +171,7 @@ impl<'a> BinaryReader<'a> {
         }
     }
 
-    /// The long form of `read_var_s33`.
+    /// Reads the number for `read_var_s33` if it is longer than one byte.
     #[inline(always)]
     fn read_long_s33(&mut self) -> Result<i64>
         ensures reads { Reads (EncodesSigned 33) result self.old self.new }
@@ -182,7 +186,7 @@ impl<'a> BinaryReader<'a> {
         }
     }
 
-    /// The long form of `read_var_i64`.
+    /// Reads the number for `read_var_i64` if it is longer than one byte.
     #[inline(always)]
     fn read_long_i64(&mut self) -> Result<i64>
         ensures reads { Reads (EncodesSigned 64) result self.old self.new }
@@ -196,7 +200,7 @@ impl<'a> BinaryReader<'a> {
         Ok(number.value)
     }
 
-    /// The error of a number that does not stand here, of whose refusal this is the code.
+    /// Returns the error for a number at this position, from the code of the reason.
     #[inline(always)]
     fn coded_refusal(&self, code: u64, bits: u32, name: NumberName) -> Error
         requires some { 0 < bits }
@@ -208,7 +212,7 @@ impl<'a> BinaryReader<'a> {
         coded_error(code, self.original_position(), end, bits, name)
     }
 
-    /// The error of a number of at most this many bits that does not stand here.
+    /// Returns the error for a number of at most this many bits at this position.
     #[inline(always)]
     fn no_number(&self, refusal: NumberRefusal, bits: u32, name: NumberName) -> Error
         requires some { 0 < bits }
@@ -221,7 +225,8 @@ impl<'a> BinaryReader<'a> {
     }
 }
 
-/// The same refusal, which names both faults of the fifth byte by one text.
+/// Returns the error with `IntegerTooLong` in place of `IntegerTooLarge`: both faults of the fifth
+/// byte have one text.
 fn as_too_long(e: Error) -> Error
     ensures offset { result.offset ≡ e.offset }
     ensures message { result.message ≡ as_too_long e.message }

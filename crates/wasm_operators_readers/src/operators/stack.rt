@@ -1,4 +1,4 @@
-//! The open frames of a reader: the innermost of them, and a clone of the reader with all of them.
+//! The innermost open frame of a reader, and clones of readers with all their frames.
 ghost use Rattle.std.specs.Prelude.{◌≡◌, ◌<◌, length, IfOk, IfErr};
 ghost use Rattle.wasm_decode.specs.imm.OutOfMemory.{IsOutOfMemoryAt};
 
@@ -8,10 +8,10 @@ use wasm_decode::grammar::FrameKind;
 use wasm_decode::instr::FrameStack;
 
 impl<'a> OperatorsReader<'a> {
-    /// A reader of its own that stands where this one does, with the same open frames, in memory of
-    /// the same allocator. It reads the same bytes. Of its room nothing is known.
+    /// Clones the reader: the clone is at the same position of the same bytes, with the same open
+    /// frames, in memory of the same allocator. Its capacity is not specified.
     ///
-    /// `OutOfMemory` at offset 0, and only where more than one frame is open.
+    /// Fails with `OutOfMemory` at offset 0, and only if more than one frame is open.
     pub fn clone(&self) -> Result<OperatorsReader<'a>>
         ensures reader { IfOk result (λ copy. copy.reader ≡ self.now.reader) }
         ensures frames { IfOk result (λ copy. copy.frames ≡ self.now.frames) }

@@ -1,5 +1,5 @@
-//! Up to the end of the data: the reader of the bytes, and for visits the stack of open frames, stand in
-//! variables meanwhile.
+//! Visiting to the end of the data. Meanwhile the reader of the bytes is in a local variable, and
+//! for visits the stack of open frames too.
 ghost use Rattle.std.specs.Prelude.{◌≡◌, ◌+◌, ◌<◌, ◌⊎◌, IfErr, vec_capacity, vec_len};
 ghost use Rattle.wasm_decode.specs.opcodes.Allowed.{EncodesAllowed, EncodesScalar};
 ghost use Rattle.wasm_decode.specs.opcodes.OperatorFaults.{OperatorFault, ScalarOperatorFault};
@@ -17,8 +17,8 @@ use wasm_decode::below::{Message, Result};
 use wasm_decode::visitors::{HoldTable, VisitOperator, VisitSimdOperator};
 
 impl<'a> OperatorsReader<'a> {
-    /// Visits up to the end of the data or a refusal, and finishes. Each visit adds an item to the
-    /// list.
+    /// Visits to the end of the data or to an error, and finishes. Each visit appends an item to
+    /// the list.
     pub(crate) fn collect_to_end<T>(&mut self, list: &mut Collector<T>) -> Result<()>
     where
         T: HoldTable<'a> + Drop,
@@ -34,7 +34,7 @@ impl<'a> OperatorsReader<'a> {
         answer
     }
 
-    /// Visits up to the end of the data or a refusal, and finishes.
+    /// Visits to the end of the data or to an error, and finishes.
     pub(crate) fn visit_to_end_simd<V>(&mut self, v: &mut V) -> Result<()>
     where
         V: VisitOperator<'a> + VisitSimdOperator,
@@ -50,7 +50,7 @@ impl<'a> OperatorsReader<'a> {
         answer
     }
 
-    /// Visits up to the end of the data, a vector operator or another refusal, and finishes.
+    /// Visits to the end of the data, to a SIMD operator or to another error, and finishes.
     pub(crate) fn visit_to_end<V: VisitOperator<'a>>(&mut self, v: &mut V) -> Result<()>
     where
         V::Output: Copy,

@@ -3,7 +3,7 @@ use std::alloc::Global;
 use wasm_visit::instr::{BrTable, MiscOperator, Operator};
 use wasm_visit::{VisitGroups, VisitMisc, VisitOperator, VisitSimdOperator, Visitor, dispatch};
 
-/// Counts its visits, with a visit of its own for `DataDrop` that keeps the index.
+/// A visitor that counts its visits. It overrides the visit of `DataDrop` to keep the index.
 #[derive(Debug, Drop)]
 pub struct Counter {
     pub dropped: Vec<u32>,
@@ -14,7 +14,7 @@ pub struct Counter {
 }
 
 impl Counter {
-    /// One that has visited nothing.
+    /// Creates a visitor that has visited nothing.
     pub fn new(alloc: Global) -> Counter {
         Counter {
             dropped: Vec::new(alloc),

@@ -1,19 +1,19 @@
-//! What all visitors of this program are handed.
+//! The operators that all visitors of this program visit.
 use wasm_visit::below::BinaryReader;
 use wasm_visit::instr::{
     BrTable, GcOperator, MiscOperator, NumericOperator, Operator, SimdOperator,
 };
 use wasm_visit::{VisitOperator, VisitSimdOperator, visit_owned_simd};
 
-/// One target, 1, and the default target 0.
+/// The bytes of a branch table with the target 1 and the default target 0.
 static TABLE: [u8; 3] = [1, 1, 0];
 
-/// A branch table of one target.
+/// Creates a branch table with one target.
 pub fn table() -> Option<BrTable<'static>> {
     BrTable::read(&mut BinaryReader::new(&TABLE, 0)).ok()
 }
 
-/// Hands a visitor eight operators of five groups, a branch table among them, and answers its answers.
+/// Visits eight operators of five groups, among them a branch table, and returns the results.
 pub fn hand_over<'a, V>(v: &mut V, table: Option<BrTable<'a>>) -> [V::Output; 8]
 where
     V: VisitOperator<'a> + VisitSimdOperator,

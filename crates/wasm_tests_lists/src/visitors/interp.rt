@@ -1,10 +1,10 @@
-//! A visitor with a lifetime and a type parameter, and with visits of its own.
+//! A visitor with a lifetime and a type parameter, which overrides visits.
 ghost use Rattle.std.specs.Prelude.{◌≤◌};
 
 use wasm_visit::instr::{BrTable, GcOperator, Operator};
 use wasm_visit::{VisitGc, VisitGroups, VisitOperator, VisitSimdOperator, Visitor, dispatch};
 
-/// Counts the operators that it knows and those that it does not, for a module.
+/// A visitor that counts the operators that it knows and those that it does not know, for a module.
 #[derive(Drop)]
 pub struct Interp<'m, M> {
     pub module: &'m M,
@@ -12,7 +12,7 @@ pub struct Interp<'m, M> {
     pub unknown: u64,
 }
 
-/// A module of so many structure types.
+/// A module with structure types alone.
 #[derive(Drop)]
 pub struct Module {
     pub types: Vec<u32>,

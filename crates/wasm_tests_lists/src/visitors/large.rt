@@ -1,15 +1,15 @@
-//! An answer that is large.
+//! A large result.
 use wasm_visit::instr::{BrTable, Operator};
 use wasm_visit::{HoldOperator, HoldTable};
 
-/// An answer of 4096 bytes.
+/// A result of 4096 bytes.
 #[derive(Drop)]
 pub struct Large {
     pub bytes: [u8; 4096],
 }
 
 impl HoldOperator for Large {
-    // Whatever the operator.
+    // Holds for every operator.
     ghost holds = { λ op large. Unit {0} };
 
     fn hold_operator(_op: Operator<'static>) -> Large {

@@ -1,11 +1,11 @@
-//! What the factory of the layers makes, by the dispatch of each group.
+//! The operators that the factory of the decoder's crates makes, by the dispatch of each group.
 use wasm_visit::dispatch;
 use wasm_visit::instr::{
     AtomicOperator, GcOperator, MiscOperator, NumericOperator, Operator, Ordering, SimdOperator,
 };
 use wasm_visit::layer_factory::Factory;
 
-/// An operator of each group.
+/// Makes an operator of each group.
 pub fn made() -> [Operator<'static>; 7] {
     let factory = &mut Factory;
     [

@@ -1,11 +1,11 @@
-//! A visitor that holds a reference, with a visit of its own.
+//! A visitor that holds a reference, and overrides visits.
 ghost use Rattle.std.specs.Prelude.{◌≤◌};
 
 use std::alloc::AllocError;
 use wasm_visit::instr::{BrTable, MiscOperator, Operator};
 use wasm_visit::{VisitGroups, VisitMisc, VisitOperator, VisitSimdOperator, Visitor, dispatch};
 
-/// Writes the names of two operators, and counts the visits of all others.
+/// A visitor that writes the names of two operators, and counts the visits of all others.
 #[derive(Drop)]
 pub struct Printer<'w> {
     pub out: &'w mut String,

@@ -1,8 +1,8 @@
-//! A visitor without fields, and with a visit of its own.
+//! A visitor without fields, which overrides a visit.
 use wasm_visit::instr::{BrTable, MiscOperator, Operator};
 use wasm_visit::{VisitGroups, VisitMisc, VisitOperator, VisitSimdOperator, Visitor, dispatch};
 
-/// Which call was made of a visitor.
+/// The call that a visitor received.
 #[derive(Clone, Copy, Debug)]
 pub enum Call {
     Own,
@@ -10,14 +10,14 @@ pub enum Call {
     Table,
 }
 
-/// Answers which of its calls was made; it has a visit of its own for `DataDrop`.
+/// A visitor that returns which call it received. It overrides the visit of `DataDrop`.
 #[derive(Debug, Drop)]
 pub struct Tells;
 
 impl Visitor for Tells {
     type Output = Call;
 
-    // Whatever the operator.
+    // Holds for every operator.
     ghost visits = { λ before op answer after. Unit {0} };
 
     fn visit_any(&mut self, _op: Operator<'static>) -> Call {

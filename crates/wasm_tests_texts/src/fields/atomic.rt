@@ -1,9 +1,9 @@
-//! The fields of the operators behind the byte 0xfe, printed. Written by tools/lists.py from tools/operators.tsv.
+//! Prints the fields of the operators with the prefix byte 0xfe. Written by tools/lists.py from tools/operators.tsv.
 use crate::fields::shapes;
 use crate::values::{self, Written};
 use wasm_instr::AtomicOperator;
 
-/// Prints the fields of the operators behind the byte 0xfe, none where an operator has none.
+/// Prints the fields of the operators with the prefix byte 0xfe, and nothing for an operator without fields.
 pub fn atomic(out: &mut String, op: &AtomicOperator) -> Written {
     match op {
         AtomicOperator::MemoryAtomicNotify { memarg }

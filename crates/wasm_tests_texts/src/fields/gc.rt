@@ -1,9 +1,9 @@
-//! The fields of the operators behind the byte 0xfb, printed. Written by tools/lists.py from tools/operators.tsv.
+//! Prints the fields of the operators with the prefix byte 0xfb. Written by tools/lists.py from tools/operators.tsv.
 use crate::fields::shapes;
 use crate::values::{self, Written};
 use wasm_instr::GcOperator;
 
-/// Prints the fields of the operators behind the byte 0xfb, none where an operator has none.
+/// Prints the fields of the operators with the prefix byte 0xfb, and nothing for an operator without fields.
 pub fn gc(out: &mut String, op: &GcOperator) -> Written {
     match op {
         GcOperator::StructNew { struct_type_index }

@@ -1,9 +1,9 @@
-//! The fields of the operators behind the byte 0xfc, printed. Written by tools/lists.py from tools/operators.tsv.
+//! Prints the fields of the operators with the prefix byte 0xfc. Written by tools/lists.py from tools/operators.tsv.
 use crate::fields::shapes;
 use crate::values::{self, Written};
 use wasm_instr::MiscOperator;
 
-/// Prints the fields of the operators behind the byte 0xfc, none where an operator has none.
+/// Prints the fields of the operators with the prefix byte 0xfc, and nothing for an operator without fields.
 pub fn misc(out: &mut String, op: &MiscOperator) -> Written {
     match op {
         MiscOperator::MemoryInit { data_index, mem } => shapes::write_data_index_and_mem(

@@ -1,4 +1,4 @@
-//! The fields of an operator, printed. Written by tools/lists.py from tools/operators.tsv.
+//! Prints the fields of an operator. Written by tools/lists.py from tools/operators.tsv.
 use crate::fields::atomic::atomic;
 use crate::fields::gc::gc;
 use crate::fields::misc::misc;
@@ -7,7 +7,7 @@ use crate::fields::simd::simd;
 use crate::values::{self, Written};
 use wasm_instr::Operator;
 
-/// Prints the fields of an operator, none where an operator has none.
+/// Prints the fields of an operator, and nothing for an operator without fields.
 pub fn own(out: &mut String, op: &Operator<'_>) -> Written {
     match op {
         Operator::Block { blockty }

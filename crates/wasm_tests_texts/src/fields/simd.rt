@@ -1,9 +1,9 @@
-//! The fields of the operators behind the byte 0xfd, printed. Written by tools/lists.py from tools/operators.tsv.
+//! Prints the fields of the operators with the prefix byte 0xfd. Written by tools/lists.py from tools/operators.tsv.
 use crate::fields::shapes;
 use crate::values::{self, Written};
 use wasm_instr::SimdOperator;
 
-/// Prints the fields of the operators behind the byte 0xfd, none where an operator has none.
+/// Prints the fields of the operators with the prefix byte 0xfd, and nothing for an operator without fields.
 pub fn simd(out: &mut String, op: &SimdOperator) -> Written {
     match op {
         SimdOperator::V128Load { memarg }

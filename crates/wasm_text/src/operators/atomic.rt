@@ -1,4 +1,4 @@
-//! The operands of the operators behind the byte 0xfe. Written by tools/lists.py from tools/operators.tsv.
+//! The operands of the operators with the prefix byte 0xfe. Written by tools/lists.py from tools/operators.tsv.
 ghost use Rattle.std.specs.Prelude.{◌≡◌, ◌++◌, OnOk, string_bytes};
 ghost use Rattle.wasm_instr.specs.Atomic.{atomic_immediates};
 ghost use Rattle.wasm_text.specs.Operands.{immediates_text};
@@ -6,7 +6,7 @@ ghost use Rattle.wasm_text.specs.Operands.{immediates_text};
 use crate::operands::{self, Written};
 use wasm_instr::AtomicOperator;
 
-/// Writes the operands of the operators behind the byte 0xfe, each behind a space.
+/// Writes the operands of the operators with the prefix byte 0xfe, with a space before each.
 pub fn atomic(out: &mut String, op: &AtomicOperator) -> Written
     ensures { OnOk result (string_bytes out.new ≡ string_bytes out.old ++ immediates_text (atomic_immediates op.now)) }
 {

@@ -1,4 +1,4 @@
-//! The operands of the operators behind the byte 0xfc. Written by tools/lists.py from tools/operators.tsv.
+//! The operands of the operators with the prefix byte 0xfc. Written by tools/lists.py from tools/operators.tsv.
 ghost use Rattle.std.specs.Prelude.{◌≡◌, ◌++◌, OnOk, string_bytes};
 ghost use Rattle.wasm_instr.specs.Misc.{misc_immediates};
 ghost use Rattle.wasm_text.specs.Operands.{immediates_text};
@@ -6,7 +6,7 @@ ghost use Rattle.wasm_text.specs.Operands.{immediates_text};
 use crate::operands::{self, Written};
 use wasm_instr::MiscOperator;
 
-/// Writes the operands of the operators behind the byte 0xfc, each behind a space.
+/// Writes the operands of the operators with the prefix byte 0xfc, with a space before each.
 pub fn misc(out: &mut String, op: &MiscOperator) -> Written
     ensures { OnOk result (string_bytes out.new ≡ string_bytes out.old ++ immediates_text (misc_immediates op.now)) }
 {

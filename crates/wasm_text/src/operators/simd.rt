@@ -1,4 +1,4 @@
-//! The operands of the operators behind the byte 0xfd. Written by tools/lists.py from tools/operators.tsv.
+//! The operands of the operators with the prefix byte 0xfd. Written by tools/lists.py from tools/operators.tsv.
 ghost use Rattle.std.specs.Prelude.{◌≡◌, ◌++◌, OnOk, string_bytes};
 ghost use Rattle.wasm_instr.specs.Simd.{simd_immediates};
 ghost use Rattle.wasm_text.specs.Operands.{immediates_text};
@@ -6,7 +6,7 @@ ghost use Rattle.wasm_text.specs.Operands.{immediates_text};
 use crate::operands::{self, Written};
 use wasm_instr::SimdOperator;
 
-/// Writes the operands of the operators behind the byte 0xfd, each behind a space.
+/// Writes the operands of the operators with the prefix byte 0xfd, with a space before each.
 pub fn simd(out: &mut String, op: &SimdOperator) -> Written
     ensures { OnOk result (string_bytes out.new ≡ string_bytes out.old ++ immediates_text (simd_immediates op.now)) }
 {

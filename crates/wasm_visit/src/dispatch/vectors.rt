@@ -1,11 +1,11 @@
-//! From a vector operator to its visit. Written by tools/lists.py from tools/operators.tsv.
+//! From a SIMD operator to its visit. Written by tools/lists.py from tools/operators.tsv.
 ghost use Rattle.wasm_decode_groups.specs.instr.declared.operator.Operator.{Operator};
 ghost use Rattle.wasm_decode_groups.specs.groups.Groups.{IsSimdHigh, IsSimdLow};
 
 use wasm_decode_groups::groups::{VisitSimdHigh, VisitSimdLow};
 use wasm_decode_groups::instr::SimdOperator;
 
-/// Visits one of the vector operators below 0x80. It takes no memory.
+/// Calls the visit of a SIMD operator below 0x80. The dispatch does not allocate.
 pub fn simd_low<V: VisitSimdLow>(v: &mut V, op: SimdOperator) -> V::Output
     requires { IsSimdLow op }
     ensures { V.visits v.old (Operator.Simd op) result v.new }
@@ -143,7 +143,7 @@ pub fn simd_low<V: VisitSimdLow>(v: &mut V, op: SimdOperator) -> V::Output
     }
 }
 
-/// Visits one of the vector operators from 0x80 on. It takes no memory.
+/// Calls the visit of a SIMD operator from 0x80 on. The dispatch does not allocate.
 pub fn simd_high<V: VisitSimdHigh>(v: &mut V, op: SimdOperator) -> V::Output
     requires { IsSimdHigh op }
     ensures { V.visits v.old (Operator.Simd op) result v.new }

@@ -2,7 +2,7 @@ use Rattle.std.proofs.Common.{◌-◌, length}
 use Rattle.wasm_c.proofs.Filled.{Filled}
 use Rattle.wasm_c.proofs.body.fill.Given as goal
 
--- those that were read stand at the beginning of the array
+-- The operators that were read are at the start of the array.
 abbrev pub invariant-places : goal.invariant-places
 invariant-places l = Filled l.fn.operators l.operators l.count l.fn.out l.out
 

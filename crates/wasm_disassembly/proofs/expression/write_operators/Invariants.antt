@@ -3,7 +3,7 @@ use Rattle.wasm_operators.specs.below.Source.{rest}
 use Rattle.wasm_disassembly.proofs.OperatorLines.{AreListed}
 use Rattle.wasm_disassembly.proofs.expression.write_operators.Given as goal
 
--- the operators so far were read, and their lines written
+-- The operators so far are read and their lines written.
 abbrev pub invariant-operators : goal.invariant-operators
 invariant-operators g l = AreListed l.start l.bytes l.initial.operators l.operators l.depth (g.W.Write.contents l.fn.writer) (g.W.Write.contents l.writer)
 

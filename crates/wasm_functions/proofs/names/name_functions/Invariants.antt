@@ -4,7 +4,7 @@ use Rattle.wasm_module.specs.Module.{SectionParts}
 use Rattle.wasm_functions.specs.Sections.{SectionsStand, first_with}
 use Rattle.wasm_functions.proofs.names.name_functions.Given as goal
 
--- these subsections were read, and none of them names functions
+-- These subsections were read, and none of them names functions.
 abbrev pub invariant-sections : goal.invariant-sections
 invariant-sections l = (before : List SectionParts) × SectionsStand l.initial.reader before l.reader × (first_with 1 before ≡ None) ×
     (l.names ≡ l.initial.names)

@@ -5,7 +5,7 @@ use Rattle.wasm_functions.specs.Names.{LastNames}
 use Rattle.wasm_functions.specs.Sections.{SectionsStand}
 use Rattle.wasm_functions.proofs.sections.find_names.Given as goal
 
--- these sections were read, and this is the last of them that is one of names
+-- These sections were read, and this is the last custom section `name` among them.
 abbrev pub invariant-customs : goal.invariant-customs
 invariant-customs l = (sections : List SectionParts) × SectionsStand l.initial.reader sections l.reader × LastNames sections l.found
 

@@ -4,7 +4,7 @@ use Rattle.wasm_module.specs.Module.{SectionParts}
 use Rattle.wasm_functions.specs.Sections.{SectionsStand, first_with}
 use Rattle.wasm_functions.proofs.sections.find_section.Given as goal
 
--- these sections were read, and this is the first of them with the number
+-- These sections were read, and this is the first of them with the number.
 abbrev pub invariant-sections : goal.invariant-sections
 invariant-sections l = (sections : List SectionParts) × SectionsStand l.initial.reader sections l.reader × (l.found ≡ first_with l.id sections)
 

@@ -6,7 +6,7 @@ use Rattle.wasm_functions.specs.Items.{ItemsStand}
 use Rattle.wasm_functions.specs.Parameters.{parameter_count, IsKnownType}
 use Rattle.wasm_functions.proofs.types.read_rec_type.Given as goal
 
--- so many types were read, and their numbers of parameters added
+-- This many types were read, and their numbers of parameters appended.
 abbrev pub invariant-loop-ty : goal.invariant-loop-ty
 invariant-loop-ty l = (types : List CompositeType) × ItemsStand EncodesSubType l.initial.reader types l.reader × (length types ≡ l._ty) × All IsKnownType types ×
     (l.counts.items ≡ l.initial.counts.items ++ map parameter_count types)

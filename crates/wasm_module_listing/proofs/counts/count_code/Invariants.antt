@@ -4,7 +4,7 @@ use Rattle.wasm_module_listing.specs.Listing.{BodiesStand, Refusals, are_none, A
 use Rattle.wasm_module_listing.specs.ModuleCensus.{Adds, IsCounted}
 use Rattle.wasm_module_listing.proofs.counts.count_code.Given as goal
 
--- these bodies were read, and their functions counted
+-- These bodies were read, and their functions counted.
 abbrev pub invariant-bodies : goal.invariant-bodies
 invariant-bodies g l = (bodies : List Reader) × BodiesStand l.initial.items.reader bodies l.items.reader ×
     (length bodies + l.items.remaining ≡ l.initial.items.remaining) × (l.items.refused ≡ false) × (l.place ≡ length bodies) × (told : Refusals) ×

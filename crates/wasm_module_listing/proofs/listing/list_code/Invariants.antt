@@ -3,7 +3,7 @@ use Rattle.wasm_disassembly.specs.operators.below.Source.{Reader}
 use Rattle.wasm_module_listing.specs.Listing.{BodiesStand, Refusals, Writes, are_none, AreAsked, IsFunction}
 use Rattle.wasm_module_listing.proofs.listing.list_code.Given as goal
 
--- these bodies were read, and their functions written
+-- These bodies were read, and their functions written.
 abbrev pub invariant-bodies : goal.invariant-bodies
 invariant-bodies g l = (bodies : List Reader) × BodiesStand l.initial.items.reader bodies l.items.reader ×
     (length bodies + l.items.remaining ≡ l.initial.items.remaining) × (l.items.refused ≡ false) × (l.place ≡ length bodies) × (told : Refusals) ×

@@ -6,7 +6,7 @@ use Rattle.wasm_operators_readers.specs.Next.{state_of}
 use Rattle.wasm_operators_readers.specs.Reading.{TakesOperators}
 use Rattle.wasm_operators_readers.proofs.next.visit_rest.Given as goal
 
--- the visitor went along the operators of the visits so far
+-- The visitor ran along the operators that were visited so far.
 abbrev pub invariant-scalar_visits : goal.invariant-scalar_visits
 invariant-scalar_visits g l = (placed : Placed) × VisitedScalar g.V.Visitor.visits l.fn.v l.v placed × TakesOperators (state_of l.fn.reader l.fn.control) (state_of l.reader l.control) placed
 

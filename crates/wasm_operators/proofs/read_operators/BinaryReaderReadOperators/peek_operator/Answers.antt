@@ -2,7 +2,7 @@ use Rattle.std.proofs.Common.{subst}
 use Rattle.wasm_operators.specs.Single.{PeeksOperator}
 use Rattle.wasm_operators.proofs.read_operators.BinaryReaderReadOperators.peek_operator.Goals as goal
 
--- what was read of the copy, where the stack's frame is the innermost, is what a reading answers
+-- What was read of the copy, with the stack's frame as the innermost, is the result of a reading.
 pub returns : goal.returns
 returns g c =
     let copy = c.clone-ahead.result in
