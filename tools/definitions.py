@@ -1,38 +1,51 @@
 #!/usr/bin/env python3
-"""Compares docs/DEFINITIONS.md with the words that public contracts use.
+"""Checks docs/DEFINITIONS.md, or writes it from the comments in specs/.
 
-    tools/definitions.py
+    tools/definitions.py             checks
+    tools/definitions.py --write     writes
 
-A word is a definition of some crate's `specs/` that a clause of a public function, or of a public trait's
-method, names. Each has to stand in the first column of a table of docs/DEFINITIONS.md, and each
-word that stands there has to be defined in the file that its row names. It prints what is wanting, a
-word a line with the file that defines it and a function that uses it, and what is misplaced.
+The page has each definition that a contract of a public function or of a public trait's method names, and each definition
+that the comments of these refer to. A row has the comment above the definition, and the section that this comment or the head
+of the file names.
+
+tools/definitions.tsv has what comments lack: a section, words, or a name that the page has though no public contract uses it.
+Its columns are the file, the names (none: the section of the whole file), the section and the words. The words "as `NAME`" put
+names into the row of NAME. A comment of more than 40 words, too, needs words there. A line that adds nothing is an error: words
+that are no longer than a comment of at most 40 words, or a section or names that the page has without the line.
+
+The check fails if no words describe a definition (wanting), if a line of the table is wrong (misplaced), or if the page differs
+from what --write writes.
 """
 
 import re
 import sys
 from pathlib import Path
 
+from pages.definitions_page import group_of, page
+from pages.rows import LIMIT, count, faults_of, given_of, rows_of, with_referred
+from pages.specs import WORD, file_at, files_of, names_of
+
 TOP = Path(__file__).resolve().parent.parent
-WORD = r"[A-Za-z_][\w'-]*"
+PAGE, TABLE = TOP / "docs" / "DEFINITIONS.md", TOP / "tools" / "definitions.tsv"
 FUNCTION = re.compile(rf"^(?P<indent>\s*)(?P<pub>pub )?(?:const |unsafe )*fn (?P<name>{WORD})")
 
 
-def imports_of(text):
-    """The words of specs/ that a file's `ghost use` lines bring in, each with its file and its own name."""
+def imports_of(text, names):
+    """Returns the definitions that a file imports by `ghost use`: crate, file and name of each, by its name in this file."""
     found = {}
-    for path, names in re.findall(r"ghost use Rattle\.([\w.]+)\.\{([^}]*)\};", text):
-        crate, _, rest = path.partition(".specs.")
-        # (a longer path leads to a type that the code declares)
-        if crate.startswith("wasm_") and rest and "." not in rest:
-            for name in re.split(r",\s*", names.strip().rstrip(",")):
-                own, _, alias = name.partition(" as ")
-                found[alias or own] = (f"{crate}: {rest}", own)
+    for path, words in re.findall(r"ghost use Rattle\.([\w.]+)\.\{([^}]*)\};", text):
+        crate, *rest = path.split(".")
+        place = file_at(names, crate, rest[1:]) if rest[:1] == ["specs"] else None
+        # (other paths lead to types that the code declares)
+        if place and place[0].startswith("wasm_"):
+            for word in re.split(r",\s*", words.strip().rstrip(",")):
+                own, _, alias = word.partition(" as ")
+                found[alias or own] = (*place, own)
     return found
 
 
 def contracts(text):
-    """The public functions and the methods of public traits, each with the text of its clauses."""
+    """Yields the public functions and the methods of public traits, each with the text of its clauses."""
     lines = text.split("\n")
     trait_indent = None
     for at, line in enumerate(lines):
@@ -42,11 +55,11 @@ def contracts(text):
             trait_indent = None
         found = FUNCTION.match(line)
         if found and (found["pub"] or trait_indent is not None):
-            yield found["name"], clauses_behind(lines, at, found["indent"])
+            yield found["name"], clauses_after(lines, at, found["indent"])
 
 
-def clauses_behind(lines, at, indent):
-    """The clauses of a function, which stand between its head and its body or semicolon."""
+def clauses_after(lines, at, indent):
+    """Returns the clauses of a function: the text between its head and its body or semicolon."""
     out = []
     for line in lines[at + 1 :]:
         inner = line.strip()
@@ -62,17 +75,17 @@ def clauses_behind(lines, at, indent):
 
 
 def is_private(path):
-    """Whether a library hands nothing out of the module that a file of it belongs to."""
+    """Returns whether a file of a library belongs to a module that the library does not export."""
     crate, _, rest = str(path.relative_to(TOP)).partition("/src/")
     top = TOP / crate / "src" / "lib.rt"
-    module = rest.split("/")[0].removesuffix(".rt")
+    module = rest.split("/")[0].split(".")[0]
     if module == "lib" or not top.exists():
         return False
     return not re.search(rf"^pub (?:use|mod) {module}\b", top.read_text(encoding="utf-8"), re.M)
 
 
-def used():
-    """The words that public contracts use, each with where it is defined and a function that uses it."""
+def used(names):
+    """Returns the definitions that public contracts use, each with a function that uses it."""
     found = {}
     for path in sorted(TOP.glob("crates/*/src/**/*.rt")):
         inside = path.relative_to(TOP)
@@ -81,72 +94,74 @@ def used():
         text = path.read_text(encoding="utf-8")
         if is_private(path) and "impl" not in text:
             continue
-        words = imports_of(text)
+        words = imports_of(text, names)
         for name, clauses in contracts(text):
             for word in set(re.findall(WORD, clauses)) & words.keys():
-                place, own = words[word]
-                found.setdefault(own, (place, f"{inside}, {name}"))
+                found.setdefault(words[word], f"{inside}, {name}")
     return found
 
 
-class Row:
-    """A line of a table: the words, and the files of specs/ that it names for them."""
-
-    def __init__(self, number, line):
-        cells = line.strip("|").split("|")
-        self.number = number
-        self.words = re.findall(r"`([^`]+)`", cells[0])
-        self.files = re.findall(r"`(\w+)\.antt`", cells[-1])
+def by_file(places):
+    """Returns names by the crate and the file that define them."""
+    found = {}
+    for crate, file, name in places:
+        found.setdefault((crate, file), set()).add(name)
+    return found
 
 
-def listed():
-    """The rows of the tables."""
-    lines = (TOP / "docs" / "DEFINITIONS.md").read_text(encoding="utf-8").split("\n")
-    return [Row(number, line) for number, line in enumerate(lines, 1) if line.startswith("| `")]
+def rows_by_file(files, given, found):
+    """Returns the rows of the page by file, and what these lack, in lines."""
+    rows, faults = {}, []
+    added = [(*it.file, name) for it in given if it.file in files for name in it.names]
+    for place, names in sorted(by_file([*found, *added]).items()):
+        file, path = files[place], "/".join(place)
+        lost = {name for name in names - file.definitions.keys() if (*place, name) in found}
+        faults += [f"{path}.antt does not define {name}, used by {found[(*place, name)]}" for name in sorted(lost)]
+        known = with_referred(file, names & file.definitions.keys())
+        rows[file], undescribed = rows_of(file, known, [it for it in given if it.file == place])
+        for name in undescribed:
+            user = found.get((*place, name), "tools/definitions.tsv")
+            faults.append(f"no comment describes {name} ({path}.antt), used by {user}")
+        long = [row.names[0] for row in rows[file] if count(row.words) > LIMIT]
+        faults += [f"more than {LIMIT} words describe {name} ({path}.antt)" for name in long]
+        if group_of(file) is None:
+            faults.append(f"no group of tools/pages/definitions_page.py has {path}")
+    return rows, faults
 
 
-def known():
-    """The words that files of specs/ define, each with the names of those files, and all words of the code."""
-    defined, words = {}, set()
-    for path in TOP.glob("crates/*/specs/*.antt"):
-        text = path.read_text(encoding="utf-8")
-        found = re.findall(rf"^ *(?:abbrev )?pub (?:record |data )?({WORD})", text, re.M)
-        # (the constructors of a data type stand without pub, several to a line)
-        for line in re.findall(rf"^ +((?:{WORD} )+):", text, re.M):
-            found += line.split()
-        for word in found:
-            defined.setdefault(word, set()).add(path.stem)
-    for path in TOP.glob("crates/*/src/**/*.rt"):
-        words |= set(re.findall(WORD, path.read_text(encoding="utf-8")))
-    return defined, words
+def first_difference(old, new):
+    """Returns the number of the first line in which two texts differ, or None."""
+    if old == new:
+        return None
+    pairs = zip(old.split("\n"), new.split("\n"))
+    return next((number for number, (one, other) in enumerate(pairs, 1) if one != other), old.count("\n") + 1)
 
 
-def misplaced(rows):
-    """The words that are not where their row says, and those that nothing has."""
-    defined, words = known()
-    for row in rows:
-        for word in row.words:
-            place = f"docs/DEFINITIONS.md:{row.number}: {word}"
-            if word not in defined and word not in words:
-                yield f"{place}: nothing has this name"
-            elif row.files and not defined.get(word, set()) & set(row.files):
-                yield f"{place}: defined in {', '.join(sorted(defined.get(word, {'no file'})))}, and not in {', '.join(row.files)}"
+def report(rows, found, wanting, misplaced):
+    """Prints what is wrong, and a line of counts."""
+    lines = [row for of_file in rows.values() for row in of_file]
+    names, given = sum(len(row.names) for row in lines), sum(row.is_given for row in lines)
+    print("".join(f"{line}\n" for line in wanting + misplaced), end="")
+    print(f"definitions: {names} listed in {len(lines)} rows, {given} of them from tools/definitions.tsv; ", end="")
+    print(f"{len(found)} used, {len(wanting)} wanting, {len(misplaced)} misplaced")
 
 
 def main():
-    if sys.argv[1:]:
+    if sys.argv[1:] not in ([], ["--write"]):
         print(__doc__)
         sys.exit(sys.argv[1:] not in (["--help"], ["-h"]))
-    rows = listed()
-    words = {word for row in rows for word in row.words}
-    found = used()
-    wanting = {word: where for word, where in found.items() if word not in words}
-    for word, (place, function) in sorted(wanting.items()):
-        print(f"not in docs/DEFINITIONS.md: {word} ({place}), used by {function}")
-    wrong = list(misplaced(rows))
-    print("\n".join(wrong), end="\n" if wrong else "")
-    print(f"definitions: {len(words)} listed, {len(found)} used, {len(wanting)} wanting, {len(wrong)} misplaced")
-    sys.exit(1 if wanting or wrong or not found else 0)
+    files, given = files_of(TOP), given_of(TABLE.read_text(encoding="utf-8"))
+    found = used(names_of(TOP))
+    rows, wanting = rows_by_file(files, given, found)
+    misplaced = [f"tools/definitions.tsv:{it.number}: {what}" for it, what in faults_of(files, given, by_file(found))]
+    report(rows, found, wanting, misplaced)
+    if wanting or misplaced or not found:
+        sys.exit(1)
+    text = page(rows)
+    if sys.argv[1:]:
+        PAGE.write_text(text, encoding="utf-8")
+    at = first_difference(PAGE.read_text(encoding="utf-8"), text)
+    sys.exit(f"docs/DEFINITIONS.md:{at}: differs from what tools/definitions.py --write writes" if at else 0)
 
 
 if __name__ == "__main__":

@@ -1,0 +1,110 @@
+"""Lays out docs/DEFINITIONS.md: a head, and a table for each group of files of specs/."""
+
+READERS = "wasm_operators_readers/{} "
+EXPRESSIONS = ("Expression", "Flat", "Openings", "Visiting")
+READS = ("Reading", "Next", "Headline", "Guarded", "Iterating")
+# The groups: a title, and the crates or the files in it. A file is in the group that names it, or else names its crate.
+GROUPS = [
+    ("Bytes and types", "wasm_below_bytes wasm_below"),
+    ("Immediates", "wasm_imm_control wasm_imm"),
+    ("Trees", "wasm_grammar"),
+    ("All operators", "wasm_instr_ops wasm_instr_simd wasm_instr wasm_visit_groups"),
+    ("From the opcode to the visit", "wasm_decode_opcodes wasm_decode_groups wasm_decode"),
+    ("The stack of open frames", READERS.format("Stack") + READERS.format("Step")),
+    ("Expressions of operators", "".join(map(READERS.format, EXPRESSIONS))),
+    ("Reads and visits", "".join(map(READERS.format, READS)) + "wasm_operators_readers"),
+    ("Bodies, constant expressions and sections", "wasm_operators/Locals wasm_operators"),
+    ("The listing and the operator counts of a body", "wasm_listing"),
+    ("The text of an operator", "wasm_text"),
+    ("Lines of a disassembly", "wasm_lines"),
+    ("The parts of a module", "wasm_module"),
+    ("The functions of a module", "wasm_functions"),
+    ("The text of a function", "wasm_disassembly"),
+    ("The listing and the operator counts of a module", "wasm_module_listing"),
+    ("Operators as C structs", "wasm_view"),
+    ("The library for C", "wasm_c"),
+]
+HEAD = """# Definitions
+
+The definitions that public contracts name. `tools/run definitions --write` writes this page from the comments above the \
+definitions, and takes what these lack from `tools/definitions.tsv`. `tools/test definitions` checks it. Terms such as *walk* \
+are in [`ARCHITECTURE.md`](ARCHITECTURE.md#terms).
+
+The section is in the WebAssembly Core Specification 3.0. A name in lower case is a proposal. An empty section is the \
+section above it, in the same file.
+
+A definition goes from values to bytes, and from trees to lists. The code goes the other way. The test programs \
+(`crates/wasm_tests_*`) check the definitions: their rows have values from the specification and from wasmparser.
+
+To read a definition:
+
+- A name with a capital letter is a type or a statement. `EncodesSize limit text n` says that the bytes `text` encode the \
+count `n`. A name in lower case is a value or a function: `rest r` is the bytes that the reader `r` has left.
+- `A → B → Type 0` is the type of a statement about an `A` and a `B`. A `record` is true if all its fields are.
+- `×` is "and", `⊎` is "or", `¬` is "not", `≡` is "equals", and `⊥` is never true. `(x : A) × ..` says that there is an `x`, \
+and `(x : A) → ..` speaks of each `x`.
+- `ℕ` are the natural numbers. `∷` and `++` build lists. `λ x. ..` is a function.
+- A name with `Encodes` relates bytes and a value. A name with `Fault` relates a message, the reader at the start of the \
+call, and the offset of the error.
+- `old` and `new` are the states before and after a call. A visitor names its own relation, \
+`visits before op result after`, in the trait `Visitor` of `wasm_visit_groups`.
+
+A call that allocates may fail with `OutOfMemory`. "Unless allocation fails" refers to this.
+"""
+TABLE = "|Name|In words|Section|File|\n|---|---|---|---|\n"
+
+
+def group_of(file):
+    """Returns the place of a file in the groups: the group, and the part of it. Returns None if no group has the file."""
+    for name in (f"{file.crate}/{file.name}", file.crate):
+        for at, (_, parts) in enumerate(GROUPS):
+            if name in parts.split():
+                return at, parts.split().index(name)
+    return None
+
+
+def in_order(files):
+    """Returns files in order of their crates, each after the files of its crate that it uses."""
+    known, out = {(it.crate, it.name): it for it in files}, []
+
+    def add(file):
+        for name in file.used:
+            if (file.crate, name) in known and name != file.name:
+                add(known[file.crate, name])
+        if file not in out:
+            out.append(file)
+
+    # (the errors of a part go after the part: ListFaults after Lists)
+    for file in sorted(files, key=lambda it: (group_of(it), it.name.replace("Faults", "~").replace("Equality", "~"))):
+        add(file)
+    return out
+
+
+def section_cell(row, above):
+    """Returns the cell for a row's section, which is empty if the row above it in the same file has this section."""
+    if above is None or above.file is not row.file:
+        return row.section
+    return "" if above.section == row.section else row.section or "none"
+
+
+def table(rows):
+    """Returns the table of a group."""
+    out, above = [TABLE], None
+    crates = {row.file.crate for row in rows}
+    for row in rows:
+        file = row.file.name if len(crates) == 1 else f"{row.file.crate}/{row.file.name}"
+        cells = [", ".join(f"`{name}`" for name in row.names), row.words, section_cell(row, above), f"`{file}.antt`"]
+        out.append("|" + "|".join(cell.replace("|", "\\|") for cell in cells) + "|\n")
+        above = row
+    return "".join(out)
+
+
+def page(rows):
+    """Returns the page that has these rows, by file."""
+    out = [HEAD]
+    for at, (title, _) in enumerate(GROUPS):
+        files = in_order([file for file in rows if group_of(file)[0] == at])
+        if files:
+            crates = list(dict.fromkeys(f"`crates/{file.crate}/specs`" for file in files))
+            out.append(f"\n## {title} ({', '.join(crates)})\n\n" + table([row for file in files for row in rows[file]]))
+    return "".join(out)

@@ -1,0 +1,121 @@
+"""Reads the definitions of specs/: their names, their comments, and the sections that comments name."""
+
+import re
+from pathlib import Path
+
+WORD = r"[A-Za-z_][\w'-]*"
+DEFINED = re.compile(rf"^ *(?:abbrev )?pub (?:record |data )?({WORD})")
+CONSTRUCTORS = re.compile(rf"^ +(?!pub )((?:{WORD} )+): ")
+# The start of a sentence that names a section of the specification, a proposal or a page.
+REFERENCE = re.compile(
+    r"WebAssembly Core Specification 3\.0[,:] |Proposals? |The legacy exception handling proposal: "
+    r"|docs/ERRORS-AND-FEATURES\.md has |[A-Z][a-z]+ (?:Instructions|Types)\.$"
+)
+# What is left out of such a sentence.
+SHORTER = [
+    (r"WebAssembly Core Specification 3\.0[,:] ", ""),
+    (r"The legacy exception handling proposal: [^;]*", "legacy exception handling"),
+    (r"[Pp]roposals? (legacy exception handling): [^;]*", r"\1"),
+    (r"(?:[;,] )?(?:and )?\b[Pp]roposals? (?=[a-z])", lambda found: "; " if found[0][0] in ";," else ""),
+    (r", control frames\b", ""),
+    (r"\b(?:Instructions|Conventions), (?=[A-Z])", ""),
+    (r" Instructions and (\w+ Instructions)", r" and \1"),
+    (r"(docs/ERRORS-AND-FEATURES\.md) has the table.*", r"`\1`"),
+]
+
+
+class Definition:
+    """A definition, or a constructor of the data type `head`."""
+
+    def __init__(self, name, comment, head=None):
+        self.name, self.head = name, head
+        self.words, self.section = parts_of(comment)
+
+
+class File:
+    """A file of specs/: its section, the files of its crate that it uses, and its definitions by name, in order."""
+
+    def __init__(self, crate, name, text):
+        self.crate, self.name = crate, name
+        lines = text.split("\n")
+        head = []
+        while lines[len(head)].startswith("--"):
+            head.append(lines[len(head)][2:])
+        self.section = parts_of(head)[1]
+        self.used = re.findall(rf"^use Rattle\.{crate}\.specs\.(\w+)\b", text, re.M)
+        self.definitions = {it.name: it for it in definitions_of(lines, len(head))}
+
+
+def sentences_of(comment):
+    """Returns the sentences of a comment. Indented lines are notation, and are left out."""
+    text = " ".join(line.strip() for line in comment if not line.startswith("  ") and not line.startswith(" Written by "))
+    return [it for it in re.split(r"(?<=[.!?])\s+(?=[A-Z`(]|docs/)", text.strip()) if it]
+
+
+def parts_of(comment):
+    """Returns the sentences of a comment that describe, as one text, and the section that the others name."""
+    sentences = sentences_of(comment)
+    names = [it for it in sentences if REFERENCE.match(it)]
+    return " ".join(it for it in sentences if it not in names), section_of(names)
+
+
+def section_of(sentences):
+    """Returns the section that these sentences name, in short."""
+    text = "; ".join(it.rstrip(".") for it in sentences)
+    for pattern, shorter in SHORTER:
+        text = re.sub(pattern, shorter, text)
+    return text
+
+
+def definitions_of(lines, start):
+    """Yields the definitions of a file, each with the comment directly before it."""
+    comment, head, outer = [], None, ""
+    for line in lines[start:]:
+        if line.lstrip().startswith("--"):
+            comment.append(line.lstrip()[2:])
+            continue
+        outer = line if line[:1].strip() else outer
+        defined, several = DEFINED.match(line), CONSTRUCTORS.match(line)
+        # (an indented line with `pub` is a definition in a mutual block, and elsewhere a field)
+        if defined and (line == outer or outer.endswith("mutual")):
+            head = defined[1]
+            yield Definition(head, comment)
+        elif several:
+            yield from (Definition(name, comment, head) for name in several[1].split())
+        # (a comment above a mutual block is the comment of its first definition)
+        if not line.endswith("mutual"):
+            comment = []
+
+
+def files_of(top):
+    """Returns the files of specs/ of a repository, by crate and name."""
+    found = {}
+    for path in sorted(Path(top).glob("crates/*/specs/*.antt")):
+        if path.stem != "Lib":
+            crate = path.parent.parent.name
+            found[crate, path.stem] = File(crate, path.stem, path.read_text(encoding="utf-8"))
+    return found
+
+
+def names_of(top):
+    """Returns what each name in `specs` of a crate leads to, by crate: None for a file, else another crate and a path."""
+    found = {}
+    for path in Path(top).glob("crates/*/specs/Lib.antt"):
+        text = path.read_text(encoding="utf-8")
+        names = dict.fromkeys(re.findall(r"^pub mod (\w+)", text, re.M))
+        for target, alias in re.findall(r"^pub use Rattle\.([\w.]+)(?: as (\w+))?", text, re.M):
+            crate, _, *rest = target.split(".")
+            names[alias or rest[-1]] = (crate, rest)
+        found[path.parent.parent.name] = names
+    return found
+
+
+def file_at(names, crate, path):
+    """Returns the crate and the name of the file that a path in `specs` of a crate leads to, or None."""
+    own = names.get(crate, {})
+    if not path or path[0] not in own:
+        return None
+    if own[path[0]] is None:
+        return (crate, path[0]) if len(path) == 1 else None
+    other, rest = own[path[0]]
+    return file_at(names, other, [*rest, *path[1:]])

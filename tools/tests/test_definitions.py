@@ -1,0 +1,212 @@
+"""The page of definitions: what it takes from comments of specs/, which rows it has, and its layout."""
+
+import unittest
+from pathlib import Path
+
+from pages import definitions_page, rows, specs
+
+TOP = Path(__file__).resolve().parent.parent.parent
+HEAD = "-- Written by tools/lists.py from tools/operators.tsv.\n"
+SPEC = """\
+-- Numbers as bytes.
+-- WebAssembly Core Specification 3.0, Binary Format, Values: Bytes, Integers; proposal wide arithmetic.
+use Rattle.wasm_low.specs.Other.{Length}
+
+-- The bytes encode `n`, a number. The last
+-- byte ends it. Vector Instructions.
+--   uN ::= n:byte
+abbrev pub Encodes : Type 0
+
+-- The same for a signed number. `Lacks` is about a message.
+abbrev pub EncodesSigned : Type 0
+
+abbrev pub Lacks : Type 0
+Lacks = Unit {0}
+
+-- As `Encodes`, for a number of 64 bits.
+abbrev pub EncodesLong : Type 0
+
+abbrev pub Bare : Type 0
+
+-- A kind of number. Proposal threads.
+pub data Kind : Type 0 where
+  short long : Kind
+  other : ℕ → Kind
+
+-- The state.
+pub record State : Type 0 where
+  -- The first field.
+  pub first : ℕ
+
+-- The lengths of both.
+abbrev mutual
+  pub one_length : ℕ
+
+  -- The second length.
+  pub other_length : ℕ
+"""
+
+
+def file(text=SPEC, crate="wasm_low", name="Words"):
+    """Returns a file of specs/ with this text."""
+    return specs.File(crate, name, text)
+
+
+def given(*lines):
+    """Returns lines of tools/definitions.tsv."""
+    return rows.given_of("\n".join(["file\tnames\tsection\twords", *lines]))
+
+
+def named(found):
+    """Returns the names of rows, each with its words."""
+    return [(row.names, row.words) for row in found]
+
+
+class Specs(unittest.TestCase):
+    """What is read of a file of specs/."""
+
+    def test_names(self):
+        found = [(it.name, it.head) for it in file().definitions.values()]
+        alone = "Encodes EncodesSigned Lacks EncodesLong Bare Kind State one_length other_length".split()
+        self.assertEqual([name for name, head in found if head is None], alone)
+        self.assertEqual([name for name, head in found if head == "Kind"], ["short", "long", "other"])
+
+    def test_words(self):
+        found = file().definitions
+        self.assertEqual(found["Encodes"].words, "The bytes encode `n`, a number. The last byte ends it.")
+        self.assertEqual(found["Encodes"].section, "Vector Instructions")
+        self.assertEqual([found[name].words for name in ("Lacks", "Bare", "short")], ["", "", ""])
+        self.assertEqual(found["one_length"].words, "The lengths of both.")
+        self.assertEqual(found["other_length"].words, "The second length.")
+
+    def test_sections(self):
+        self.assertEqual(file().section, "Binary Format, Values: Bytes, Integers; wide arithmetic")
+        self.assertEqual(file().definitions["Kind"].section, "threads")
+        self.assertEqual(file("-- Frames.\n").section, "")
+        refers = f"{HEAD}-- The numbers of errors. docs/ERRORS-AND-FEATURES.md has the table.\n"
+        self.assertEqual(file(refers).section, "`docs/ERRORS-AND-FEATURES.md`")
+
+    def test_shorter_sections(self):
+        control = "Binary Format, Control and Parametric Instructions"
+        for text, short in [
+            ("Binary Format, Instructions, Control Instructions and Parametric Instructions", control),
+            ("Appendix, Validation Algorithm, control frames", "Appendix, Validation Algorithm"),
+            ("Structure, Values; proposal legacy exception handling: try", "Structure, Values; legacy exception handling"),
+        ]:
+            self.assertEqual(specs.section_of([f"WebAssembly Core Specification 3.0: {text}."]), short)
+        self.assertEqual(specs.section_of(["The legacy exception handling proposal: try and delegate."]), "legacy exception handling")
+
+    def test_files_of_the_repository(self):
+        found = specs.files_of(TOP)
+        self.assertEqual(found["wasm_below_bytes", "Number"].section, "Binary Format, Values, Integers")
+        names = specs.names_of(TOP)
+        self.assertEqual(specs.file_at(names, "wasm_operators", ["below", "Source"]), ("wasm_below_bytes", "Source"))
+        self.assertEqual(specs.file_at(names, "wasm_operators", ["Stack"]), ("wasm_operators_readers", "Stack"))
+        self.assertIsNone(specs.file_at(names, "wasm_operators", ["below", "bytes", "error", "Error"]))
+        self.assertIsNone(specs.file_at(names, "std", ["Prelude"]))
+
+
+class Rows(unittest.TestCase):
+    """The rows of a file."""
+
+    def test_shared_comments(self):
+        found, undescribed = rows.rows_of(file(), {"EncodesSigned", "Lacks", "Bare", "long"}, [])
+        signed = "The same for a signed number. `Lacks` is about a message."
+        self.assertEqual(named(found)[0], (["EncodesSigned", "Lacks"], signed))
+        self.assertEqual(named(found)[1], (["Kind", "long"], "A kind of number."))
+        self.assertEqual(undescribed, ["Bare"])
+
+    def test_comments_that_refer(self):
+        self.assertEqual(rows.with_referred(file(), {"EncodesSigned"}), {"EncodesSigned", "Encodes"})
+        self.assertEqual(rows.with_referred(file(), {"EncodesLong"}), {"EncodesLong", "Encodes"})
+        self.assertEqual(rows.with_referred(file(), {"Kind", "Bare"}), {"Kind", "Bare"})
+
+    def test_table(self):
+        words = "wasm_low/Words\tBare, Lacks\t\tGiven words."
+        lines = given(words, "wasm_low/Words\t\tStructure", "wasm_low/Words\tState\tValidation")
+        found, undescribed = rows.rows_of(file(), {"Lacks", "Bare", "State", "Kind"}, lines)
+        self.assertEqual(named(found)[0], (["Lacks", "Bare"], "Given words."))
+        self.assertEqual([row.section for row in found], ["Structure", "Structure; threads", "Validation"])
+        self.assertEqual([row.is_given for row in found], [True, False, False])
+        self.assertEqual(undescribed, [])
+
+    def test_same_row(self):
+        found, _ = rows.rows_of(file(), {"Bare", "State"}, given("wasm_low/Words\tBare\t\tas `State`"))
+        self.assertEqual(named(found), [(["State", "Bare"], "The state.")])
+
+    def test_sections(self):
+        of_file = "Binary Format, Types: Heap Types, Value Types; stack switching (clauses)"
+        self.assertEqual(rows.full_section("", of_file), of_file)
+        self.assertEqual(rows.full_section("Value Types", of_file), "Binary Format, Types, Value Types")
+        self.assertEqual(rows.full_section("stack switching", of_file), of_file)
+        self.assertEqual(rows.full_section("threads", "Structure"), "Structure; threads")
+        self.assertEqual(rows.full_section("threads", ""), "threads")
+
+    def test_faults_of_the_table(self):
+        long = "word " * rows.LIMIT
+        texts = {"Long": long + "more.", "Fits": long[:-1] + "."}
+        found = {("wasm_low", "Words"): file()}
+        for name, text in texts.items():
+            found["wasm_low", name] = file(f"-- Words.\n\n-- {text}\nabbrev pub It : Type 0\n", name=name)
+        lines = given(
+            "wasm_low/None\tBare",
+            "wasm_low/Words\tBare, Lost",
+            "wasm_low/Words\tBare\t\tWords.",
+            "wasm_low/Words\tKind\t\tA kind of a number.",
+            "wasm_low/Words\tKind\t\tA kind.",
+            f"wasm_low/Words\tKind\t{file().section}; threads",
+            "wasm_low/Words\tState",
+            "wasm_low/Words\tKind",
+            "wasm_low/Long\tIt\t\tWords.",
+            "wasm_low/Fits\tIt\t\tWords.",
+            "wasm_low/Words\t\tStructure",
+            "wasm_low/Fits\t\t",
+        )
+        faults = rows.faults_of(found, lines, {("wasm_low", "Words"): {"State"}})
+        words, section = "the comments have these words", "names this section"
+        self.assertEqual([(it.number, what.split("; take")[0]) for it, what in faults], [
+            (2, "there is no such file"),
+            (3, "the file does not define Lost"),
+            (6, words),
+            (7, f"the file {section}"),
+            (8, "public contracts use these names"),
+            (11, words),
+            (13, f"the head of the file {section}"),
+        ])
+
+
+class Page(unittest.TestCase):
+    """The layout of the page."""
+
+    def row(self, of_file, name, section):
+        out = rows.Row(of_file, "One | two.", section, False)
+        out.names.append(name)
+        return out
+
+    def test_table(self):
+        low, other = file(), file(name="Other")
+        rows_of_low = [("One", "Structure"), ("Two", "Structure"), ("Three", "")]
+        lines = [*(self.row(low, *it) for it in rows_of_low), self.row(other, "Four", "")]
+        self.assertEqual(definitions_page.table(lines).split("\n")[2:-1], [
+            "|`One`|One \\| two.|Structure|`Words.antt`|",
+            "|`Two`|One \\| two.||`Words.antt`|",
+            "|`Three`|One \\| two.|none|`Words.antt`|",
+            "|`Four`|One \\| two.||`Other.antt`|",
+        ])
+
+    def test_order(self):
+        low = [("ListFaults", ""), ("Lists", ""), ("Above", "use Rattle.wasm_below.specs.Lists.{List}\n")]
+        files = [file(text, "wasm_below", name) for name, text in low] + [file("", "wasm_below_bytes", "Zero")]
+        self.assertEqual([it.name for it in definitions_page.in_order(files)], ["Zero", "Lists", "Above", "ListFaults"])
+        self.assertIsNone(definitions_page.group_of(file()))
+
+    def test_page(self):
+        low = file("", "wasm_grammar", "Role")
+        text = definitions_page.page({low: [self.row(low, "One", "Structure")]})
+        self.assertTrue(text.startswith("# Definitions\n"))
+        self.assertIn("\n## Trees (`crates/wasm_grammar/specs`)\n\n|Name|", text)
+        self.assertEqual(text.count("\n## "), 1)
+
+
+if __name__ == "__main__":
+    unittest.main()
