@@ -10,8 +10,6 @@ mod declarations;
 mod expression;
 mod fault;
 mod function;
-#[cfg(test)]
-mod tests;
 mod writing;
 
 pub use fault::DisassemblyFault;

@@ -22,6 +22,3 @@ pub use name::{Name, NameAssociation};
 pub use preamble::{Preamble, PreambleKind, read_preamble};
 pub use section::{Section, read_section};
 pub use wasm_below as below;
-
-#[cfg(test)]
-mod tests;

@@ -1,72 +1,78 @@
-//! Constant expressions: how far they go, and where they are refused.
-use std::test::Fail;
-use wasm_listing::operators::{BinaryReader, ConstExpr, Result};
+//! Constant expressions.
 
-#[test]
-fn up_to_the_first_end(rt: HostRuntime) {
-    let tried: &[u8] = &[0x06, 0x40, 0x18, 0x00, 0x0b];
-    let number: &[u8] = &[0x41, 0x2a, 0x0b, 0xff];
-    let ended: &[u8] = &[0x0b, 0x0b];
-    for (bytes, size) in [(tried, 5), (number, 3), (ended, 1)] {
-        let mut reader = BinaryReader::new(bytes, 0);
-        match ConstExpr::read(rt.alloc(), &mut reader) {
-            Ok(constant) => {
-                let read = constant.get_binary_reader();
-                assert_eq!(&rt; read.remaining_buffer(), &bytes[..size]);
-                assert!(&rt; !constant.get_operators_reader(rt.alloc()).eof());
+use crate::row::Given;
+use crate::words::{is_lacking, write_bytes, write_error, write_position};
+use std::alloc::{AllocError, Global};
+use wasm_listing::operators::{BinaryReader, ConstExpr, Result, SectionLimited};
+use wasm_tests_texts::Written;
+
+/// Reads a constant expression, once more if allocation failed and nothing was consumed, and writes its
+/// bytes and the position after it.
+pub fn write_constant(alloc: Global, given: Given<'_>, out: &mut String) -> Written {
+    let mut reader = given.reader();
+    let start = reader.original_position();
+    let mut read = ConstExpr::read(alloc, &mut reader);
+    if is_lacking(&read, start) && reader.original_position() == start {
+        read = ConstExpr::read(alloc, &mut reader);
+    }
+    match read {
+        Ok(constant) => {
+            write_bytes(out, constant.get_binary_reader().remaining_buffer())?;
+            if constant.get_operators_reader(alloc).eof() {
+                out.push_str(" without operators")?;
             }
-            Err(_) => assert!(&rt; false),
         }
-        assert_eq!(&rt; reader.current_position(), size);
+        Err(e) => write_error(out, e)?,
+    }
+    write_position(out, &reader)
+}
+
+/// Writes the range of the only item of a section of constant expressions. If allocation failed in the
+/// item, which starts after the one byte of the count, the section is read once more.
+pub fn write_only_constant(alloc: Global, given: Given<'_>, out: &mut String) -> Written {
+    let item = u64::from(given.offset).saturating_add(1);
+    let mut only = only_constant(alloc, given);
+    if is_lacking(&only, item) {
+        only = only_constant(alloc, given);
+    }
+    match only {
+        Ok(Some((start, end))) => write!(out, "{start}..{end}"),
+        Ok(None) => out.push_str("not one item"),
+        Err(e) => write_error(out, e),
     }
 }
 
-#[test]
-fn refusals(rt: HostRuntime) {
-    let open: &[u8] = &[0x02, 0x40, 0x0b, 0x0b];
-    let cut: &[u8] = &[0x41, 0x2a];
-    for (bytes, want) in [(open, (10, 3)), (cut, (1, 2))] {
-        let mut reader = BinaryReader::new(bytes, 0);
-        let refused = match ConstExpr::read(rt.alloc(), &mut reader) {
-            Ok(_) => None,
-            Err(e) => Some((e.message().number(), e.offset())),
-        };
-        assert_eq!(&rt; refused, Some(want));
-        assert_eq!(&rt; reader.current_position(), 0);
+/// Returns the range of the only item, also after an error. `None` if there is no item or another one.
+fn only_constant(alloc: Global, given: Given<'_>) -> Result<Option<(u64, u64)>> {
+    let mut items = SectionLimited::<ConstExpr>::new(alloc, given.reader())?.into_iter();
+    let item = items.next();
+    if items.next().is_some() {
+        return Ok(None);
+    }
+    match item {
+        Some(Ok(constant)) => {
+            let range = constant.get_binary_reader().range();
+            Ok(Some((range.start, range.end)))
+        }
+        Some(Err(e)) => Err(e),
+        None => Ok(None),
     }
 }
 
-#[test]
-fn equal_wherever_they_stand(rt: HostRuntime) -> std::result::Result<(), Fail> {
+/// Writes which of two equal expressions at different offsets, a clone and another expression are equal,
+/// and whether `Debug` prints one.
+pub fn write_equal_constants(alloc: Global, out: &mut String) -> Written {
     let first = ConstExpr::new(BinaryReader::new(&[0x41, 0x2a, 0x0b], 0));
     let second = ConstExpr::new(BinaryReader::new(&[0x41, 0x2a, 0x0b], 7));
     let other = ConstExpr::new(BinaryReader::new(&[0x41, 0x2b, 0x0b], 0));
-    assert!(&rt; first == second);
-    assert!(&rt; first != other);
-    assert!(&rt; first.clone()? == second);
-    assert!(&rt; !format!(in rt.alloc(); "{first:?}")?.is_empty());
-    Ok(())
-}
-
-/// A `try` inside opens a frame. Where memory is refused, nothing was taken, and the same call again
-/// is not refused.
-#[test]
-fn memory_of_a_frame(rt: HostRuntime) {
-    let tried: &[u8] = &[0x06, 0x40, 0x18, 0x00, 0x0b];
-    let mut reader = BinaryReader::new(tried, 9);
-    let mut refused = refusal(ConstExpr::read(rt.alloc(), &mut reader));
-    if refused == Some((3, 9)) {
-        assert_eq!(&rt; reader.current_position(), 0);
-        refused = refusal(ConstExpr::read(rt.alloc(), &mut reader));
-    }
-    assert_eq!(&rt; refused, None);
-    assert!(&rt; reader.eof());
-}
-
-/// The number and the offset of a refusal.
-fn refusal(answer: Result<ConstExpr<'_>>) -> Option<(u8, u64)> {
-    match answer {
-        Ok(_) => None,
-        Err(e) => Some((e.message().number(), e.offset())),
-    }
+    let copy = first.clone()?;
+    let printed = format!(in alloc; "{first:?}")?;
+    write!(
+        out,
+        "{} {} {} {}",
+        first == second,
+        first == other,
+        copy == second,
+        printed.is_empty()
+    )
 }

@@ -1,89 +1,116 @@
-//! Sections of numbers: each form of the end of the items.
-use std::test::Fail;
-use wasm_listing::operators::{BinaryReader, ConstExpr, Result, SectionLimited};
+//! Sections: numbers, and bodies of functions.
 
-/// An item, the number and the offset of a refusal, or the end.
-#[derive(Clone, Copy, Debug, PartialEq, Eq)]
-enum Step {
-    Item(u32),
-    Refused(u8, u64),
-    End,
-}
+use crate::row::Given;
+use crate::words::{write_bytes, write_error};
+use std::alloc::Global;
+use wasm_listing::operators::{CodeSectionReader, FunctionBody, Operator, Result, SectionLimited};
+use wasm_tests_texts::Written;
 
-fn step_of(next: Option<Result<u32>>) -> Step {
-    match next {
-        Some(Ok(item)) => Step::Item(item),
-        Some(Err(e)) => Step::Refused(e.message().number(), e.offset()),
-        None => Step::End,
+/// Writes the count of a section of numbers, and what its iterator returns four times.
+pub fn write_numbers(alloc: Global, given: Given<'_>, out: &mut String) -> Written {
+    match SectionLimited::<u32>::new(alloc, given.reader()) {
+        Ok(section) => write_items(section, out),
+        Err(e) => write_error(out, e),
     }
 }
 
-#[test]
-fn items_and_what_ends_them(rt: HostRuntime) -> std::result::Result<(), Fail> {
-    let two: &[u8] = &[0x02, 0x01, 0x02];
-    let data_left: &[u8] = &[0x01, 0x01, 0xff];
-    let only_data: &[u8] = &[0x00, 0xff];
-    let cut: &[u8] = &[0x02, 0x05];
-    let rows = [
-        (two, 2, [Step::Item(1), Step::Item(2), Step::End, Step::End]),
-        (
-            data_left,
-            1,
-            [Step::Item(1), Step::Refused(25, 2), Step::End, Step::End],
-        ),
-        (
-            only_data,
-            0,
-            [Step::Refused(25, 1), Step::End, Step::End, Step::End],
-        ),
-        (
-            cut,
-            2,
-            [Step::Item(5), Step::Refused(1, 2), Step::End, Step::End],
-        ),
-    ];
-    for (bytes, count, steps) in rows {
-        let section = SectionLimited::<u32>::new(rt.alloc(), BinaryReader::new(bytes, 0));
-        let Ok(section) = section else {
-            return Err(Fail::from("the count is refused"));
-        };
-        assert_eq!(&rt; section.count(), count);
-        let mut items = section.into_iter();
-        for want in steps {
-            assert_eq!(&rt; step_of(items.next()), want);
-        }
-    }
-    Ok(())
-}
-
-#[test]
-fn a_count_that_is_refused(rt: HostRuntime) {
-    let bytes: &[u8] = &[0x80];
-    let reader = BinaryReader::new(bytes, 7);
-    match SectionLimited::<u32>::new(rt.alloc(), reader) {
-        Ok(_) => assert!(&rt; false),
-        Err(e) => {
-            assert_eq!(&rt; e.message().number(), 1);
-            assert_eq!(&rt; e.offset(), 8);
-        }
-    }
-}
-
-/// A constant expression whose `try` opens a frame. Where memory is refused, it is where the item
-/// begins, and no item follows.
-#[test]
-fn memory_of_an_item(rt: HostRuntime) -> std::result::Result<(), Fail> {
-    let bytes: &[u8] = &[0x01, 0x06, 0x40, 0x18, 0x00, 0x0b];
-    let section = SectionLimited::<ConstExpr>::new(rt.alloc(), BinaryReader::new(bytes, 9));
-    let Ok(section) = section else {
-        return Err(Fail::from("the count is refused"));
-    };
+fn write_items(section: SectionLimited<'_, u32>, out: &mut String) -> Written {
+    let count = section.count();
+    write!(out, "{count}:")?;
     let mut items = section.into_iter();
-    match items.next() {
-        Some(Ok(constant)) => assert_eq!(&rt; constant.get_binary_reader().range(), 10..15),
-        Some(Err(e)) => assert_eq!(&rt; (e.message().number(), e.offset()), (3, 10)),
-        None => return Err(Fail::from("no item")),
+    for _ in 0..4 {
+        out.push_str(" ")?;
+        match items.next() {
+            Some(Ok(item)) => write!(out, "{item}")?,
+            Some(Err(e)) => write_error(out, e)?,
+            None => out.push_str("end")?,
+        }
     }
-    assert!(&rt; items.next().is_none());
     Ok(())
+}
+
+/// Writes the count of a code section, and what its iterator returns three times.
+pub fn write_code(alloc: Global, given: Given<'_>, out: &mut String) -> Written {
+    match CodeSectionReader::new(alloc, given.reader()) {
+        Ok(section) => write_bodies(section, out),
+        Err(e) => write_error(out, e),
+    }
+}
+
+fn write_bodies(section: CodeSectionReader<'_>, out: &mut String) -> Written {
+    let count = section.count();
+    write!(out, "{count}:")?;
+    let mut items = section.into_iter();
+    for _ in 0..3 {
+        out.push_str(" ")?;
+        match items.next() {
+            Some(Ok(body)) => write_bytes(out, body.as_bytes())?,
+            Some(Err(e)) => write_error(out, e)?,
+            None => out.push_str("end")?,
+        }
+    }
+    Ok(())
+}
+
+/// Writes the operators of the first body of a code section with their offsets: those of `read_all`, and
+/// those of the iterator.
+pub fn write_code_operators(alloc: Global, given: Given<'_>, out: &mut String) -> Written {
+    match first_body(alloc, given) {
+        Ok(Some(body)) => {
+            write_all(alloc, &body, out)?;
+            write_each(alloc, &body, out)
+        }
+        Ok(None) => out.push_str("no body"),
+        Err(e) => write_error(out, e),
+    }
+}
+
+fn first_body<'g>(alloc: Global, given: Given<'g>) -> Result<Option<FunctionBody<'g>>> {
+    match CodeSectionReader::new(alloc, given.reader())?
+        .into_iter()
+        .next()
+    {
+        Some(Ok(body)) => Ok(Some(body)),
+        Some(Err(e)) => Err(e),
+        None => Ok(None),
+    }
+}
+
+fn write_all(alloc: Global, body: &FunctionBody<'_>, out: &mut String) -> Written {
+    let mut list = Vec::new(alloc);
+    let end = read_all(alloc, body, &mut list);
+    for (op, offset) in list.as_slice() {
+        write!(out, "{offset} {}, ", op.info().name)?;
+    }
+    match end {
+        Ok(()) => out.push_str("Ok; "),
+        Err(e) => write_error(out, e),
+    }
+}
+
+fn read_all<'g>(
+    alloc: Global,
+    body: &FunctionBody<'g>,
+    list: &mut Vec<(Operator<'g>, u64)>,
+) -> Result<()> {
+    body.get_operators_reader(alloc)?.read_all(list)
+}
+
+fn write_each(alloc: Global, body: &FunctionBody<'_>, out: &mut String) -> Written {
+    let mut items = match body.get_operators_reader(alloc) {
+        Ok(operators) => operators.into_iter_with_offsets(),
+        Err(e) => return write_error(out, e),
+    };
+    for _ in 0..2 {
+        match items.next() {
+            Some(Ok((op, offset))) => write!(out, "{offset} {}, ", op.info().name)?,
+            Some(Err(e)) => write_error(out, e)?,
+            None => out.push_str("end, ")?,
+        }
+    }
+    out.push_str(if items.next().is_none() {
+        "end"
+    } else {
+        "more"
+    })
 }

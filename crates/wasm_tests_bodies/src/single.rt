@@ -1,53 +1,21 @@
-//! Single operators under frames that the caller keeps.
-ghost use Rattle.std.specs.Prelude.{◌≡◌};
+//! Single operators under a frame that the caller keeps.
 
+use crate::row::Given;
+use crate::words::{is_lacking, write_error, write_position};
 use std::alloc::Global;
-use std::process::Abort;
 use wasm_listing::operators::{
-    BinaryReader, BrTable, FrameKind, FrameStack, Operator, ReadOperators, ReadSimdVisits,
-    ReadVisits, Result, SelectTypes, SimdOperator, ValType, VisitGroups, VisitOperator,
-    VisitSimdOperator, Visitor, visit_operator_with_simd,
+    BinaryReader, BrTable, FrameKind, FrameStack, Operator, OperatorsReader, ReadOperators,
+    ReadSimdVisits, ReadVisits, Result, VisitGroups, VisitOperator, VisitSimdOperator, Visitor,
+    visit_operator_with_simd,
 };
+use wasm_tests_texts::{Written, write_operator};
 
-/// What was seen: some operators by name, and a refusal by its number and offset.
-#[derive(Clone, Copy, Debug, PartialEq, Eq)]
-enum Seen {
-    Nop,
-    Else,
-    End,
-    Catch(u32),
-    Swizzle,
-    I32AndI64,
-    /// Catches or clauses: the opcode, and how many there are.
-    Listed(u8, usize),
-    Other,
-    Refused(u8, u64),
-}
+/// The operator that a visit got. `None` is a branch table, which borrows from the bytes.
+type Visited = Option<Operator<'static>>;
 
-/// Whether the types of a select are those two.
-fn is_pair(types: &SelectTypes) -> bool {
-    types.as_slice() == [ValType::I32, ValType::I64].as_slice()
-}
-
-fn told(op: &Operator<'_>) -> Seen {
-    match op {
-        Operator::Nop => Seen::Nop,
-        Operator::Else => Seen::Else,
-        Operator::End => Seen::End,
-        Operator::Catch { tag_index } => Seen::Catch(*tag_index),
-        Operator::Simd(SimdOperator::I8x16Swizzle) => Seen::Swizzle,
-        Operator::TypedSelectMulti { tys } if is_pair(tys) => Seen::I32AndI64,
-        Operator::TryTable { try_table } => Seen::Listed(0x1f, try_table.catches.len()),
-        Operator::Resume { resume_table, .. } => Seen::Listed(0xe3, resume_table.len()),
-        Operator::ResumeThrow { resume_table, .. } => Seen::Listed(0xe4, resume_table.len()),
-        Operator::ResumeThrowRef { resume_table, .. } => Seen::Listed(0xe5, resume_table.len()),
-        _ => Seen::Other,
-    }
-}
-
-/// A visitor that tells what it sees, under a frame that stays, or under none.
+/// A visitor that returns the operator, under a frame that does not change, or under none.
 #[derive(Clone, Copy)]
-struct Under(Option<FrameKind>);
+pub struct Under(pub Option<FrameKind>);
 
 impl FrameStack for Under {
     ghost frame = { λ v. v.0 };
@@ -58,188 +26,193 @@ impl FrameStack for Under {
 }
 
 impl Visitor for Under {
-    type Output = Seen;
+    type Output = Visited;
 
-    ghost visits = { λ before op answer after. after ≡ before };
+    // Whatever the operator.
+    ghost visits = { λ before op answer after. Unit {0} };
 
-    fn visit_any(&mut self, op: Operator<'static>) -> Seen {
-        told(&op)
+    fn visit_any(&mut self, op: Operator<'static>) -> Visited {
+        Some(op)
     }
 }
 
 impl VisitGroups for Under {}
 
 impl<'a> VisitOperator<'a> for Under {
-    fn visit_br_table(&mut self, _targets: BrTable<'a>) -> Seen {
-        Seen::Other
+    fn visit_br_table(&mut self, _targets: BrTable<'a>) -> Visited {
+        None
     }
 }
 
 impl VisitSimdOperator for Under {}
 
-fn answer(visit: Result<Seen>) -> Seen {
-    match visit {
-        Ok(it) => it,
-        Err(e) => Seen::Refused(e.message().number(), e.offset()),
-    }
+/// Which operators a visit takes.
+#[derive(Clone, Copy, Debug)]
+pub enum Visits {
+    /// Those that are no SIMD operators.
+    Scalar,
+    All,
 }
 
-/// What stands at the start under this frame.
-fn peek(alloc: Global, reader: &BinaryReader<'_>, frame: Option<FrameKind>) -> Seen {
-    match reader.peek_operator(alloc, &Under(frame)) {
-        Ok(op) => told(&op),
-        Err(e) => answer(Err(e)),
+/// Peeks at the operator, once more if allocation failed, and writes it with all fields.
+pub fn write_peek(alloc: Global, given: Given<'_>, out: &mut String) -> Written {
+    let reader = given.reader();
+    let stack = Under(given.frame());
+    let mut peeked = reader.peek_operator(alloc, &stack);
+    if is_lacking(&peeked, reader.original_position()) {
+        peeked = reader.peek_operator(alloc, &stack);
     }
+    match peeked {
+        Ok(op) => write_operator(out, &op)?,
+        Err(e) => write_error(out, e)?,
+    }
+    write_position(out, &reader)
 }
 
-#[test]
-fn peeks(rt: HostRuntime) {
-    let turn: &[u8] = &[0x05];
-    let vector: &[u8] = &[0xfd, 0x0e];
-    let none: &[u8] = &[];
-    let rows = [
-        (turn, Some(FrameKind::If), Seen::Else),
-        (turn, Some(FrameKind::Block), Seen::Refused(7, 1)),
-        (none, None, Seen::Refused(8, 0)),
-        (vector, Some(FrameKind::Block), Seen::Swizzle),
-    ];
-    for (bytes, frame, want) in rows {
-        let reader = BinaryReader::new(bytes, 0);
-        assert_eq!(&rt; peek(rt.alloc(), &reader, frame), want);
-        assert_eq!(&rt; reader.current_position(), 0);
-    }
-}
-
-#[test]
-fn visits(rt: HostRuntime) {
-    let mut reader = BinaryReader::new(&[0x0b, 0x01], 0);
-    let mut block = Under(Some(FrameKind::Block));
-    let first = reader.visit_operator(rt.alloc(), &mut block);
-    assert_eq!(&rt; answer(first), Seen::End);
-    let second = reader.visit_operator(rt.alloc(), &mut block);
-    assert_eq!(&rt; answer(second), Seen::Nop);
-    let mut vector = BinaryReader::new(&[0xfd, 0x0e], 0);
-    let scalar = vector.visit_operator(rt.alloc(), &mut block);
-    assert_eq!(&rt; answer(scalar), Seen::Refused(14, 0));
-    let rows = [
-        (Some(FrameKind::LegacyCatch), Seen::Catch(0)),
-        (Some(FrameKind::LegacyCatchAll), Seen::Refused(7, 1)),
-        (None, Seen::Refused(8, 0)),
-    ];
-    for (frame, want) in rows {
-        let mut reader = BinaryReader::new(&[0x07, 0x00], 0);
-        let visited = reader.visit_operator_simd(rt.alloc(), &mut Under(frame));
-        assert_eq!(&rt; answer(visited), want);
-    }
-}
-
-#[test]
-fn finishes(rt: HostRuntime) {
-    let left: &[u8] = &[0x01];
-    let none: &[u8] = &[];
-    let rows = [
-        (left, None, Some((11, 5))),
-        (left, Some(FrameKind::Block), Some((9, 5))),
-        (none, None, None),
-        (none, Some(FrameKind::Block), Some((9, 5))),
-    ];
-    for (bytes, frame, want) in rows {
-        let reader = BinaryReader::new(bytes, 5);
-        let refused = match reader.finish_expression(&Under(frame)) {
-            Ok(()) => None,
-            Err(e) => Some((e.message().number(), e.offset())),
-        };
-        assert_eq!(&rt; refused, want);
-    }
-}
-
-/// Each call, of an operator that owns a list. Where memory is refused, nothing was taken, and the
-/// same call again is not refused.
-fn listed<R: AllocGlobal + Abort>(rt: &R, bytes: &[u8], want: Seen) {
-    let refused = Seen::Refused(3, 9);
-    let block = Some(FrameKind::Block);
-    let reader = BinaryReader::new(bytes, 9);
-    let mut peeked = peek(rt.alloc(), &reader, block);
-    if peeked == refused {
-        peeked = peek(rt.alloc(), &reader, block);
-    }
-    assert_eq!(rt; peeked, want);
-    assert_eq!(rt; reader.current_position(), 0);
-    let mut reader = BinaryReader::new(bytes, 9);
-    let mut visited = answer(reader.visit_operator(rt.alloc(), &mut Under(block)));
-    if visited == refused {
-        assert_eq!(rt; reader.current_position(), 0);
-        visited = answer(reader.visit_operator(rt.alloc(), &mut Under(block)));
-    }
-    assert_eq!(rt; visited, want);
-    assert!(rt; reader.eof());
-    let mut reader = BinaryReader::new(bytes, 9);
-    let mut visited = answer(reader.visit_operator_simd(rt.alloc(), &mut Under(block)));
-    if visited == refused {
-        assert_eq!(rt; reader.current_position(), 0);
-        visited = answer(reader.visit_operator_simd(rt.alloc(), &mut Under(block)));
-    }
-    assert_eq!(rt; visited, want);
-    assert!(rt; reader.eof());
-}
-
-/// The types of a select are a list.
-#[test]
-fn memory_of_a_list(rt: HostRuntime) {
-    listed(&rt, &[0x1c, 0x02, 0x7f, 0x7e], Seen::I32AndI64);
-}
-
-/// The other operators that own a list.
-#[test]
-fn memory_of_other_lists(rt: HostRuntime) {
-    let try_table: &[u8] = &[0x1f, 0x40, 0x01, 0x00, 0x05, 0x00];
-    let resume: &[u8] = &[0xe3, 0x01, 0x02, 0x01, 0x02, 0x00, 0x03, 0x04];
-    let throw: &[u8] = &[0xe4, 0x01, 0x02, 0x02, 0x01, 0x03, 0x00, 0x04, 0x05];
-    let throw_ref: &[u8] = &[0xe5, 0x01, 0x02, 0x01, 0x02, 0x00, 0x03, 0x04];
-    let rows = [
-        (try_table, Seen::Listed(0x1f, 1)),
-        (resume, Seen::Listed(0xe3, 2)),
-        (throw, Seen::Listed(0xe4, 2)),
-        (throw_ref, Seen::Listed(0xe5, 2)),
-    ];
-    for (bytes, want) in rows {
-        listed(&rt, bytes, want);
-    }
-}
-
-/// Clones of an operator and of its table, and the visit of an operator that is lent. Where memory
-/// is refused, it is at offset 0, and the same call again is not refused.
-#[test]
-fn memory_of_clones(rt: HostRuntime) {
-    let bytes: &[u8] = &[0xe3, 0x01, 0x01, 0x00, 0x02, 0x03];
-    let reader = BinaryReader::new(bytes, 9);
-    let mut block = Under(Some(FrameKind::Block));
-    let mut read = reader.peek_operator(rt.alloc(), &block);
-    if let Err(e) = &read {
-        assert_eq!(&rt; (e.message().number(), e.offset()), (3, 9));
-        read = reader.peek_operator(rt.alloc(), &block);
-    }
-    let Ok(op) = read else {
-        assert!(&rt; false);
-        return;
-    };
-    let mut copy = op.clone(rt.alloc());
-    if let Err(e) = &copy {
-        assert_eq!(&rt; (e.message().number(), e.offset()), (3, 0));
-        copy = op.clone(rt.alloc());
-    }
-    assert!(&rt; copy.is_ok_and(|same| same == op));
-    let mut visited = answer(visit_operator_with_simd(rt.alloc(), &mut block, &op));
-    if visited == Seen::Refused(3, 0) {
-        visited = answer(visit_operator_with_simd(rt.alloc(), &mut block, &op));
-    }
-    assert_eq!(&rt; visited, Seen::Listed(0xe3, 1));
-    if let Operator::Resume { resume_table, .. } = &op {
-        let mut copy = resume_table.clone(rt.alloc());
-        if let Err(e) = &copy {
-            assert_eq!(&rt; (e.message().number(), e.offset()), (3, 0));
-            copy = resume_table.clone(rt.alloc());
+/// Visits operators up to the end of the bytes or the first error, and writes each with its fields and
+/// the position after it.
+pub fn write_visits(alloc: Global, given: Given<'_>, visits: Visits, out: &mut String) -> Written {
+    let mut reader = given.reader();
+    let mut under = Under(given.frame());
+    for _ in given.bytes {
+        match visit(alloc, &mut reader, &mut under, visits) {
+            Ok(op) => write_visited(out, op)?,
+            Err(e) => {
+                write_error(out, e)?;
+                return write_position(out, &reader);
+            }
         }
-        assert!(&rt; copy.is_ok_and(|table| table == *resume_table));
+        write_position(out, &reader)?;
+        if reader.eof() {
+            break;
+        }
+        out.push_str(", ")?;
+    }
+    Ok(())
+}
+
+/// Visits an operator. If allocation failed and nothing was consumed, visits it once more.
+fn visit(
+    alloc: Global,
+    reader: &mut BinaryReader<'_>,
+    under: &mut Under,
+    visits: Visits,
+) -> Result<Visited> {
+    let start = reader.original_position();
+    let visited = visit_once(alloc, reader, under, visits);
+    if is_lacking(&visited, start) && reader.original_position() == start {
+        return visit_once(alloc, reader, under, visits);
+    }
+    visited
+}
+
+fn visit_once(
+    alloc: Global,
+    reader: &mut BinaryReader<'_>,
+    under: &mut Under,
+    visits: Visits,
+) -> Result<Visited> {
+    match visits {
+        Visits::Scalar => reader.visit_operator(alloc, under),
+        Visits::All => reader.visit_operator_simd(alloc, under),
+    }
+}
+
+fn write_visited(out: &mut String, visited: Visited) -> Written {
+    match visited {
+        Some(op) => write_operator(out, &op),
+        None => out.push_str("BrTable"),
+    }
+}
+
+/// Clones the operator, visits it borrowed, and clones its resume table: each once more if allocation
+/// failed, which the error reports at offset 0.
+pub fn write_clones(alloc: Global, given: Given<'_>, out: &mut String) -> Written {
+    let reader = given.reader();
+    let mut under = Under(given.frame());
+    let mut read = reader.peek_operator(alloc, &under);
+    if is_lacking(&read, reader.original_position()) {
+        read = reader.peek_operator(alloc, &under);
+    }
+    match read {
+        Ok(op) => {
+            write_clone(alloc, &op, out)?;
+            write_borrowed(alloc, &mut under, &op, out)?;
+            write_table(alloc, &op, out)
+        }
+        Err(e) => write_error(out, e),
+    }
+}
+
+fn write_clone(alloc: Global, op: &Operator<'_>, out: &mut String) -> Written {
+    let mut copy = op.clone(alloc);
+    if is_lacking(&copy, 0) {
+        copy = op.clone(alloc);
+    }
+    match copy {
+        Ok(copy) => write_equal(out, copy == *op),
+        Err(e) => write_error(out, e),
+    }
+}
+
+fn write_borrowed(
+    alloc: Global,
+    under: &mut Under,
+    op: &Operator<'_>,
+    out: &mut String,
+) -> Written {
+    out.push_str(", ")?;
+    let mut visited = visit_operator_with_simd(alloc, under, op);
+    if is_lacking(&visited, 0) {
+        visited = visit_operator_with_simd(alloc, under, op);
+    }
+    match visited {
+        Ok(op) => write_visited(out, op),
+        Err(e) => write_error(out, e),
+    }
+}
+
+fn write_table(alloc: Global, op: &Operator<'_>, out: &mut String) -> Written {
+    out.push_str(", ")?;
+    match op {
+        Operator::Resume { resume_table, .. } => {
+            let mut copy = resume_table.clone(alloc);
+            if is_lacking(&copy, 0) {
+                copy = resume_table.clone(alloc);
+            }
+            match copy {
+                Ok(copy) => write_equal(out, copy == *resume_table),
+                Err(e) => write_error(out, e),
+            }
+        }
+        _ => out.push_str("no resume table"),
+    }
+}
+
+fn write_equal(out: &mut String, is_equal: bool) -> Written {
+    out.push_str(if is_equal { "equal" } else { "not equal" })
+}
+
+/// Reads an operator of an expression, once more if allocation failed and nothing was consumed.
+pub fn write_next(alloc: Global, given: Given<'_>, out: &mut String) -> Written {
+    let mut operators = OperatorsReader::new(alloc, given.reader());
+    let start = operators.original_position();
+    let mut read = operators.read();
+    if is_lacking(&read, start) && operators.original_position() == start {
+        read = operators.read();
+    }
+    match read {
+        Ok(op) => write_operator(out, &op)?,
+        Err(e) => write_error(out, e)?,
+    }
+    let position = operators.original_position();
+    write!(out, " at {position}")
+}
+
+/// Writes whether an expression may end before the bytes.
+pub fn write_finish(given: Given<'_>, out: &mut String) -> Written {
+    match given.reader().finish_expression(&Under(given.frame())) {
+        Ok(()) => out.push_str("Ok"),
+        Err(e) => write_error(out, e),
     }
 }

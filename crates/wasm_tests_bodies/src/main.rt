@@ -1,0 +1,59 @@
+//! Evaluates the rows of a table: each calls one entry point of the crates below and compares the text
+//! of what it found with the text that the row expects.
+#![tactic(auto)]
+
+mod bodies;
+mod constants;
+mod disassembly;
+mod failing;
+mod kinds;
+mod listing;
+mod module;
+mod row;
+mod scenarios;
+mod sections;
+mod single;
+mod table;
+mod words;
+
+use crate::table::Table;
+use std::env::{self, Env};
+use std::io;
+use std::process::ExitCode;
+use wasm_tests_texts::read_input;
+
+fn main(rt: HostRuntime) -> ExitCode {
+    match evaluate_rows(&rt) {
+        Ok(()) => ExitCode::SUCCESS,
+        Err(_) => {
+            let _ = eprintln!(rt; "the rows could not be read");
+            ExitCode::FAILURE
+        }
+    }
+}
+
+/// Evaluates the rows on standard input, prints those that differ, and counts them.
+fn evaluate_rows(rt: &HostRuntime) -> io::Result<()> {
+    let alloc = rt.alloc();
+    let is_short = is_short(rt)?;
+    let input = read_input(alloc, &mut rt.reader())?;
+    let Ok(text) = str::from_utf8(input.as_slice()) else {
+        return Err(io::Error::from(io::ErrorKind::InvalidData));
+    };
+    let mut table = Table::new(alloc, is_short)?;
+    for line in text.lines() {
+        table.line(rt, line)?;
+    }
+    table.print_counts(rt)
+}
+
+/// Returns whether an argument is `short`, which leaves out the rows that take long.
+fn is_short<R: Env + AllocGlobal>(rt: &R) -> io::Result<bool> {
+    let mut is_short = false;
+    for word in env::args(rt)? {
+        if word.as_str() == "short" {
+            is_short = true;
+        }
+    }
+    Ok(is_short)
+}

@@ -1,0 +1,125 @@
+//! The rows, evaluated one after another.
+
+use crate::kinds::write_found;
+use crate::row::{Given, Row, row_of};
+use std::alloc::{AllocError, Global};
+use std::io::{self, Print};
+use wasm_tests_texts::{Written, read_hex};
+
+/// How many bytes a row may have, and the text that it finds. They are allocated once, so that a row
+/// whose kind starts with `memory_` allocates only what its calls do.
+const CAPACITY: usize = 4096;
+
+/// The counts so far.
+#[derive(Drop)]
+pub struct Table {
+    alloc: Global,
+    /// Whether rows that take long are left out.
+    is_short: bool,
+    rows: u64,
+    /// How many rows found another text than the expected one.
+    differ: u64,
+    /// How many rows an allocation failure ended.
+    lacking: u64,
+    /// The bytes of the row.
+    bytes: Vec<u8>,
+    /// What a writer got.
+    written: Vec<u8>,
+    /// What a row found whose kind starts with `memory_`.
+    reserved: String,
+    /// What another row found. It grows, and each growth may fail.
+    grown: String,
+}
+
+impl Table {
+    /// Returns a table with no row yet.
+    pub fn new(alloc: Global, is_short: bool) -> Result<Table, AllocError> {
+        Ok(Table {
+            alloc,
+            is_short,
+            rows: 0,
+            differ: 0,
+            lacking: 0,
+            bytes: Vec::with_capacity(alloc, CAPACITY)?,
+            written: Vec::with_capacity(alloc, CAPACITY)?,
+            reserved: String::with_capacity(alloc, CAPACITY)?,
+            grown: String::new(alloc),
+        })
+    }
+
+    /// Evaluates the row of a line, and prints it if it differs. A line that is empty or starts with `#`
+    /// is no row. One that starts with `long_` is left out of a short run.
+    pub fn line<R: Print>(&mut self, rt: &R, line: &str) -> io::Result<()> {
+        if line.is_empty() || line.starts_with('#') {
+            return Ok(());
+        }
+        if self.is_short && line.starts_with("long_") {
+            return Ok(());
+        }
+        self.rows = self.rows.saturating_add(1);
+        let Some(row) = row_of(line) else {
+            self.differ = self.differ.saturating_add(1);
+            return println!(rt; "not four cells: {line}");
+        };
+        let is_memory = row.kind.starts_with("memory_");
+        let end = self.evaluate(&row, is_memory);
+        if end.is_ok() && self.found(is_memory) == row.expected {
+            return Ok(());
+        }
+        if end.is_err() && !is_memory {
+            self.lacking = self.lacking.saturating_add(1);
+            return Ok(());
+        }
+        self.differ = self.differ.saturating_add(1);
+        println!(rt; "differs: {line}\n  found: {}", self.found(is_memory))
+    }
+
+    /// Returns what the row found.
+    fn found(&self, is_memory: bool) -> &str {
+        if is_memory {
+            self.reserved.as_str()
+        } else {
+            self.grown.as_str()
+        }
+    }
+
+    /// Writes what the row's call does. Fails if an allocation failure ended it.
+    fn evaluate(&mut self, row: &Row<'_>, is_memory: bool) -> Written {
+        let (offset, digits) = row.input.split_once(':').unwrap_or(("0", row.input));
+        read_hex(&mut self.bytes, digits)?;
+        let given = Given {
+            argument: row.argument,
+            offset: offset.parse::<u32>().unwrap_or(0),
+            bytes: self.bytes.as_slice(),
+        };
+        self.written.clear();
+        self.reserved.clear();
+        self.grown = String::new(self.alloc);
+        if is_memory {
+            write_found(
+                self.alloc,
+                row.kind,
+                given,
+                &mut self.written,
+                &mut self.reserved,
+            )
+        } else {
+            write_found(
+                self.alloc,
+                row.kind,
+                given,
+                &mut self.written,
+                &mut self.grown,
+            )
+        }
+    }
+
+    /// Prints how many rows there are, how many differ, and how many ran out of memory if any did.
+    pub fn print_counts<R: Print>(&self, rt: &R) -> io::Result<()> {
+        print!(rt; "{} rows, {} differ", self.rows, self.differ)?;
+        if self.lacking > 0 {
+            print!(rt; ", {} out of memory", self.lacking)?;
+        }
+        println!(rt)
+    }
+}
