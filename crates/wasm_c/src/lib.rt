@@ -37,19 +37,19 @@ mod viewer;
 use crate::body::read_body;
 use crate::features::known_features;
 use crate::lists::{catches_at, handles_at, targets_at, types_at};
-use crate::reader::WasmReader;
-use crate::refusal::WasmRefusal;
+pub use crate::reader::WasmReader;
+pub use crate::refusal::WasmRefusal;
 use std::alloc::Global;
 use wasm_view::laws::names;
-use wasm_view::{WasmHandler, WasmOperator, WasmType, name_at};
+use wasm_view::name_at;
+pub use wasm_view::{WasmHandler, WasmOperator, WasmType};
 
 /// The version of the structs and calls, the same as in `wasm_operators.h`.
 const VERSION: u32 = 3;
 
 /// Returns the version of the structs and calls. A header with another `WASM_OPERATORS_VERSION`
 /// does not belong to this library.
-#[unsafe(no_mangle)]
-pub extern "C" fn wasm_operators_version() -> u32
+pub fn wasm_operators_version() -> u32
     ensures { result ≡ 3 }
 {
     VERSION
@@ -68,8 +68,7 @@ pub extern "C" fn wasm_operators_version() -> u32
 /// Returns 100 if a bit of `features` is not a feature; then 101 if the offset of the end does not
 /// fit in 64 bits. In both cases nothing is read: `count` is 0, and the offset in `refusal` is that
 /// of the first byte.
-#[unsafe(no_mangle)]
-pub extern "C" fn wasm_read_body(
+pub fn wasm_read_body(
     alloc: Global,
     bytes: &[u8],
     offset: u64,
@@ -103,8 +102,7 @@ pub extern "C" fn wasm_read_body(
 
 /// Writes the text of an error to `text`, as much of it as fits, without a NUL byte after it.
 /// Returns the length of the whole text in bytes, or 0 if the numbers are those of no error.
-#[unsafe(no_mangle)]
-pub extern "C" fn wasm_refusal_text(refusal: &WasmRefusal, text: &mut [u8]) -> usize
+pub fn wasm_refusal_text(refusal: &WasmRefusal, text: &mut [u8]) -> usize
     ensures told { (e : Error) → refusal.now ≡ refusal_of e
         → AnswersText (Some (message_text e.message)) text.old result text.new }
     ensures numbers { AnswersText (text_told refusal.now) text.old result text.new }
@@ -114,8 +112,7 @@ pub extern "C" fn wasm_refusal_text(refusal: &WasmRefusal, text: &mut [u8]) -> u
 
 /// Writes the name of the operator to `name`, as much of it as fits, without a NUL byte after it.
 /// Returns the length of the whole name in bytes, or 0 if no operator has this number.
-#[unsafe(no_mangle)]
-pub extern "C" fn wasm_operator_name(operator: &WasmOperator, name: &mut [u8]) -> usize
+pub fn wasm_operator_name(operator: &WasmOperator, name: &mut [u8]) -> usize
     ensures named { (op : Operator) (at : ℕ) → operator.now ≡ view_of (op, at)
         → AnswersText (Some (name_of op)) name.old result name.new }
     ensures numbers { AnswersText (Some (name_at operator.now.opcode operator.now.shape)) name.old result name.new }
@@ -129,8 +126,7 @@ pub extern "C" fn wasm_operator_name(operator: &WasmOperator, name: &mut [u8]) -
 ///
 /// Returns 100 if a bit of `features` is not a feature; then 101 if the offset of the end does not
 /// fit in 64 bits. Then returns 102 if `frames` is empty. In these cases only `refusal` changes.
-#[unsafe(no_mangle)]
-pub extern "C" fn wasm_open(
+pub fn wasm_open(
     bytes: &[u8],
     offset: u64,
     features: u32,
@@ -147,8 +143,7 @@ pub extern "C" fn wasm_open(
 
 /// Opens the expression of a function body: reads the locals, and then does the same as
 /// [`wasm_open`]. An error in the locals is returned.
-#[unsafe(no_mangle)]
-pub extern "C" fn wasm_open_body(
+pub fn wasm_open_body(
     bytes: &[u8],
     offset: u64,
     features: u32,
@@ -169,8 +164,7 @@ pub extern "C" fn wasm_open_body(
 /// On failure, returns the number of the error, and only `refusal` changes. It is 102 if the
 /// operator opens a frame and `frames` is full. It is 103 if `reader` is not a reader of these
 /// bytes and frames: it was not opened, or was overwritten.
-#[unsafe(no_mangle)]
-pub extern "C" fn wasm_next(
+pub fn wasm_next(
     alloc: Global,
     bytes: &[u8],
     frames: &mut [u8],
@@ -194,8 +188,7 @@ pub extern "C" fn wasm_next(
 /// Reads operators into `out`, in the same way as [`wasm_next`]. Returns 0 when the array is full
 /// or all bytes are read, and the number of the error if a read fails. Sets `count` to the number
 /// of operators written, in order; the other elements of `out` are unchanged.
-#[unsafe(no_mangle)]
-pub extern "C" fn wasm_read(
+pub fn wasm_read(
     alloc: Global,
     bytes: &[u8],
     frames: &mut [u8],
@@ -213,8 +206,7 @@ pub extern "C" fn wasm_read(
 
 /// Checks whether an expression ends at the reader's position. Returns 0 if no frame is open and
 /// all bytes are read, else the number of the error.
-#[unsafe(no_mangle)]
-pub extern "C" fn wasm_finish(
+pub fn wasm_finish(
     bytes: &[u8],
     frames: &[u8],
     reader: &WasmReader,
@@ -229,8 +221,7 @@ pub extern "C" fn wasm_finish(
 
 /// Returns how many frames may be open at once in so many bytes. An array of this length never gets
 /// full.
-#[unsafe(no_mangle)]
-pub extern "C" fn wasm_frames_needed(bytes_length: usize) -> usize
+pub fn wasm_frames_needed(bytes_length: usize) -> usize
     ensures is { result ≡ bytes_length / 2 + 1 }
     ensures enough { (opened now : State) (text : List ℕ) → IsFresh opened → Takes opened.reader now.reader text
         → IsWithinDepth opened now → length text ≤ bytes_length → length now.frames ≤ result }
@@ -247,8 +238,7 @@ pub extern "C" fn wasm_frames_needed(bytes_length: usize) -> usize
 /// read as if inside a block, and its error is returned; at the end of the bytes that is 1. It is
 /// 104 if another operator is there, or if `at` is before the first byte or past the end. It is 100
 /// or 101 as in [`wasm_read_body`].
-#[unsafe(no_mangle)]
-pub extern "C" fn wasm_br_table_targets(
+pub fn wasm_br_table_targets(
     alloc: Global,
     bytes: &[u8],
     offset: u64,
@@ -268,8 +258,7 @@ pub extern "C" fn wasm_br_table_targets(
 
 /// Writes the types of the `select` with types at the offset `at`, in the same way as
 /// [`wasm_br_table_targets`].
-#[unsafe(no_mangle)]
-pub extern "C" fn wasm_select_types(
+pub fn wasm_select_types(
     alloc: Global,
     bytes: &[u8],
     offset: u64,
@@ -289,8 +278,7 @@ pub extern "C" fn wasm_select_types(
 
 /// Writes the clauses of the `try_table` at the offset `at`, in the same way as
 /// [`wasm_br_table_targets`].
-#[unsafe(no_mangle)]
-pub extern "C" fn wasm_try_table_catches(
+pub fn wasm_try_table_catches(
     alloc: Global,
     bytes: &[u8],
     offset: u64,
@@ -310,8 +298,7 @@ pub extern "C" fn wasm_try_table_catches(
 
 /// Writes the clauses of the `resume`, `resume_throw` or `resume_throw_ref` at the offset `at`, in
 /// the same way as [`wasm_br_table_targets`].
-#[unsafe(no_mangle)]
-pub extern "C" fn wasm_resume_handlers(
+pub fn wasm_resume_handlers(
     alloc: Global,
     bytes: &[u8],
     offset: u64,

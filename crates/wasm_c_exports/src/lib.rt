@@ -1,0 +1,249 @@
+//! The calls of `wasm_c`, exported to C. Each export calls the function of `wasm_c` of the same name, with the
+//! same arguments.
+//!
+//! Written by tools/exports.py from crates/wasm_c/src/lib.rt.
+#![tactic(auto)]
+
+ghost use Rattle.std.specs.Prelude.{◌≡◌, ◌<◌, ◌≤◌, ◌+◌, ◌^◌, ◌/◌, length, Some, List, ℕ};
+ghost use Rattle.wasm_c.specs.operators.below.Features.{features_of};
+ghost use Rattle.wasm_c.specs.operators.below.Source.{reader_of, Takes};
+ghost use Rattle.wasm_c.specs.operators.below.bytes.error.Error.{Error};
+ghost use Rattle.wasm_c.specs.operators.instr.Row.{name_of};
+ghost use Rattle.wasm_c.specs.operators.instr.declared.operator.Operator.{Operator};
+ghost use Rattle.wasm_c.specs.operators.Expression.{Placed};
+ghost use Rattle.wasm_c.specs.operators.Headline.{IsWithinDepth};
+ghost use Rattle.wasm_c.specs.operators.Reading.{State, IsFresh};
+ghost use Rattle.wasm_c.specs.view.Lists.{targets_of, types_of, catches_of, handles_of};
+ghost use Rattle.wasm_c.specs.view.Names.{name_at};
+ghost use Rattle.wasm_c.specs.view.View.{view_of};
+ghost use Rattle.wasm_c.specs.Members.{AnswersList};
+ghost use Rattle.wasm_c.specs.Reads.{IsWithin, FindsPlain};
+ghost use Rattle.wasm_c.specs.Refused.{misuse, refusal_of};
+ghost use Rattle.wasm_c.specs.Steps.{AnswersNext, ReadsBatch, FinishesPlain, OpensExpression, OpensPlain};
+ghost use Rattle.wasm_c.specs.Texts.{message_text, text_told, AnswersText};
+
+use std::alloc::Global;
+use wasm_c::{WasmHandler, WasmOperator, WasmReader, WasmRefusal, WasmType};
+
+/// `wasm_c::wasm_operators_version` for C.
+#[unsafe(no_mangle)]
+pub extern "C" fn wasm_operators_version() -> u32
+    ensures { result ≡ 3 }
+{
+    wasm_c::wasm_operators_version()
+}
+
+/// `wasm_c::wasm_read_body` for C.
+#[unsafe(no_mangle)]
+pub extern "C" fn wasm_read_body(
+    alloc: Global,
+    bytes: &[u8],
+    offset: u64,
+    features: u32,
+    out: &mut [WasmOperator],
+    count: &mut usize,
+    refusal: &mut WasmRefusal,
+) -> u32
+    ensures answer { result ≡ refusal.new.number }
+    ensures body { features < 64 → IsWithin offset bytes.now
+        → (placed : Placed)
+        × FindsPlain refusal.new (reader_of (features_of features) offset bytes.now) count.new out.old out.new placed }
+    ensures unknown { 64 ≤ features → (refusal.new ≡ misuse 100 offset) × (count.new ≡ 0) × (out.new ≡ out.old) }
+    ensures past { features < 64 → 2 ^ 64 ≤ offset + length bytes.now
+        → (refusal.new ≡ misuse 101 offset) × (count.new ≡ 0) × (out.new ≡ out.old) }
+{
+    wasm_c::wasm_read_body(alloc, bytes, offset, features, out, count, refusal)
+}
+
+/// `wasm_c::wasm_refusal_text` for C.
+#[unsafe(no_mangle)]
+pub extern "C" fn wasm_refusal_text(refusal: &WasmRefusal, text: &mut [u8]) -> usize
+    ensures told { (e : Error) → refusal.now ≡ refusal_of e
+        → AnswersText (Some (message_text e.message)) text.old result text.new }
+    ensures numbers { AnswersText (text_told refusal.now) text.old result text.new }
+{
+    wasm_c::wasm_refusal_text(refusal, text)
+}
+
+/// `wasm_c::wasm_operator_name` for C.
+#[unsafe(no_mangle)]
+pub extern "C" fn wasm_operator_name(operator: &WasmOperator, name: &mut [u8]) -> usize
+    ensures named { (op : Operator) (at : ℕ) → operator.now ≡ view_of (op, at)
+        → AnswersText (Some (name_of op)) name.old result name.new }
+    ensures numbers { AnswersText (Some (name_at operator.now.opcode operator.now.shape)) name.old result name.new }
+{
+    wasm_c::wasm_operator_name(operator, name)
+}
+
+/// `wasm_c::wasm_open` for C.
+#[unsafe(no_mangle)]
+pub extern "C" fn wasm_open(
+    bytes: &[u8],
+    offset: u64,
+    features: u32,
+    frames: &mut [u8],
+    reader: &mut WasmReader,
+    refusal: &mut WasmRefusal,
+) -> u32
+    ensures answer { result ≡ refusal.new.number }
+    ensures opens { OpensExpression refusal.new bytes.now offset features reader.old reader.new frames.old frames.new }
+{
+    wasm_c::wasm_open(bytes, offset, features, frames, reader, refusal)
+}
+
+/// `wasm_c::wasm_open_body` for C.
+#[unsafe(no_mangle)]
+pub extern "C" fn wasm_open_body(
+    bytes: &[u8],
+    offset: u64,
+    features: u32,
+    frames: &mut [u8],
+    reader: &mut WasmReader,
+    refusal: &mut WasmRefusal,
+) -> u32
+    ensures answer { result ≡ refusal.new.number }
+    ensures opens { OpensPlain refusal.new bytes.now offset features reader.old reader.new frames.old frames.new }
+{
+    wasm_c::wasm_open_body(bytes, offset, features, frames, reader, refusal)
+}
+
+/// `wasm_c::wasm_next` for C.
+#[unsafe(no_mangle)]
+pub extern "C" fn wasm_next(
+    alloc: Global,
+    bytes: &[u8],
+    frames: &mut [u8],
+    reader: &mut WasmReader,
+    operator: &mut WasmOperator,
+    refusal: &mut WasmRefusal,
+) -> u32
+    ensures answer { result ≡ refusal.new.number }
+    ensures next { AnswersNext refusal.new bytes.now reader.old reader.new frames.old frames.new operator.old operator.new }
+{
+    wasm_c::wasm_next(alloc, bytes, frames, reader, operator, refusal)
+}
+
+/// `wasm_c::wasm_read` for C.
+#[unsafe(no_mangle)]
+pub extern "C" fn wasm_read(
+    alloc: Global,
+    bytes: &[u8],
+    frames: &mut [u8],
+    reader: &mut WasmReader,
+    out: &mut [WasmOperator],
+    count: &mut usize,
+    refusal: &mut WasmRefusal,
+) -> u32
+    ensures answer { result ≡ refusal.new.number }
+    ensures batch { ReadsBatch refusal.new count.new bytes.now reader.old reader.new frames.old frames.new out.old out.new }
+{
+    wasm_c::wasm_read(alloc, bytes, frames, reader, out, count, refusal)
+}
+
+/// `wasm_c::wasm_finish` for C.
+#[unsafe(no_mangle)]
+pub extern "C" fn wasm_finish(
+    bytes: &[u8],
+    frames: &[u8],
+    reader: &WasmReader,
+    refusal: &mut WasmRefusal,
+) -> u32
+    ensures answer { result ≡ refusal.new.number }
+    ensures finishes { FinishesPlain refusal.new bytes.now reader.now frames.now }
+{
+    wasm_c::wasm_finish(bytes, frames, reader, refusal)
+}
+
+/// `wasm_c::wasm_frames_needed` for C.
+#[unsafe(no_mangle)]
+pub extern "C" fn wasm_frames_needed(bytes_length: usize) -> usize
+    ensures is { result ≡ bytes_length / 2 + 1 }
+    ensures enough { (opened now : State) (text : List ℕ) → IsFresh opened → Takes opened.reader now.reader text
+        → IsWithinDepth opened now → length text ≤ bytes_length → length now.frames ≤ result }
+{
+    wasm_c::wasm_frames_needed(bytes_length)
+}
+
+/// `wasm_c::wasm_br_table_targets` for C.
+#[unsafe(no_mangle)]
+pub extern "C" fn wasm_br_table_targets(
+    alloc: Global,
+    bytes: &[u8],
+    offset: u64,
+    features: u32,
+    at: u64,
+    index: usize,
+    out: &mut [u32],
+    count: &mut usize,
+    refusal: &mut WasmRefusal,
+) -> u32
+    ensures answer { result ≡ refusal.new.number }
+    ensures list { AnswersList targets_of refusal.new bytes.now offset features at index count.old count.new out.old out.new }
+{
+    wasm_c::wasm_br_table_targets(
+        alloc, bytes, offset, features, at, index, out, count, refusal,
+    )
+}
+
+/// `wasm_c::wasm_select_types` for C.
+#[unsafe(no_mangle)]
+pub extern "C" fn wasm_select_types(
+    alloc: Global,
+    bytes: &[u8],
+    offset: u64,
+    features: u32,
+    at: u64,
+    index: usize,
+    out: &mut [WasmType],
+    count: &mut usize,
+    refusal: &mut WasmRefusal,
+) -> u32
+    ensures answer { result ≡ refusal.new.number }
+    ensures list { AnswersList types_of refusal.new bytes.now offset features at index count.old count.new out.old out.new }
+{
+    wasm_c::wasm_select_types(
+        alloc, bytes, offset, features, at, index, out, count, refusal,
+    )
+}
+
+/// `wasm_c::wasm_try_table_catches` for C.
+#[unsafe(no_mangle)]
+pub extern "C" fn wasm_try_table_catches(
+    alloc: Global,
+    bytes: &[u8],
+    offset: u64,
+    features: u32,
+    at: u64,
+    index: usize,
+    out: &mut [WasmHandler],
+    count: &mut usize,
+    refusal: &mut WasmRefusal,
+) -> u32
+    ensures answer { result ≡ refusal.new.number }
+    ensures list { AnswersList catches_of refusal.new bytes.now offset features at index count.old count.new out.old out.new }
+{
+    wasm_c::wasm_try_table_catches(
+        alloc, bytes, offset, features, at, index, out, count, refusal,
+    )
+}
+
+/// `wasm_c::wasm_resume_handlers` for C.
+#[unsafe(no_mangle)]
+pub extern "C" fn wasm_resume_handlers(
+    alloc: Global,
+    bytes: &[u8],
+    offset: u64,
+    features: u32,
+    at: u64,
+    index: usize,
+    out: &mut [WasmHandler],
+    count: &mut usize,
+    refusal: &mut WasmRefusal,
+) -> u32
+    ensures answer { result ≡ refusal.new.number }
+    ensures list { AnswersList handles_of refusal.new bytes.now offset features at index count.old count.new out.old out.new }
+{
+    wasm_c::wasm_resume_handlers(
+        alloc, bytes, offset, features, at, index, out, count, refusal,
+    )
+}

@@ -1,0 +1,30 @@
+//! Replays answers of wasmparser by the calls that C programs make, and prints how many of each call's
+//! cases differ.
+#![tactic(auto)]
+
+mod answers;
+mod lists;
+mod reading;
+mod replay;
+mod row;
+mod tally;
+
+use crate::replay::Replay;
+use std::io;
+use wasm_c::wasm_operators_version;
+use wasm_tests_texts::read_input;
+
+fn main(rt: HostRuntime) -> io::Result<()> {
+    let alloc = rt.alloc();
+    let input = read_input(alloc, &mut rt.reader())?;
+    let Ok(text) = str::from_utf8(input.as_slice()) else {
+        return println!(rt; "the input is no text");
+    };
+    let version = wasm_operators_version();
+    println!(rt; "wasm_operators_version: {version}")?;
+    let mut replay = Replay::new(alloc);
+    for line in text.lines() {
+        replay.line(&rt, line)?;
+    }
+    replay.print(&rt)
+}

@@ -1,0 +1,78 @@
+#!/usr/bin/env python3
+"""Writes the static library for C, crates/wasm_c_exports/src/lib.rt, from the calls of wasm_c.
+
+    tools/exports.py            writes the file
+    tools/exports.py --check    fails if the file is not what crates/wasm_c/src/lib.rt gives
+
+No crate can depend on a static library, and a library exports no function to C. So the calls are public functions
+of the library wasm_c, which Rattle programs can call and test, and this file has an export for each. An export states
+the clauses of its function again, and its body is one call of that function with the same arguments.
+"""
+
+import re
+import sys
+from pathlib import Path
+
+TOP = Path(__file__).resolve().parent.parent
+sys.path.insert(0, str(TOP / "tools" / "generate"))
+
+import paths
+from layout import laid_out
+
+LIBRARY = TOP / "crates/wasm_c/src/lib.rt"
+EXPORTS = "crates/wasm_c_exports/src/lib.rt"
+HEAD = """\
+//! The calls of `wasm_c`, exported to C. Each export calls the function of `wasm_c` of the same name, with the
+//! same arguments.
+//!
+//! Written by tools/exports.py from crates/wasm_c/src/lib.rt.
+#![tactic(auto)]
+"""
+# The head of a function at the top of the library: its name, its parameters, its result and its clauses.
+CALL = re.compile(r"^pub fn (\w+)\(([^)]*)\) -> (\w+)\n((?:    .*\n)+)\{$", re.M)
+PARAMETER = re.compile(r"(\w+): ")
+TYPE = re.compile(r"\bWasm\w+")
+
+
+def export_of(name, parameters, result, clauses):
+    """Returns the export of a function of the library."""
+    names = ", ".join(PARAMETER.findall(parameters))
+    return f"""
+/// `wasm_c::{name}` for C.
+#[unsafe(no_mangle)]
+pub extern "C" fn {name}({parameters}) -> {result}
+{clauses}{{
+    wasm_c::{name}({names})
+}}
+"""
+
+
+def exports_of(library):
+    """Returns the text of the static library for the text of the library, before `rt fmt` lays it out."""
+    found = list(CALL.finditer(library))
+    ghosts = "".join(re.findall(r"^ghost use .*\n", library, re.M))
+    types = ", ".join(sorted({name for call in found for name in TYPE.findall(call[2])}))
+    uses = f"use std::alloc::Global;\nuse wasm_c::{{{types}}};\n"
+    calls = "".join(export_of(*call.groups()) for call in found)
+    return paths.rewritten(paths.crates(), "wasm_c_exports", f"{HEAD}\n{ghosts}\n{uses}{calls}")
+
+
+def main():
+    check = sys.argv[1:] == ["--check"]
+    if sys.argv[1:] and not check:
+        print(__doc__)
+        sys.exit(sys.argv[1:] not in (["--help"], ["-h"]))
+    wanted = laid_out({EXPORTS: exports_of(LIBRARY.read_text(encoding="utf-8"))})[EXPORTS]
+    path = TOP / EXPORTS
+    if path.exists() and path.read_text(encoding="utf-8") == wanted:
+        return
+    if check:
+        sys.exit(f"{EXPORTS}: not what crates/wasm_c/src/lib.rt gives: run tools/exports.py")
+    path.parent.mkdir(parents=True, exist_ok=True)
+    path.write_text(wanted, encoding="utf-8")
+    print(EXPORTS)
+
+
+if __name__ == "__main__":
+    sys.dont_write_bytecode = True
+    main()
