@@ -1,10 +1,10 @@
 #!/usr/bin/env python3
 """Checks that a change of names and comments left every definition and every clause as it was.
 
-    tools/same_statements.py BASE [RENAMES]
+    tools/same_statements.py BASE [RENAMES ..]
 
 BASE is a commit. RENAMES is a file of two columns with a tab between them: an identifier before and after. It may be
-left out. In the sources of BASE the identifiers are renamed, in texts and in the names of files. Comments and the
+left out. A third column is the start of the paths in which the name holds instead. In the sources of BASE the identifiers are renamed, in texts and in the names of files. Comments and the
 layout are dropped on both sides. Then these have to be equal:
 
 - each file of a crate's specs/;
@@ -33,6 +33,12 @@ HEAD = re.compile(r"^\s*(?:pub )?(?:unsafe )?(?:fn|trait|impl|struct|enum)\b[^\n
 def renamed(text, names):
     """Returns a text with identifiers renamed."""
     return WORD.sub(lambda found: names.get(found[0], found[0]), text)
+
+
+def names_at(path, lines):
+    """Returns the names that hold in a file: those of all files, and in their place those of the start of its path."""
+    names = {line[0]: line[1] for line in lines if len(line) == 2}
+    return names | {line[0]: line[1] for line in lines if len(line) == 3 and path.startswith(line[2])}
 
 
 def bare(text, suffix):
@@ -89,11 +95,12 @@ def git(*words):
     return subprocess.run(["git", "-C", TOP, *words], capture_output=True, text=True, check=True).stdout
 
 
-def before(base, names):
+def before(base, lines):
     """Returns the statements of the files of a commit by path, with identifiers renamed."""
     found = {}
     for path in git("ls-tree", "-r", "--name-only", base, "crates").splitlines():
         if path.endswith((".rt", ".antt")):
+            names = names_at(path, lines)
             pieces = statements(renamed(path, names), renamed(git("show", f"{base}:{path}"), names))
             if pieces is not None:
                 found[renamed(path, names)] = pieces
@@ -121,12 +128,11 @@ def differences(old, new):
 
 def main():
     words = sys.argv[1:]
-    if len(words) not in (1, 2) or words[0].startswith("-"):
+    if not words or words[0].startswith("-"):
         print(__doc__)
         sys.exit(words not in (["--help"], ["-h"]))
-    lines = Path(words[1]).read_text(encoding="utf-8").splitlines() if words[1:] else []
-    names = dict(line.split("\t") for line in lines if line)
-    old, new = before(words[0], names), now()
+    lines = [line.split("\t") for file in words[1:] for line in Path(file).read_text(encoding="utf-8").splitlines() if line]
+    old, new = before(words[0], lines), now()
     found = list(differences(old, new))
     for line in found:
         print(line)

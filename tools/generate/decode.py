@@ -54,7 +54,7 @@ def function(part):
     form = part.form
     out = [
         f"{'pub ' if is_without_immediates(part) else ''}fn {part.function}<V: {part.group.trait}>(v: &mut V, reader: &mut BinaryReader<'_>, start: usize{params}) -> Result<V::Output>",
-        f"    requires behind {{ StandsBehind start {part.place} {code} reader.old }}",
+        f"    requires after {{ IsAfterCode start {part.place} {code} reader.old }}",
     ]
     if not part.is_one:
         out.append(f"    requires kinds {{ entry_at {part.place} code ≡ free ({part.kinds('code')}) }}")
@@ -119,7 +119,7 @@ def group_call(ops, group, those):
     whole = [
         *group_head(group, those, group.module, " Common operators are inlined."),
         f"    match {COMMON_CALL}(v, reader, start, code) {{",
-        "        Some(answer) => answer,",
+        "        Some(outcome) => outcome,",
         f"        None => {OTHERS_CALL}(v, alloc, reader, start, frame, code),",
         "    }",
         "}",
@@ -138,8 +138,8 @@ def common_call(ops, group, those):
         "/// Returns `None` for other opcodes. Then nothing changes.",
         "#[inline(always)]",
         f"pub fn {COMMON_CALL}<V: {group.trait}>(v: &mut V, reader: &mut BinaryReader<'_>, start: usize, code: u8) -> Option<Result<V::Output>>",
-        f"    requires {{ StandsBehind start {those[0].place} code reader.old }}",
-        f"    ensures common {{ IfSome result (λ answer. {decodes().replace('result', 'answer')}) }}",
+        f"    requires {{ IsAfterCode start {those[0].place} code reader.old }}",
+        f"    ensures common {{ IfSome result (λ outcome. {decodes().replace('result', 'outcome')}) }}",
         "    ensures reader { IfNone result (reader.new ≡ reader.old) }",
         "    ensures visitor { IfNone result (v.new ≡ v.old) }",
         "{",
@@ -162,7 +162,7 @@ def group_head(group, those, name, more=""):
         doc,
         "#[inline(always)]",
         f"pub fn {name}<V: {group.trait}>({given}) -> Result<V::Output>",
-        f"    requires behind {{ StandsBehind start {those[0].place} code reader.old }}",
+        f"    requires after {{ IsAfterCode start {those[0].place} code reader.old }}",
     ]
     if is_own:
         out.append("    requires apart { IsOneByteCode code }")
@@ -291,7 +291,7 @@ def decode_head(group, text):
         f"ghost use Rattle.std.specs.Prelude.{{{', '.join(prelude)}}};",
         "ghost use Rattle.wasm_grammar.specs.declared.frame_kind.FrameKind.{FrameKind};",
         f"ghost use Rattle.wasm_instr.specs.Immediate.{{{', '.join(words)}}};",
-        "ghost use Rattle.wasm_decode_opcodes.specs.Decoding.{DecodesAt, StandsBehind, VisitsRow};",
+        "ghost use Rattle.wasm_decode_opcodes.specs.Decoding.{DecodesAt, IsAfterCode, VisitsRow};",
         f"ghost use Rattle.wasm_decode_opcodes.specs.Entries.{{{', '.join(entries)}}};",
         "ghost use Rattle.wasm_decode_opcodes.specs.Entry.{free};",
         *(["ghost use Rattle.wasm_decode_groups.specs.OneByte.{IsOneByteCode};"] if is_own else []),

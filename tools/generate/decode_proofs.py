@@ -72,7 +72,7 @@ def answers(part):
             "pub returns : goal.returns",
             "returns g c k =",
             reader,
-            f"    visited_without_immediates {fault} {part.place} {it.code} c.args.start r {it.visited} {it.entry} c.requires.behind {it.row}",
+            f"    visited_without_immediates {fault} {part.place} {it.code} c.args.start r {it.visited} {it.entry} c.requires.after {it.row}",
         ]
     behind = f"c.{part.form.name}.new.reader"
     return [
@@ -81,13 +81,13 @@ def answers(part):
         reader,
         *it.before,
         *it.read,
-        f"    visited_free {fault} {part.place} {it.code} ({it.kinds}) ({it.term}) c.args.start r {behind} {it.visited} {it.entry} c.requires.behind {it.row} c.in-Ok.ensures",
+        f"    visited_free {fault} {part.place} {it.code} ({it.kinds}) ({it.term}) c.args.start r {behind} {it.visited} {it.entry} c.requires.after {it.row} c.in-Ok.ensures",
         "",
         "pub returns-in-Err : goal.returns-in-Err",
         "returns-in-Err g c k =",
         reader,
         *it.before,
-        f"    refuses_free g.V.Visitor.visits k {part.place} {it.code} ({it.kinds}) c.args.start c.in-Err.e r {behind} c.args.v.now {it.is_code} {it.entry} c.requires.behind c.in-Err.ensures",
+        f"    refuses_free g.V.Visitor.visits k {part.place} {it.code} ({it.kinds}) c.args.start c.in-Err.e r {behind} c.args.v.now {it.is_code} {it.entry} c.requires.after c.in-Err.ensures",
     ]
 
 

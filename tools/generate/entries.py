@@ -69,15 +69,15 @@ def entry_lists(ops):
         body += entries(name, [op for op in ops if op.prefix == prefix])
     body += [
         "-- The entries of the subopcodes after a prefix byte.",
-        "abbrev pub entries_behind : ℕ → List Entry",
-        "entries_behind prefix =",
+        "abbrev pub entries_after : ℕ → List Entry",
+        "entries_after prefix =",
         *[f"    if prefix == 0x{prefix} then {name} else (" for prefix, name in names().items()],
         "    []" + ")" * len(names()),
         "",
         "-- The entry of an opcode, or of a subopcode after a prefix byte: the kinds of the immediates, if an operator has it.",
         "abbrev pub entry_at : Option ℕ → ℕ → Entry",
         "entry_at None code = slice_index_or opcode_entries code unknown",
-        "entry_at (Some prefix) code = slice_index_or (entries_behind prefix) code unknown",
+        "entry_at (Some prefix) code = slice_index_or (entries_after prefix) code unknown",
         "",
         "-- The exponent of the natural alignment of the operator with this code, if it has a memory argument.",
         "abbrev pub align_at : Option ℕ → ℕ → ℕ",
@@ -104,21 +104,21 @@ def entries_told(ops):
         those = [op for op in ops if op.group == enum.group]
         prefix = f"(Some 0x{those[0].prefix})" if those[0].prefix else "None"
         low = enum.module
-        body.append(f"{low}_told : (op : {enum.type}) → entry_at {prefix} ({enum.opcode} op) ≡ free (map kind_of ({low}_immediates op))")
-        body += [*by_cases(f"{low}_told", those[0], low, "refl"), ""]
+        body.append(f"{low}_agrees : (op : {enum.type}) → entry_at {prefix} ({enum.opcode} op) ≡ free (map kind_of ({low}_immediates op))")
+        body += [*by_cases(f"{low}_agrees", those[0], low, "refl"), ""]
     own = [op for op in ops if op.group == "Own"]
     body += ["-- the entry of an operator's opcode has the kinds of the operator's immediates"]
-    body.append("pub told : (op : Operator) → entry_at (prefix_of op) (opcode_of op) ≡ entry_of op")
-    body += [f"told (operator.{enum.group} op) = {enum.module}_told op" for enum in held()]
-    body += ["told op = refl", ""]
+    body.append("pub entry_agrees : (op : Operator) → entry_at (prefix_of op) (opcode_of op) ≡ entry_of op")
+    body += [f"entry_agrees (operator.{enum.group} op) = {enum.module}_agrees op" for enum in held()]
+    body += ["entry_agrees op = refl", ""]
     body += ["-- the entry of a prefix byte is `prefixes`"]
-    body.append("pub prefix_told : (op : Operator) (p : ℕ) → prefix_of op ≡ Some p → entry_at None p ≡ prefixes")
+    body.append("pub prefix_agrees : (op : Operator) (p : ℕ) → prefix_of op ≡ Some p → entry_at None p ≡ prefixes")
     for enum in held():
         if enum.group != "Numeric":
             byte = next(prefix for prefix, group in PREFIXES.items() if group == enum.group)
-            body.append(f"prefix_told (operator.{enum.group} op) p e = let h : 0x{byte} ≡ p = cc e in ap (entry_at None) (sym h)")
-    body.append(f"prefix_told {pattern(own[0], 'operator')} p e = absurd (cc e)")
-    body.append("prefix_told op p e = absurd (cc e)")
+            body.append(f"prefix_agrees (operator.{enum.group} op) p e = let h : 0x{byte} ≡ p = cc e in ap (entry_at None) (sym h)")
+    body.append(f"prefix_agrees {pattern(own[0], 'operator')} p e = absurd (cc e)")
+    body.append("prefix_agrees op p e = absurd (cc e)")
     text = "\n".join(body)
     uses = [
         f"-- {HEAD}",
@@ -142,5 +142,5 @@ def entry_files(ops):
     """Returns the generated files of the entries, by path."""
     return {
         "crates/wasm_decode_opcodes/specs/Entries.antt": entry_lists(ops),
-        "crates/wasm_decode_opcodes/proofs/Told.antt": entries_told(ops),
+        "crates/wasm_decode_opcodes/proofs/EntriesAgree.antt": entries_told(ops),
     }

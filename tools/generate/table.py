@@ -207,7 +207,7 @@ def made_of(op, alias):
     rest = "is"
     for immediate in op.immediates:
         values += [f"({value} {rest})" for value in KINDS[immediate.split()[0]].values]
-        rest = f"(behind {rest})"
+        rest = f"(tail_of {rest})"
     return " ".join([f"{alias}.{op.name}"] + values)
 
 
@@ -232,7 +232,7 @@ ROW_WORDS = [
     "heap_type", "cast", "block_type", "branch_table", "select_types", "try_clauses",
     "resume_clauses",
 ]
-VALUE_WORDS = ["behind", *dict.fromkeys(it for kind in KINDS.values() for it in kind.values)]
+VALUE_WORDS = ["tail_of", *dict.fromkeys(it for kind in KINDS.values() for it in kind.values)]
 VALUE_WORDS.insert(VALUE_WORDS.index("one_type_in"), "select_in")
 
 

@@ -2,7 +2,7 @@
 
 READERS = "wasm_operators_readers/{} "
 EXPRESSIONS = ("Expression", "Flat", "Openings", "Visiting")
-READS = ("Reading", "Next", "Headline", "Guarded", "Iterating")
+READS = ("Reading", "Next", "MainTheorem", "Guarded", "Iterating")
 # The groups: a title, and the crates or the files in it. A file is in the group that names it, or else names its crate.
 GROUPS = [
     ("Bytes and types", "wasm_below_bytes wasm_below"),

@@ -60,6 +60,11 @@ class Same(unittest.TestCase):
         names = {"StoodBefore": "ReadSoFar", "behind": "after"}
         self.assertEqual(same_statements.renamed("StoodBefore behind_it (behind StoodBefores)", names), "ReadSoFar behind_it (after StoodBefores)")
 
+    def test_names_of_some_files(self):
+        lines = [["told", "reported"], ["told", "agrees", "crates/low/"]]
+        self.assertEqual(same_statements.names_at("crates/high/src/lib.rt", lines), {"told": "reported"})
+        self.assertEqual(same_statements.names_at("crates/low/src/lib.rt", lines), {"told": "agrees"})
+
     def test_differences(self):
         found = list(same_statements.differences({"a": ["x", "y"], "b": ["z"]}, {"a": ["x", "w"], "b": ["z"], "c": ["v"]}))
         self.assertEqual(found, ["a: before: y\n    now: w", "c: before: nothing\n    now: v"])

@@ -12,8 +12,8 @@ use Rattle.wasm_operators.specs.instr.declared.operator.Operator.{Operator}
 use Rattle.wasm_operators.specs.instr.declared.operator.Operator.TheVariants as operator
 use Rattle.wasm_operators.specs.instr.Roles.{role_of, roles_of}
 use Rattle.wasm_operators.specs.Expression.{Placed, AreWalk, IsAny, IsLongestBeginning}
-use Rattle.wasm_operators.specs.Headline.{BeginningAt}
-use Rattle.uses.specs.Frames.{open_behind}
+use Rattle.wasm_operators.specs.MainTheorem.{BeginningAt}
+use Rattle.uses.specs.Frames.{open_after}
 use Rattle.uses.proofs.Frames.{open_along}
 
 -- The list that was read, for any error but `OutOfMemory`.
@@ -30,7 +30,7 @@ roles_ended (op ∷ ops) n = ap (λ roles. role_of op ∷ roles) (roles_ended op
 -- As many `end`s as there are open frames complete the list.
 pub ends_complete : (ops : List Operator) (frames : List FrameKind) →
     ((roles : List (Role Operator)) (next : List FrameKind) → frames_along (frame.Block ∷ []) roles ≡ Some next → IsWalk (roles ++ replicate (length next) ends)) →
-    frames_along (frame.Block ∷ []) (roles_of ops) ≡ Some frames → AreWalk (ops ++ replicate (open_behind 1 ops) operator.End)
+    frames_along (frame.Block ∷ []) (roles_of ops) ≡ Some frames → AreWalk (ops ++ replicate (open_after 1 ops) operator.End)
 ends_complete ops frames law along =
     let count = open_along ops (frame.Block ∷ []) frames along in
     rw (count, roles_ended ops (length frames)) (law (roles_of ops) frames along)

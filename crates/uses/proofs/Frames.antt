@@ -47,15 +47,15 @@ after_in kind [] role next is =
     let h : one (Some next) (opened role) (closed role) = subst (λ o. one o (opened role) (closed role)) is (replaced kind role) in
     h
 after_in kind (inner ∷ inside) role next is =
-    map_some (frames_after_in inner inside role) is (λ behind there same.
-    let rest = after_in inner inside role behind there in
-    let all : length next ≡ length behind + 1 = ap length (sym same) ∙ omega arith in
+    map_some (frames_after_in inner inside role) is (λ after there same.
+    let rest = after_in inner inside role after there in
+    let all : length next ≡ length after + 1 = ap length (sym same) ∙ omega arith in
     omega (arith, rest, all))
   where
     map_some : {P : Type 0} (o : Option (List FrameKind)) → option_map (λ frames. kind ∷ frames) o ≡ Some next →
-        ((behind : List FrameKind) → o ≡ Some behind → kind ∷ behind ≡ next → P) → P
+        ((after : List FrameKind) → o ≡ Some after → kind ∷ after ≡ next → P) → P
     map_some None e k = absurd (cc)
-    map_some (Some behind) e k = k behind refl cc
+    map_some (Some after) e k = k after refl cc
 
 after : {A : Type 0} (frames : List FrameKind) (role : Role A) (next : List FrameKind) → frames_after frames role ≡ Some next →
     length next + closed role ≡ length frames + opened role
@@ -77,14 +77,14 @@ by_role _ = (refl, refl)
 
 -- If the frame rules allow the operators, as many frames are open after them as are counted.
 pub open_along : (ops : List Operator) (frames next : List FrameKind) → frames_along frames (roles_of ops) ≡ Some next →
-    count.open_behind (length frames) ops ≡ length next
+    count.open_after (length frames) ops ≡ length next
 open_along [] frames next is = ap length some
   where
     some : frames ≡ next
     some = cc
 open_along (op ∷ ops) frames next is =
-    option_and_then_some _ (frames_after frames (role_of op)) next is (λ between there behind.
+    option_and_then_some _ (frames_after frames (role_of op)) next is (λ between there later.
     let step = after frames (role_of op) between there in
     let same = by_role op in
     let now : length frames + count.opens op - count.closes op ≡ length between = omega (arith, step, same.0, same.1) in
-    ap (λ n. count.open_behind n ops) now ∙ open_along ops between next behind)
+    ap (λ n. count.open_after n ops) now ∙ open_along ops between next later)

@@ -1,5 +1,5 @@
 pub mod Beginnings
-pub mod Behind
+pub mod After
 pub mod CallsAlong
 pub mod ConstantText
 pub mod Counting

@@ -3,11 +3,11 @@ use Rattle.std.specs.Prelude.{ℕ, List}
 use Rattle.wasm_operators.specs.below.Source.{Reader, offset_of, Takes}
 use Rattle.wasm_operators.specs.Expression.{Placed, operators, LaidOut}
 use Rattle.wasm_operators.specs.Reading.{State}
-use Rattle.wasm_operators.specs.Headline.{StoodBefore}
+use Rattle.wasm_operators.specs.MainTheorem.{ReadSoFar}
 
 -- The operators found since this reader was opened are encoded in the bytes that were read, and the reader's state is after them.
 pub record HasFound (opened : Reader) (now : State) (found : Placed) : Type 0 where
   pub text : List ℕ
   pub takes : Takes opened now.reader text
   pub laid : LaidOut opened.features (offset_of opened) found text
-  pub stood : StoodBefore (operators found) now
+  pub read_so_far : ReadSoFar (operators found) now

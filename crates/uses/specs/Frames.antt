@@ -21,6 +21,6 @@ closes (operator.Delegate _) = 1
 closes _ = 0
 
 -- The number of frames that are open after operators, if `n` are open before them.
-abbrev pub open_behind : ℕ → List Operator → ℕ
-open_behind n [] = n
-open_behind n (op ∷ ops) = open_behind (n + opens op - closes op) ops
+abbrev pub open_after : ℕ → List Operator → ℕ
+open_after n [] = n
+open_after n (op ∷ ops) = open_after (n + opens op - closes op) ops

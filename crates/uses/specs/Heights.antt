@@ -6,11 +6,11 @@ use Rattle.wasm_operators.specs.instr.declared.operator.Operator.{Operator}
 use Rattle.wasm_operators.specs.Expression.{Placed}
 use Rattle.uses.specs.declared.heights.Heights.{Heights}
 use Rattle.uses.specs.declared.module.Frame.{Frame}
-use Rattle.uses.specs.Module.{answers}
+use Rattle.uses.specs.Module.{facts}
 
 -- The operator has an arity in the module, for some open frames.
 abbrev pub HasArity : List (ℕ × ℕ) → List ℕ → Operator → Type 0
-HasArity types functions op = (frames : List Frame) × IsSome (arity_of (answers types functions frames) op)
+HasArity types functions op = (frames : List Frame) × IsSome (arity_of (facts types functions frames) op)
 
 -- Each of the operators has an arity in the module.
 abbrev pub HaveArities : List (ℕ × ℕ) → List ℕ → Placed → Type 0

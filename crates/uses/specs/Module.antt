@@ -7,7 +7,7 @@ use Rattle.wasm_operators.specs.below.declared.types.ValType.TheVariants as valu
 use Rattle.wasm_operators.specs.grammar.declared.frame_kind.FrameKind.{FrameKind}
 use Rattle.wasm_operators.specs.imm.control.block_type.BlockType.{BlockType}
 use Rattle.wasm_operators.specs.imm.control.block_type.BlockType.TheVariants as block
-use Rattle.wasm_operators.specs.instr.Answers.{Answers}
+use Rattle.wasm_operators.specs.instr.ModuleFacts.{ModuleFacts}
 use Rattle.uses.specs.declared.module.BlockArity.{BlockArity}
 use Rattle.uses.specs.declared.module.BlockArity.TheVariants as arity
 use Rattle.uses.specs.declared.module.Frame.{Frame}
@@ -29,8 +29,8 @@ abbrev pub label : List Frame → ℕ → Option (BlockType × FrameKind)
 label frames depth = if nat_lt depth (length frames) then option_map (λ f. (block_of f.arity, f.kind)) (slice_get frames (length frames - 1 - depth)) else None
 
 -- The facts about a module that has only function types, with these parameters and results, and functions of these types, while these frames are open.
-abbrev pub answers : List (ℕ × ℕ) → List ℕ → List Frame → Answers
-answers types functions frames = record {
+abbrev pub facts : List (ℕ × ℕ) → List ℕ → List Frame → ModuleFacts
+facts types functions frames = record {
   func_type_arity = slice_get types;
   struct_type_fields = λ _. None;
   cont_type_func = λ _. None;

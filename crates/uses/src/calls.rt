@@ -32,7 +32,7 @@ impl Visitor for Calls {
     type Output = ();
 
     // A visit adds the index of the called function, if there is one.
-    ghost visits = { λ before op answer after. CallsVisit before op after };
+    ghost visits = { λ before op outcome after. CallsVisit before op after };
 
     fn visit_any(&mut self, op: Operator<'static>) {
         match op {

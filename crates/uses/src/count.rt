@@ -19,7 +19,7 @@ impl Visitor for Count {
     type Output = ();
 
     // A visit adds one.
-    ghost visits = { λ before op answer after. before.operators < 2 ^ 64 - 1 → after.operators ≡ before.operators + 1 };
+    ghost visits = { λ before op outcome after. before.operators < 2 ^ 64 - 1 → after.operators ≡ before.operators + 1 };
 
     fn visit_any(&mut self, _op: Operator<'static>) {
         self.operators = self.operators.saturating_add(1);

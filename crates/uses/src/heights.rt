@@ -181,7 +181,7 @@ impl<'m> Visitor for Heights<'m> {
     type Output = ();
 
     // A visit applies the operator's arity.
-    ghost visits = { λ before op answer after. StepsHeight before op after };
+    ghost visits = { λ before op outcome after. StepsHeight before op after };
 
     fn visit_any(&mut self, op: Operator<'static>) {
         self.step(&op);

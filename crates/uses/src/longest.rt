@@ -1,7 +1,7 @@
 //! The longest prefix of an expression in incomplete or invalid bytes, as an editor keeps it.
 ghost use Rattle.std.specs.Prelude.{◌≡◌, ◌++◌, replicate, IfOk, IfErr};
 ghost use Rattle.wasm_operators.specs.Expression.{operators, AreWalk, IsLongestBeginning};
-ghost use Rattle.uses.specs.Frames.{opens, closes, open_behind};
+ghost use Rattle.uses.specs.Frames.{opens, closes, open_after};
 ghost use Rattle.uses.specs.Input.{input};
 
 use std::alloc::Global;
@@ -43,7 +43,7 @@ fn closes(op: &Operator<'_>) -> usize
 
 /// Returns how many frames are open after the operators of an expression.
 fn open_frames(list: &[(Operator<'_>, u64)]) -> usize
-    ensures { result ≡ open_behind 1 (operators list.now) }
+    ensures { result ≡ open_after 1 (operators list.now) }
 {
     let mut open: usize = 1;
     for (op, _offset) in list {
@@ -55,7 +55,7 @@ fn open_frames(list: &[(Operator<'_>, u64)]) -> usize
 /// Returns these operators, with the number of `end`s that complete them.
 fn keep<'a>(found: Vec<(Operator<'a>, u64)>) -> Kept<'a>
     ensures operators { result.operators.items ≡ found.entry.items }
-    ensures ends { result.ends ≡ open_behind 1 (operators found.entry.items) }
+    ensures ends { result.ends ≡ open_after 1 (operators found.entry.items) }
 {
     let ends = open_frames(found.as_slice());
     Kept {

@@ -61,9 +61,9 @@ pub struct Context<'m> {
 }
 
 impl<'m> ModuleArity for Context<'m> {
-    ghost use Rattle.uses.specs.Module.{answers};
+    ghost use Rattle.uses.specs.Module.{facts};
 
-    ghost answers = { λ m. answers m.types.now m.functions.now m.frames.items };
+    ghost facts = { λ m. facts m.types.now m.functions.now m.frames.items };
 
     fn func_type_arity(&self, type_index: u32) -> Option<(u32, u32)> {
         self.types.get(type_index as usize).copied()

@@ -20,7 +20,7 @@ impl Visitor for Moves {
     type Output = ();
 
     // A visit adds one to one of the two counts.
-    ghost visits = { λ before op answer after. before.moves + before.others < 2 ^ 64 - 1
+    ghost visits = { λ before op outcome after. before.moves + before.others < 2 ^ 64 - 1
         → after.moves + after.others ≡ before.moves + before.others + 1 };
 
     fn visit_any(&mut self, _op: Operator<'static>) {

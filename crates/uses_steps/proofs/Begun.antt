@@ -8,7 +8,7 @@ use Rattle.wasm_operators.specs.below.Source.{Reader, rest, offset_of, source_of
 use Rattle.wasm_operators.specs.grammar.OpenPath.{OpenPath}
 use Rattle.wasm_operators.specs.instr.Roles.{roles_of}
 use Rattle.wasm_operators.specs.Expression.{Placed, OfPlaced, operators, LaidOut, EncodesExpression, IsLongestOf}
-use Rattle.wasm_operators.specs.Headline.{BeginningAt, ReadsBeginning, CutFault}
+use Rattle.wasm_operators.specs.MainTheorem.{BeginningAt, ReadsBeginning, CutFault}
 use Rattle.wasm_operators.specs.Reading.{State, Taking, Refusing, Allocating}
 use Rattle.uses_steps.specs.Begun.{BeginsExpression}
 use Rattle.uses_steps.specs.Input.{input}
@@ -27,14 +27,14 @@ longest_at Kept message.OutOfMemory r placed other h = absurd (other refl)
 longest_at Kept _ r placed other h = h
 
 -- A read by a reader that starts at the same position.
-pub begins_alike : (Kept : OfPlaced) (Encodes : Taking) (Fault : Refusing) (Allocates : Allocating) (e : Error) (old other new : State) (placed : Placed) →
+pub begins_same : (Kept : OfPlaced) (Encodes : Taking) (Fault : Refusing) (Allocates : Allocating) (e : Error) (old other new : State) (placed : Placed) →
     other.reader ≡ old.reader → ReadsBeginning Kept Encodes Fault Allocates [] e other new placed → ReadsBeginning Kept Encodes Fault Allocates [] e old new placed
-begins_alike Kept Encodes Fault Allocates e old other new placed same h = record {
+begins_same Kept Encodes Fault Allocates e old other new placed same h = record {
   at = subst (λ r. BeginningAt Kept e.message [] r placed) same h.at;
   text = h.text;
   takes = subst (λ r. Takes r new.reader h.text) same h.takes;
   laid = subst (λ (r : Reader). LaidOut r.features (offset_of r) placed h.text) same h.laid;
-  stood = h.stood;
+  read_so_far = h.read_so_far;
   stops = h.stops;
 }
 

@@ -7,12 +7,12 @@ use Rattle.uses_steps.specs.Bodies.{BeginsWithDeclaration}
 
 pub begins_with : (result : Result Declaration Error) (body : Reader) (old new : Locals) → OpensLocals (Ok old) body → ReadsDeclaration result old new →
     IfOk result (λ d. BeginsWithDeclaration body d)
-begins_with (Ok d) body old new (number, counts, behind, none) ((text, declares, takes), count, total) = record {
+begins_with (Ok d) body old new (number, counts, after, none) ((text, declares, takes), count, total) = record {
   count = old.count;
   number = number;
   text = text;
   more = rest new.reader;
-  parts = behind.parts ∙ ap (λ bytes. number ++ bytes) takes.parts;
+  parts = after.parts ∙ ap (λ bytes. number ++ bytes) takes.parts;
   counts = counts;
   declares = declares.0;
 }

@@ -26,8 +26,8 @@ pub record HasRead {X : Type 0} (Encodes : List ℕ → X → Type 0) (r : Reade
 each_more : {X : Type 0} (Encodes : List ℕ → X → Type 0) (text t : List ℕ) (xs : List X) (x : X) → EncodesEach Encodes text xs → Encodes t x →
     EncodesEach Encodes (text ++ t) (xs ++ x ∷ [])
 each_more Encodes text t [] x is encodes = (t, [], ap (λ s. s ++ t) is ∙ sym (append-nil t), encodes, refl)
-each_more Encodes text t (y ∷ ys) x (first, behind, parts, one, others) encodes =
-    (first, behind ++ t, ap (λ s. s ++ t) parts ∙ append_assoc first behind t, one, each_more Encodes behind t ys x others encodes)
+each_more Encodes text t (y ∷ ys) x (first, after, parts, one, others) encodes =
+    (first, after ++ t, ap (λ s. s ++ t) parts ∙ append_assoc first after t, one, each_more Encodes after t ys x others encodes)
 
 -- Before the first item.
 pub reads_first : {X : Type 0} (Encodes : List ℕ → X → Type 0) (r : Reader) (s : Section) (number : List ℕ) → EncodesUnsigned 32 number s.count →
@@ -89,11 +89,11 @@ others_there Encodes [] all text whole left code nothing each parts few =
     let same : left ≡ whole = ap (λ t. t ++ left) (sym nothing) ∙ parts in
     (all, omega arith, subst (λ t. EncodesEach Encodes t all) (sym same) each)
 others_there Encodes (x ∷ xs) [] text whole left code found each parts few = absurd (omega arith)
-others_there Encodes (x ∷ xs) (y ∷ ys) text whole left code (first, behind, is, one, found) (other, after, so, two, each) parts few =
-    let there : first ++ (behind ++ left) ≡ other ++ after = sym (append_assoc first behind left) ∙ ap (λ t. t ++ left) (sym is) ∙ parts ∙ so in
-    let same : first ≡ other = (code first other (behind ++ left) after x y one two there).0 in
-    let on : behind ++ left ≡ after = append_cancel_left other _ _ (ap (λ t. t ++ (behind ++ left)) (sym same) ∙ there) in
-    let h = others_there Encodes xs ys behind after left code found each on (omega arith) in
+others_there Encodes (x ∷ xs) (y ∷ ys) text whole left code (first, later, is, one, found) (other, after, so, two, each) parts few =
+    let there : first ++ (later ++ left) ≡ other ++ after = sym (append_assoc first later left) ∙ ap (λ t. t ++ left) (sym is) ∙ parts ∙ so in
+    let same : first ≡ other = (code first other (later ++ left) after x y one two there).0 in
+    let on : later ++ left ≡ after = append_cancel_left other _ _ (ap (λ t. t ++ (later ++ left)) (sym same) ∙ there) in
+    let h = others_there Encodes xs ys later after left code found each on (omega arith) in
     (h.0, omega (arith, h.1), h.2)
 
 -- If the bytes are such a list, the items that are left follow those that are read.
@@ -110,7 +110,7 @@ left_there Encodes r items found all numbers code h (number, text, count, parts,
 pub stops_memory : {X : Type 0} (Encodes : List ℕ → X → Type 0) (Fault : Message → Reader → ℕ → Type 0) (takes_memory : Bool) (e : Error) (items : SectionItems) →
     IsLeft Encodes items → StopsSection Encodes Fault takes_memory e items → e.message ≡ message.OutOfMemory
 stops_memory Encodes Fault takes_memory e items ([], size, nothing) (inl (some, refused, fault)) = absurd (omega (arith, size, some))
-stops_memory Encodes Fault takes_memory e items (x ∷ xs, size, (first, behind, parts, one, others)) (inl (some, refused, fault)) =
-    refused_there Encodes e.message items.reader first behind x refused.refuses one parts
+stops_memory Encodes Fault takes_memory e items (x ∷ xs, size, (first, after, parts, one, others)) (inl (some, refused, fault)) =
+    refused_there Encodes e.message items.reader first after x refused.refuses one parts
 stops_memory Encodes Fault takes_memory e items ([], size, nothing) (inr (none, left)) = absurd (left.0 nothing)
 stops_memory Encodes Fault takes_memory e items (x ∷ xs, size, each) (inr (none, left)) = absurd (omega (arith, size, none))

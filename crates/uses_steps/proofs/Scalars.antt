@@ -3,7 +3,7 @@ use Rattle.std.proofs.Common.{◌≡◌, ℕ, [], ◌∷◌, ◌++◌, ◌⊎◌
 use Rattle.wasm_operators.specs.below.Source.{Source}
 use Rattle.wasm_operators.specs.instr.declared.operator.Operator.{Operator}
 use Rattle.wasm_operators.specs.instr.Kinds.{IsVector}
-use Rattle.wasm_operators.specs.Expression.{Placed, IsBeginningBehind, IsLongestBehind}
+use Rattle.wasm_operators.specs.Expression.{Placed, IsPrefixAfter, IsLongestAfter}
 use Rattle.wasm_operators.specs.Laws.{BeginsLonger}
 use Rattle.wasm_operators.specs.Visiting.{IsScalar, scalar_beginning}
 
@@ -13,7 +13,7 @@ HasNoVector = (placed before after : Placed) (op : Operator) (at : ℕ) → scal
 
 -- If the longest prefix has no SIMD operator, no other prefix has one.
 pub none_in : (s : Source) (longest before after : Placed) (op : Operator) (at : ℕ) → BeginsLonger s.features → HasNoVector →
-    IsLongestBehind [] s longest → IsScalar longest → IsBeginningBehind [] s (before ++ (op, at) ∷ after) → ¬ IsVector op
+    IsLongestAfter [] s longest → IsScalar longest → IsPrefixAfter [] s (before ++ (op, at) ∷ after) → ¬ IsVector op
 none_in s longest before after op at layout none is scalar there =
     let few = is.longest (before ++ (op, at) ∷ after) there tt in
     let part = layout s.offset (before ++ (op, at) ∷ after) longest there.beginning is.beginning.beginning there.more is.beginning.more
@@ -22,8 +22,8 @@ none_in s longest before after op at layout none is scalar there =
 
 -- The same, if the longest prefix exists and a SIMD operator in it is impossible.
 pub none_at : (s : Source) (before after : Placed) (op : Operator) (at : ℕ) → BeginsLonger s.features → HasNoVector →
-    ¬ ((placed : Placed) → ¬ IsLongestBehind [] s placed) → ((longest : Placed) → IsLongestBehind [] s longest → ¬ ¬ IsScalar longest) →
-    IsBeginningBehind [] s (before ++ (op, at) ∷ after) → ¬ IsVector op
+    ¬ ((placed : Placed) → ¬ IsLongestAfter [] s placed) → ((longest : Placed) → IsLongestAfter [] s longest → ¬ ¬ IsScalar longest) →
+    IsPrefixAfter [] s (before ++ (op, at) ∷ after) → ¬ IsVector op
 none_at s before after op at layout none exists scalar there =
     λ is. exists (λ longest longest_is. scalar longest longest_is (λ free. none_in s longest before after op at layout none longest_is free there is))
 

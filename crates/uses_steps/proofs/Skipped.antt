@@ -4,7 +4,7 @@ use Rattle.wasm_operators.specs.below.Source.{Reader, offset_of}
 use Rattle.wasm_operators.specs.instr.declared.operator.Operator.{Operator}
 use Rattle.wasm_operators.specs.opcodes.Allowed.{EncodesAllowed}
 use Rattle.wasm_operators.specs.Expression.{Placed}
-use Rattle.wasm_operators.specs.Headline.{IsWithinDepth}
+use Rattle.wasm_operators.specs.MainTheorem.{IsWithinDepth}
 use Rattle.wasm_operators.specs.Laws.{TakesNone, TakesOneMore, TakesNoMore, AddsFewFrames, MemoryAddsUp}
 use Rattle.wasm_operators.specs.Reading.{State, GrowsLittle, IsUnchanged, TakesOperator, TakesOperators}
 
@@ -41,7 +41,7 @@ skips_on op count old mid new one adds next h taken =
     }
 
 pub skips_refused : (count : ℕ) (old mid new : State) → MemoryAddsUp → TakesNoMore → HasSkipped count old mid → IsUnchanged mid new → HasSkipped count old new
-skips_refused count old mid new adds behind h unchanged =
+skips_refused count old mid new adds after h unchanged =
     let (reader, frames, room, memory) = unchanged in
     let place : new.reader.position ≡ mid.reader.position = ap (λ (r : Reader). r.position) reader in
     let many : length new.frames ≡ length mid.frames = ap length frames in
@@ -50,7 +50,7 @@ skips_refused count old mid new adds behind h unchanged =
     record {
       placed = h.placed;
       many = h.many;
-      taken = behind old mid new h.placed h.taken unchanged;
+      taken = after old mid new h.placed h.taken unchanged;
       depth = omega (arith, h.depth, place, many);
       forward = omega (arith, h.forward, place);
       memory = grows_more (first + 0) (new.reader.position - old.reader.position) old new (omega (arith, h.forward, place)) grows;

@@ -8,8 +8,8 @@ pub record SplitsAt {X : Type 0} (xs : List X) (i : ℕ) (x : X) : Type 0 where
   pub parts : xs ≡ before ++ x ∷ after
   pub place : length before ≡ i
 
-behind_one : {X : Type 0} (xs : List X) (i : ℕ) (x y : X) → SplitsAt xs i x → SplitsAt (y ∷ xs) (suc i) x
-behind_one xs i x y h = record {
+after_one : {X : Type 0} (xs : List X) (i : ℕ) (x y : X) → SplitsAt xs i x → SplitsAt (y ∷ xs) (suc i) x
+after_one xs i x y h = record {
   before = y ∷ h.before;
   after = h.after;
   parts = ap (λ zs. y ∷ zs) h.parts;
@@ -19,7 +19,7 @@ behind_one xs i x y h = record {
 pub splits_at : {X : Type 0} (xs : List X) (i : ℕ) (x : X) → i < length xs → x ≡ get_or xs i x → SplitsAt xs i x
 splits_at [] i x few is = absurd (omega arith)
 splits_at (y ∷ ys) zero x few is = record { before = []; after = ys; parts = ap (λ z. z ∷ ys) (sym is); place = refl }
-splits_at (y ∷ ys) (suc i) x few is = behind_one ys i x y (splits_at ys i x (omega arith) is)
+splits_at (y ∷ ys) (suc i) x few is = after_one ys i x y (splits_at ys i x (omega arith) is)
 
 -- The elements at index `i` and after it.
 pub record SplitsInto {X : Type 0} (xs : List X) (i : ℕ) (x y : X) : Type 0 where
@@ -28,8 +28,8 @@ pub record SplitsInto {X : Type 0} (xs : List X) (i : ℕ) (x y : X) : Type 0 wh
   pub parts : xs ≡ before ++ x ∷ y ∷ after
   pub place : length before ≡ i
 
-behind_other : {X : Type 0} (xs : List X) (i : ℕ) (x y z : X) → SplitsInto xs i x y → SplitsInto (z ∷ xs) (suc i) x y
-behind_other xs i x y z h = record {
+after_other : {X : Type 0} (xs : List X) (i : ℕ) (x y z : X) → SplitsInto xs i x y → SplitsInto (z ∷ xs) (suc i) x y
+after_other xs i x y z h = record {
   before = z ∷ h.before;
   after = h.after;
   parts = ap (λ zs. z ∷ zs) h.parts;
@@ -47,4 +47,4 @@ splits_into (z ∷ w ∷ zs) zero (suc zero) x y next few first second = record 
   place = refl;
 }
 splits_into (z ∷ w ∷ zs) zero (suc (suc j)) x y next few first second = absurd (omega arith)
-splits_into (z ∷ zs) (suc i) (suc j) x y next few first second = behind_other zs i x y z (splits_into zs i j x y (omega arith) (omega arith) first second)
+splits_into (z ∷ zs) (suc i) (suc j) x y next few first second = after_other zs i x y z (splits_into zs i j x y (omega arith) (omega arith) first second)

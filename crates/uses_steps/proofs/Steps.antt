@@ -8,23 +8,23 @@ use Rattle.wasm_operators.specs.instr.declared.operator.Operator.{Operator}
 use Rattle.wasm_operators.specs.instr.Roles.{roles_of}
 use Rattle.wasm_operators.specs.opcodes.Allowed.{EncodesAllowed}
 use Rattle.wasm_operators.specs.Expression.{Placed, operators, LaidOut}
-use Rattle.wasm_operators.specs.Headline.{StoodBefore}
+use Rattle.wasm_operators.specs.MainTheorem.{ReadSoFar}
 use Rattle.wasm_operators.specs.Laws.{LaysOutBoth}
 use Rattle.wasm_operators.specs.Iterating.{Iterating, HasEnded, iterating_over}
 use Rattle.wasm_operators.specs.Reading.{State, TakesOperator}
 use Rattle.uses_steps.specs.Iterated.{AreAllAllowed}
 
 -- The statement of the law `one_operator`.
-abbrev pub StandsNext : Type 0
-StandsNext = (before : List Operator) (op : Operator) (old new : State) → TakesOperator EncodesAllowed op old new → StoodBefore before old →
-    StoodBefore (before ++ op ∷ []) new
+abbrev pub ReadsOneMore : Type 0
+ReadsOneMore = (before : List Operator) (op : Operator) (old new : State) → TakesOperator EncodesAllowed op old new → ReadSoFar before old →
+    ReadSoFar (before ++ op ∷ []) new
 
 -- These operators were returned since the reader was opened, and are before the iterator's position.
 pub record HasGiven (r : Reader) (items : Iterating) (found : Placed) : Type 0 where
   pub text : List ℕ
   pub takes : Takes r items.reader.reader text
   pub laid : LaidOut r.features (offset_of r) found text
-  pub stood : StoodBefore (operators found) items.reader
+  pub read_so_far : ReadSoFar (operators found) items.reader
   pub goes_on : items.refused ≡ false
 
 operators_more : (found : Placed) (op : Operator) (at : ℕ) → operators (found ++ (op, at) ∷ []) ≡ operators found ++ op ∷ []
@@ -32,22 +32,22 @@ operators_more [] op at = refl
 operators_more (p ∷ ps) op at = ap (λ ops. p.0 ∷ ops) (operators_more ps op at)
 
 -- Before the first operator.
-pub gives_none : (r : Reader) (s : State) → s.reader ≡ r → StoodBefore [] s → HasGiven r (iterating_over s) []
-gives_none r s same stood =
+pub gives_none : (r : Reader) (s : State) → s.reader ≡ r → ReadSoFar [] s → HasGiven r (iterating_over s) []
+gives_none r s same read_so_far =
     let place : r.position ≡ r.position + 0 = omega arith in
     record {
       text = [];
       takes = record { moved = same ∙ ap (at_position r) place; parts = ap rest (sym same) };
       laid = refl;
-      stood = stood;
+      read_so_far = read_so_far;
       goes_on = refl;
     }
 
 -- One more operator.
-pub gives_one : (r : Reader) (old new : Iterating) (found : Placed) (op : Operator) (at : ℕ) → LaysOutBoth r.features → StandsNext → HasGiven r old found →
+pub gives_one : (r : Reader) (old new : Iterating) (found : Placed) (op : Operator) (at : ℕ) → LaysOutBoth r.features → ReadsOneMore → HasGiven r old found →
     TakesOperator EncodesAllowed op old.reader new.reader → at ≡ offset_of old.reader.reader → new.refused ≡ false →
     HasGiven r new (found ++ (op, at) ∷ [])
-gives_one r old new found op at joined stands h taken is goes_on =
+gives_one r old new found op at joined occurs h taken is goes_on =
     let mid = old.reader.reader in
     let text = h.text ++ taken.text in
     let sum = length-append h.text taken.text in
@@ -65,7 +65,7 @@ gives_one r old new found op at joined stands h taken is goes_on =
         parts = h.takes.parts ∙ ap (λ t. h.text ++ t) taken.takes.parts ∙ sym (append_assoc h.text taken.text (rest new.reader.reader));
       };
       laid = joined (offset_of r) found ((op, at) ∷ []) h.text taken.text h.laid one;
-      stood = subst (λ ops. StoodBefore ops new.reader) (sym (operators_more found op at)) (stands (operators found) op old.reader new.reader taken h.stood);
+      read_so_far = subst (λ ops. ReadSoFar ops new.reader) (sym (operators_more found op at)) (occurs (operators found) op old.reader new.reader taken h.read_so_far);
       goes_on = goes_on;
     }
 

@@ -5,18 +5,18 @@ use Rattle.wasm_operators.specs.Visiting.{VisitRun, Visited}
 use Rattle.uses_steps.specs.declared.tally.Tally.{Tally}
 use Rattle.uses_steps.specs.Tallies.{CountsOne}
 
-tallied_run : {A : Type 0} (placed : Placed) (answers : List A) (before after : Tally) →
-    VisitRun {A = A} (λ s op a t. CountsOne s.operators t.operators) before placed answers after →
+tallied_run : {A : Type 0} (placed : Placed) (outcomes : List A) (before after : Tally) →
+    VisitRun {A = A} (λ s op a t. CountsOne s.operators t.operators) before placed outcomes after →
     before.operators + length placed < 2 ^ 64 → after.operators ≡ before.operators + length placed
-tallied_run [] answers before after run few = ap (λ (s : Tally). s.operators) run.1 ∙ omega arith
-tallied_run (p ∷ ps) answers before after (first, others, between, is, visit, run) few =
+tallied_run [] outcomes before after run few = ap (λ (s : Tally). s.operators) run.1 ∙ omega arith
+tallied_run (p ∷ ps) outcomes before after (first, others, between, is, visit, run) few =
     let one : between.operators ≡ before.operators + 1 = visit (omega arith) in
-    let behind = tallied_run ps others between after run (omega (arith, few, one)) in
-    omega (arith, one, behind)
+    let later = tallied_run ps others between after run (omega (arith, few, one)) in
+    omega (arith, one, later)
 
 pub tallied_along : {A : Type 0} (placed : Placed) (before after : Tally) →
     Visited {A = A} (λ s op a t. CountsOne s.operators t.operators) before after placed →
     before.operators ≡ 0 → length placed < 2 ^ 64 → after.operators ≡ length placed
-tallied_along placed before after (answers, run) none few =
-    let all = tallied_run placed answers before after run (omega (arith, few, none)) in
+tallied_along placed before after (outcomes, run) none few =
+    let all = tallied_run placed outcomes before after run (omega (arith, few, none)) in
     omega (arith, all, none)

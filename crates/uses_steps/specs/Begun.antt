@@ -2,17 +2,17 @@
 use Rattle.std.specs.Prelude.{◌≡◌, ℕ, List, [], ◌++◌, length}
 use Rattle.wasm_operators.specs.below.Source.{Source}
 use Rattle.wasm_operators.specs.Expression.{Placed, IsAny, EncodesExpression}
-use Rattle.wasm_operators.specs.Headline.{IsCut, IsCompletedByEnds}
-use Rattle.uses_steps.specs.declared.beginnings.Wanted.{Wanted}
-use Rattle.uses_steps.specs.declared.beginnings.Wanted.TheVariants as wanted
+use Rattle.wasm_operators.specs.MainTheorem.{IsCut, IsCompletedByEnds}
+use Rattle.uses_steps.specs.declared.beginnings.Missing.{Missing}
+use Rattle.uses_steps.specs.declared.beginnings.Missing.TheVariants as missing
 
 -- What the result claims: the bytes are an expression; some bytes 0x0b make them one; or no bytes make them one. If the rest of an operator is missing, it
 -- claims nothing.
-abbrev pub IsWanted : Source → Wanted → Type 0
-IsWanted s wanted.Nothing = (placed : Placed) × EncodesExpression s placed
-IsWanted s wanted.Ends = (n : ℕ) × IsCompletedByEnds [] s n
-IsWanted s wanted.Bytes = Unit {0}
-IsWanted s wanted.Never = ¬ IsCut IsAny [] s
+abbrev pub IsMissing : Source → Missing → Type 0
+IsMissing s missing.Nothing = (placed : Placed) × EncodesExpression s placed
+IsMissing s missing.Ends = (n : ℕ) × IsCompletedByEnds [] s n
+IsMissing s missing.Bytes = Unit {0}
+IsMissing s missing.Never = ¬ IsCut IsAny [] s
 
 -- The first `n` of the bytes are an expression.
 pub record BeginsExpression (s : Source) (n : ℕ) : Type 0 where

@@ -7,7 +7,7 @@ use Rattle.wasm_operators.specs.grammar.Frames.{Allows, innermost}
 use Rattle.wasm_operators.specs.instr.declared.operator.Operator.{Operator}
 use Rattle.wasm_operators.specs.opcodes.Allowed.{EncodesAllowed}
 use Rattle.wasm_operators.specs.opcodes.declared.guard.Guard.{Guard}
-use Rattle.wasm_operators.specs.opcodes.Entry.{role_behind}
+use Rattle.wasm_operators.specs.opcodes.Entry.{guarded_role}
 use Rattle.wasm_operators.specs.opcodes.OperatorFaults.{LacksFeature, OperatorFault}
 use Rattle.wasm_operators.specs.readers.Guarded.{BeginsGuarded}
 use Rattle.wasm_operators.specs.Next.{StopsNext}
@@ -24,5 +24,5 @@ IsRefusal None old new = (op : Operator) × TakesOperator EncodesAllowed op old 
 abbrev pub IsComplaint : State → Complaint → Type 0
 IsComplaint s complaint.Feature = (g : Guard) × BeginsGuarded g s.reader × LacksFeature s.reader.features g
 IsComplaint s complaint.Frame =
-    (g : Guard) × (kind : FrameKind) × BeginsGuarded g s.reader × (innermost s.frames ≡ Some kind) × ¬ Allows kind (role_behind g)
+    (g : Guard) × (kind : FrameKind) × BeginsGuarded g s.reader × (innermost s.frames ≡ Some kind) × ¬ Allows kind (guarded_role g)
 IsComplaint s complaint.Other = Unit {0}

@@ -2,7 +2,7 @@
 use Rattle.std.specs.Prelude.{◌≡◌, ◌++◌}
 use Rattle.wasm_operators.specs.below.Source.{source_of}
 use Rattle.wasm_operators.specs.Expression.{Placed, operators, AreEncoded}
-use Rattle.wasm_operators.specs.Headline.{ClosesFrom}
+use Rattle.wasm_operators.specs.MainTheorem.{ClosesFrom}
 use Rattle.wasm_operators.specs.Reading.{State}
 
 -- The operators that were added encode all bytes that were left and close every frame, and each of them has an encoding.

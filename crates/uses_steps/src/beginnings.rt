@@ -3,7 +3,7 @@ ghost use Rattle.std.specs.Prelude.{◌≡◌, ◌≢◌, ℕ, length, IfOk, IfE
 ghost use Rattle.wasm_operators.specs.Expression.{Placed, EncodesExpression, IsLongestBeginning};
 ghost use Rattle.wasm_operators.specs.Flat.{IsFlatBeginning};
 ghost use Rattle.uses_steps.specs.Input.{input};
-ghost use Rattle.uses_steps.specs.Begun.{IsWanted, BeginsExpression};
+ghost use Rattle.uses_steps.specs.Begun.{IsMissing, BeginsExpression};
 
 use std::alloc::Global;
 use wasm_operators::{
@@ -13,7 +13,7 @@ use wasm_operators::{
 
 /// What an expression that arrives in pieces still misses.
 #[derive(Clone, Copy, Debug, PartialEq, Eq)]
-pub enum Wanted {
+pub enum Missing {
     /// Nothing: the expression is whole.
     Nothing,
     /// Only `end`s, each the byte `0b`.
@@ -28,18 +28,18 @@ pub enum Wanted {
 ///
 /// If more bytes would complete the expression, `read_all` fails only because the data ends: the
 /// clause `cut`. After `FramesRemain`, some `end`s complete it: the clause `completed`.
-pub fn wanted_behind(alloc: Global, features: WasmFeatures, bytes: &[u8]) -> Result<Wanted>
-    ensures { IfOk result (λ what. IsWanted (input features bytes.now) what) }
+pub fn missing_after(alloc: Global, features: WasmFeatures, bytes: &[u8]) -> Result<Missing>
+    ensures { IfOk result (λ what. IsMissing (input features bytes.now) what) }
 {
     let mut found = Vec::new(alloc);
     let mut reader = OperatorsReader::new(alloc, BinaryReader::new_features(bytes, 0, features));
     match reader.read_all(&mut found) {
-        Ok(()) => Ok(Wanted::Nothing),
+        Ok(()) => Ok(Missing::Nothing),
         Err(error) => match error.message() {
             Message::OutOfMemory => Err(error),
-            Message::FramesRemain => Ok(Wanted::Ends),
-            Message::EndOfData => Ok(Wanted::Bytes),
-            _ => Ok(Wanted::Never),
+            Message::FramesRemain => Ok(Missing::Ends),
+            Message::EndOfData => Ok(Missing::Bytes),
+            _ => Ok(Missing::Never),
         },
     }
 }
@@ -127,13 +127,13 @@ pub fn expression_size(alloc: Global, features: WasmFeatures, bytes: &[u8]) -> R
 /// Reads the bytes twice, and returns both errors: the same message at the same offset, unless an
 /// allocation failed. Returns `None` if one read succeeds; the bytes are then an expression.
 ///
-/// The law `one_answer` says so of the clauses `beginning` of both reads.
+/// The law `one_result` says so of the clauses `beginning` of both reads.
 pub fn refused_twice(alloc: Global, features: WasmFeatures, bytes: &[u8]) -> Option<(Error, Error)>
     ensures again { IfSome result (λ both. both.0.message ≢ Message.OutOfMemory → both.1.message ≢ Message.OutOfMemory
         → (both.0.message ≡ both.1.message) × (both.0.offset ≡ both.1.offset)) }
     ensures whole { IfNone result ((placed : Placed) × EncodesExpression (input features bytes.now) placed) }
 {
-    reading_laws::one_answer();
+    reading_laws::one_result();
     let mut found = Vec::new(alloc);
     let mut reader = OperatorsReader::new(alloc, BinaryReader::new_features(bytes, 0, features));
     let first = match reader.read_all(&mut found) {

@@ -16,7 +16,7 @@ use wasm_operators::{
 /// If a reader opens and reads them to the end, they are a body: the law `opened_bodies`. If that
 /// fails, they are not: the laws `refused_locals` and `stopped_bodies`.
 pub fn is_body(alloc: Global, features: WasmFeatures, bytes: &[u8]) -> Result<bool>
-    ensures { IfOk result (λ answer. IsTrue answer ↔ IsBody (input features bytes.now)) }
+    ensures { IfOk result (λ outcome. IsTrue outcome ↔ IsBody (input features bytes.now)) }
 {
     body_laws::opened_bodies();
     body_laws::refused_locals();

@@ -21,7 +21,7 @@ mod tally;
 mod vectors;
 
 pub use beginnings::{
-    Wanted, allowed_operators, beginning_len, expression_size, refused_twice, wanted_behind,
+    Missing, allowed_operators, beginning_len, expression_size, missing_after, refused_twice,
 };
 pub use bodies::{body_len, first_declaration, is_body};
 pub use constants::constant_size;

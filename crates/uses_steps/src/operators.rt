@@ -11,7 +11,7 @@ use wasm_operators::Operator;
 /// encoding of the operator starts with them.
 pub fn opcode(op: &Operator<'_>) -> (Option<u8>, u32)
     ensures { (features : WasmFeatures) (text : List ℕ) → EncodesOperator features op.now text
-        → (head behind : List ℕ) × (text ≡ head ++ behind) × EncodesOpcode result.0 result.1 head }
+        → (head after : List ℕ) × (text ≡ head ++ after) × EncodesOpcode result.0 result.1 head }
 {
     let row = op.info();
     (row.prefix, row.code)

@@ -12,7 +12,7 @@ ghost use Rattle.wasm_operators.specs.opcodes.Refused.{LeadsList};
 ghost use Rattle.wasm_operators.specs.Expression.{Placed, EncodesExpression};
 ghost use Rattle.wasm_operators.specs.readers.Guarded.{BeginsGuarded};
 ghost use Rattle.wasm_operators.specs.readers.Next.{ReadsNext};
-ghost use Rattle.wasm_operators.specs.Reading.{StandAlike};
+ghost use Rattle.wasm_operators.specs.Reading.{SameReaderAndFrames};
 ghost use Rattle.uses_steps.specs.Complaints.{IsRefusal, IsComplaint};
 ghost use Rattle.uses_steps.specs.Input.{input};
 
@@ -98,17 +98,17 @@ pub fn asked_twice(operators: &mut OperatorsReader<'_>) -> Option<(Error, Error)
 /// Reads the next operator from two readers in the same state, such as a reader and its clone. Both
 /// return the same operator, and are in the same state after it.
 ///
-/// The law `same_answer` says so.
+/// The law `same_result` says so.
 pub fn read_in_step<'a>(
     first: &mut OperatorsReader<'a>,
     second: &mut OperatorsReader<'a>,
 ) -> Result<(Operator<'a>, Operator<'a>)>
-    requires { StandAlike first.old second.old }
+    requires { SameReaderAndFrames first.old second.old }
     ensures read { IfOk result (λ both. ReadsNext (Ok both.0) first.old first.new) }
     ensures same { IfOk result (λ both. both.0 ≡ both.1) }
-    ensures alike { IfOk result (λ both. StandAlike first.new second.new) }
+    ensures agree { IfOk result (λ both. SameReaderAndFrames first.new second.new) }
 {
-    reading_laws::same_answer();
+    reading_laws::same_result();
     match first.read() {
         Ok(operator) => match second.read() {
             Ok(other) => Ok((operator, other)),

@@ -3,7 +3,7 @@ ghost use Rattle.std.specs.Prelude.{◌≡◌, ◌-◌, ◌<◌, length, IfOk, I
 ghost use Rattle.wasm_operators.specs.opcodes.Allowed.{EncodesAllowed};
 ghost use Rattle.wasm_operators.specs.opcodes.OperatorFaults.{OperatorFault};
 ghost use Rattle.wasm_operators.specs.Expression.{Placed};
-ghost use Rattle.wasm_operators.specs.Headline.{IsWithinDepth};
+ghost use Rattle.wasm_operators.specs.MainTheorem.{IsWithinDepth};
 ghost use Rattle.wasm_operators.specs.readers.Next.{NextMayAllocate};
 ghost use Rattle.wasm_operators.specs.Reading.{GrowsLittle, TakesOperators, StopsRead};
 

@@ -20,7 +20,7 @@ impl Visitor for Tally {
     type Output = ();
 
     // A visit adds one.
-    ghost visits = { λ before op answer after. CountsOne before.operators after.operators };
+    ghost visits = { λ before op outcome after. CountsOne before.operators after.operators };
 
     fn visit_any(&mut self, _op: Operator<'static>) {
         self.operators = self.operators.saturating_add(1);

@@ -2,7 +2,7 @@
 ghost use Rattle.std.specs.Prelude.{◌≡◌, true, false, [], ◌++◌, ◌∷◌, ℕ, length, IfOk};
 ghost use Rattle.wasm_operators.specs.instr.declared.operator.Operator.{Operator};
 ghost use Rattle.wasm_operators.specs.instr.Kinds.{IsVector};
-ghost use Rattle.wasm_operators.specs.Expression.{Placed, IsBeginningBehind, IsLongestBeginning};
+ghost use Rattle.wasm_operators.specs.Expression.{Placed, IsPrefixAfter, IsLongestBeginning};
 ghost use Rattle.wasm_operators.specs.Visiting.{IsScalar, scalar_beginning};
 ghost use Rattle.uses_steps.specs.Input.{input};
 
@@ -22,7 +22,7 @@ pub fn has_vectors(alloc: Global, features: WasmFeatures, bytes: &[u8]) -> Resul
         → IfOk result (λ has. has ≡ true) }
     ensures none { IfOk result (λ has. has ≡ false
         → (before after : Placed) (op : Operator) (at : ℕ)
-        → IsBeginningBehind [] (input features bytes.now) (before ++ (op, at) ∷ after) → ¬ IsVector op) }
+        → IsPrefixAfter [] (input features bytes.now) (before ++ (op, at) ∷ after) → ¬ IsVector op) }
 {
     expression_laws::longest_exists();
     expression_laws::one_layout(features);

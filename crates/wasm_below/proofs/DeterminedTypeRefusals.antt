@@ -6,7 +6,7 @@ use Rattle.wasm_below_bytes.specs.declared.message.TypeName.TheVariants as type_
 use Rattle.wasm_below_bytes.specs.Fault.{DeterminesRefusal}
 use Rattle.wasm_below_bytes.specs.Number.{EncodesUnsigned, EncodesSigned}
 use Rattle.wasm_below_bytes.specs.Source.{Reader, rest, BeginsWith, U32Fault, S33Fault}
-use Rattle.wasm_below.specs.TypeEncoding.{LeadsShort, LedBy, ShortFault, ByteFault, NoIndex, HeapTypeFault, RefTypeFault, ValTypeFault, behind_byte}
+use Rattle.wasm_below.specs.TypeEncoding.{LeadsShort, LedBy, ShortFault, ByteFault, NoIndex, HeapTypeFault, RefTypeFault, ValTypeFault, after_byte}
 use Rattle.wasm_below_bytes.proofs.PrefixCode.{unsigned_prefix_code, signed_prefix_code}
 use Rattle.wasm_below_bytes.proofs.DeterminedRefusals.{u32_determines}
 use Rattle.wasm_below_bytes.proofs.DeterminedRefusals.{s33_determines}
@@ -39,7 +39,7 @@ no_short bytes f (b, l, g) = (let same : b ≡ 0x62 = cc (f.1, g.1) in omega (ar
 pub heap_determines : DeterminesRefusal HeapTypeFault
 heap_determines m k r a b (inl h) (inl q) =
     then_determines (EncodesUnsigned 32) U32Fault (λ n. NoIndex r) (λ a b x y m n p q e. unsigned_prefix_code a b 32 x y m n p q e) u32_determines
-    (λ n. index_determines r) m k (behind_byte r) a b h.1 q.1
+    (λ n. index_determines r) m k (after_byte r) a b h.1 q.1
 heap_determines m k r a b (inl h) (inr (inl q)) = absurd (no_short (rest r) h.0 q.0)
 heap_determines m k r a b (inl h) (inr (inr q)) = absurd (q.0 h.0)
 heap_determines m k r a b (inr (inl h)) (inl q) = absurd (no_short (rest r) q.0 h.0)
@@ -52,7 +52,7 @@ heap_determines m k r a b (inr (inr h)) (inr (inr q)) =
     (λ n. index_determines r) m k r a b h.2 q.2
 
 pub ref_determines : DeterminesRefusal RefTypeFault
-ref_determines m k r a b (inl h) (inl q) = heap_determines m k (behind_byte r) a b h.2 q.2
+ref_determines m k r a b (inl h) (inl q) = heap_determines m k (after_byte r) a b h.2 q.2
 ref_determines m k r a b (inl h) (inr q) = absurd (q.0 h.0 h.1)
 ref_determines m k r a b (inr h) (inl q) = absurd (h.0 q.0 q.1)
 ref_determines m k r a b (inr h) (inr q) = short_determines type_name.ReferenceType m k r a b h.1 q.1

@@ -12,7 +12,7 @@ use Rattle.wasm_below_bytes.specs.Number.{EncodesUnsigned, EncodesSigned, last_v
 use Rattle.wasm_below.specs.Reference.{Reference, max_type_index}
 use Rattle.wasm_below_bytes.specs.declared.error.Error.{Error}
 use Rattle.wasm_below_bytes.specs.Source.{Reader, rest, NoPrefix, BeginsWith}
-use Rattle.wasm_below.specs.TypeEncoding.{HeapTypeFault, RefTypeFault, behind_byte, heap_type_byte, ref_byte, LeadsShort, LeadsRefType, EncodesShort, EncodesConcrete, EncodesExact, EncodesHeapType, EncodesShortRef, EncodesLongRef, EncodesRefType, EncodesNumberType, EncodesValType}
+use Rattle.wasm_below.specs.TypeEncoding.{HeapTypeFault, RefTypeFault, after_byte, heap_type_byte, ref_byte, LeadsShort, LeadsRefType, EncodesShort, EncodesConcrete, EncodesExact, EncodesHeapType, EncodesShortRef, EncodesLongRef, EncodesRefType, EncodesNumberType, EncodesValType}
 use Rattle.wasm_below_bytes.proofs.PrefixCode.{unsigned_prefix_code, signed_prefix_code}
 
 pub heap_byte_within : (t : AbstractHeapType) → (104 ≤ heap_type_byte t) × (heap_type_byte t ≤ 117)
@@ -99,16 +99,16 @@ no_concrete text after more n p over t2 more2 (heap.Exact i) q e = q
 pub no_exact : (text after more : List ℕ) (n : ℕ) → EncodesUnsigned 32 text n → max_type_index < n → NoPrefix EncodesExact (((98 ∷ text) ++ after) ++ more)
 no_exact text after more n p over t2 more2 (heap.Abstract shared t) q e = q
 no_exact text after more n p over t2 more2 (heap.Concrete i) q e = q
-no_exact text after more n p over t2 more2 (heap.Exact i) (behind, prefix, q, within) e =
-    let same : n ≡ i = (unsigned_prefix_code text behind 32 (after ++ more) more2 n i p q (sym (append_assoc text after more) ∙
+no_exact text after more n p over t2 more2 (heap.Exact i) (later, prefix, q, within) e =
+    let same : n ≡ i = (unsigned_prefix_code text later 32 (after ++ more) more2 n i p q (sym (append_assoc text after more) ∙
     cc (e, ap (λ z. z ++ more2) prefix))).1 in
     omega (arith, within)
 
 -- after the byte 0x62
-pub exact_behind : (tail : List ℕ) (h : HeapType) → EncodesExact (98 ∷ tail) h → (n : ℕ) × EncodesUnsigned 32 tail n
-exact_behind tail (heap.Abstract shared t) p = absurd p
-exact_behind tail (heap.Concrete i) p = absurd p
-exact_behind tail (heap.Exact i) (behind, prefix, q, within) = (i, subst (λ z. EncodesUnsigned 32 z i) (cc (prefix)) q)
+pub exact_after : (tail : List ℕ) (h : HeapType) → EncodesExact (98 ∷ tail) h → (n : ℕ) × EncodesUnsigned 32 tail n
+exact_after tail (heap.Abstract shared t) p = absurd p
+exact_after tail (heap.Concrete i) p = absurd p
+exact_after tail (heap.Exact i) (after, prefix, q, within) = (i, subst (λ z. EncodesUnsigned 32 z i) (cc (prefix)) q)
 
 pub exact_empty : (h : HeapType) → EncodesExact [] h → ⊥
 exact_empty (heap.Abstract shared t) p = p
@@ -145,8 +145,8 @@ short_ref text r p = inl p
 pub long_ref : (text : List ℕ) (r : Reference) → EncodesLongRef text r → EncodesRefType text r
 long_ref text r p = inr p
 
-pub long_behind : (n : Bool) (tail : List ℕ) (r : Reference) → EncodesLongRef (ref_byte n ∷ tail) r → (h : HeapType) × EncodesHeapType tail h
-long_behind n tail r (behind, prefix, p) = (r.heap_type, subst (λ z. EncodesHeapType z r.heap_type) (cc (prefix)) p)
+pub long_after : (n : Bool) (tail : List ℕ) (r : Reference) → EncodesLongRef (ref_byte n ∷ tail) r → (h : HeapType) × EncodesHeapType tail h
+long_after n tail r (after, prefix, p) = (r.heap_type, subst (λ z. EncodesHeapType z r.heap_type) (cc (prefix)) p)
 
 pub ref_leads : (b : ℕ) (tail : List ℕ) (r : Reference) → EncodesRefType (b ∷ tail) r → LeadsRefType b
 ref_leads b tail r (inl p) = (let l = short_leads b tail r.heap_type p.1 in (omega (arith, l.0), l.1, l.2, l.3))
@@ -199,6 +199,6 @@ value_ref b l tail v p = (let s = value_is_ref b l tail v p in (s.0, s.2))
 
 -- an error after the byte 0x63 or 0x64 is an error of the reference type
 pub long_fault : (result : Result Reference Error) (n : Bool) (r : Reader) → BeginsWith (ref_byte n) (rest r) →
-    IfErr result (λ e. HeapTypeFault e.message (behind_byte r) e.offset) → IfErr result (λ e. RefTypeFault e.message r e.offset)
+    IfErr result (λ e. HeapTypeFault e.message (after_byte r) e.offset) → IfErr result (λ e. RefTypeFault e.message r e.offset)
 long_fault (Ok x) n r prefix h = tt
 long_fault (Err e) n r prefix h = inl (n, prefix, h)

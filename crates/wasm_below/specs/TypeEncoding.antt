@@ -50,7 +50,7 @@ EncodesConcrete text _ = ⊥
 
 -- The byte 0x62 and a type index within the limit.
 abbrev pub EncodesExact : List ℕ → HeapType → Type 0
-EncodesExact text (heap.Exact index) = (behind : List ℕ) × (text ≡ 0x62 ∷ behind) × EncodesUnsigned 32 behind index × (index ≤ max_type_index)
+EncodesExact text (heap.Exact index) = (after : List ℕ) × (text ≡ 0x62 ∷ after) × EncodesUnsigned 32 after index × (index ≤ max_type_index)
 EncodesExact text _ = ⊥
 
 -- A heap type: a short form, a type index, or the byte 0x62 and a type index. Heap Types.
@@ -72,7 +72,7 @@ EncodesShortRef text r = (r.nullable ≡ true) × EncodesShort text r.heap_type
 
 -- A heap type after the byte that says whether the reference type includes null.
 abbrev pub EncodesLongRef : List ℕ → Reference → Type 0
-EncodesLongRef text r = (behind : List ℕ) × (text ≡ ref_byte r.nullable ∷ behind) × EncodesHeapType behind r.heap_type
+EncodesLongRef text r = (after : List ℕ) × (text ≡ ref_byte r.nullable ∷ after) × EncodesHeapType after r.heap_type
 
 -- A reference type: a short form, or a heap type after the byte 0x63 or 0x64. Reference Types.
 --   reftype ::= 0x63 ht:heaptype ⇒ ref null ht | 0x64 ht:heaptype ⇒ ref ht | ht:absheaptype ⇒ ref null ht
@@ -96,8 +96,8 @@ EncodesValType text (value.Ref r) = EncodesRefType text r
 EncodesValType text ty = EncodesNumberType text ty
 
 -- The reader after its next byte.
-abbrev pub behind_byte : Reader → Reader
-behind_byte r = at_position r (r.position + 1)
+abbrev pub after_byte : Reader → Reader
+after_byte r = at_position r (r.position + 1)
 
 -- The bytes that a short form can start with.
 abbrev pub LeadsShort : ℕ → Type 0
@@ -132,7 +132,7 @@ NoIndex begin m r offset = (m ≡ message.InvalidType type_name.HeapType) × (of
 -- The error of a type index after the byte 0x62 (`ExactFault`), and of one alone (`ConcreteFault`).
 -- Either reading the number fails, or the number is not a type index.
 abbrev pub ExactFault : Message → Reader → ℕ → Type 0
-ExactFault m r offset = ThenFault (EncodesUnsigned 32) U32Fault (λ n. NoIndex r) m (behind_byte r) offset
+ExactFault m r offset = ThenFault (EncodesUnsigned 32) U32Fault (λ n. NoIndex r) m (after_byte r) offset
 
 abbrev pub ConcreteFault : Message → Reader → ℕ → Type 0
 ConcreteFault m r offset = ThenFault (EncodesSigned 33) S33Fault (λ n. NoIndex r) m r offset
@@ -150,7 +150,7 @@ HeapTypeFault m r offset = (BeginsWith 0x62 (rest r) × ExactFault m r offset) �
 -- The error of a reference type. After the byte 0x63 or 0x64 it is the error of a heap type, and
 -- otherwise the error of a short form.
 abbrev pub RefTypeFault : Message → Reader → ℕ → Type 0
-RefTypeFault m r offset = ((nullable : Bool) × BeginsWith (ref_byte nullable) (rest r) × HeapTypeFault m (behind_byte r) offset) ⊎ (((nullable : Bool) → BeginsWith (ref_byte nullable) (rest r) → ⊥) × ShortFault type_name.ReferenceType m r offset)
+RefTypeFault m r offset = ((nullable : Bool) × BeginsWith (ref_byte nullable) (rest r) × HeapTypeFault m (after_byte r) offset) ⊎ (((nullable : Bool) → BeginsWith (ref_byte nullable) (rest r) → ⊥) × ShortFault type_name.ReferenceType m r offset)
 
 -- The error of a value type. If the first byte starts a reference type, it is the error of the
 -- reference type. Otherwise it is the error of a type of one byte.

@@ -64,14 +64,14 @@ first_prefix_code First prefix_code r s t x y (text, p, h) (other, q, k) =
     let o = prefix_code text other (rest s) (rest t) x y p q (sym h.parts ∙ k.parts) in
     (o.1, h.moved ∙ ap (λ (z : List ℕ). at_position r (r.position + length z)) o.0 ∙ sym k.moved)
 
-pub then_determines : {X : Type 0} (First : List ℕ → X → Type 0) (FirstFault : Message → Reader → ℕ → Type 0) (Behind : X → Message → Reader → ℕ → Type 0) →
-    PrefixCode First → DeterminesRefusal FirstFault → ((x : X) → DeterminesRefusal (Behind x)) → DeterminesRefusal (ThenFault First FirstFault Behind)
-then_determines First FirstFault Behind prefix_code f g m k r a b (inl h) (inl q) = f m k r a b h.1 q.1
-then_determines First FirstFault Behind prefix_code f g m k r a b (inl h) (inr (x, new, (text, p, t), _)) = absurd (h.0 text (rest new) x p t.parts)
-then_determines First FirstFault Behind prefix_code f g m k r a b (inr (x, new, (text, p, t), _)) (inl q) = absurd (q.0 text (rest new) x p t.parts)
-then_determines First FirstFault Behind prefix_code f g m k r a b (inr (x, s, h, u)) (inr (y, t, q, v)) =
+pub then_determines : {X : Type 0} (First : List ℕ → X → Type 0) (FirstFault : Message → Reader → ℕ → Type 0) (After : X → Message → Reader → ℕ → Type 0) →
+    PrefixCode First → DeterminesRefusal FirstFault → ((x : X) → DeterminesRefusal (After x)) → DeterminesRefusal (ThenFault First FirstFault After)
+then_determines First FirstFault After prefix_code f g m k r a b (inl h) (inl q) = f m k r a b h.1 q.1
+then_determines First FirstFault After prefix_code f g m k r a b (inl h) (inr (x, new, (text, p, t), _)) = absurd (h.0 text (rest new) x p t.parts)
+then_determines First FirstFault After prefix_code f g m k r a b (inr (x, new, (text, p, t), _)) (inl q) = absurd (q.0 text (rest new) x p t.parts)
+then_determines First FirstFault After prefix_code f g m k r a b (inr (x, s, h, u)) (inr (y, t, q, v)) =
     let o = first_prefix_code First prefix_code r s t x y h q in
-    g x m k s a b u (subst (λ z. Behind z k s b) (sym o.0) (subst (λ z. Behind y k z b) (sym o.1) v))
+    g x m k s a b u (subst (λ z. After z k s b) (sym o.0) (subst (λ z. After y k z b) (sym o.1) v))
 
 pub reader_determines : DeterminesRefusal ReaderFault
 reader_determines = then_determines (EncodesUnsigned 32) U32Fault EndsWithin (λ a b x y m n p q e. unsigned_prefix_code a b 32 x y m n p q e) u32_determines

@@ -5,7 +5,7 @@ use Rattle.std.proofs.lemmas.Int.{ints}
 use Rattle.std.proofs.lemmas.Nat.{pow-add, pow_below, shl_whole, mul-le}
 use Rattle.std.proofs.Math.Seq.{drop-cons}
 use Rattle.wasm_below_bytes.specs.Number.{EncodesUnsigned, EncodesSigned, last_value, with_sign}
-use Rattle.wasm_below_bytes.specs.Leb128.{AllGoOn, low_bits, signed_value, StandsAt}
+use Rattle.wasm_below_bytes.specs.Leb128.{AllGoOn, low_bits, signed_value, OccursAt}
 use Rattle.wasm_below_bytes.specs.Source.{NoPrefix}
 use Rattle.wasm_below_bytes.proofs.Numbers.{unsigned_rest, unsigned_long}
 use Rattle.wasm_below_bytes.proofs.SignedNumbers.{signed_rest, signed_long}
@@ -16,7 +16,7 @@ pub record IsLeb128 {X : Type 0} (Encodes : ℕ → List ℕ → X → Type 0) (
   pub more : (width b : ℕ) (text : List ℕ) (high : X) → 7 < width → 128 ≤ b → b < 256 → Encodes (width - 7) text high →
       Encodes width (b ∷ text) (join (b - 128) high)
   pub empty : (width : ℕ) → NoPrefix (Encodes width) []
-  pub behind : (bytes after : List ℕ) (b width : ℕ) → bytes ≡ b ∷ after → 128 ≤ b → NoPrefix (Encodes (width - 7)) after → NoPrefix (Encodes width) bytes
+  pub after : (bytes after : List ℕ) (b width : ℕ) → bytes ≡ b ∷ after → 128 ≤ b → NoPrefix (Encodes (width - 7)) after → NoPrefix (Encodes width) bytes
   pub long : (bytes after : List ℕ) (b width : ℕ) → bytes ≡ b ∷ after → 128 ≤ b → width ≤ 7 → NoPrefix (Encodes width) bytes
 
 -- the number after these groups, joined to them
@@ -34,12 +34,12 @@ module _ {X : Type 0} (Encodes : ℕ → List ℕ → X → Type 0) (join : ℕ 
       (continued text (width - 7) last x go (omega arith) (subst (λ w. Encodes w (last ∷ []) x) (omega arith) p))
 
   -- if no prefix is the rest of a number, continuation bytes before it do not make it one
-  pub none_behind : (text after : List ℕ) (width : ℕ) → AllGoOn text → NoPrefix (Encodes (width - 7 * length text)) after →
+  pub none_after : (text after : List ℕ) (width : ℕ) → AllGoOn text → NoPrefix (Encodes (width - 7 * length text)) after →
       NoPrefix (Encodes width) (text ++ after)
-  none_behind [] after width go none = subst (λ w. NoPrefix (Encodes w) after) (omega arith) none
-  none_behind (c ∷ text) after width (ge, small, go) none =
-      leb128.behind (c ∷ (text ++ after)) (text ++ after) c width refl ge
-      (none_behind text after (width - 7) go (subst (λ w. NoPrefix (Encodes w) after) (omega arith) none))
+  none_after [] after width go none = subst (λ w. NoPrefix (Encodes w) after) (omega arith) none
+  none_after (c ∷ text) after width (ge, small, go) none =
+      leb128.after (c ∷ (text ++ after)) (text ++ after) c width refl ge
+      (none_after text after (width - 7) go (subst (λ w. NoPrefix (Encodes w) after) (omega arith) none))
 
 unsigned_joins : (width b : ℕ) (text : List ℕ) (high : ℕ) → 7 < width → 128 ≤ b → b < 256 → EncodesUnsigned (width - 7) text high →
     EncodesUnsigned width (b ∷ text) (128 * high + (b - 128))
@@ -51,7 +51,7 @@ unsigned_empty width [] after x p e = p
 unsigned_empty width (c ∷ text) after x p e = cc e
 
 pub unsigned_leb128 : IsLeb128 EncodesUnsigned (λ low high. 128 * high + low)
-unsigned_leb128 = record { more = unsigned_joins; empty = unsigned_empty; behind = unsigned_rest; long = unsigned_long }
+unsigned_leb128 = record { more = unsigned_joins; empty = unsigned_empty; after = unsigned_rest; long = unsigned_long }
 
 signed_joins : (width b : ℕ) (text : List ℕ) (high : ℤ) → 7 < width → 128 ≤ b → b < 256 → EncodesSigned (width - 7) text high →
     EncodesSigned width (b ∷ text) ((pos 128 *ℤ high) +ℤ pos (b - 128))
@@ -63,7 +63,7 @@ signed_empty width [] after x p e = p
 signed_empty width (c ∷ text) after x p e = cc e
 
 pub signed_leb128 : IsLeb128 EncodesSigned (λ low high. (pos 128 *ℤ high) +ℤ pos low)
-signed_leb128 = record { more = signed_joins; empty = signed_empty; behind = signed_rest; long = signed_long }
+signed_leb128 = record { more = signed_joins; empty = signed_empty; after = signed_rest; long = signed_long }
 
 -- one more group of seven bits
 group_power : (n : ℕ) → 2 ^ (7 * n + 7) ≡ 128 * 2 ^ (7 * n)
@@ -109,7 +109,7 @@ pub record SoFar (buffer : List ℕ) (start position low shift count : ℕ) : Ty
   pub low_is : low ≡ low_bits text
   pub shift_is : shift ≡ 7 * count
   pub many : length text ≡ count
-  pub stands : StandsAt buffer start position text
+  pub occurs : OccursAt buffer start position text
 
 go_on_more : (text : List ℕ) (c : ℕ) → AllGoOn text → 128 ≤ c → c < 256 → AllGoOn (text ++ c ∷ [])
 go_on_more [] c go ge small = (ge, small, tt)
@@ -122,9 +122,9 @@ low_more (d ∷ text) c =
     omega (arith, low_more text c, ap (λ m. (c - 128) * m) p)
 
 -- the byte at a position, after a text that ends there
-pub stands_more : (buffer text : List ℕ) (start position : ℕ) → position < length buffer → StandsAt buffer start position text →
-    StandsAt buffer start (position + 1) (text ++ get_or buffer position 0 ∷ [])
-stands_more buffer text start position lt s =
+pub occurs_more : (buffer text : List ℕ) (start position : ℕ) → position < length buffer → OccursAt buffer start position text →
+    OccursAt buffer start (position + 1) (text ++ get_or buffer position 0 ∷ [])
+occurs_more buffer text start position lt s =
     let c = get_or buffer position 0 in
     let next : drop position buffer ≡ c ∷ drop (position + 1) buffer = drop-cons buffer position 0 lt ∙
     ap (λ k. c ∷ drop k buffer) (sym (add-one position)) in
@@ -145,7 +145,7 @@ one_more buffer start position low shift count low2 s lt ge small e =
       low_is = e ∙ ap (λ k. low + (c - 128) * 2 ^ k) same ∙ ap (λ l. l + (c - 128) * 2 ^ (7 * length s.text)) s.low_is ∙ sym (low_more s.text c);
       shift_is = omega (arith, s.shift_is);
       many = omega (arith, s.many, length-append s.text (c ∷ []));
-      stands = stands_more buffer s.text start position lt s.stands;
+      occurs = occurs_more buffer s.text start position lt s.occurs;
     }
 
 pub low_so_far : (buffer : List ℕ) (start position low shift count : ℕ) → SoFar buffer start position low shift count → low < 2 ^ shift

@@ -8,24 +8,24 @@ use Rattle.std.proofs.lemmas.Bool.{cases_lt}
 use Rattle.wasm_below_bytes.specs.declared.long_numbers.Groups.{Groups}
 use Rattle.wasm_below_bytes.specs.declared.long_numbers.NumberRefusal.{NumberRefusal}
 use Rattle.wasm_below_bytes.specs.declared.long_numbers.NumberRefusal.TheVariants as refusal
-use Rattle.wasm_below_bytes.specs.Leb128.{AllGoOn, low_bits, signed_value, StandsAt, IsGroups, RefusesGroups, NumberAt, NeverBegins, NoNumber}
+use Rattle.wasm_below_bytes.specs.Leb128.{AllGoOn, low_bits, signed_value, OccursAt, IsGroups, RefusesGroups, NumberAt, NeverBegins, NoNumber}
 use Rattle.wasm_below_bytes.specs.Number.{EncodesUnsigned, EncodesSigned, FitsWidth, last_value}
 use Rattle.wasm_below_bytes.specs.Source.{NoPrefix}
 use Rattle.wasm_below_bytes.proofs.Numbers.{wide_fits}
 use Rattle.wasm_below_bytes.proofs.SignedNumbers.{narrow, signed_large}
-use Rattle.wasm_below_bytes.proofs.Groups.{IsLeb128, joined, continued, none_behind, unsigned_leb128, signed_leb128, unsigned_joined, signed_joined, low_below, stands_more}
+use Rattle.wasm_below_bytes.proofs.Groups.{IsLeb128, joined, continued, none_after, unsigned_leb128, signed_leb128, unsigned_joined, signed_joined, low_below, occurs_more}
 
 -- the byte after a text
-byte_behind : (bytes text after : List ℕ) (c : ℕ) → bytes ≡ text ++ c ∷ after → slice_index bytes (length text) ≡ c
-byte_behind bytes [] after c e = ap (λ z. slice_index z 0) e
-byte_behind [] (d ∷ text) after c e = absurd (cc e)
-byte_behind (b ∷ bytes) (d ∷ text) after c e = byte_behind bytes text after c (cc e)
+byte_after : (bytes text after : List ℕ) (c : ℕ) → bytes ≡ text ++ c ∷ after → slice_index bytes (length text) ≡ c
+byte_after bytes [] after c e = ap (λ z. slice_index z 0) e
+byte_after [] (d ∷ text) after c e = absurd (cc e)
+byte_after (b ∷ bytes) (d ∷ text) after c e = byte_after bytes text after c (cc e)
 
 pub last_byte : (buffer text after : List ℕ) (start c : ℕ) → drop start buffer ≡ text ++ c ∷ after →
     (start + length text < length buffer) × (slice_index buffer (start + length text) ≡ c)
 last_byte buffer text after start c e =
     let whole : length buffer - start ≡ length text + length (c ∷ after) = sym (length-drop start buffer) ∙ ap length e ∙ length-append text (c ∷ after) in
-    (omega arith, sym (get_or-drop start buffer (length text) 0) ∙ byte_behind (drop start buffer) text after c e)
+    (omega arith, sym (get_or-drop start buffer (length text) 0) ∙ byte_after (drop start buffer) text after c e)
 
 module _ {X : Type 0} (Encodes : ℕ → List ℕ → X → Type 0) (join : ℕ → X → X) (leb128 : IsLeb128 Encodes join) where
   -- after continuation bytes follows a byte that cannot end a number
@@ -33,14 +33,14 @@ module _ {X : Type 0} (Encodes : ℕ → List ℕ → X → Type 0) (join : ℕ 
       ((more : List ℕ) → NoPrefix (Encodes (width - 7 * length text)) (c ∷ more)) → NeverBegins (Encodes width) (drop start buffer)
   never buffer text after start c width e go none more =
       let same : drop start buffer ++ more ≡ text ++ c ∷ (after ++ more) = ap (λ z. z ++ more) e ∙ append_assoc text (c ∷ after) more in
-      subst (NoPrefix (Encodes width)) (sym same) (none_behind Encodes join leb128 text (c ∷ (after ++ more)) width go (none (after ++ more)))
+      subst (NoPrefix (Encodes width)) (sym same) (none_after Encodes join leb128 text (c ∷ (after ++ more)) width go (none (after ++ more)))
 
   pub no_groups : (r : NumberRefusal) (width : ℕ) (buffer : List ℕ) (start : ℕ) → 0 < width → RefusesGroups r width buffer start →
       NoNumber (Encodes width) r width buffer start
   no_groups refusal.EndOfData width buffer start some (go, few) = (
     omega (arith, length-drop start buffer),
     subst (NoPrefix (Encodes width)) (append-nil (drop start buffer))
-        (none_behind Encodes join leb128 (drop start buffer) [] width go (leb128.empty (width - 7 * length (drop start buffer)))),
+        (none_after Encodes join leb128 (drop start buffer) [] width go (leb128.empty (width - 7 * length (drop start buffer)))),
   )
   no_groups refusal.TooLong width buffer start some (text, after, c, go, ge, many, e) =
       let last = last_byte buffer text after start c e in
@@ -55,18 +55,18 @@ module _ {X : Type 0} (Encodes : ℕ → List ℕ → X → Type 0) (join : ℕ 
   pub too_large : (width : ℕ) (buffer : List ℕ) (start : ℕ) (g : Groups) → IsGroups buffer start width g → width - g.shift ≤ 7 →
       ((more : List ℕ) → NoPrefix (Encodes (width - g.shift)) (g.last ∷ more)) → NoNumber (Encodes width) refusal.TooLarge width buffer start
   too_large width buffer start g h narrow none =
-      let e : drop start buffer ≡ h.text ++ g.last ∷ drop g.behind buffer = h.stands.parts ∙ append_assoc h.text (g.last ∷ []) (drop g.behind buffer) in
-      let last = last_byte buffer h.text (drop g.behind buffer) start g.last e in
+      let e : drop start buffer ≡ h.text ++ g.last ∷ drop g.after buffer = h.occurs.parts ∙ append_assoc h.text (g.last ∷ []) (drop g.after buffer) in
+      let last = last_byte buffer h.text (drop g.after buffer) start g.last e in
       let many : (width - 1) / 7 ≡ length h.text = omega (arith, h.shift, h.narrow) in
       let at : slice_index buffer (start + (width - 1) / 7) ≡ g.last = ap (λ k. slice_index buffer (start + k)) many ∙ last.1 in (
         omega (arith, last.0, many),
         omega (arith, at, h.small),
-        never buffer h.text (drop g.behind buffer) start g.last width e h.go_on
+        never buffer h.text (drop g.after buffer) start g.last width e h.go_on
             (λ more. subst (λ k. NoPrefix (Encodes (width - k)) (g.last ∷ more)) h.shift (none more)),
       )
 
 pub unsigned_found : (width : ℕ) (buffer : List ℕ) (start value : ℕ) (g : Groups) → IsGroups buffer start width g → g.last < 2 ^ (width - g.shift) →
-    value ≡ g.low + g.last * 2 ^ g.shift → NumberAt (EncodesUnsigned width) buffer start value g.behind
+    value ≡ g.low + g.last * 2 ^ g.shift → NumberAt (EncodesUnsigned width) buffer start value g.after
 unsigned_found width buffer start value g h fits e =
     let room : g.last < 2 ^ (width - 7 * length h.text) = subst (λ k. g.last < 2 ^ (width - k)) h.shift fits in
     let same : joined (λ low high. 128 * high + low) h.text g.last ≡ value = unsigned_joined h.text g.last ∙
@@ -78,12 +78,12 @@ unsigned_found width buffer start value g h fits e =
             h.shift,
             h.narrow,
           )) (h.small, refl, room)),
-      h.stands,
+      h.occurs,
     )
 
 pub signed_found : (width : ℕ) (buffer : List ℕ) (start : ℕ) (value : ℤ) (g : Groups) → IsGroups buffer start width g →
     FitsWidth (width - g.shift) (last_value g.last) → value ≡ signed_value g.low (2 ^ g.shift) g.last →
-    NumberAt (EncodesSigned width) buffer start value g.behind
+    NumberAt (EncodesSigned width) buffer start value g.after
 signed_found width buffer start value g h fits e =
     let room : FitsWidth (width - 7 * length h.text) (last_value g.last) = subst (λ k. FitsWidth (width - k) (last_value g.last)) h.shift fits in
     let same : joined (λ low high. (pos 128 *ℤ high) +ℤ pos low) h.text (last_value g.last) ≡ value = signed_joined h.text g.last ∙
@@ -95,7 +95,7 @@ signed_found width buffer start value g h fits e =
             h.shift,
             h.narrow,
           )) (h.small, refl, room)),
-      h.stands,
+      h.occurs,
     )
 
 pub low_of_groups : (width : ℕ) (buffer : List ℕ) (start : ℕ) (g : Groups) → IsGroups buffer start width g → g.low < 2 ^ g.shift
@@ -132,12 +132,12 @@ pub two_bytes_at : (width : ℕ) (buffer : List ℕ) (start n : ℕ) → 14 ≤ 
     get_or buffer start 0 < 256 → get_or buffer (start + 1) 0 < 128 → n ≡ get_or buffer start 0 - 128 + 128 * get_or buffer (start + 1) 0 →
     NumberAt (EncodesUnsigned width) buffer start n (start + 2)
 two_bytes_at width buffer start n wide lt ge small last e =
-    let none : StandsAt buffer start start [] = record { parts = refl; ends = omega arith } in
-    let one = stands_more buffer [] start start (omega arith) none in
-    let two = stands_more buffer (get_or buffer start 0 ∷ []) start (start + 1) lt one in
+    let none : OccursAt buffer start start [] = record { parts = refl; ends = omega arith } in
+    let one = occurs_more buffer [] start start (omega arith) none in
+    let two = occurs_more buffer (get_or buffer start 0 ∷ []) start (start + 1) lt one in
     let room : get_or buffer (start + 1) 0 < 2 ^ (width - 7) = wide_fits (get_or buffer (start + 1) 0) (width - 7) last (omega arith) in
-    let behind : start + 1 + 1 ≡ start + 2 = omega arith in (
+    let after : start + 1 + 1 ≡ start + 2 = omega arith in (
       get_or buffer start 0 ∷ get_or buffer (start + 1) 0 ∷ [],
       (omega arith, ge, small, get_or buffer (start + 1) 0, omega (arith, e), (last, refl, room)),
-      subst (λ k. StandsAt buffer start k (get_or buffer start 0 ∷ get_or buffer (start + 1) 0 ∷ [])) behind two,
+      subst (λ k. OccursAt buffer start k (get_or buffer start 0 ∷ get_or buffer (start + 1) 0 ∷ [])) after two,
     )

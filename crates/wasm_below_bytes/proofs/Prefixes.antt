@@ -63,14 +63,14 @@ end_refused Encodes e r empty h =
 pub led_refused : {X Y : Type 0} (P : List ℕ → X → Type 0) (Q : List ℕ → Y → Type 0) (e : Error) (r : Reader) (b : ℕ) → BeginsWith b (rest r) →
     ((y : Y) → Q [] y → ⊥) → ((tail : List ℕ) (y : Y) → Q (b ∷ tail) y → (x : X) × P (b ∷ tail) x) → IsRefusal P e r → IsRefusal Q e r
 led_refused {X} {Y} P Q e r b (after, prefix) empty strip h =
-    record { refuses = λ more follow text behind y q eq. go text q more behind (h.refuses more follow) eq; fault = h.fault; ahead = h.ahead }
+    record { refuses = λ more follow text later y q eq. go text q more later (h.refuses more follow) eq; fault = h.fault; ahead = h.ahead }
   where
-    go : (text : List ℕ) {y : Y} → Q text y → (more behind : List ℕ) → NoPrefix P (rest r ++ more) → rest r ++ more ≡ text ++ behind → ⊥
-    go [] q more behind none eq = empty _ q
-    go (c ∷ tail) {y} q more behind none eq =
+    go : (text : List ℕ) {y : Y} → Q text y → (more later : List ℕ) → NoPrefix P (rest r ++ more) → rest r ++ more ≡ text ++ later → ⊥
+    go [] q more later none eq = empty _ q
+    go (c ∷ tail) {y} q more later none eq =
         let same : c ≡ b = cc (eq, ap (λ z. z ++ more) prefix) in
         let p = strip tail y (subst (λ z. Q (z ∷ tail) y) same q) in
-        none (b ∷ tail) behind p.0 p.1 (eq ∙ ap (λ z. z ∷ (tail ++ behind)) same)
+        none (b ∷ tail) later p.0 p.1 (eq ∙ ap (λ z. z ∷ (tail ++ later)) same)
 
 -- the same of a read, if each encoding of kind P is of kind Q
 pub led_reads : {X : Type 0} (P Q : List ℕ → X → Type 0) (result : Result X Error) (old new : Reader) (b : ℕ) → BeginsWith b (rest old) →
@@ -81,19 +81,19 @@ led_reads P Q (Err e) old new b prefix into empty strip (same, h) = (same, led_r
 
 -- if after this byte each encoding is of kind P, an error of kind P after the byte is an error of
 -- the whole
-pub behind_refused : {X Y : Type 0} (P : List ℕ → X → Type 0) (Q : List ℕ → Y → Type 0) (e : Error) (old mid : Reader) (b : ℕ) → Takes old mid (b ∷ []) →
+pub after_refused : {X Y : Type 0} (P : List ℕ → X → Type 0) (Q : List ℕ → Y → Type 0) (e : Error) (old mid : Reader) (b : ℕ) → Takes old mid (b ∷ []) →
     ((y : Y) → Q [] y → ⊥) → ((tail : List ℕ) (y : Y) → Q (b ∷ tail) y → (x : X) × P tail x) → IsRefusal P e mid → IsRefusal Q e old
-behind_refused {X} {Y} P Q e old mid b takes empty strip h =
+after_refused {X} {Y} P Q e old mid b takes empty strip h =
     record {
-      refuses = λ more follow text behind y q eq. go text q more behind (h.refuses more follow) (ap (λ z. z ++ more) (sym takes.parts) ∙ eq);
+      refuses = λ more follow text after y q eq. go text q more after (h.refuses more follow) (ap (λ z. z ++ more) (sym takes.parts) ∙ eq);
       fault =
           h.fault;
       ahead = ahead_before old mid (b ∷ []) e.offset takes h.ahead;
     }
   where
-    go : (text : List ℕ) {y : Y} → Q text y → (more behind : List ℕ) → NoPrefix P (rest mid ++ more) → b ∷ (rest mid ++ more) ≡ text ++ behind → ⊥
-    go [] q more behind none eq = empty _ q
-    go (c ∷ tail) {y} q more behind none eq =
+    go : (text : List ℕ) {y : Y} → Q text y → (more after : List ℕ) → NoPrefix P (rest mid ++ more) → b ∷ (rest mid ++ more) ≡ text ++ after → ⊥
+    go [] q more after none eq = empty _ q
+    go (c ∷ tail) {y} q more after none eq =
         let same : c ≡ b = cc eq in
         let p = strip tail y (subst (λ z. Q (z ∷ tail) y) same q) in
-        none tail behind p.0 p.1 (cc eq)
+        none tail after p.0 p.1 (cc eq)

@@ -88,8 +88,8 @@ refused_back Encodes e old mid new b position r same went offset fault none =
     )
 
 -- an error of what follows a text that was read
-pub refused_behind : {X Y : Type 0} (Behind : List ℕ → X → Type 0) (Encodes : List ℕ → Y → Type 0) (e : Error) (old mid : Reader) (text : List ℕ) →
-    Takes old mid text → IsRefusal Behind e mid → ((more : List ℕ) → NoPrefix Behind (rest mid ++ more) → NoPrefix Encodes (rest old ++ more)) →
+pub refused_after : {X Y : Type 0} (After : List ℕ → X → Type 0) (Encodes : List ℕ → Y → Type 0) (e : Error) (old mid : Reader) (text : List ℕ) →
+    Takes old mid text → IsRefusal After e mid → ((more : List ℕ) → NoPrefix After (rest mid ++ more) → NoPrefix Encodes (rest old ++ more)) →
     IsRefusal Encodes e old
-refused_behind Behind Encodes e old mid text t h none =
+refused_after After Encodes e old mid text t h none =
     record { refuses = λ more follow. none more (h.refuses more follow); fault = h.fault; ahead = ahead_before old mid text e.offset t h.ahead }

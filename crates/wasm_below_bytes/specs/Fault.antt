@@ -10,14 +10,14 @@ use Rattle.wasm_below_bytes.specs.Source.{Reader, rest, NoPrefix, Reads}
 abbrev pub HasFault : (Message → Reader → ℕ → Type 0) → Error → Reader → Type 0
 HasFault Fault e r = e.message ≢ message.OutOfMemory → Fault e.message r e.offset
 
--- The first part is read, and what follows it has the fault `Behind`.
-abbrev pub FaultBehind : {X : Type 0} → (List ℕ → X → Type 0) → (X → Message → Reader → ℕ → Type 0) → Message → Reader → ℕ → Type 0
-FaultBehind {X} First Behind m r offset = (x : X) × (new : Reader) × Reads First (Ok x) r new × Behind x m new offset
+-- The first part is read, and what follows it has the fault `After`.
+abbrev pub FaultAfter : {X : Type 0} → (List ℕ → X → Type 0) → (X → Message → Reader → ℕ → Type 0) → Message → Reader → ℕ → Type 0
+FaultAfter {X} First After m r offset = (x : X) × (new : Reader) × Reads First (Ok x) r new × After x m new offset
 
 -- The fault of a sequence of parts. Either no prefix encodes the first part, and the first part has
--- its fault. Or the first part is read, and what follows it has the fault `Behind`.
+-- its fault. Or the first part is read, and what follows it has the fault `After`.
 abbrev pub ThenFault : {X : Type 0} → (List ℕ → X → Type 0) → (Message → Reader → ℕ → Type 0) → (X → Message → Reader → ℕ → Type 0) → Message → Reader → ℕ → Type 0
-ThenFault First FirstFault Behind m r offset = (NoPrefix First (rest r) × FirstFault m r offset) ⊎ FaultBehind First Behind m r offset
+ThenFault First FirstFault After m r offset = (NoPrefix First (rest r) × FirstFault m r offset) ⊎ FaultAfter First After m r offset
 
 -- The fault of a sequence of `n` values of one kind.
 abbrev pub ManyFault : {X : Type 0} → (List ℕ → X → Type 0) → (Message → Reader → ℕ → Type 0) → ℕ → Message → Reader → ℕ → Type 0

@@ -24,10 +24,10 @@ low_bits (c ∷ text) = 128 * low_bits text + (c - 128)
 abbrev pub signed_value : ℕ → ℕ → ℕ → ℤ
 signed_value low unit last = with_sign (ltb last 64) (low + last * unit) (128 * unit)
 
--- The buffer has the bytes `text` from position `start` up to position `behind`.
-pub record StandsAt (buffer : List ℕ) (start behind : ℕ) (text : List ℕ) : Type 0 where
-  pub parts : drop start buffer ≡ text ++ drop behind buffer
-  pub ends : behind ≡ start + length text
+-- The buffer has the bytes `text` from position `start` up to position `after`.
+pub record OccursAt (buffer : List ℕ) (start after : ℕ) (text : List ℕ) : Type 0 where
+  pub parts : drop start buffer ≡ text ++ drop after buffer
+  pub ends : after ≡ start + length text
 
 -- The groups of seven bits of a number of at most `width` bits.
 pub record IsGroups (buffer : List ℕ) (start width : ℕ) (groups : Groups) : Type 0 where
@@ -37,7 +37,7 @@ pub record IsGroups (buffer : List ℕ) (start width : ℕ) (groups : Groups) : 
   pub shift : groups.shift ≡ 7 * length text
   pub narrow : groups.shift < width
   pub small : groups.last < 128
-  pub stands : StandsAt buffer start groups.behind (text ++ groups.last ∷ [])
+  pub occurs : OccursAt buffer start groups.after (text ++ groups.last ∷ [])
 
 -- There are no such groups, for this reason.
 -- `EndOfData`: all bytes up to the end of the data are continuation bytes, and the width allows
@@ -48,9 +48,9 @@ RefusesGroups refusal.EndOfData width buffer start = AllGoOn (drop start buffer)
 RefusesGroups refusal.TooLong width buffer start = (text after : List ℕ) × (c : ℕ) × AllGoOn text × (128 ≤ c) × (length text ≡ (width - 1) / 7) × (drop start buffer ≡ text ++ c ∷ after)
 RefusesGroups refusal.TooLarge width buffer start = ⊥
 
--- The buffer has an encoding of x from position `start` up to position `behind`.
+-- The buffer has an encoding of x from position `start` up to position `after`.
 abbrev pub NumberAt : {X : Type 0} → (List ℕ → X → Type 0) → List ℕ → ℕ → X → ℕ → Type 0
-NumberAt Encodes buffer start x behind = (text : List ℕ) × Encodes text x × StandsAt buffer start behind text
+NumberAt Encodes buffer start x after = (text : List ℕ) × Encodes text x × OccursAt buffer start after text
 
 -- No prefix of the bytes encodes a value, whatever bytes follow them.
 abbrev pub NeverBegins : {X : Type 0} → (List ℕ → X → Type 0) → List ℕ → Type 0

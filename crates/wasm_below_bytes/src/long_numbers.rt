@@ -24,21 +24,21 @@ pub struct Groups {
     pub shift: u32,
     pub last: u8,
     /// The position after the last byte.
-    pub behind: usize,
+    pub after: usize,
 }
 
 /// A number, and the position after it.
 #[derive(Clone, Copy)]
 pub struct Unsigned {
     pub value: u64,
-    pub behind: usize,
+    pub after: usize,
 }
 
 /// A signed number, and the position after it.
 #[derive(Clone, Copy)]
 pub struct Signed {
     pub value: i64,
-    pub behind: usize,
+    pub after: usize,
 }
 
 /// Returns the error of a number of at most this many bits. `start` is the offset of the number,
@@ -73,8 +73,8 @@ pub fn number_error(
 /// Reads the unsigned number at this position if it has two bytes.
 #[inline(always)]
 pub fn two_bytes(buffer: &[u8], start: usize) -> Option<Unsigned>
-    ensures of_32 { IfSome result (λ n. NumberAt (EncodesUnsigned 32) buffer.now start n.value n.behind) }
-    ensures of_64 { IfSome result (λ n. NumberAt (EncodesUnsigned 64) buffer.now start n.value n.behind) }
+    ensures of_32 { IfSome result (λ n. NumberAt (EncodesUnsigned 32) buffer.now start n.value n.after) }
+    ensures of_64 { IfSome result (λ n. NumberAt (EncodesUnsigned 64) buffer.now start n.value n.after) }
     ensures within { IfSome result (λ n. n.value < 2 ^ 14) }
 {
     if start >= buffer.len() || start + 1 >= buffer.len() {
@@ -87,14 +87,14 @@ pub fn two_bytes(buffer: &[u8], start: usize) -> Option<Unsigned>
     }
     Some(Unsigned {
         value: u64::from(first - 128) + 128 * u64::from(last),
-        behind: start + 2,
+        after: start + 2,
     })
 }
 
 /// Reads the unsigned number of 32 bits at this position.
 #[inline(always)]
 pub fn u32_at(buffer: &[u8], start: usize) -> Result<Unsigned, NumberRefusal>
-    ensures number { IfOk result (λ n. NumberAt (EncodesUnsigned 32) buffer.now start n.value n.behind) }
+    ensures number { IfOk result (λ n. NumberAt (EncodesUnsigned 32) buffer.now start n.value n.after) }
     ensures within { IfOk result (λ n. n.value < 2 ^ 32) }
     ensures refused { IfErr result (λ r. NoNumber (EncodesUnsigned 32) r 32 buffer.now start) }
 {
@@ -103,7 +103,7 @@ pub fn u32_at(buffer: &[u8], start: usize) -> Result<Unsigned, NumberRefusal>
 
 /// Reads the signed number of 32 bits at this position.
 pub fn long_i32(buffer: &[u8], start: usize) -> Result<Signed, NumberRefusal>
-    ensures number { IfOk result (λ n. NumberAt (EncodesSigned 32) buffer.now start n.value n.behind) }
+    ensures number { IfOk result (λ n. NumberAt (EncodesSigned 32) buffer.now start n.value n.after) }
     ensures within { IfOk result (λ n. FitsWidth 32 n.value) }
     ensures refused { IfErr result (λ r. NoNumber (EncodesSigned 32) r 32 buffer.now start) }
 {
@@ -112,7 +112,7 @@ pub fn long_i32(buffer: &[u8], start: usize) -> Result<Signed, NumberRefusal>
 
 /// Reads the signed number of 33 bits at this position.
 pub fn long_s33(buffer: &[u8], start: usize) -> Result<Signed, NumberRefusal>
-    ensures number { IfOk result (λ n. NumberAt (EncodesSigned 33) buffer.now start n.value n.behind) }
+    ensures number { IfOk result (λ n. NumberAt (EncodesSigned 33) buffer.now start n.value n.after) }
     ensures refused { IfErr result (λ r. NoNumber (EncodesSigned 33) r 33 buffer.now start) }
 {
     read_signed(buffer, start, 33)
@@ -123,7 +123,7 @@ pub fn long_s33(buffer: &[u8], start: usize) -> Result<Signed, NumberRefusal>
 pub fn read_unsigned(buffer: &[u8], start: usize, bits: u32) -> Result<Unsigned, NumberRefusal>
     requires low { 0 < bits }
     requires high { bits ≤ 64 }
-    ensures number { IfOk result (λ n. NumberAt (EncodesUnsigned bits) buffer.now start n.value n.behind) }
+    ensures number { IfOk result (λ n. NumberAt (EncodesUnsigned bits) buffer.now start n.value n.after) }
     ensures within { IfOk result (λ n. n.value < 2 ^ bits) }
     ensures refused { IfErr result (λ r. NoNumber (EncodesUnsigned bits) r bits buffer.now start) }
 {
@@ -136,7 +136,7 @@ pub fn read_unsigned(buffer: &[u8], start: usize, bits: u32) -> Result<Unsigned,
     }
     Ok(Unsigned {
         value: join_unsigned(groups.low, groups.shift, groups.last),
-        behind: groups.behind,
+        after: groups.after,
     })
 }
 
@@ -145,7 +145,7 @@ pub fn read_unsigned(buffer: &[u8], start: usize, bits: u32) -> Result<Unsigned,
 pub fn read_signed(buffer: &[u8], start: usize, bits: u32) -> Result<Signed, NumberRefusal>
     requires low { 0 < bits }
     requires high { bits ≤ 64 }
-    ensures number { IfOk result (λ n. NumberAt (EncodesSigned bits) buffer.now start n.value n.behind) }
+    ensures number { IfOk result (λ n. NumberAt (EncodesSigned bits) buffer.now start n.value n.after) }
     ensures within { IfOk result (λ n. FitsWidth bits n.value) }
     ensures refused { IfErr result (λ r. NoNumber (EncodesSigned bits) r bits buffer.now start) }
 {
@@ -158,7 +158,7 @@ pub fn read_signed(buffer: &[u8], start: usize, bits: u32) -> Result<Signed, Num
     }
     Ok(Signed {
         value: join_signed(groups.low, groups.shift, groups.last),
-        behind: groups.behind,
+        after: groups.after,
     })
 }
 
@@ -184,7 +184,7 @@ fn read_groups(buffer: &[u8], start: usize, bits: u32) -> Result<Groups, NumberR
                 low,
                 shift,
                 last: byte,
-                behind: position,
+                after: position,
             });
         }
         low += u64::from(byte - 128) << shift;
@@ -201,7 +201,7 @@ fn read_groups(buffer: &[u8], start: usize, bits: u32) -> Result<Groups, NumberR
         low,
         shift,
         last,
-        behind: position + 1,
+        after: position + 1,
     })
 }
 

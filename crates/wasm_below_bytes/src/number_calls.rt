@@ -15,15 +15,15 @@ use crate::message::NumberName;
 /// Reads the unsigned number of 32 bits at this position.
 #[inline(never)]
 pub fn long_u32(buffer: &[u8], start: usize) -> Unsigned
-    ensures number { 0 < result.behind → NumberAt (EncodesUnsigned 32) buffer.now start result.value result.behind }
-    ensures within { 0 < result.behind → result.value < 2 ^ 32 }
-    ensures refused { result.behind ≡ 0 → NoNumber (EncodesUnsigned 32) (refusal_of_code result.value) 32 buffer.now start }
+    ensures number { 0 < result.after → NumberAt (EncodesUnsigned 32) buffer.now start result.value result.after }
+    ensures within { 0 < result.after → result.value < 2 ^ 32 }
+    ensures refused { result.after ≡ 0 → NoNumber (EncodesUnsigned 32) (refusal_of_code result.value) 32 buffer.now start }
 {
     match read_unsigned(buffer, start, 32) {
         Ok(number) => number,
         Err(refusal) => Unsigned {
             value: u64::from(refusal_code(refusal)),
-            behind: 0,
+            after: 0,
         },
     }
 }
@@ -31,14 +31,14 @@ pub fn long_u32(buffer: &[u8], start: usize) -> Unsigned
 /// Reads the unsigned number of 64 bits at this position.
 #[inline(never)]
 pub fn long_u64(buffer: &[u8], start: usize) -> Unsigned
-    ensures number { 0 < result.behind → NumberAt (EncodesUnsigned 64) buffer.now start result.value result.behind }
-    ensures refused { result.behind ≡ 0 → NoNumber (EncodesUnsigned 64) (refusal_of_code result.value) 64 buffer.now start }
+    ensures number { 0 < result.after → NumberAt (EncodesUnsigned 64) buffer.now start result.value result.after }
+    ensures refused { result.after ≡ 0 → NoNumber (EncodesUnsigned 64) (refusal_of_code result.value) 64 buffer.now start }
 {
     match read_unsigned(buffer, start, 64) {
         Ok(number) => number,
         Err(refusal) => Unsigned {
             value: u64::from(refusal_code(refusal)),
-            behind: 0,
+            after: 0,
         },
     }
 }
@@ -46,14 +46,14 @@ pub fn long_u64(buffer: &[u8], start: usize) -> Unsigned
 /// Reads the signed number of 64 bits at this position.
 #[inline(never)]
 pub fn long_i64(buffer: &[u8], start: usize) -> Signed
-    ensures number { 0 < result.behind → NumberAt (EncodesSigned 64) buffer.now start result.value result.behind }
-    ensures refused { result.behind ≡ 0 → NoNumber (EncodesSigned 64) (refusal_of_code (unsigned_abs result.value)) 64 buffer.now start }
+    ensures number { 0 < result.after → NumberAt (EncodesSigned 64) buffer.now start result.value result.after }
+    ensures refused { result.after ≡ 0 → NoNumber (EncodesSigned 64) (refusal_of_code (unsigned_abs result.value)) 64 buffer.now start }
 {
     match read_signed(buffer, start, 64) {
         Ok(number) => number,
         Err(refusal) => Signed {
             value: i64::from(refusal_code(refusal)),
-            behind: 0,
+            after: 0,
         },
     }
 }

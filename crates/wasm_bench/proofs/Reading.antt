@@ -46,13 +46,13 @@ others : {X : Type 0} (Encodes : List ℕ → X → Type 0) → PrefixCode Encod
     (text after : List ℕ) (done values : List X) → EncodesEach Encodes text done → EncodesEach Encodes (text ++ after) values →
     (more : List X) × (values ≡ done ++ more) × EncodesEach Encodes after more
 others Encodes code some text after [] values p q = (values, refl, subst (λ z. EncodesEach Encodes z values) (ap (λ z. z ++ after) p) q)
-others Encodes code some text after (x ∷ done) [] (first, behind, e, p, ps) q =
-    absurd (omega (arith, some first x p, ap length q, length-append text after, ap length e, length-append first behind))
+others Encodes code some text after (x ∷ done) [] (first, later, e, p, ps) q =
+    absurd (omega (arith, some first x p, ap length q, length-append text after, ap length e, length-append first later))
 others Encodes code some text after (x ∷ done) (y ∷ values) (a1, a2, ea, pa, qa) (b1, b2, eb, pb, qb) =
     let whole : a1 ++ (a2 ++ after) ≡ b1 ++ b2 = sym (append_assoc a1 a2 after) ∙ ap (λ z. z ++ after) (sym ea) ∙ eb in
     let o = code a1 b1 (a2 ++ after) b2 x y pa pb whole in
-    let behind : a2 ++ after ≡ b2 = same_rest a1 b1 (a2 ++ after) b2 o.0 whole in
-    let t = others Encodes code some a2 after done values qa (subst (λ z. EncodesEach Encodes z values) (sym behind) qb) in
+    let later : a2 ++ after ≡ b2 = same_rest a1 b1 (a2 ++ after) b2 o.0 whole in
+    let t = others Encodes code some a2 after done values qa (subst (λ z. EncodesEach Encodes z values) (sym later) qb) in
     (t.0, cc (o.1, t.1), t.2)
 
 none_of : {X : Type 0} (Encodes : List ℕ → X → Type 0) (counts : X → ℕ) (done : List X) (more : List X) → more ≡ [] →

@@ -19,7 +19,7 @@ impl Visitor for CountAny {
     type Output = ();
 
     // A visit adds one.
-    ghost visits = { λ before op answer after. before.operators < 2 ^ 64 - 1 → after.operators ≡ before.operators + 1 };
+    ghost visits = { λ before op outcome after. before.operators < 2 ^ 64 - 1 → after.operators ≡ before.operators + 1 };
 
     #[inline(always)]
     fn visit_any(&mut self, _op: Operator<'static>) {
@@ -49,7 +49,7 @@ impl Visitor for CountSome {
     type Output = ();
 
     // A visit adds one.
-    ghost visits = { λ before op answer after. before.operators < 2 ^ 64 - 1 → after.operators ≡ before.operators + 1 };
+    ghost visits = { λ before op outcome after. before.operators < 2 ^ 64 - 1 → after.operators ≡ before.operators + 1 };
 
     #[inline(always)]
     fn visit_any(&mut self, _op: Operator<'static>) {

@@ -6,21 +6,21 @@ use Rattle.wasm_operators.specs.instr.declared.operator.Operator.{Operator}
 use Rattle.wasm_operators.specs.opcodes.Allowed.{EncodesAllowed}
 use Rattle.wasm_operators.specs.opcodes.OperatorFaults.{OperatorFault}
 use Rattle.wasm_operators.specs.Expression.{Placed, IsAny}
-use Rattle.wasm_operators.specs.Headline.{StoodBefore, ReadsTree, ReadsBeginning}
+use Rattle.wasm_operators.specs.MainTheorem.{ReadSoFar, ReadsTree, ReadsBeginning}
 use Rattle.wasm_operators.specs.Next.{NextMayAllocate}
 use Rattle.wasm_operators.specs.Reading.{State, IsFresh, TakesOperators, StopsRead, StopsRun, Anywhere}
 
 -- `fresh_readers`
 abbrev pub Fresh : Type 0
-Fresh = (s : State) → IsFresh s → StoodBefore [] s
+Fresh = (s : State) → IsFresh s → ReadSoFar [] s
 
 -- `read_to_the_end`
 abbrev pub OfTree : Type 0
-OfTree = (before : List Operator) (old new : State) (placed : Placed) → StoodBefore before old → TakesOperators old new placed → new.frames ≡ [] →
+OfTree = (before : List Operator) (old new : State) (placed : Placed) → ReadSoFar before old → TakesOperators old new placed → new.frames ≡ [] →
     rest new.reader ≡ [] → ReadsTree before old new placed
 
 abbrev pub OfBeginning : Type 0
-OfBeginning = (before : List Operator) (e : Error) (old new : State) (placed : Placed) → StoodBefore before old → TakesOperators old new placed →
+OfBeginning = (before : List Operator) (e : Error) (old new : State) (placed : Placed) → ReadSoFar before old → TakesOperators old new placed →
     StopsRun EncodesAllowed OperatorFault Anywhere e new → ReadsBeginning IsAny EncodesAllowed OperatorFault Anywhere before e old new placed
 
 abbrev pub OfStops : Type 0

@@ -6,13 +6,13 @@ use Rattle.wasm_operators.specs.Visiting.{VisitRun, Visited}
 use Rattle.wasm_view.specs.View.{views}
 use Rattle.wasm_view.specs.declared.view.WasmOperator.{WasmOperator}
 use Rattle.wasm_view.specs.Lists.{written}
-use Rattle.wasm_c.proofs.Written.{written_behind, views_join, views_length}
+use Rattle.wasm_c.proofs.Written.{written_after, views_join, views_length}
 
-counted_run : {V A : Type 0} (total : V → ℕ) (placed : Placed) (answers : List A) (before after : V) →
-    VisitRun (λ (s : V) (op : Operator) (a : A) (t : V). total s < 2 ^ 64 - 1 → total t ≡ total s + 1) before placed answers after →
+counted_run : {V A : Type 0} (total : V → ℕ) (placed : Placed) (outcomes : List A) (before after : V) →
+    VisitRun (λ (s : V) (op : Operator) (a : A) (t : V). total s < 2 ^ 64 - 1 → total t ≡ total s + 1) before placed outcomes after →
     total before + length placed < 2 ^ 64 → total after ≡ total before + length placed
-counted_run total [] answers before after run few = ap total run.1 ∙ omega arith
-counted_run total (p ∷ ps) answers before after (first, others, between, is, visit, run) few =
+counted_run total [] outcomes before after run few = ap total run.1 ∙ omega arith
+counted_run total (p ∷ ps) outcomes before after (first, others, between, is, visit, run) few =
     let one : total between ≡ total before + 1 = visit (omega arith) in
     let rest = counted_run total ps others between after run (omega (arith, few, one)) in
     omega (arith, one, rest)
@@ -20,9 +20,9 @@ counted_run total (p ∷ ps) answers before after (first, others, between, is, v
 pub counted_on : {V A : Type 0} (total : V → ℕ) (found more : Placed) (before after : V) →
     Visited {A = A} (λ s op a t. total s < 2 ^ 64 - 1 → total t ≡ total s + 1) before after more → total before ≡ length found →
     length (found ++ more) < 2 ^ 64 → total after ≡ length (found ++ more)
-counted_on total found more before after (answers, run) first few =
+counted_on total found more before after (outcomes, run) first few =
     let sum = length-append found more in
-    let all = counted_run total more answers before after run (omega (arith, few, sum, first)) in
+    let all = counted_run total more outcomes before after run (omega (arith, few, sum, first)) in
     omega (arith, all, sum, first)
 
 drop_all : {X : Type 0} (list : List X) (n : ℕ) → length list ≤ n → drop n list ≡ []
@@ -37,7 +37,7 @@ pub array_full : (found more : Placed) (old new : List WasmOperator) → length 
     new ≡ written (views (found ++ more)) old
 array_full found more old new full is =
     let room : length (views found) ≤ length old = omega (arith, views_length found, full) in
-    let behind : drop (length found) old ≡ [] = drop_all old (length found) (omega (arith, full)) in
+    let after : drop (length found) old ≡ [] = drop_all old (length found) (omega (arith, full)) in
     let others : drop (length (views found)) old ≡ [] = drop_all old (length (views found)) (omega (arith, views_length found, full)) in
-    is ∙ ap (λ list. views found ++ list) (behind ∙ sym (ap (written (views more)) others)) ∙ sym (written_behind (views found) (views more) old room) ∙
+    is ∙ ap (λ list. views found ++ list) (after ∙ sym (ap (written (views more)) others)) ∙ sym (written_after (views found) (views more) old room) ∙
     ap (λ list. written list old) (sym (views_join found more))

@@ -5,12 +5,12 @@ use Rattle.wasm_operators.specs.below.bytes.features.WasmFeatures.{WasmFeatures}
 use Rattle.wasm_operators.specs.below.Source.{Source, Reader, rest, offset_of, source_of, end_of}
 use Rattle.wasm_operators.specs.opcodes.Allowed.{EncodesAllowed}
 use Rattle.wasm_operators.specs.opcodes.OperatorFaults.{OperatorFault}
-use Rattle.wasm_operators.specs.Body.{source_behind, EncodesBody, OpensBody, StopsBody}
+use Rattle.wasm_operators.specs.Body.{source_after, EncodesBody, OpensBody, StopsBody}
 use Rattle.wasm_operators.specs.Expression.{Placed, OfPlaced, EncodesExpression}
 use Rattle.wasm_operators.specs.Locals.{Declaration, IsPastLocals, RefusesLocals}
 use Rattle.wasm_operators.specs.Reading.{State, Adds, Anywhere, TakesOperators, EndsRun, RunsToEnd}
 use Rattle.wasm_operators.specs.Next.{NextMayAllocate}
-use Rattle.wasm_operators.specs.Headline.{StoodBefore}
+use Rattle.wasm_operators.specs.MainTheorem.{ReadSoFar}
 use Rattle.wasm_operators.specs.Laws.{TakesBoth, IsNoLonger}
 use Rattle.wasm_c.specs.Reads.{EndsBody, EndsOperators}
 use Rattle.wasm_c.proofs.Cited.{OfTree, OfBeginning, OfStops}
@@ -22,28 +22,28 @@ ends_anywhere law (Ok x) s h = h
 ends_anywhere law (Err e) s (inl left) = inl left
 ends_anywhere law (Err e) s (inr (some, stops)) = inr (some, law e s stops)
 
-ends_run : {X : Type 0} → OfTree → OfBeginning → (result : Result X Error) (opened new : State) (all : Placed) → StoodBefore [] opened →
+ends_run : {X : Type 0} → OfTree → OfBeginning → (result : Result X Error) (opened new : State) (all : Placed) → ReadSoFar [] opened →
     TakesOperators opened new all → EndsRun EncodesAllowed OperatorFault Anywhere result new → EndsOperators result opened all
-ends_run tree beginning (Ok x) opened new all stood ran (closed, taken) = (tree [] opened new all stood ran closed taken).encodes
-ends_run tree beginning (Err e) opened new all stood ran stops = (new, beginning [] e opened new all stood ran stops)
+ends_run tree beginning (Ok x) opened new all read_so_far ran (closed, taken) = (tree [] opened new all read_so_far ran closed taken).encodes
+ends_run tree beginning (Err e) opened new all read_so_far ran stops = (new, beginning [] e opened new all read_so_far ran stops)
 
 -- The operators found before, and those read to the end after them.
 pub ends_joined : {X : Type 0} → TakesBoth → OfTree → OfBeginning → (result : Result X Error) (opened old new : State) (found more : Placed) →
-    StoodBefore [] opened → TakesOperators opened old found → RunsToEnd (Adds [] more) EncodesAllowed OperatorFault Anywhere result old new →
+    ReadSoFar [] opened → TakesOperators opened old found → RunsToEnd (Adds [] more) EncodesAllowed OperatorFault Anywhere result old new →
     EndsOperators result opened (found ++ more)
-ends_joined joined tree beginning result opened old new found more stood ran (placed, came, on, ends) =
+ends_joined joined tree beginning result opened old new found more read_so_far ran (placed, came, on, ends) =
     subst (λ list. EndsOperators result opened (found ++ list)) (sym came)
-    (ends_run tree beginning result opened new (found ++ placed) stood (joined opened old new found placed ran on) ends)
+    (ends_run tree beginning result opened new (found ++ placed) read_so_far (joined opened old new found placed ran on) ends)
 
 -- The same if the later operators are visited.
-pub ends_visited : {X : Type 0} (Happened : OfPlaced) → TakesBoth → OfTree → OfBeginning → OfStops → (result : Result X Error) (opened old new : State)
-    (found : Placed) → StoodBefore [] opened → TakesOperators opened old found →
-    RunsToEnd Happened EncodesAllowed OperatorFault (NextMayAllocate EncodesAllowed) result old new →
-    (more : Placed) × Happened more × EndsOperators result opened (found ++ more)
-ends_visited Happened joined tree beginning stops result opened old new found stood ran (placed, happened, on, ends) = (
+pub ends_visited : {X : Type 0} (Effect : OfPlaced) → TakesBoth → OfTree → OfBeginning → OfStops → (result : Result X Error) (opened old new : State)
+    (found : Placed) → ReadSoFar [] opened → TakesOperators opened old found →
+    RunsToEnd Effect EncodesAllowed OperatorFault (NextMayAllocate EncodesAllowed) result old new →
+    (more : Placed) × Effect more × EndsOperators result opened (found ++ more)
+ends_visited Effect joined tree beginning stops result opened old new found read_so_far ran (placed, effect, on, ends) = (
   placed,
-  happened,
-  ends_run tree beginning result opened new (found ++ placed) stood (joined opened old new found placed ran on) (ends_anywhere stops result new ends),
+  effect,
+  ends_run tree beginning result opened new (found ++ placed) read_so_far (joined opened old new found placed ran on) (ends_anywhere stops result new ends),
 )
 
 -- The number of operators is at most that of the bytes.
@@ -62,12 +62,12 @@ abbrev source : WasmFeatures → ℕ → List ℕ → Source
 source features offset bytes = record { features = features; offset = offset; bytes = bytes }
 
 -- The locals of a body, followed by its expression.
-body_behind : (body opened : Reader) (declarations : List Declaration) (placed : Placed) → IsPastLocals declarations body opened →
+body_after_locals : (body opened : Reader) (declarations : List Declaration) (placed : Placed) → IsPastLocals declarations body opened →
     EncodesExpression (source_of opened) placed → EncodesBody (source_of body) declarations placed
-body_behind body opened declarations placed (text, encodes, takes) h =
+body_after_locals body opened declarations placed (text, encodes, takes) h =
     let features : opened.features ≡ body.features = ap (λ (r : Reader). r.features) takes.moved in
     let offset : offset_of opened ≡ offset_of body + length text = ap offset_of takes.moved ∙ omega arith in
-    let same : source_of opened ≡ source_behind (source_of body) text (rest opened) =
+    let same : source_of opened ≡ source_after (source_of body) text (rest opened) =
     ap (λ f. source f (offset_of opened) (rest opened)) features ∙ ap (λ o. source body.features o (rest opened)) offset in
     record {
       locals = text;
@@ -83,7 +83,7 @@ opened_features body opened ((declarations, (text, encodes, takes)), fresh) = ap
 -- The operators of a body whose locals were read.
 pub ends_body : {X : Type 0} (result : Result X Error) (body : Reader) (opened : State) (placed : Placed) → OpensBody (Ok opened) body →
     EndsOperators result opened placed → EndsBody result body placed
-ends_body (Ok x) body opened placed ((declarations, past), fresh) h = (declarations, body_behind body opened.reader declarations placed past h)
+ends_body (Ok x) body opened placed ((declarations, past), fresh) h = (declarations, body_after_locals body opened.reader declarations placed past h)
 ends_body (Err e) body opened placed opens h = inr (record { opened = opened; opens = opens; stopped = h.0; reads = h.1 })
 
 -- A body whose locals are an error.

@@ -5,7 +5,7 @@ pub mod Filled
 pub mod Counted
 pub mod Puts
 pub mod Digits
-pub mod Told
+pub mod Reported
 pub mod Stepped
 pub mod Steps
 pub mod Batch

@@ -6,10 +6,10 @@ use Rattle.wasm_operators.specs.below.Source.{Reader, rest}
 use Rattle.wasm_operators.specs.grammar.declared.frame_kind.FrameKind.TheVariants as frame
 use Rattle.wasm_operators.specs.instr.declared.operator.Operator.{Operator}
 use Rattle.wasm_operators.specs.Single.{PeeksOperator}
-use Rattle.wasm_view.specs.Lists.{AnswersMembers}
+use Rattle.wasm_view.specs.Lists.{ReturnsMembers}
 use Rattle.wasm_c.specs.declared.refusal.WasmRefusal.{WasmRefusal}
 use Rattle.wasm_c.specs.Refused.{no_refusal, refusal_of, misuse}
-use Rattle.wasm_c.specs.Members.{bytes_at, StandsThere, RefusesThere, AnswersThere, Unchanged, AtOffset, ReadsAt, TellsMembers, FindsMembers, AnswersList}
+use Rattle.wasm_c.specs.Members.{bytes_at, OccursThere, RefusesThere, ReturnsThere, Unchanged, AtOffset, ReadsAt, ReportsMembers, FindsMembers, ReturnsList}
 
 abbrev refusal_in : {X : Type 0} → WasmRefusal → Result X WasmRefusal → WasmRefusal
 refusal_in other (Ok x) = other
@@ -39,66 +39,66 @@ abbrev no_operator : WasmRefusal → Result Operator WasmRefusal
 no_operator r = Err r
 
 -- An operator that was read is encoded here.
-pub stands_there : (op : Operator) (ahead : Reader) → PeeksOperator (Some frame.Block) (Ok op) ahead → StandsThere ahead op
-stands_there op ahead (behind, (text, encodes, takes)) = (text, rest behind, takes.parts, encodes.0)
+pub occurs_there : (op : Operator) (ahead : Reader) → PeeksOperator (Some frame.Block) (Ok op) ahead → OccursThere ahead op
+occurs_there op ahead (after, (text, encodes, takes)) = (text, rest after, takes.parts, encodes.0)
 
 -- A read that failed is an error here.
 pub refuses_there : (e : Error) (r : WasmRefusal) (ahead : Reader) → PeeksOperator (Some frame.Block) (Err e) ahead → r ≡ refusal_of e → RefusesThere r ahead
-refuses_there e r ahead (behind, (same, refused, fault)) is = (e, is, (refl, refused, fault))
+refuses_there e r ahead (after, (same, refused, fault)) is = (e, is, (refl, refused, fault))
 
 -- A statement about a call at an offset follows from a stronger one.
-at_offset : (Misuse Refuses : ℕ → ℕ → Type 0) (There Stands : Reader → Type 0) (bytes : List ℕ) (offset features at : ℕ) →
-    ((number place : ℕ) → Misuse number place → Refuses number place) → ((input : Reader) → There input → Stands input) →
-    AtOffset Misuse There bytes offset features at → AtOffset Refuses Stands bytes offset features at
-at_offset Misuse Refuses There Stands bytes offset features at refused stood h = record {
+at_offset : (Misuse Refuses : ℕ → ℕ → Type 0) (There Occurs : Reader → Type 0) (bytes : List ℕ) (offset features at : ℕ) →
+    ((number place : ℕ) → Misuse number place → Refuses number place) → ((input : Reader) → There input → Occurs input) →
+    AtOffset Misuse There bytes offset features at → AtOffset Refuses Occurs bytes offset features at
+at_offset Misuse Refuses There Occurs bytes offset features at refused occurs h = record {
   unknown = λ more. refused 100 offset (h.unknown more);
   past = λ known long. refused 101 offset (h.past known long);
   before = λ known within low. refused 104 at (h.before known within low);
-  behind = λ known within high. refused 104 at (h.behind known within high);
-  there = λ known within low high. stood (bytes_at bytes offset features at) (h.there known within low high);
+  after = λ known within high. refused 104 at (h.after known within high);
+  there = λ known within low high. occurs (bytes_at bytes offset features at) (h.there known within low high);
 }
 
 -- The operator that was read from the bytes at the offset.
 pub reads_ahead : (result : Result Operator WasmRefusal) (ahead : Reader) (bytes : List ℕ) (offset features at : ℕ) →
-    FindsBytes (some_bytes ahead) bytes offset features at → AnswersThere result ahead → ReadsAt result bytes offset features at
-reads_ahead result ahead bytes offset features at found answers =
+    FindsBytes (some_bytes ahead) bytes offset features at → ReturnsThere result ahead → ReadsAt result bytes offset features at
+reads_ahead result ahead bytes offset features at found outcomes =
     at_offset (λ number place. some_bytes ahead ≡ Err (misuse number place)) (λ number place. result ≡ Err (misuse number place))
-    (λ input. some_bytes ahead ≡ Ok input) (AnswersThere result) bytes offset features at (λ number place is. absurd (cc is))
-    (λ input is. subst (AnswersThere result) (ap (reader_in ahead) is) answers) found
+    (λ input. some_bytes ahead ≡ Ok input) (ReturnsThere result) bytes offset features at (λ number place is. absurd (cc is))
+    (λ input is. subst (ReturnsThere result) (ap (reader_in ahead) is) outcomes) found
 
 -- There are no bytes at the offset.
 pub reads_nothing : (r : WasmRefusal) (bytes : List ℕ) (offset features at : ℕ) → FindsBytes (no_bytes r) bytes offset features at →
     ReadsAt (Err r) bytes offset features at
 reads_nothing r bytes offset features at found =
     at_offset (λ number place. no_bytes r ≡ Err (misuse number place)) (λ number place. no_operator r ≡ Err (misuse number place))
-    (λ input. no_bytes r ≡ Ok input) (AnswersThere (Err r)) bytes offset features at (λ number place is. ap Err (ap (refusal_in r) is))
+    (λ input. no_bytes r ≡ Ok input) (ReturnsThere (Err r)) bytes offset features at (λ number place is. ap Err (ap (refusal_in r) is))
     (λ input is. absurd (cc is)) found
 
-tells : {X : Type 0} (members : Option (List X)) (found : Option ℕ) (r : WasmRefusal) (at index count_old count_new : ℕ) (old new : List X) →
-    AnswersMembers members index old found new → IfSome found (λ n. (r ≡ no_refusal at) × (count_new ≡ n)) →
-    IfNone found ((r ≡ misuse 104 at) × (count_new ≡ count_old)) → TellsMembers members r at index count_old count_new old new
-tells None found r at index count_old count_new old new (is, same) some none =
-    let told = subst (λ f. IfNone f ((r ≡ misuse 104 at) × (count_new ≡ count_old))) is none in
-    (told.0, (told.1, same))
-tells (Some members) found r at index count_old count_new old new (count, is, places) some none =
-    let told = subst (λ f. IfSome f (λ n. (r ≡ no_refusal at) × (count_new ≡ n))) is some in
-    (told.0, (told.1 ∙ places.0, places.1))
+reports : {X : Type 0} (members : Option (List X)) (found : Option ℕ) (r : WasmRefusal) (at index count_old count_new : ℕ) (old new : List X) →
+    ReturnsMembers members index old found new → IfSome found (λ n. (r ≡ no_refusal at) × (count_new ≡ n)) →
+    IfNone found ((r ≡ misuse 104 at) × (count_new ≡ count_old)) → ReportsMembers members r at index count_old count_new old new
+reports None found r at index count_old count_new old new (is, same) some none =
+    let reported = subst (λ f. IfNone f ((r ≡ misuse 104 at) × (count_new ≡ count_old))) is none in
+    (reported.0, (reported.1, same))
+reports (Some members) found r at index count_old count_new old new (count, is, places) some none =
+    let reported = subst (λ f. IfSome f (λ n. (r ≡ no_refusal at) × (count_new ≡ n))) is some in
+    (reported.0, (reported.1 ∙ places.0, places.1))
 
 -- The list of the operator that was read.
 pub list_read : {X : Type 0} (members_of : Operator → Option (List X)) (op : Operator) (found : Option ℕ) (r : WasmRefusal) (bytes : List ℕ)
     (offset features at index count_old count_new : ℕ) (old new : List X) → ReadsAt (Ok op) bytes offset features at →
-    AnswersMembers (members_of op) index old found new → IfSome found (λ n. (r ≡ no_refusal at) × (count_new ≡ n)) →
-    IfNone found ((r ≡ misuse 104 at) × (count_new ≡ count_old)) → AnswersList members_of r bytes offset features at index count_old count_new old new
+    ReturnsMembers (members_of op) index old found new → IfSome found (λ n. (r ≡ no_refusal at) × (count_new ≡ n)) →
+    IfNone found ((r ≡ misuse 104 at) × (count_new ≡ count_old)) → ReturnsList members_of r bytes offset features at index count_old count_new old new
 list_read members_of op found r bytes offset features at index count_old count_new old new read placed some none =
     at_offset (λ number place. some_operator op ≡ Err (misuse number place)) (λ number place. (r ≡ misuse number place) × Unchanged count_old count_new old new)
-    (AnswersThere (Ok op)) (λ input. FindsMembers members_of r input at index count_old count_new old new) bytes offset features at
+    (ReturnsThere (Ok op)) (λ input. FindsMembers members_of r input at index count_old count_new old new) bytes offset features at
     (λ number place is. absurd (cc is))
-    (λ input stands. inl (op, stands, tells (members_of op) found r at index count_old count_new old new placed some none)) read
+    (λ input occurs. inl (op, occurs, reports (members_of op) found r at index count_old count_new old new placed some none)) read
 
 -- No operator was read.
 pub list_refused : {X : Type 0} (members_of : Operator → Option (List X)) (r : WasmRefusal) (bytes : List ℕ) (offset features at index count : ℕ)
-    (old : List X) → ReadsAt (Err r) bytes offset features at → AnswersList members_of r bytes offset features at index count count old old
+    (old : List X) → ReadsAt (Err r) bytes offset features at → ReturnsList members_of r bytes offset features at index count count old old
 list_refused members_of r bytes offset features at index count old read =
     at_offset (λ number place. no_operator r ≡ Err (misuse number place)) (λ number place. (r ≡ misuse number place) × Unchanged count count old old)
-    (AnswersThere (Err r)) (λ input. FindsMembers members_of r input at index count count old old) bytes offset features at
+    (ReturnsThere (Err r)) (λ input. FindsMembers members_of r input at index count count old old) bytes offset features at
     (λ number place is. (ap (refusal_in r) is, (refl, refl))) (λ input refuses. inr (refuses, (refl, refl))) read

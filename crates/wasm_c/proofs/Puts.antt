@@ -45,8 +45,8 @@ pub puts_both : (a b : List ℕ) (at middle end : ℕ) (old between new : List �
 puts_both a b at middle end old between new first second = (
   omega (arith, first.0, second.0, length-append a b),
   λ before room place is.
-      let behind : middle ≡ length (before ++ a) = omega (arith, first.0, place, length-append before a) in
-      second.1 (before ++ a) room behind (first.1 before room place is) ∙ ap (λ list. written list room) (append_assoc before a b),
+      let after : middle ≡ length (before ++ a) = omega (arith, first.0, place, length-append before a) in
+      second.1 (before ++ a) room after (first.1 before room place is) ∙ ap (λ list. written list room) (append_assoc before a b),
 )
 
 -- A whole text.

@@ -6,7 +6,7 @@ use Rattle.wasm_operators.specs.below.bytes.features.WasmFeatures.{WasmFeatures}
 use Rattle.wasm_operators.specs.instr.declared.operator.Operator.{Operator}
 use Rattle.wasm_operators.specs.instr.Encoding.{EncodesOperator}
 use Rattle.wasm_operators.specs.Expression.{Placed}
-use Rattle.wasm_operators.specs.Headline.{IsWithinDepth}
+use Rattle.wasm_operators.specs.MainTheorem.{IsWithinDepth}
 use Rattle.wasm_operators.specs.Laws.{AddsFewFrames}
 use Rattle.wasm_operators.specs.Openings.{opened_by}
 use Rattle.wasm_operators.specs.Reading.{State, IsFresh}
@@ -22,8 +22,8 @@ depth_along : AddsFewFrames → (old new : State) (placed : Placed) → ReadsEac
 depth_along law old new [] same = subst (λ s. IsWithinDepth old s) (sym same) (omega arith)
 depth_along law old new (p ∷ ps) (between, takes, at, others) =
     let first = law p.0 old between takes in
-    let behind = depth_along law between new ps others in
-    omega (arith, first, behind)
+    let after = depth_along law between new ps others in
+    omega (arith, first, after)
 
 pub room_along : AddsFewFrames → (features : WasmFeatures) → OpensHalf features → (bytes : List ℕ) (opened now : WasmReader) (frames_opened frames_now : List ℕ)
     (placed : Placed) → IsFresh (state_at bytes opened frames_opened) →

@@ -68,14 +68,14 @@ frames_stepped (o ∷ outer) kind role allowed =
     around o outer kind (change.Turns other) = refl
     around o outer kind change.Closes = refl
 
-innermost_behind : (first : FrameKind) (frames : List FrameKind) (kind : FrameKind) → innermost_in first (frames ++ kind ∷ []) ≡ kind
-innermost_behind first [] kind = refl
-innermost_behind first (f ∷ frames) kind = innermost_behind f frames kind
+innermost_after : (first : FrameKind) (frames : List FrameKind) (kind : FrameKind) → innermost_in first (frames ++ kind ∷ []) ≡ kind
+innermost_after first [] kind = refl
+innermost_after first (f ∷ frames) kind = innermost_after f frames kind
 
 -- The innermost frame is the last.
 pub innermost_last : (outer : List FrameKind) (kind : FrameKind) → innermost (outer ++ kind ∷ []) ≡ Some kind
 innermost_last [] kind = refl
-innermost_last (o ∷ outer) kind = ap Some (innermost_behind o outer kind)
+innermost_last (o ∷ outer) kind = ap Some (innermost_after o outer kind)
 
 outer_of : (first : FrameKind) (frames : List FrameKind) → (outer : List FrameKind) × (first ∷ frames ≡ outer ++ innermost_in first frames ∷ [])
 outer_of first [] = ([], refl)

@@ -82,9 +82,9 @@ pub takes_inside : (bytes : List ℕ) (old new : WasmReader) (frames_old frames_
     new.depth ≤ length frames_old → new.depth ≤ old.depth + 1 → ((OpensFrame change → ⊥) → new.depth ≤ old.depth) →
     length frames_new ≡ length frames_old → reader_at bytes new ≡ ahead →
     TakesOperator EncodesAllowed op (state_at bytes old frames_old) (state_at bytes new frames_new)
-takes_inside bytes old new frames_old frames_new ahead kind op text change some within inside encodes takes is changed fits most others same stands =
+takes_inside bytes old new frames_old frames_new ahead kind op text change some within inside encodes takes is changed fits most others same occurs =
     let last = last_innermost (kinds (take old.depth frames_old)) kind inside in
-    let behind : kinds (take new.depth frames_new) ≡ frames_changed last.0 kind (change_of (role_of op)) =
+    let later : kinds (take new.depth frames_new) ≡ frames_changed last.0 kind (change_of (role_of op)) =
     changed last.0 kind last.1 ∙ ap (frames_changed last.0 kind) is in
     let before : length (kinds (take old.depth frames_old)) ≡ old.depth = kinds_length frames_old old.depth within in
     let after : length (kinds (take new.depth frames_new)) ≡ new.depth = kinds_length frames_new new.depth (omega (arith, fits, same)) in
@@ -93,8 +93,8 @@ takes_inside bytes old new frames_old frames_new ahead kind op text change some 
       open_frame = inside;
       text = text;
       encodes = encodes;
-      takes = subst (λ r. Takes (reader_at bytes old) r text) (sym stands) takes;
-      frames = ap (λ frames. frames_after frames (role_of op)) last.1 ∙ frames_stepped last.0 kind (role_of op) encodes.1 ∙ ap Some (sym behind);
+      takes = subst (λ r. Takes (reader_at bytes old) r text) (sym occurs) takes;
+      frames = ap (λ frames. frames_after frames (role_of op)) last.1 ∙ frames_stepped last.0 kind (role_of op) encodes.1 ∙ ap Some (sym later);
       room = elim (opened_or_not (role_of op)) [
         | inl it ↦ omega (arith, it.1, some, within, fits, most, same)
         | inr stays ↦
@@ -127,19 +127,19 @@ Viewed r kind ahead view change = (op : Operator) × (text : List ℕ) × Encode
     (view ≡ view_of (op, offset_of r)) × (change ≡ change_of (role_of op))
 
 -- The position of the reader after the operator.
-stands_behind : (bytes : List ℕ) (old new : WasmReader) (ahead : Reader) (text : List ℕ) → Takes (reader_at bytes old) ahead text →
+reader_after : (bytes : List ℕ) (old new : WasmReader) (ahead : Reader) (text : List ℕ) → Takes (reader_at bytes old) ahead text →
     new.position ≡ ahead.position → new.offset ≡ old.offset → new.features ≡ old.features → reader_at bytes new ≡ ahead
-stands_behind bytes old new ahead text takes moved offset features =
+reader_after bytes old new ahead text takes moved offset features =
     ap (λ o. reader_at bytes (record new { offset = o })) offset ∙
     ap (λ f. reader_at bytes (record new { offset = old.offset; features = f })) features ∙ ap (at_position (reader_at bytes old)) moved ∙
     moved_to (reader_at bytes old) ahead text takes
 
-pub stands_plain : (bytes : List ℕ) (old new : WasmReader) (start ahead : Reader) (kind : FrameKind) (view : WasmOperator) (change : FrameChange) →
+pub reader_after_plain : (bytes : List ℕ) (old new : WasmReader) (start ahead : Reader) (kind : FrameKind) (view : WasmOperator) (change : FrameChange) →
     start ≡ reader_at bytes old → Viewed start kind ahead view change → new.position ≡ ahead.position → new.offset ≡ old.offset →
     new.features ≡ old.features → ahead ≡ reader_at bytes new
-stands_plain bytes old new start ahead kind view change same viewed moved offset features =
+reader_after_plain bytes old new start ahead kind view change same viewed moved offset features =
     let v = subst (λ r. Viewed r kind ahead view change) same viewed in
-    sym (stands_behind bytes old new ahead v.1 v.3 moved offset features)
+    sym (reader_after bytes old new ahead v.1 v.3 moved offset features)
 
 -- An operator that is read.
 pub takes_plain : (bytes : List ℕ) (old new : WasmReader) (frames_old frames_new : List ℕ) (start ahead : Reader) (kind : FrameKind) (view : WasmOperator)
@@ -152,13 +152,13 @@ pub takes_plain : (bytes : List ℕ) (old new : WasmReader) (frames_old frames_n
 takes_plain bytes old new frames_old frames_new start ahead kind view change was same viewed some inside changed fits most others room moved offset features =
     let v = subst (λ r. Viewed r kind ahead view change) same viewed in
     let r = reader_at bytes old in
-    let stands = stands_behind bytes old new ahead v.1 v.3 moved offset features in
+    let occurs = reader_after bytes old new ahead v.1 v.3 moved offset features in
     let place = within_taken r ahead v.1 v.3 was.position in
     record {
       op = v.0;
       was = was;
       takes = takes_inside bytes old new frames_old frames_new ahead kind v.0 v.1 change some was.depth inside v.2 v.3 v.5 changed fits most others room
-          stands;
+          occurs;
       view_is = v.4;
       still = record {
         features = omega (arith, features, was.features);
@@ -173,8 +173,8 @@ takes_plain bytes old new frames_old frames_new start ahead kind view change was
 pub outside_plain : (bytes frames : List ℕ) (r : WasmReader) (start : Reader) (e : Error) (offset : ℕ) (refusal : WasmRefusal) →
     IsReader bytes (length frames) r → start ≡ reader_at bytes r → r.depth ≡ 0 → e.message ≡ message.OperatorsRemaining → e.offset ≡ offset →
     offset ≡ offset_of start → refusal ≡ refusal_of e → StopsPlain refusal bytes r frames
-outside_plain bytes frames r start e offset refusal was same none is at place told =
-    inl (was, e, told, stops_outside e bytes frames r none is (at ∙ place ∙ ap offset_of same))
+outside_plain bytes frames r start e offset refusal was same none is at place reported =
+    inl (was, e, reported, stops_outside e bytes frames r none is (at ∙ place ∙ ap offset_of same))
 
 -- An operator without space for its frame.
 pub no_room_plain : (bytes frames : List ℕ) (r : WasmReader) (start ahead : Reader) (kind : FrameKind) (view : WasmOperator) (change : FrameChange) (offset : ℕ)
@@ -200,13 +200,13 @@ refused_plain bytes frames r start ahead kind e refusal was same inside refuses 
 pub frames_left : (bytes frames : List ℕ) (r : WasmReader) (start : Reader) (e : Error) (offset : ℕ) (refusal : WasmRefusal) →
     IsReader bytes (length frames) r → start ≡ reader_at bytes r → 0 < r.depth → e.message ≡ message.FramesRemain → e.offset ≡ offset →
     offset ≡ offset_of start → refusal ≡ refusal_of e → FinishesPlain refusal bytes r frames
-frames_left bytes frames r start e offset refusal was same some is at place told =
+frames_left bytes frames r start e offset refusal was same some is at place reported =
     let still : kinds (take r.depth frames) ≡ [] → ⊥ =
     λ none. let n = kinds_length frames r.depth was.depth in let zero = ap length none in absurd (omega (arith, some, n, zero)) in
     inl (
       was,
       Err e,
-      told,
+      reported,
       (
         at ∙ place ∙ ap offset_of same,
         subst (λ m. StopsFinish m (kinds (take r.depth frames) ≡ []) (reader_at bytes r)) (sym is) still,
@@ -217,13 +217,13 @@ frames_left bytes frames r start e offset refusal was same some is at place told
 pub data_left : (bytes frames : List ℕ) (r : WasmReader) (start : Reader) (e : Error) (offset : ℕ) (refusal : WasmRefusal) →
     IsReader bytes (length frames) r → start ≡ reader_at bytes r → r.depth ≡ 0 → (rest start ≡ [] → ⊥) → e.message ≡ message.UnexpectedData →
     e.offset ≡ offset → offset ≡ offset_of start → refusal ≡ refusal_of e → FinishesPlain refusal bytes r frames
-data_left bytes frames r start e offset refusal was same none more is at place told =
+data_left bytes frames r start e offset refusal was same none more is at place reported =
     let closed : kinds (take r.depth frames) ≡ [] = ap (λ n. kinds (take n frames)) none in
     let left : rest (reader_at bytes r) ≡ [] → ⊥ = λ all. more (ap rest same ∙ all) in
     inl (
       was,
       Err e,
-      told,
+      reported,
       (
         at ∙ place ∙ ap offset_of same,
         subst (λ m. StopsFinish m (kinds (take r.depth frames) ≡ []) (reader_at bytes r)) (sym is) (closed, left),
@@ -234,6 +234,6 @@ data_left bytes frames r start e offset refusal was same none more is at place t
 pub finished : (bytes frames : List ℕ) (r : WasmReader) (start : Reader) (offset : ℕ) (refusal : WasmRefusal) →
     IsReader bytes (length frames) r → start ≡ reader_at bytes r → r.depth ≡ 0 → rest start ≡ [] → offset ≡ offset_of start →
     refusal ≡ refusal_at {X = Unit {0}} (Ok tt) offset → FinishesPlain refusal bytes r frames
-finished bytes frames r start offset refusal was same none all place told =
+finished bytes frames r start offset refusal was same none all place reported =
     let closed : kinds (take r.depth frames) ≡ [] = ap (λ n. kinds (take n frames)) none in
-    inl (was, Ok tt, told ∙ ap (refusal_at {X = Unit {0}} (Ok tt)) (place ∙ ap offset_of same), (closed, ap rest (sym same) ∙ all))
+    inl (was, Ok tt, reported ∙ ap (refusal_at {X = Unit {0}} (Ok tt)) (place ∙ ap offset_of same), (closed, ap rest (sym same) ∙ all))

@@ -19,7 +19,7 @@ use Rattle.wasm_view.specs.declared.view.WasmOperator.{WasmOperator}
 use Rattle.wasm_c.specs.declared.reader.WasmReader.{WasmReader}
 use Rattle.wasm_c.specs.declared.refusal.WasmRefusal.{WasmRefusal}
 use Rattle.wasm_c.specs.Refused.{refusal_of, refusal_at, misuse}
-use Rattle.wasm_c.specs.Steps.{reader_at, state_at, fresh_reader, TakesPlain, ReadsEach, OpensExpression, OpensBehindLocals, OpensPlain, FinishesPlain}
+use Rattle.wasm_c.specs.Steps.{reader_at, state_at, fresh_reader, TakesPlain, ReadsEach, OpensExpression, OpensAfterLocals, OpensPlain, FinishesPlain}
 use Rattle.wasm_c.proofs.Cited.{Fresh, OfTree}
 use Rattle.wasm_c.proofs.Found.{ends_body}
 
@@ -35,14 +35,14 @@ pub reads_join : (old mid new : State) (first second : Placed) → ReadsEach old
 reads_join old mid new [] second same others = subst (λ s. ReadsEach s second new) same others
 reads_join old mid new (p ∷ ps) second (between, takes, at, more) others = (between, takes, at, reads_join between mid new ps second more others)
 
-each_behind : TakesOneMore → (opened old new : State) (found placed : Placed) → TakesOperators opened old found → ReadsEach old placed new →
+each_after : TakesOneMore → (opened old new : State) (found placed : Placed) → TakesOperators opened old found → ReadsEach old placed new →
     TakesOperators opened new (found ++ placed)
-each_behind law opened old new found [] ran same =
+each_after law opened old new found [] ran same =
     subst (λ list. TakesOperators opened new list) (sym (append-nil found)) (subst (λ s. TakesOperators opened s found) (sym same) ran)
-each_behind law opened old new found (p ∷ ps) ran (between, takes, at, others) =
+each_after law opened old new found (p ∷ ps) ran (between, takes, at, others) =
     let one = subst (λ n. TakesOperators opened between (found ++ (p.0, n) ∷ [])) (sym at) (law opened old between found p.0 ran takes) in
     subst (λ list. TakesOperators opened new list) (append_assoc found (p ∷ []) ps)
-    (each_behind law opened between new (found ++ p ∷ []) ps one others)
+    (each_after law opened between new (found ++ p ∷ []) ps one others)
 
 -- ---- the end
 
@@ -56,15 +56,15 @@ number_at r other is zero = sym (ap (λ (refusal : WasmRefusal). refusal.number)
 
 ends_closed : (result : Result (Unit {0}) Error) (r : WasmRefusal) (s : State) (offset : ℕ) → r ≡ refusal_at result offset → Finishes result s →
     r.number ≡ 0 → (s.frames ≡ []) × (rest s.reader ≡ [])
-ends_closed (Ok x) r s offset told ends zero = ends
-ends_closed (Err e) r s offset told ends zero = absurd (numbered e.message (number_at r (refusal_of e) told zero))
+ends_closed (Ok x) r s offset reported ends zero = ends
+ends_closed (Err e) r s offset reported ends zero = absurd (numbered e.message (number_at r (refusal_of e) reported zero))
 
 finished : (r : WasmRefusal) (bytes : List ℕ) (reader : WasmReader) (frames : List ℕ) → FinishesPlain r bytes reader frames → r.number ≡ 0 →
     ((state_at bytes reader frames).frames ≡ []) × (rest (reader_at bytes reader) ≡ [])
-finished r bytes reader frames (inl (was, result, told, ends)) zero =
-    ends_closed result r (state_at bytes reader frames) (offset_of (reader_at bytes reader)) told ends zero
-finished r bytes reader frames (inr (none, told)) zero =
-    let n = number_at r (misuse 103 reader.offset) told zero in
+finished r bytes reader frames (inl (was, result, reported, ends)) zero =
+    ends_closed result r (state_at bytes reader frames) (offset_of (reader_at bytes reader)) reported ends zero
+finished r bytes reader frames (inr (none, reported)) zero =
+    let n = number_at r (misuse 103 reader.offset) reported zero in
     absurd (omega (arith, n))
 
 -- The laws that the proof about a whole expression needs.
@@ -81,7 +81,7 @@ whole_between : HasLaws → (end : WasmRefusal) (bytes : List ℕ) (opened last 
 whole_between laws end bytes opened last frames_opened frames_last placed is reads finish zero =
     let first = state_at bytes opened frames_opened in
     let new = state_at bytes last frames_last in
-    let ran = each_behind laws.next first first new [] placed (laws.first first) reads in
+    let ran = each_after laws.next first first new [] placed (laws.first first) reads in
     let closed = finished end bytes last frames_last finish zero in
     (laws.tree [] first new placed (laws.fresh first is) ran closed.0 closed.1).encodes
 
@@ -116,12 +116,12 @@ whole_read laws opening end bytes offset features before opened last frames_befo
     subst (λ (r : WasmReader). EncodesExpression (source_of (reader_at bytes r)) placed) there.0
     (whole_between laws end bytes opened last frames_opened frames_last placed there.1 reads finish done)
 
-behind_locals : (r : WasmRefusal) (bytes : List ℕ) (offset features : ℕ) (old new : WasmReader) (frames_old frames_new : List ℕ) →
-    OpensBehindLocals r bytes offset features old new frames_old frames_new → r.number ≡ 0 →
+after_locals : (r : WasmRefusal) (bytes : List ℕ) (offset features : ℕ) (old new : WasmReader) (frames_old frames_new : List ℕ) →
+    OpensAfterLocals r bytes offset features old new frames_old frames_new → r.number ≡ 0 →
     OpensBody (Ok (state_at bytes new frames_new)) (reader_of (features_of features) offset bytes)
-behind_locals r bytes offset features old new frames_old frames_new (inl (none, opens, was, room)) zero = opens
-behind_locals r bytes offset features old new frames_old frames_new (inr (same, frames, e, told, refused)) zero =
-    absurd (numbered e.message (number_at r (refusal_of e) told zero))
+after_locals r bytes offset features old new frames_old frames_new (inl (none, opens, was, room)) zero = opens
+after_locals r bytes offset features old new frames_old frames_new (inr (same, frames, e, reported, refused)) zero =
+    absurd (numbered e.message (number_at r (refusal_of e) reported zero))
 
 body_there : (r : WasmRefusal) (bytes : List ℕ) (offset features : ℕ) (old new : WasmReader) (frames_old frames_new : List ℕ) →
     OpensPlain r bytes offset features old new frames_old frames_new → r.number ≡ 0 → (features < 64) ⊎ (64 ≤ features) →
@@ -137,7 +137,7 @@ body_there r bytes offset features old new [] frames_new o zero (inl known) (inl
     let n = number_at r (misuse 102 offset) (o.refuses.room known within refl).0 zero in
     absurd (omega (arith, n))
 body_there r bytes offset features old new (f ∷ fs) frames_new o zero (inl known) (inl within) =
-    behind_locals r bytes offset features old new (f ∷ fs) frames_new (o.opens known within (λ none. cc none)) zero
+    after_locals r bytes offset features old new (f ∷ fs) frames_new (o.opens known within (λ none. cc none)) zero
 
 pub whole_body_read : HasLaws → (opening end : WasmRefusal) (bytes : List ℕ) (offset features : ℕ) (before opened last : WasmReader)
     (frames_before frames_opened frames_last : List ℕ) (placed : Placed) →

@@ -15,11 +15,11 @@ written_none [] = refl
 written_none (x ∷ xs) = refl
 
 -- Elements that all fit, followed by others.
-pub written_behind : {X : Type 0} (first more old : List X) → length first ≤ length old →
+pub written_after : {X : Type 0} (first more old : List X) → length first ≤ length old →
     written (first ++ more) old ≡ first ++ written more (drop (length first) old)
-written_behind [] more old fits = refl
-written_behind (x ∷ xs) more [] fits = absurd (omega (arith, fits))
-written_behind (x ∷ xs) more (y ∷ ys) fits = ap (λ list. x ∷ list) (written_behind xs more ys (omega (arith, fits)))
+written_after [] more old fits = refl
+written_after (x ∷ xs) more [] fits = absurd (omega (arith, fits))
+written_after (x ∷ xs) more (y ∷ ys) fits = ap (λ list. x ∷ list) (written_after xs more ys (omega (arith, fits)))
 
 pub views_join : (first second : Placed) → views (first ++ second) ≡ views first ++ views second
 views_join [] second = refl
@@ -79,14 +79,14 @@ placed_there : (more : Placed) (old now : List WasmOperator) (at index : ℕ) (p
     index < length (drop at old) → length (take at old) ≡ at → take (suc index) more ≡ take index more ++ p ∷ [] → v ≡ view_of p →
     set now (at + index) v ≡ take at old ++ (views (take (suc index) more) ++ drop (suc index) (drop at old))
 placed_there more old now at index p v is few within front next same =
-    let behind : at + index - at ≡ index = omega arith in
+    let after : at + index - at ≡ index = omega arith in
     let apart = set-append_right (take at old) (views (take index more) ++ drop index (drop at old)) at (at + index) v front (omega arith) in
     let length_next : length (take index more ++ p ∷ []) ≡ suc index = length-append (take index more) (p ∷ []) ∙ omega (arith, few) in
     let here : views (take index more) ++ drop index (drop at old) ≡ views (take index more) ++ drop (length (take index more)) (drop at old) =
     ap (λ m. views (take index more) ++ drop m (drop at old)) (sym few) in
     let put = one_more (take index more) p (drop at old) _ index v here (sym few) (omega (arith, few, within)) same in
     ap (λ list. set list (at + index) v) is ∙ apart ∙
-    ap (λ m. take at old ++ set (views (take index more) ++ drop index (drop at old)) m v) behind ∙ ap (λ list. take at old ++ list) put ∙
+    ap (λ m. take at old ++ set (views (take index more) ++ drop index (drop at old)) m v) after ∙ ap (λ list. take at old ++ list) put ∙
     ap (λ m. take at old ++ (views (take index more ++ p ∷ []) ++ drop m (drop at old))) length_next ∙
     ap (λ list. take at old ++ (views list ++ drop (suc index) (drop at old))) (sym next)
 
@@ -140,9 +140,9 @@ array_joined found more old between new at place fits is placed =
     let n : at ≡ length (views found) = place ∙ sym (views_length found) in
     let front : take at between ≡ views found =
     ap (λ m. take m between) n ∙ ap (take (length (views found))) is ∙ take_first (views found) (drop (length found) old) in
-    let behind : drop at between ≡ drop (length (views found)) old =
+    let after : drop at between ≡ drop (length (views found)) old =
     ap (λ m. drop m between) n ∙ ap (drop (length (views found))) is ∙ drop_first (views found) (drop (length found) old) ∙
     ap (λ m. drop m old) (sym (views_length found)) in
     let room : length (views found) ≤ length old = omega (arith, views_length found, fits) in
-    placed ∙ ap (λ list. list ++ written (views more) (drop at between)) front ∙ ap (λ list. views found ++ written (views more) list) behind ∙
-    sym (written_behind (views found) (views more) old room) ∙ ap (λ list. written list old) (sym (views_join found more))
+    placed ∙ ap (λ list. list ++ written (views more) (drop at between)) front ∙ ap (λ list. views found ++ written (views more) list) after ∙
+    sym (written_after (views found) (views more) old room) ∙ ap (λ list. written list old) (sym (views_join found more))

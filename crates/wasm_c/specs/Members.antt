@@ -20,8 +20,8 @@ abbrev pub bytes_at : List ℕ → ℕ → ℕ → ℕ → Reader
 bytes_at bytes offset features at = at_position (reader_of (features_of features) offset bytes) (at - offset)
 
 -- An encoding of the operator is at the start of what is left.
-abbrev pub StandsThere : Reader → Operator → Type 0
-StandsThere input op = (text more : List ℕ) × (rest input ≡ text ++ more) × EncodesOperator input.features op text
+abbrev pub OccursThere : Reader → Operator → Type 0
+OccursThere input op = (text more : List ℕ) × (rest input ≡ text ++ more) × EncodesOperator input.features op text
 
 -- Reading an operator here, inside a block, fails with this error.
 abbrev pub RefusesThere : WasmRefusal → Reader → Type 0
@@ -33,9 +33,9 @@ abbrev pub Unchanged : {X : Type 0} → ℕ → ℕ → List X → List X → Ty
 Unchanged count_old count_new old new = (count_new ≡ count_old) × (new ≡ old)
 
 -- The operator that is encoded here, or the error of reading one.
-abbrev pub AnswersThere : Result Operator WasmRefusal → Reader → Type 0
-AnswersThere (Ok op) input = StandsThere input op
-AnswersThere (Err r) input = RefusesThere r input
+abbrev pub ReturnsThere : Result Operator WasmRefusal → Reader → Type 0
+ReturnsThere (Ok op) input = OccursThere input op
+ReturnsThere (Err r) input = RefusesThere r input
 
 -- The result of a call at an offset. Unknown features, bytes past the largest offset, and an offset before the first byte or past the end are misuse. For any
 -- other offset, the end included, `There` says what holds of the bytes from there on.
@@ -43,26 +43,26 @@ pub record AtOffset (IsMisuse : ℕ → ℕ → Type 0) (There : Reader → Type
   pub unknown : 64 ≤ features → IsMisuse 100 offset
   pub past : features < 64 → 2 ^ 64 ≤ offset + length bytes → IsMisuse 101 offset
   pub before : features < 64 → IsWithin offset bytes → at < offset → IsMisuse 104 at
-  pub behind : features < 64 → IsWithin offset bytes → offset + length bytes < at → IsMisuse 104 at
+  pub after : features < 64 → IsWithin offset bytes → offset + length bytes < at → IsMisuse 104 at
   pub there : features < 64 → IsWithin offset bytes → offset ≤ at → at ≤ offset + length bytes → There (bytes_at bytes offset features at)
 
 -- The operator at the offset, or why there is none.
 abbrev pub ReadsAt : Result Operator WasmRefusal → List ℕ → ℕ → ℕ → ℕ → Type 0
-ReadsAt result bytes offset features at = AtOffset (λ number place. result ≡ Err (misuse number place)) (AnswersThere result) bytes offset features at
+ReadsAt result bytes offset features at = AtOffset (λ number place. result ≡ Err (misuse number place)) (ReturnsThere result) bytes offset features at
 
 -- The members of an operator's list from an index on, or 104 if it has no such list.
-abbrev pub TellsMembers : {X : Type 0} → Option (List X) → WasmRefusal → ℕ → ℕ → ℕ → ℕ → List X → List X → Type 0
-TellsMembers None r at index count_old count_new old new = (r ≡ misuse 104 at) × Unchanged count_old count_new old new
-TellsMembers (Some members) r at index count_old count_new old new = (r ≡ no_refusal at) × PlacesMembers members index old count_new new
+abbrev pub ReportsMembers : {X : Type 0} → Option (List X) → WasmRefusal → ℕ → ℕ → ℕ → ℕ → List X → List X → Type 0
+ReportsMembers None r at index count_old count_new old new = (r ≡ misuse 104 at) × Unchanged count_old count_new old new
+ReportsMembers (Some members) r at index count_old count_new old new = (r ≡ no_refusal at) × PlacesMembers members index old count_new new
 
 -- The same for the operator that is encoded here, or the error of reading one.
 abbrev pub FindsMembers : {X : Type 0} → (Operator → Option (List X)) → WasmRefusal → Reader → ℕ → ℕ → ℕ → ℕ → List X → List X → Type 0
 FindsMembers members_of r input at index count_old count_new old new =
-    ((op : Operator) × StandsThere input op × TellsMembers (members_of op) r at index count_old count_new old new)
+    ((op : Operator) × OccursThere input op × ReportsMembers (members_of op) r at index count_old count_new old new)
     ⊎ (RefusesThere r input × Unchanged count_old count_new old new)
 
 -- The result of a call for the list of the operator at an offset, or misuse.
-abbrev pub AnswersList : {X : Type 0} → (Operator → Option (List X)) → WasmRefusal → List ℕ → ℕ → ℕ → ℕ → ℕ → ℕ → ℕ → List X → List X → Type 0
-AnswersList members_of r bytes offset features at index count_old count_new old new =
+abbrev pub ReturnsList : {X : Type 0} → (Operator → Option (List X)) → WasmRefusal → List ℕ → ℕ → ℕ → ℕ → ℕ → ℕ → ℕ → List X → List X → Type 0
+ReturnsList members_of r bytes offset features at index count_old count_new old new =
     AtOffset (λ number place. (r ≡ misuse number place) × Unchanged count_old count_new old new)
     (λ input. FindsMembers members_of r input at index count_old count_new old new) bytes offset features at

@@ -7,7 +7,7 @@ use Rattle.wasm_operators.specs.Body.{EncodesBody, StopsBody}
 use Rattle.wasm_operators.specs.opcodes.Allowed.{EncodesAllowed}
 use Rattle.wasm_operators.specs.opcodes.OperatorFaults.{OperatorFault}
 use Rattle.wasm_operators.specs.Expression.{Placed, IsAny, EncodesExpression}
-use Rattle.wasm_operators.specs.Headline.{ReadsBeginning}
+use Rattle.wasm_operators.specs.MainTheorem.{ReadsBeginning}
 use Rattle.wasm_operators.specs.Locals.{Declaration}
 use Rattle.wasm_operators.specs.Reading.{State, Anywhere}
 use Rattle.wasm_view.specs.Lists.{written}

@@ -54,42 +54,42 @@ type_number type_name.HeapType = 2
 
 -- The number of the name in a message's text. For a subopcode it is the prefix byte. A number that is too large has 16 more than one that is too long. A
 -- frame adds 16 times its number. An ordering has 1 if its byte is shown in hexadecimal.
-abbrev pub told_name : Message → ℕ
-told_name (message.FeatureRequired name) = instruction_number name
-told_name (message.IntegerTooLong name) = number_name_number name
-told_name (message.IntegerTooLarge name) = number_name_number name + 16
-told_name (message.SizeOutOfBounds name) = size_number name
-told_name (message.WrongFrame name frame) = instruction_number name + 16 * frame_number frame
-told_name (message.UnknownSubopcode prefix code) = prefix
-told_name (message.InvalidOrdering byte hex) = if hex then 1 else 0
-told_name (message.InvalidLeadingByte byte name) = leading_number name
-told_name (message.InvalidType name) = type_number name
-told_name _ = 0
+abbrev pub reported_name : Message → ℕ
+reported_name (message.FeatureRequired name) = instruction_number name
+reported_name (message.IntegerTooLong name) = number_name_number name
+reported_name (message.IntegerTooLarge name) = number_name_number name + 16
+reported_name (message.SizeOutOfBounds name) = size_number name
+reported_name (message.WrongFrame name frame) = instruction_number name + 16 * frame_number frame
+reported_name (message.UnknownSubopcode prefix code) = prefix
+reported_name (message.InvalidOrdering byte hex) = if hex then 1 else 0
+reported_name (message.InvalidLeadingByte byte name) = leading_number name
+reported_name (message.InvalidType name) = type_number name
+reported_name _ = 0
 
 -- The byte, code or flags in a message's text.
-abbrev pub told_value : Message → ℕ
-told_value (message.IllegalOpcode code) = code
-told_value (message.UnknownSubopcode prefix code) = code
-told_value (message.InvalidOrdering byte hex) = byte
-told_value (message.InvalidCastFlags flags) = flags
-told_value (message.InvalidLeadingByte byte name) = byte
-told_value _ = 0
+abbrev pub reported_value : Message → ℕ
+reported_value (message.IllegalOpcode code) = code
+reported_value (message.UnknownSubopcode prefix code) = code
+reported_value (message.InvalidOrdering byte hex) = byte
+reported_value (message.InvalidCastFlags flags) = flags
+reported_value (message.InvalidLeadingByte byte name) = byte
+reported_value _ = 0
 
 -- The C struct with these numbers.
-abbrev pub told : ℕ → ℕ → ℕ → ℕ → WasmRefusal
-told offset number name value = record { offset = offset; number = number; name = name; value = value; reserved = 0 }
+abbrev pub reported : ℕ → ℕ → ℕ → ℕ → WasmRefusal
+reported offset number name value = record { offset = offset; number = number; name = name; value = value; reserved = 0 }
 
 -- The C struct of an error.
 abbrev pub refusal_of : Error → WasmRefusal
-refusal_of e = told e.offset (number_of e.message) (told_name e.message) (told_value e.message)
+refusal_of e = reported e.offset (number_of e.message) (reported_name e.message) (reported_value e.message)
 
 -- The value for no error, at this offset.
 abbrev pub no_refusal : ℕ → WasmRefusal
-no_refusal offset = told offset 0 0 0
+no_refusal offset = reported offset 0 0 0
 
 -- An error in the arguments, at this offset.
 abbrev pub misuse : ℕ → ℕ → WasmRefusal
-misuse number offset = told offset number 0 0
+misuse number offset = reported offset number 0 0
 
 -- How reading ended; without an error, at this offset.
 abbrev pub refusal_at : {X : Type 0} → Result X Error → ℕ → WasmRefusal

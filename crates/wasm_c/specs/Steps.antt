@@ -83,8 +83,8 @@ StepsPlain (Ok done) bytes old new frames_old frames_new view ahead =
 StepsPlain (Err r) bytes old new frames_old frames_new view ahead = (new ≡ old) × (frames_new ≡ frames_old) × StopsPlain r bytes old frames_old
 
 -- One call of `wasm_next`: an operator is read and written to its place; or none is read, and nothing changes.
-abbrev pub AnswersNext : WasmRefusal → List ℕ → WasmReader → WasmReader → List ℕ → List ℕ → WasmOperator → WasmOperator → Type 0
-AnswersNext r bytes old new frames_old frames_new out_old out_new =
+abbrev pub ReturnsNext : WasmRefusal → List ℕ → WasmReader → WasmReader → List ℕ → List ℕ → WasmOperator → WasmOperator → Type 0
+ReturnsNext r bytes old new frames_old frames_new out_old out_new =
     ((r ≡ no_refusal (offset_of (reader_at bytes new))) × ReadsPlain (Ok out_new) bytes old new frames_old frames_new)
     ⊎ (ReadsPlain (Err r) bytes old new frames_old frames_new × (out_new ≡ out_old))
 
@@ -113,14 +113,14 @@ pub record OpensExpression (r : WasmRefusal) (bytes : List ℕ) (offset features
   pub refuses : RefusesOpening r bytes offset features old new frames_old frames_new
 
 -- The expression of a body is opened, after the locals; or reading these fails.
-abbrev pub OpensBehindLocals : WasmRefusal → List ℕ → ℕ → ℕ → WasmReader → WasmReader → List ℕ → List ℕ → Type 0
-OpensBehindLocals r bytes offset features old new frames_old frames_new =
+abbrev pub OpensAfterLocals : WasmRefusal → List ℕ → ℕ → ℕ → WasmReader → WasmReader → List ℕ → List ℕ → Type 0
+OpensAfterLocals r bytes offset features old new frames_old frames_new =
     ((r ≡ no_refusal (offset_of (reader_at bytes new))) × OpensBody (Ok (state_at bytes new frames_new)) (reader_of (features_of features) offset bytes) ×
     IsReader bytes (length frames_new) new × (length frames_new ≡ length frames_old))
     ⊎ ((new ≡ old) × (frames_new ≡ frames_old) × (e : Error) × (r ≡ refusal_of e) × RefusesLocals e (reader_of (features_of features) offset bytes))
 
 pub record OpensPlain (r : WasmRefusal) (bytes : List ℕ) (offset features : ℕ) (old new : WasmReader) (frames_old frames_new : List ℕ) : Type 0 where
-  pub opens : features < 64 → IsWithin offset bytes → (frames_old ≡ [] → ⊥) → OpensBehindLocals r bytes offset features old new frames_old frames_new
+  pub opens : features < 64 → IsWithin offset bytes → (frames_old ≡ [] → ⊥) → OpensAfterLocals r bytes offset features old new frames_old frames_new
   pub refuses : RefusesOpening r bytes offset features old new frames_old frames_new
 
 -- Reads of these operators, one after another, each with the offset of its first byte.

@@ -65,58 +65,58 @@ message_text (message.InvalidType name) = codes "invalid " ++ type_name_text nam
 message_text message.DataAfterSection = codes "unexpected data at the end of the section"
 
 -- The names of numbers, for each list of names.
-abbrev pub instruction_told : ℕ → Option InstructionName
-instruction_told n =
+abbrev pub instruction_numbered : ℕ → Option InstructionName
+instruction_numbered n =
     if n == 0 then Some instruction_name.Else else (
     if n == 1 then Some instruction_name.Try else (
     if n == 2 then Some instruction_name.Catch else (
     if n == 3 then Some instruction_name.CatchAll else (
     if n == 4 then Some instruction_name.Delegate else None))))
 
-abbrev pub frame_told : ℕ → Option FrameName
-frame_told n = if n == 0 then Some frame_name.If else (if n == 1 then Some frame_name.LegacyTry else None)
+abbrev pub frame_numbered : ℕ → Option FrameName
+frame_numbered n = if n == 0 then Some frame_name.If else (if n == 1 then Some frame_name.LegacyTry else None)
 
-abbrev pub number_told : ℕ → Option NumberName
-number_told n =
+abbrev pub number_name_numbered : ℕ → Option NumberName
+number_name_numbered n =
     if n == 0 then Some number_name.VarU32 else (
     if n == 1 then Some number_name.VarU64 else (
     if n == 2 then Some number_name.VarI32 else (
     if n == 3 then Some number_name.VarS33 else (
     if n == 4 then Some number_name.VarI64 else None))))
 
-abbrev pub size_told : ℕ → Option SizeName
-size_told n =
+abbrev pub size_numbered : ℕ → Option SizeName
+size_numbered n =
     if n == 0 then Some size_name.BrTable else (
     if n == 1 then Some size_name.SelectTypes else (
     if n == 2 then Some size_name.Catches else (
     if n == 3 then Some size_name.ResumeTable else None)))
 
-abbrev pub leading_told : ℕ → Option LeadingByteName
-leading_told n = if n == 0 then Some leading_name.Catch else (if n == 1 then Some leading_name.OnClause else None)
+abbrev pub leading_numbered : ℕ → Option LeadingByteName
+leading_numbered n = if n == 0 then Some leading_name.Catch else (if n == 1 then Some leading_name.OnClause else None)
 
-abbrev pub type_told : ℕ → Option TypeName
-type_told n =
+abbrev pub type_numbered : ℕ → Option TypeName
+type_numbered n =
     if n == 0 then Some type_name.ValueType else (
     if n == 1 then Some type_name.ReferenceType else (
     if n == 2 then Some type_name.HeapType else None))
 
 -- The message for a number that does not fit: too long below 16, too large from 16 on.
-abbrev pub integer_told : ℕ → Option Message
-integer_told name =
-    if nat_lt name 16 then option_map message.IntegerTooLong (number_told name) else option_map message.IntegerTooLarge (number_told (name - 16))
+abbrev pub integer_numbered : ℕ → Option Message
+integer_numbered name =
+    if nat_lt name 16 then option_map message.IntegerTooLong (number_name_numbered name) else option_map message.IntegerTooLarge (number_name_numbered (name - 16))
 
 -- The message for a frame, from the instruction's number and 16 times the frame's number.
-abbrev pub frames_told : ℕ → Option Message
-frames_told name =
-    option_and_then (λ instruction. option_map (λ frame. message.WrongFrame instruction frame) (frame_told (name / 16))) (instruction_told (name % 16))
+abbrev pub frames_numbered : ℕ → Option Message
+frames_numbered name =
+    option_and_then (λ instruction. option_map (λ frame. message.WrongFrame instruction frame) (frame_numbered (name / 16))) (instruction_numbered (name % 16))
 
-abbrev pub ordering_told : ℕ → ℕ → Option Message
-ordering_told name value =
+abbrev pub ordering_numbered : ℕ → ℕ → Option Message
+ordering_numbered name value =
     if name == 0 then Some (message.InvalidOrdering value false) else (if name == 1 then Some (message.InvalidOrdering value true) else None)
 
 -- The messages whose text has no name or value.
-abbrev pub bare_told : ℕ → Option Message
-bare_told number =
+abbrev pub bare_numbered : ℕ → Option Message
+bare_numbered number =
     if number == 1 then Some message.EndOfData else (
     if number == 3 then Some message.OutOfMemory else (
     if number == 6 then Some message.InvalidFunctionType else (
@@ -134,27 +134,27 @@ bare_told number =
     if number == 25 then Some message.DataAfterSection else None))))))))))))))
 
 -- The message with these numbers. Numbers that its text does not show are ignored.
-abbrev pub message_told : ℕ → ℕ → ℕ → Option Message
-message_told number name value =
-    if number == 2 then option_map message.FeatureRequired (instruction_told name) else (
-    if number == 4 then integer_told name else (
-    if number == 5 then option_map message.SizeOutOfBounds (size_told name) else (
-    if number == 7 then frames_told name else (
+abbrev pub message_numbered : ℕ → ℕ → ℕ → Option Message
+message_numbered number name value =
+    if number == 2 then option_map message.FeatureRequired (instruction_numbered name) else (
+    if number == 4 then integer_numbered name else (
+    if number == 5 then option_map message.SizeOutOfBounds (size_numbered name) else (
+    if number == 7 then frames_numbered name else (
     if number == 12 then Some (message.IllegalOpcode value) else (
     if number == 13 then Some (message.UnknownSubopcode name value) else (
-    if number == 19 then ordering_told name value else (
+    if number == 19 then ordering_numbered name value else (
     if number == 21 then Some (message.InvalidCastFlags value) else (
-    if number == 22 then option_map (λ n. message.InvalidLeadingByte value n) (leading_told name) else (
-    if number == 24 then option_map message.InvalidType (type_told name) else bare_told number)))))))))
+    if number == 22 then option_map (λ n. message.InvalidLeadingByte value n) (leading_numbered name) else (
+    if number == 24 then option_map message.InvalidType (type_numbered name) else bare_numbered number)))))))))
 
 -- The text of the error in a C struct, if its numbers are those of an error.
-abbrev pub text_told : WasmRefusal → Option (List ℕ)
-text_told r = option_map message_text (message_told r.number r.name r.value)
+abbrev pub text_of_refusal : WasmRefusal → Option (List ℕ)
+text_of_refusal r = option_map message_text (message_numbered r.number r.name r.value)
 
 -- A call that writes this text to an array, as much of it as fits, and returns the length of the whole text. Without a text it writes nothing, and returns 0.
-abbrev pub AnswersText : Option (List ℕ) → List ℕ → ℕ → List ℕ → Type 0
-AnswersText None old result new = (result ≡ 0) × (new ≡ old)
-AnswersText (Some text) old result new = (result ≡ length text) × (new ≡ written text old)
+abbrev pub ReturnsText : Option (List ℕ) → List ℕ → ℕ → List ℕ → Type 0
+ReturnsText None old result new = (result ≡ 0) × (new ≡ old)
+ReturnsText (Some text) old result new = (result ≡ length text) × (new ≡ written text old)
 
 -- The same for a piece that follows `at` bytes, whatever they are; the result is the index after the piece.
 abbrev pub PutsPiece : List ℕ → ℕ → List ℕ → ℕ → List ℕ → Type 0

@@ -2,7 +2,7 @@
 ghost use Rattle.std.specs.Prelude.{◌≡◌, ◌≤◌, ◌<◌, ◌^◌, [], ◌++◌, length, take, drop};
 ghost use Rattle.wasm_operators.specs.below.Source.{reader_of, end_of};
 ghost use Rattle.wasm_operators.specs.Expression.{Placed};
-ghost use Rattle.wasm_operators.specs.Headline.{StoodBefore};
+ghost use Rattle.wasm_operators.specs.MainTheorem.{ReadSoFar};
 ghost use Rattle.wasm_operators.specs.Reading.{TakesOperators};
 ghost use Rattle.wasm_view.specs.View.{views};
 ghost use Rattle.wasm_c.specs.Reads.{IsWithin, FindsBody, FindsOperators};
@@ -69,7 +69,7 @@ fn read_operators(
     operators: &mut OperatorsReader<'_>,
     out: &mut [WasmOperator],
 ) -> Found
-    requires stood { StoodBefore [] operators.old }
+    requires read_so_far { ReadSoFar [] operators.old }
     requires features { operators.old.reader.features ≡ features }
     requires within { end_of operators.old.reader < 2 ^ 64 }
     ensures { (placed : Placed) × FindsOperators result.end operators.old result.count out.old out.new placed }

@@ -13,7 +13,7 @@ impl Visitor for Counter {
     type Output = ();
 
     // A visit adds one.
-    ghost visits = { λ before op answer after. before.count < 2 ^ 64 - 1 → after.count ≡ before.count + 1 };
+    ghost visits = { λ before op outcome after. before.count < 2 ^ 64 - 1 → after.count ≡ before.count + 1 };
 
     #[inline(always)]
     fn visit_any(&mut self, _op: Operator<'static>) {

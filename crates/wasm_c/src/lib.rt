@@ -12,16 +12,16 @@ ghost use Rattle.wasm_operators.specs.below.bytes.error.Error.{Error};
 ghost use Rattle.wasm_operators.specs.instr.Row.{name_of};
 ghost use Rattle.wasm_operators.specs.instr.declared.operator.Operator.{Operator};
 ghost use Rattle.wasm_operators.specs.Expression.{Placed};
-ghost use Rattle.wasm_operators.specs.Headline.{IsWithinDepth};
+ghost use Rattle.wasm_operators.specs.MainTheorem.{IsWithinDepth};
 ghost use Rattle.wasm_operators.specs.Reading.{State, IsFresh};
 ghost use Rattle.wasm_view.specs.Lists.{targets_of, types_of, catches_of, handles_of};
 ghost use Rattle.wasm_view.specs.Names.{name_at};
 ghost use Rattle.wasm_view.specs.View.{view_of};
-ghost use Rattle.wasm_c.specs.Members.{AnswersList};
+ghost use Rattle.wasm_c.specs.Members.{ReturnsList};
 ghost use Rattle.wasm_c.specs.Reads.{IsWithin, FindsPlain};
 ghost use Rattle.wasm_c.specs.Refused.{misuse, refusal_of};
-ghost use Rattle.wasm_c.specs.Steps.{AnswersNext, ReadsBatch, FinishesPlain, OpensExpression, OpensPlain};
-ghost use Rattle.wasm_c.specs.Texts.{message_text, text_told, AnswersText};
+ghost use Rattle.wasm_c.specs.Steps.{ReturnsNext, ReadsBatch, FinishesPlain, OpensExpression, OpensPlain};
+ghost use Rattle.wasm_c.specs.Texts.{message_text, text_of_refusal, ReturnsText};
 
 mod body;
 mod counter;
@@ -77,7 +77,7 @@ pub fn wasm_read_body(
     count: &mut usize,
     refusal: &mut WasmRefusal,
 ) -> u32
-    ensures answer { result ≡ refusal.new.number }
+    ensures outcome { result ≡ refusal.new.number }
     ensures body { features < 64 → IsWithin offset bytes.now
         → (placed : Placed)
         × FindsPlain refusal.new (reader_of (features_of features) offset bytes.now) count.new out.old out.new placed }
@@ -103,9 +103,9 @@ pub fn wasm_read_body(
 /// Writes the text of an error to `text`, as much of it as fits, without a NUL byte after it.
 /// Returns the length of the whole text in bytes, or 0 if the numbers are those of no error.
 pub fn wasm_refusal_text(refusal: &WasmRefusal, text: &mut [u8]) -> usize
-    ensures told { (e : Error) → refusal.now ≡ refusal_of e
-        → AnswersText (Some (message_text e.message)) text.old result text.new }
-    ensures numbers { AnswersText (text_told refusal.now) text.old result text.new }
+    ensures reported { (e : Error) → refusal.now ≡ refusal_of e
+        → ReturnsText (Some (message_text e.message)) text.old result text.new }
+    ensures numbers { ReturnsText (text_of_refusal refusal.now) text.old result text.new }
 {
     text::write_text(refusal.number, refusal.name, refusal.value, text)
 }
@@ -114,8 +114,8 @@ pub fn wasm_refusal_text(refusal: &WasmRefusal, text: &mut [u8]) -> usize
 /// Returns the length of the whole name in bytes, or 0 if no operator has this number.
 pub fn wasm_operator_name(operator: &WasmOperator, name: &mut [u8]) -> usize
     ensures named { (op : Operator) (at : ℕ) → operator.now ≡ view_of (op, at)
-        → AnswersText (Some (name_of op)) name.old result name.new }
-    ensures numbers { AnswersText (Some (name_at operator.now.opcode operator.now.shape)) name.old result name.new }
+        → ReturnsText (Some (name_of op)) name.old result name.new }
+    ensures numbers { ReturnsText (Some (name_at operator.now.opcode operator.now.shape)) name.old result name.new }
 {
     names();
     text::write_one(name_at(operator.opcode, operator.shape), name)
@@ -134,7 +134,7 @@ pub fn wasm_open(
     reader: &mut WasmReader,
     refusal: &mut WasmRefusal,
 ) -> u32
-    ensures answer { result ≡ refusal.new.number }
+    ensures outcome { result ≡ refusal.new.number }
     ensures opens { OpensExpression refusal.new bytes.now offset features reader.old reader.new frames.old frames.new }
 {
     *refusal = reader.open(bytes, offset, features, frames);
@@ -151,7 +151,7 @@ pub fn wasm_open_body(
     reader: &mut WasmReader,
     refusal: &mut WasmRefusal,
 ) -> u32
-    ensures answer { result ≡ refusal.new.number }
+    ensures outcome { result ≡ refusal.new.number }
     ensures opens { OpensPlain refusal.new bytes.now offset features reader.old reader.new frames.old frames.new }
 {
     *refusal = reader.open_body(bytes, offset, features, frames);
@@ -172,8 +172,8 @@ pub fn wasm_next(
     operator: &mut WasmOperator,
     refusal: &mut WasmRefusal,
 ) -> u32
-    ensures answer { result ≡ refusal.new.number }
-    ensures next { AnswersNext refusal.new bytes.now reader.old reader.new frames.old frames.new operator.old operator.new }
+    ensures outcome { result ≡ refusal.new.number }
+    ensures next { ReturnsNext refusal.new bytes.now reader.old reader.new frames.old frames.new operator.old operator.new }
 {
     *refusal = match reader.read_next(alloc, bytes, frames) {
         Ok(view) => {
@@ -197,7 +197,7 @@ pub fn wasm_read(
     count: &mut usize,
     refusal: &mut WasmRefusal,
 ) -> u32
-    ensures answer { result ≡ refusal.new.number }
+    ensures outcome { result ≡ refusal.new.number }
     ensures batch { ReadsBatch refusal.new count.new bytes.now reader.old reader.new frames.old frames.new out.old out.new }
 {
     *refusal = reader.read_many(alloc, bytes, frames, out, count);
@@ -212,7 +212,7 @@ pub fn wasm_finish(
     reader: &WasmReader,
     refusal: &mut WasmRefusal,
 ) -> u32
-    ensures answer { result ≡ refusal.new.number }
+    ensures outcome { result ≡ refusal.new.number }
     ensures finishes { FinishesPlain refusal.new bytes.now reader.now frames.now }
 {
     *refusal = reader.finish(bytes, frames);
@@ -249,8 +249,8 @@ pub fn wasm_br_table_targets(
     count: &mut usize,
     refusal: &mut WasmRefusal,
 ) -> u32
-    ensures answer { result ≡ refusal.new.number }
-    ensures list { AnswersList targets_of refusal.new bytes.now offset features at index count.old count.new out.old out.new }
+    ensures outcome { result ≡ refusal.new.number }
+    ensures list { ReturnsList targets_of refusal.new bytes.now offset features at index count.old count.new out.old out.new }
 {
     *refusal = targets_at(alloc, bytes, offset, features, at, index, out, count);
     refusal.number
@@ -269,8 +269,8 @@ pub fn wasm_select_types(
     count: &mut usize,
     refusal: &mut WasmRefusal,
 ) -> u32
-    ensures answer { result ≡ refusal.new.number }
-    ensures list { AnswersList types_of refusal.new bytes.now offset features at index count.old count.new out.old out.new }
+    ensures outcome { result ≡ refusal.new.number }
+    ensures list { ReturnsList types_of refusal.new bytes.now offset features at index count.old count.new out.old out.new }
 {
     *refusal = types_at(alloc, bytes, offset, features, at, index, out, count);
     refusal.number
@@ -289,8 +289,8 @@ pub fn wasm_try_table_catches(
     count: &mut usize,
     refusal: &mut WasmRefusal,
 ) -> u32
-    ensures answer { result ≡ refusal.new.number }
-    ensures list { AnswersList catches_of refusal.new bytes.now offset features at index count.old count.new out.old out.new }
+    ensures outcome { result ≡ refusal.new.number }
+    ensures list { ReturnsList catches_of refusal.new bytes.now offset features at index count.old count.new out.old out.new }
 {
     *refusal = catches_at(alloc, bytes, offset, features, at, index, out, count);
     refusal.number
@@ -309,8 +309,8 @@ pub fn wasm_resume_handlers(
     count: &mut usize,
     refusal: &mut WasmRefusal,
 ) -> u32
-    ensures answer { result ≡ refusal.new.number }
-    ensures list { AnswersList handles_of refusal.new bytes.now offset features at index count.old count.new out.old out.new }
+    ensures outcome { result ≡ refusal.new.number }
+    ensures list { ReturnsList handles_of refusal.new bytes.now offset features at index count.old count.new out.old out.new }
 {
     *refusal = handles_at(alloc, bytes, offset, features, at, index, out, count);
     refusal.number

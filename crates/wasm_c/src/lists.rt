@@ -3,7 +3,7 @@ ghost use Rattle.std.specs.Prelude.{◌≡◌, ◌<◌, ◌≤◌, ◌+◌, ◌^
 ghost use Rattle.wasm_operators.specs.below.Source.{Reader};
 ghost use Rattle.wasm_operators.specs.below.bytes.features.WasmFeatures.{WasmFeatures};
 ghost use Rattle.wasm_view.specs.Lists.{targets_of, types_of, catches_of, handles_of};
-ghost use Rattle.wasm_c.specs.Members.{bytes_at, ReadsAt, AnswersList};
+ghost use Rattle.wasm_c.specs.Members.{bytes_at, ReadsAt, ReturnsList};
 ghost use Rattle.wasm_c.specs.Reads.{IsWithin};
 ghost use Rattle.wasm_c.specs.Refused.{no_refusal, misuse};
 
@@ -39,7 +39,7 @@ fn bytes_from<'a>(
     ensures unknown { 64 ≤ features → result ≡ Err (misuse 100 offset) }
     ensures past { features < 64 → 2 ^ 64 ≤ offset + length bytes.now → result ≡ Err (misuse 101 offset) }
     ensures before { features < 64 → IsWithin offset bytes.now → at < offset → result ≡ Err (misuse 104 at) }
-    ensures behind { features < 64 → IsWithin offset bytes.now → offset + length bytes.now < at → result ≡ Err (misuse 104 at) }
+    ensures after { features < 64 → IsWithin offset bytes.now → offset + length bytes.now < at → result ≡ Err (misuse 104 at) }
     ensures there { features < 64 → IsWithin offset bytes.now → offset ≤ at → at ≤ offset + length bytes.now
         → result ≡ Ok (bytes_at bytes.now offset features at) }
 {
@@ -78,7 +78,7 @@ fn operator_at<'a>(
 }
 
 /// Sets `count` to the length of an operator's list. Fails with 104 if it has no such list.
-fn answer_count(found: Option<usize>, at: u64, count: &mut usize) -> WasmRefusal
+fn store_count(found: Option<usize>, at: u64, count: &mut usize) -> WasmRefusal
     ensures some { IfSome found (λ members. (result ≡ no_refusal at) × (count.new ≡ members)) }
     ensures none { IfNone found ((result ≡ misuse 104 at) × (count.new ≡ count.old)) }
 {
@@ -102,10 +102,10 @@ pub fn targets_at(
     out: &mut [u32],
     count: &mut usize,
 ) -> WasmRefusal
-    ensures { AnswersList targets_of result bytes.now offset features at index count.old count.new out.old out.new }
+    ensures { ReturnsList targets_of result bytes.now offset features at index count.old count.new out.old out.new }
 {
     match operator_at(alloc, bytes, offset, features, at) {
-        Ok(op) => answer_count(targets_of(&op, index, out), at, count),
+        Ok(op) => store_count(targets_of(&op, index, out), at, count),
         Err(refused) => refused,
     }
 }
@@ -121,10 +121,10 @@ pub fn types_at(
     out: &mut [WasmType],
     count: &mut usize,
 ) -> WasmRefusal
-    ensures { AnswersList types_of result bytes.now offset features at index count.old count.new out.old out.new }
+    ensures { ReturnsList types_of result bytes.now offset features at index count.old count.new out.old out.new }
 {
     match operator_at(alloc, bytes, offset, features, at) {
-        Ok(op) => answer_count(types_of(&op, index, out), at, count),
+        Ok(op) => store_count(types_of(&op, index, out), at, count),
         Err(refused) => refused,
     }
 }
@@ -140,10 +140,10 @@ pub fn catches_at(
     out: &mut [WasmHandler],
     count: &mut usize,
 ) -> WasmRefusal
-    ensures { AnswersList catches_of result bytes.now offset features at index count.old count.new out.old out.new }
+    ensures { ReturnsList catches_of result bytes.now offset features at index count.old count.new out.old out.new }
 {
     match operator_at(alloc, bytes, offset, features, at) {
-        Ok(op) => answer_count(catches_of(&op, index, out), at, count),
+        Ok(op) => store_count(catches_of(&op, index, out), at, count),
         Err(refused) => refused,
     }
 }
@@ -160,10 +160,10 @@ pub fn handles_at(
     out: &mut [WasmHandler],
     count: &mut usize,
 ) -> WasmRefusal
-    ensures { AnswersList handles_of result bytes.now offset features at index count.old count.new out.old out.new }
+    ensures { ReturnsList handles_of result bytes.now offset features at index count.old count.new out.old out.new }
 {
     match operator_at(alloc, bytes, offset, features, at) {
-        Ok(op) => answer_count(handles_of(&op, index, out), at, count),
+        Ok(op) => store_count(handles_of(&op, index, out), at, count),
         Err(refused) => refused,
     }
 }

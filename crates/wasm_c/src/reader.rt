@@ -246,10 +246,10 @@ impl WasmReader {
             return WasmRefusal::misuse(NO_ROOM, offset);
         }
         match past_locals(bytes, offset, known) {
-            Ok(behind) => {
+            Ok(after) => {
                 frames[0] = BLOCK;
-                *self = WasmReader::fresh(offset, features, behind.current_position() as u64);
-                WasmRefusal::none(behind.original_position())
+                *self = WasmReader::fresh(offset, features, after.current_position() as u64);
+                WasmRefusal::none(after.original_position())
             }
             Err(error) => WasmRefusal::of(&error),
         }

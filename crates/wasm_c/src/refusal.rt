@@ -1,7 +1,7 @@
 //! Errors as C structs.
 ghost use Rattle.std.specs.Prelude.{◌≡◌};
-ghost use Rattle.wasm_c.specs.Texts.{instruction_told, frame_told, number_told, size_told, leading_told, type_told};
-ghost use Rattle.wasm_c.specs.Refused.{told, told_name, told_value, refusal_of, no_refusal, misuse, refusal_at, instruction_number, number_name_number, size_number, frame_number, leading_number, type_number};
+ghost use Rattle.wasm_c.specs.Texts.{instruction_numbered, frame_numbered, number_name_numbered, size_numbered, leading_numbered, type_numbered};
+ghost use Rattle.wasm_c.specs.Refused.{reported, reported_name, reported_value, refusal_of, no_refusal, misuse, refusal_at, instruction_number, number_name_number, size_number, frame_number, leading_number, type_number};
 
 use wasm_operators::{
     Error, FrameName, InstructionName, LeadingByteName, Message, NumberName, Result, SizeName,
@@ -46,7 +46,7 @@ pub struct WasmRefusal {
 impl WasmRefusal {
     /// Creates an error from its numbers.
     fn new(offset: u64, number: u32, name: u32, value: u32) -> WasmRefusal
-        ensures { result ≡ told offset number name value }
+        ensures { result ≡ reported offset number name value }
     {
         WasmRefusal {
             offset,
@@ -90,15 +90,15 @@ impl WasmRefusal {
         WasmRefusal::new(
             error.offset,
             number,
-            told_name(message),
-            told_value(message),
+            reported_name(message),
+            reported_value(message),
         )
     }
 }
 
 /// Returns the number of the name in a message's text; for a subopcode, the prefix byte.
-fn told_name(message: &Message) -> u32
-    ensures { result ≡ told_name message.now }
+fn reported_name(message: &Message) -> u32
+    ensures { result ≡ reported_name message.now }
 {
     match *message {
         Message::FeatureRequired(name) => instruction_number(name),
@@ -115,8 +115,8 @@ fn told_name(message: &Message) -> u32
 }
 
 /// Returns the byte, code or flags in a message's text.
-fn told_value(message: &Message) -> u32
-    ensures { result ≡ told_value message.now }
+fn reported_value(message: &Message) -> u32
+    ensures { result ≡ reported_value message.now }
 {
     match *message {
         Message::IllegalOpcode(code) => u32::from(code),
@@ -143,7 +143,7 @@ fn instruction_number(name: InstructionName) -> u32
 
 /// Returns the instruction's name with this number.
 pub fn instruction_name(number: u32) -> Option<InstructionName>
-    ensures { result ≡ instruction_told number }
+    ensures { result ≡ instruction_numbered number }
 {
     match number {
         0 => Some(InstructionName::Else),
@@ -167,7 +167,7 @@ fn frame_number(name: FrameName) -> u32
 
 /// Returns the frame's name with this number.
 pub fn frame_name(number: u32) -> Option<FrameName>
-    ensures { result ≡ frame_told number }
+    ensures { result ≡ frame_numbered number }
 {
     match number {
         0 => Some(FrameName::If),
@@ -191,7 +191,7 @@ fn number_name_number(name: NumberName) -> u32
 
 /// Returns the name of the number format with this number.
 pub fn number_name(number: u32) -> Option<NumberName>
-    ensures { result ≡ number_told number }
+    ensures { result ≡ number_name_numbered number }
 {
     match number {
         0 => Some(NumberName::VarU32),
@@ -217,7 +217,7 @@ fn size_number(name: SizeName) -> u32
 
 /// Returns the list's name with this number.
 pub fn size_name(number: u32) -> Option<SizeName>
-    ensures { result ≡ size_told number }
+    ensures { result ≡ size_numbered number }
 {
     match number {
         0 => Some(SizeName::BrTable),
@@ -240,7 +240,7 @@ fn leading_number(name: LeadingByteName) -> u32
 
 /// Returns the name of what starts with a leading byte, by its number.
 pub fn leading_name(number: u32) -> Option<LeadingByteName>
-    ensures { result ≡ leading_told number }
+    ensures { result ≡ leading_numbered number }
 {
     match number {
         0 => Some(LeadingByteName::Catch),
@@ -262,7 +262,7 @@ fn type_number(name: TypeName) -> u32
 
 /// Returns the name of the kind of type with this number.
 pub fn type_name(number: u32) -> Option<TypeName>
-    ensures { result ≡ type_told number }
+    ensures { result ≡ type_numbered number }
 {
     match number {
         0 => Some(TypeName::ValueType),

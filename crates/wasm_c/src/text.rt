@@ -4,7 +4,7 @@ ghost use Rattle.std.specs.Option.{option_map};
 ghost use Rattle.wasm_operators.specs.below.bytes.message.Message.TheVariants as message;
 ghost use Rattle.std.specs.Fmt.{decimal, digit_glyph};
 ghost use Rattle.wasm_view.specs.Lists.{written};
-ghost use Rattle.wasm_c.specs.Texts.{hexadecimal, eight_digits, message_text, frame_name_text, instruction_told, integer_told, size_told, frames_told, ordering_told, leading_told, type_told, bare_told, message_told, AnswersText, PutsPiece};
+ghost use Rattle.wasm_c.specs.Texts.{hexadecimal, eight_digits, message_text, frame_name_text, instruction_numbered, integer_numbered, size_numbered, frames_numbered, ordering_numbered, leading_numbered, type_numbered, bare_numbered, message_numbered, ReturnsText, PutsPiece};
 
 use crate::refusal::{
     frame_name, instruction_name, leading_name, number_name, size_name, type_name,
@@ -99,7 +99,7 @@ fn put_binary(value: u32, at: usize, text: &mut [u8]) -> usize
 
 /// Writes a text of one piece. Returns its whole length.
 pub fn write_one(first: &str, text: &mut [u8]) -> usize
-    ensures { AnswersText (Some first.now) text.old result text.new }
+    ensures { ReturnsText (Some first.now) text.old result text.new }
 {
     let bytes = first.as_bytes();
     let room = bytes.len().min(text.len());
@@ -113,7 +113,7 @@ pub fn write_one(first: &str, text: &mut [u8]) -> usize
 fn write_two(first: &str, second: &str, text: &mut [u8]) -> usize
     requires first { length first.now < 2 ^ 16 }
     requires second { length second.now < 2 ^ 16 }
-    ensures { AnswersText (Some (first.now ++ second.now)) text.old result text.new }
+    ensures { ReturnsText (Some (first.now ++ second.now)) text.old result text.new }
 {
     let at = put(first, 0, text);
     put(second, at, text)
@@ -124,17 +124,17 @@ fn write_three(first: &str, second: &str, third: &str, text: &mut [u8]) -> usize
     requires first { length first.now < 2 ^ 16 }
     requires second { length second.now < 2 ^ 16 }
     requires third { length third.now < 2 ^ 16 }
-    ensures { AnswersText (Some (first.now ++ (second.now ++ third.now))) text.old result text.new }
+    ensures { ReturnsText (Some (first.now ++ (second.now ++ third.now))) text.old result text.new }
 {
     let at = put(first, 0, text);
-    let behind = put(second, at, text);
-    put(third, behind, text)
+    let after = put(second, at, text);
+    put(third, after, text)
 }
 
 /// Writes a text that ends with a number in hexadecimal.
 fn write_code(first: &str, code: u32, text: &mut [u8]) -> usize
     requires { length first.now < 2 ^ 16 }
-    ensures { AnswersText (Some (first.now ++ hexadecimal code)) text.old result text.new }
+    ensures { ReturnsText (Some (first.now ++ hexadecimal code)) text.old result text.new }
 {
     let at = put(first, 0, text);
     put_hexadecimal(code, at, text)
@@ -142,7 +142,7 @@ fn write_code(first: &str, code: u32, text: &mut [u8]) -> usize
 
 /// Writes the text of the error for an instruction that needs a feature.
 fn write_feature(name: u32, text: &mut [u8]) -> usize
-    ensures { AnswersText (option_map message_text (option_map message.FeatureRequired (instruction_told name))) text.old result text.new }
+    ensures { ReturnsText (option_map message_text (option_map message.FeatureRequired (instruction_numbered name))) text.old result text.new }
 {
     match instruction_name(name) {
         Some(name) => write_three(
@@ -157,7 +157,7 @@ fn write_feature(name: u32, text: &mut [u8]) -> usize
 
 /// Writes the text of the error for a number that does not fit.
 fn write_integer(name: u32, text: &mut [u8]) -> usize
-    ensures { AnswersText (option_map message_text (integer_told name)) text.old result text.new }
+    ensures { ReturnsText (option_map message_text (integer_numbered name)) text.old result text.new }
 {
     if name < 16 {
         return match number_name(name) {
@@ -178,7 +178,7 @@ fn write_integer(name: u32, text: &mut [u8]) -> usize
 
 /// Writes the text of the error for a count above its limit.
 fn write_size(name: u32, text: &mut [u8]) -> usize
-    ensures { AnswersText (option_map message_text (option_map message.SizeOutOfBounds (size_told name))) text.old result text.new }
+    ensures { ReturnsText (option_map message_text (option_map message.SizeOutOfBounds (size_numbered name))) text.old result text.new }
 {
     match size_name(name) {
         Some(list) => write_two(list.text(), " size is out of bounds", text),
@@ -200,7 +200,7 @@ fn frame_text(frame: FrameName) -> &'static str
 fn write_frame(instruction: &str, frame: &str, text: &mut [u8]) -> usize
     requires instruction { length instruction.now < 2 ^ 16 }
     requires frame { length frame.now < 2 ^ 16 }
-    ensures { AnswersText (Some (codes "`" ++ (instruction.now ++ (codes "` found outside `" ++ (frame.now ++ codes "` block"))))) text.old result text.new }
+    ensures { ReturnsText (Some (codes "`" ++ (instruction.now ++ (codes "` found outside `" ++ (frame.now ++ codes "` block"))))) text.old result text.new }
 {
     let first = put("`", 0, text);
     let second = put(instruction, first, text);
@@ -211,7 +211,7 @@ fn write_frame(instruction: &str, frame: &str, text: &mut [u8]) -> usize
 
 /// Writes the same text from the numbers of the instruction and the frame.
 fn write_wrong_frame(name: u32, text: &mut [u8]) -> usize
-    ensures { AnswersText (option_map message_text (frames_told name)) text.old result text.new }
+    ensures { ReturnsText (option_map message_text (frames_numbered name)) text.old result text.new }
 {
     match instruction_name(name % 16) {
         Some(instruction) => match frame_name(name / 16) {
@@ -224,7 +224,7 @@ fn write_wrong_frame(name: u32, text: &mut [u8]) -> usize
 
 /// Writes the text of the error for an unknown subopcode.
 fn write_subopcode(prefix: u32, code: u32, text: &mut [u8]) -> usize
-    ensures { AnswersText (Some (message_text (message.UnknownSubopcode prefix code))) text.old result text.new }
+    ensures { ReturnsText (Some (message_text (message.UnknownSubopcode prefix code))) text.old result text.new }
 {
     let first = put("unknown 0x", 0, text);
     let second = put_hexadecimal(prefix, first, text);
@@ -234,7 +234,7 @@ fn write_subopcode(prefix: u32, code: u32, text: &mut [u8]) -> usize
 
 /// Writes the text of the error for an invalid ordering, with the byte in decimal.
 fn write_decimal_ordering(value: u32, text: &mut [u8]) -> usize
-    ensures { AnswersText (Some (message_text (message.InvalidOrdering value false))) text.old result text.new }
+    ensures { ReturnsText (Some (message_text (message.InvalidOrdering value false))) text.old result text.new }
 {
     let at = put("invalid atomic consistency ordering ", 0, text);
     put_decimal(value, at, text)
@@ -242,7 +242,7 @@ fn write_decimal_ordering(value: u32, text: &mut [u8]) -> usize
 
 /// Writes the text of the error for an invalid ordering.
 fn write_ordering(name: u32, value: u32, text: &mut [u8]) -> usize
-    ensures { AnswersText (option_map message_text (ordering_told name value)) text.old result text.new }
+    ensures { ReturnsText (option_map message_text (ordering_numbered name value)) text.old result text.new }
 {
     match name {
         0 => write_decimal_ordering(value, text),
@@ -253,7 +253,7 @@ fn write_ordering(name: u32, value: u32, text: &mut [u8]) -> usize
 
 /// Writes the text of the error for invalid cast flags.
 fn write_flags(value: u32, text: &mut [u8]) -> usize
-    ensures { AnswersText (Some (message_text (message.InvalidCastFlags value))) text.old result text.new }
+    ensures { ReturnsText (Some (message_text (message.InvalidCastFlags value))) text.old result text.new }
 {
     let at = put("invalid cast flags: ", 0, text);
     put_binary(value, at, text)
@@ -262,7 +262,7 @@ fn write_flags(value: u32, text: &mut [u8]) -> usize
 /// Writes the text of the error for an invalid leading byte.
 fn write_leading(name: &str, value: u32, text: &mut [u8]) -> usize
     requires { length name.now < 2 ^ 16 }
-    ensures { AnswersText (Some (codes "invalid leading byte (0x" ++ (hexadecimal value ++ (codes ") for " ++ name.now)))) text.old result text.new }
+    ensures { ReturnsText (Some (codes "invalid leading byte (0x" ++ (hexadecimal value ++ (codes ") for " ++ name.now)))) text.old result text.new }
 {
     let first = put("invalid leading byte (0x", 0, text);
     let second = put_hexadecimal(value, first, text);
@@ -272,7 +272,7 @@ fn write_leading(name: &str, value: u32, text: &mut [u8]) -> usize
 
 /// Writes the same text from the numbers of the name and the byte.
 fn write_leading_byte(name: u32, value: u32, text: &mut [u8]) -> usize
-    ensures { AnswersText (option_map message_text (option_map (λ n. message.InvalidLeadingByte value n) (leading_told name))) text.old result text.new }
+    ensures { ReturnsText (option_map message_text (option_map (λ n. message.InvalidLeadingByte value n) (leading_numbered name))) text.old result text.new }
 {
     match leading_name(name) {
         Some(name) => write_leading(name.text(), value, text),
@@ -282,7 +282,7 @@ fn write_leading_byte(name: u32, value: u32, text: &mut [u8]) -> usize
 
 /// Writes the text of the error for an invalid type.
 fn write_type(name: u32, text: &mut [u8]) -> usize
-    ensures { AnswersText (option_map message_text (option_map message.InvalidType (type_told name))) text.old result text.new }
+    ensures { ReturnsText (option_map message_text (option_map message.InvalidType (type_numbered name))) text.old result text.new }
 {
     match type_name(name) {
         Some(name) => write_two("invalid ", name.text(), text),
@@ -292,7 +292,7 @@ fn write_type(name: u32, text: &mut [u8]) -> usize
 
 /// Writes the text of an error whose text has no name or value.
 fn write_bare(number: u32, text: &mut [u8]) -> usize
-    ensures { AnswersText (option_map message_text (bare_told number)) text.old result text.new }
+    ensures { ReturnsText (option_map message_text (bare_numbered number)) text.old result text.new }
 {
     match number {
         1 => write_one("unexpected end-of-file", text),
@@ -326,7 +326,7 @@ fn write_bare(number: u32, text: &mut [u8]) -> usize
 /// Writes the text of an error, as much of it as fits. Returns the length of the whole text, or 0
 /// if the numbers are those of no error.
 pub fn write_text(number: u32, name: u32, value: u32, text: &mut [u8]) -> usize
-    ensures { AnswersText (option_map message_text (message_told number name value)) text.old result text.new }
+    ensures { ReturnsText (option_map message_text (message_numbered number name value)) text.old result text.new }
 {
     match number {
         2 => write_feature(name, text),

@@ -52,7 +52,7 @@ impl Visitor for Viewer {
     type Output = ();
 
     // The C struct is that of the operator at this offset.
-    ghost visits = { λ before op answer after. (after.view ≡ view_of (op, before.offset))
+    ghost visits = { λ before op outcome after. (after.view ≡ view_of (op, before.offset))
         × (after.change ≡ change_of (role_of op)) };
 
     #[inline(always)]

@@ -11,16 +11,16 @@ ghost use Rattle.wasm_c.specs.operators.below.bytes.error.Error.{Error};
 ghost use Rattle.wasm_c.specs.operators.instr.Row.{name_of};
 ghost use Rattle.wasm_c.specs.operators.instr.declared.operator.Operator.{Operator};
 ghost use Rattle.wasm_c.specs.operators.Expression.{Placed};
-ghost use Rattle.wasm_c.specs.operators.Headline.{IsWithinDepth};
+ghost use Rattle.wasm_c.specs.operators.MainTheorem.{IsWithinDepth};
 ghost use Rattle.wasm_c.specs.operators.Reading.{State, IsFresh};
 ghost use Rattle.wasm_c.specs.view.Lists.{targets_of, types_of, catches_of, handles_of};
 ghost use Rattle.wasm_c.specs.view.Names.{name_at};
 ghost use Rattle.wasm_c.specs.view.View.{view_of};
-ghost use Rattle.wasm_c.specs.Members.{AnswersList};
+ghost use Rattle.wasm_c.specs.Members.{ReturnsList};
 ghost use Rattle.wasm_c.specs.Reads.{IsWithin, FindsPlain};
 ghost use Rattle.wasm_c.specs.Refused.{misuse, refusal_of};
-ghost use Rattle.wasm_c.specs.Steps.{AnswersNext, ReadsBatch, FinishesPlain, OpensExpression, OpensPlain};
-ghost use Rattle.wasm_c.specs.Texts.{message_text, text_told, AnswersText};
+ghost use Rattle.wasm_c.specs.Steps.{ReturnsNext, ReadsBatch, FinishesPlain, OpensExpression, OpensPlain};
+ghost use Rattle.wasm_c.specs.Texts.{message_text, text_of_refusal, ReturnsText};
 
 use std::alloc::Global;
 use wasm_c::{WasmHandler, WasmOperator, WasmReader, WasmRefusal, WasmType};
@@ -44,7 +44,7 @@ pub extern "C" fn wasm_read_body(
     count: &mut usize,
     refusal: &mut WasmRefusal,
 ) -> u32
-    ensures answer { result ≡ refusal.new.number }
+    ensures outcome { result ≡ refusal.new.number }
     ensures body { features < 64 → IsWithin offset bytes.now
         → (placed : Placed)
         × FindsPlain refusal.new (reader_of (features_of features) offset bytes.now) count.new out.old out.new placed }
@@ -58,9 +58,9 @@ pub extern "C" fn wasm_read_body(
 /// `wasm_c::wasm_refusal_text` for C.
 #[unsafe(no_mangle)]
 pub extern "C" fn wasm_refusal_text(refusal: &WasmRefusal, text: &mut [u8]) -> usize
-    ensures told { (e : Error) → refusal.now ≡ refusal_of e
-        → AnswersText (Some (message_text e.message)) text.old result text.new }
-    ensures numbers { AnswersText (text_told refusal.now) text.old result text.new }
+    ensures reported { (e : Error) → refusal.now ≡ refusal_of e
+        → ReturnsText (Some (message_text e.message)) text.old result text.new }
+    ensures numbers { ReturnsText (text_of_refusal refusal.now) text.old result text.new }
 {
     wasm_c::wasm_refusal_text(refusal, text)
 }
@@ -69,8 +69,8 @@ pub extern "C" fn wasm_refusal_text(refusal: &WasmRefusal, text: &mut [u8]) -> u
 #[unsafe(no_mangle)]
 pub extern "C" fn wasm_operator_name(operator: &WasmOperator, name: &mut [u8]) -> usize
     ensures named { (op : Operator) (at : ℕ) → operator.now ≡ view_of (op, at)
-        → AnswersText (Some (name_of op)) name.old result name.new }
-    ensures numbers { AnswersText (Some (name_at operator.now.opcode operator.now.shape)) name.old result name.new }
+        → ReturnsText (Some (name_of op)) name.old result name.new }
+    ensures numbers { ReturnsText (Some (name_at operator.now.opcode operator.now.shape)) name.old result name.new }
 {
     wasm_c::wasm_operator_name(operator, name)
 }
@@ -85,7 +85,7 @@ pub extern "C" fn wasm_open(
     reader: &mut WasmReader,
     refusal: &mut WasmRefusal,
 ) -> u32
-    ensures answer { result ≡ refusal.new.number }
+    ensures outcome { result ≡ refusal.new.number }
     ensures opens { OpensExpression refusal.new bytes.now offset features reader.old reader.new frames.old frames.new }
 {
     wasm_c::wasm_open(bytes, offset, features, frames, reader, refusal)
@@ -101,7 +101,7 @@ pub extern "C" fn wasm_open_body(
     reader: &mut WasmReader,
     refusal: &mut WasmRefusal,
 ) -> u32
-    ensures answer { result ≡ refusal.new.number }
+    ensures outcome { result ≡ refusal.new.number }
     ensures opens { OpensPlain refusal.new bytes.now offset features reader.old reader.new frames.old frames.new }
 {
     wasm_c::wasm_open_body(bytes, offset, features, frames, reader, refusal)
@@ -117,8 +117,8 @@ pub extern "C" fn wasm_next(
     operator: &mut WasmOperator,
     refusal: &mut WasmRefusal,
 ) -> u32
-    ensures answer { result ≡ refusal.new.number }
-    ensures next { AnswersNext refusal.new bytes.now reader.old reader.new frames.old frames.new operator.old operator.new }
+    ensures outcome { result ≡ refusal.new.number }
+    ensures next { ReturnsNext refusal.new bytes.now reader.old reader.new frames.old frames.new operator.old operator.new }
 {
     wasm_c::wasm_next(alloc, bytes, frames, reader, operator, refusal)
 }
@@ -134,7 +134,7 @@ pub extern "C" fn wasm_read(
     count: &mut usize,
     refusal: &mut WasmRefusal,
 ) -> u32
-    ensures answer { result ≡ refusal.new.number }
+    ensures outcome { result ≡ refusal.new.number }
     ensures batch { ReadsBatch refusal.new count.new bytes.now reader.old reader.new frames.old frames.new out.old out.new }
 {
     wasm_c::wasm_read(alloc, bytes, frames, reader, out, count, refusal)
@@ -148,7 +148,7 @@ pub extern "C" fn wasm_finish(
     reader: &WasmReader,
     refusal: &mut WasmRefusal,
 ) -> u32
-    ensures answer { result ≡ refusal.new.number }
+    ensures outcome { result ≡ refusal.new.number }
     ensures finishes { FinishesPlain refusal.new bytes.now reader.now frames.now }
 {
     wasm_c::wasm_finish(bytes, frames, reader, refusal)
@@ -177,8 +177,8 @@ pub extern "C" fn wasm_br_table_targets(
     count: &mut usize,
     refusal: &mut WasmRefusal,
 ) -> u32
-    ensures answer { result ≡ refusal.new.number }
-    ensures list { AnswersList targets_of refusal.new bytes.now offset features at index count.old count.new out.old out.new }
+    ensures outcome { result ≡ refusal.new.number }
+    ensures list { ReturnsList targets_of refusal.new bytes.now offset features at index count.old count.new out.old out.new }
 {
     wasm_c::wasm_br_table_targets(
         alloc, bytes, offset, features, at, index, out, count, refusal,
@@ -198,8 +198,8 @@ pub extern "C" fn wasm_select_types(
     count: &mut usize,
     refusal: &mut WasmRefusal,
 ) -> u32
-    ensures answer { result ≡ refusal.new.number }
-    ensures list { AnswersList types_of refusal.new bytes.now offset features at index count.old count.new out.old out.new }
+    ensures outcome { result ≡ refusal.new.number }
+    ensures list { ReturnsList types_of refusal.new bytes.now offset features at index count.old count.new out.old out.new }
 {
     wasm_c::wasm_select_types(
         alloc, bytes, offset, features, at, index, out, count, refusal,
@@ -219,8 +219,8 @@ pub extern "C" fn wasm_try_table_catches(
     count: &mut usize,
     refusal: &mut WasmRefusal,
 ) -> u32
-    ensures answer { result ≡ refusal.new.number }
-    ensures list { AnswersList catches_of refusal.new bytes.now offset features at index count.old count.new out.old out.new }
+    ensures outcome { result ≡ refusal.new.number }
+    ensures list { ReturnsList catches_of refusal.new bytes.now offset features at index count.old count.new out.old out.new }
 {
     wasm_c::wasm_try_table_catches(
         alloc, bytes, offset, features, at, index, out, count, refusal,
@@ -240,8 +240,8 @@ pub extern "C" fn wasm_resume_handlers(
     count: &mut usize,
     refusal: &mut WasmRefusal,
 ) -> u32
-    ensures answer { result ≡ refusal.new.number }
-    ensures list { AnswersList handles_of refusal.new bytes.now offset features at index count.old count.new out.old out.new }
+    ensures outcome { result ≡ refusal.new.number }
+    ensures list { ReturnsList handles_of refusal.new bytes.now offset features at index count.old count.new out.old out.new }
 {
     wasm_c::wasm_resume_handlers(
         alloc, bytes, offset, features, at, index, out, count, refusal,

@@ -19,14 +19,14 @@ use Rattle.wasm_visit.specs.instr.Immediate.{Kind}
 use Rattle.wasm_visit.specs.instr.Kinds.{IsVector}
 use Rattle.wasm_visit.specs.instr.Row.{prefix_of, opcode_of}
 use Rattle.wasm_visit.specs.opcodes.Allowed.{EncodesAllowed, EncodesScalar, EncodesIn}
-use Rattle.wasm_visit.specs.opcodes.Decoding.{Decodes, DecodesAt, RefusesOperator, StandsBehind}
+use Rattle.wasm_visit.specs.opcodes.Decoding.{Decodes, DecodesAt, RefusesOperator, IsAfterCode}
 use Rattle.wasm_visit.specs.opcodes.declared.guard.Guard.{Guard}
 use Rattle.wasm_visit.specs.opcodes.Entry.{Entry, prefixes, guard_of, kinds_of, guarded_entry, entry_of}
 use Rattle.wasm_visit.specs.opcodes.Entries.{opcode_entries, entry_at}
 use Rattle.wasm_visit.specs.opcodes.OperatorFaults.{EntryFault, OperatorFault, ScalarOperatorFault, FaultIn}
 use Rattle.wasm_visit.specs.opcodes.Refused.{IsRefusedOperator}
-use Rattle.wasm_visit.proofs.of_opcodes.OperatorLemmas.{within_behind}
-use Rattle.wasm_visit.proofs.of_opcodes.Told.{told}
+use Rattle.wasm_visit.proofs.of_opcodes.OperatorLemmas.{within_after_code}
+use Rattle.wasm_visit.proofs.of_opcodes.EntriesAgree.{entry_agrees}
 use Rattle.wasm_visit.proofs.of_decode.Ranges.{InRanges, codes_in}
 use Rattle.wasm_decode.specs.Reading.{DecodesOperator, DecodesOperatorAt, DecodesGcAt}
 
@@ -41,9 +41,9 @@ position_alone visits k start (Err e) old mid v w (same, refuses) = refuses.0 �
 
 module _ {V A : Type 0} (visits : V → Operator → A → V → Type 0) (k : FrameKind) (start : ℕ) (old lent mid : Reader) (v w : V) (same : lent ≡ old) where
   -- the position of the copy is at most the length of the bytes
-  pub copy_within : (p : Option ℕ) (code : ℕ) (a : A) → StandsBehind start p code old → DecodesAt visits k start (Ok a) lent mid v w → mid.position ≤ length old.buffer
+  pub copy_within : (p : Option ℕ) (code : ℕ) (a : A) → IsAfterCode start p code old → DecodesAt visits k start (Ok a) lent mid v w → mid.position ≤ length old.buffer
   copy_within p code a b (text, op, encodes, takes, visited) =
-      let within = within_behind start p code old b in
+      let within = within_after_code start p code old b in
       let t : Takes (at_position old start) mid text = subst (λ r. Takes (at_position r start) mid text) same takes in
       let whole = within_buffer (at_position old start) mid text (omega (arith, within, b.begun)) t in
       let at : mid.position ≡ start + length text = ap (λ (r : Reader). r.position) t.moved in
@@ -65,8 +65,8 @@ module _ {V A : Type 0} (visits : V → Operator → A → V → Type 0) (k : Fr
 -- ---- the first byte
 
 -- the reader is after the byte that it read
-pub stands : (old mid : Reader) (code start : ℕ) → Reads IsByte (Ok code) old mid → start ≡ old.position → (at_position mid start ≡ old) × StandsBehind start None code mid
-stands old mid code start r same =
+pub occurs : (old mid : Reader) (code start : ℕ) → Reads IsByte (Ok code) old mid → start ≡ old.position → (at_position mid start ≡ old) × IsAfterCode start None code mid
+occurs old mid code start r same =
     let f = first_byte_read old mid code r in
     let position : mid.position ≡ old.position + 1 = ap (λ (z : Reader). z.position) f.2.moved in
     let back : at_position mid start ≡ old = ap (at_position mid) same ∙ rewound old mid (code ∷ []) f.2 in (
@@ -86,8 +86,8 @@ no_prefixes (Some g) ks e = cc e
 none_empty : (f : WasmFeatures) (k : FrameKind) → NoPrefix (EncodesAllowed f k) []
 none_empty f k text left op s eq =
     let some = some_head (prefix_of op) (opcode_of op) s.0.head s.0.code in
-    let whole : 0 ≡ length s.0.head + length s.0.behind + length left = ap length eq ∙ length-append text left ∙ ap (λ z. length z + length left) s.0.parts ∙
-    ap (λ z. z + length left) (length-append s.0.head s.0.behind) in
+    let whole : 0 ≡ length s.0.head + length s.0.after + length left = ap length eq ∙ length-append text left ∙ ap (λ z. length z + length left) s.0.parts ∙
+    ap (λ z. z + length left) (length-append s.0.head s.0.after) in
     omega arith
 
 -- no byte is left
@@ -124,9 +124,9 @@ refuses_closed E F e old m at within = (
 -- ---- a prefix byte
 
 -- the reader is after the subopcode that it read
-pub stands_behind : (start p code : ℕ) (mid now : Reader) → StandsBehind start None p mid → Reads (EncodesUnsigned 32) (Ok code) mid now →
-    (now ≡ at_position mid now.position) × StandsBehind start (Some p) code now
-stands_behind start p code mid now b (number, u, t) = go b.opcode
+pub is_after_code : (start p code : ℕ) (mid now : Reader) → IsAfterCode start None p mid → Reads (EncodesUnsigned 32) (Ok code) mid now →
+    (now ≡ at_position mid now.position) × IsAfterCode start (Some p) code now
+is_after_code start p code mid now b (number, u, t) = go b.opcode
   where
     stays : now ≡ at_position mid now.position
     stays = t.moved ∙ ap (at_position mid) (sym (ap (λ (z : Reader). z.position) t.moved))
@@ -134,7 +134,7 @@ stands_behind start p code mid now b (number, u, t) = go b.opcode
     start_same : at_position mid start ≡ at_position now start
     start_same = sym (ap (λ (z : Reader). at_position z start) t.moved)
 
-    go : Reads (λ text it. EncodesOpcode None it text) (Ok p) (at_position mid start) mid → (now ≡ at_position mid now.position) × StandsBehind start (Some p) code now
+    go : Reads (λ text it. EncodesOpcode None it text) (Ok p) (at_position mid start) mid → (now ≡ at_position mid now.position) × IsAfterCode start (Some p) code now
     go (head, opcode, taken) =
         let both : Takes (at_position mid start) now (head ++ number) = takes_then (at_position mid start) mid now head number taken t in
         let whole : Takes (at_position mid start) now (p ∷ number) = subst (λ z. Takes (at_position mid start) now (z ++ number)) opcode both in
@@ -146,26 +146,26 @@ stands_behind start p code mid now b (number, u, t) = go b.opcode
 
 -- an operator that begins with a prefix byte has it
 pub begins_prefix : (f : WasmFeatures) (op : Operator) (p : ℕ) (text after left : List ℕ) → entry_at None p ≡ prefixes → EncodesOperator f op text → p ∷ after ≡ text ++ left →
-    (number behind : List ℕ) × (prefix_of op ≡ Some p) × EncodesUnsigned 32 number (opcode_of op) × (after ≡ number ++ (behind ++ left))
+    (number later : List ℕ) × (prefix_of op ≡ Some p) × EncodesUnsigned 32 number (opcode_of op) × (after ≡ number ++ (later ++ left))
 begins_prefix f op p text after left is s eq = go (prefix_of op) refl s.code
   where
-    whole : p ∷ after ≡ s.head ++ (s.behind ++ left)
-    whole = eq ∙ ap (λ z. z ++ left) s.parts ∙ append_assoc s.head s.behind left
+    whole : p ∷ after ≡ s.head ++ (s.after ++ left)
+    whole = eq ∙ ap (λ z. z ++ left) s.parts ∙ append_assoc s.head s.after left
 
     go : (q : Option ℕ) → prefix_of op ≡ q → EncodesOpcode q (opcode_of op) s.head →
-        (number behind : List ℕ) × (prefix_of op ≡ Some p) × EncodesUnsigned 32 number (opcode_of op) × (after ≡ number ++ (behind ++ left))
+        (number later : List ℕ) × (prefix_of op ≡ Some p) × EncodesUnsigned 32 number (opcode_of op) × (after ≡ number ++ (later ++ left))
     go None e h =
-        let first : p ∷ after ≡ opcode_of op ∷ (s.behind ++ left) = whole ∙ ap (λ z. z ++ (s.behind ++ left)) h in
+        let first : p ∷ after ≡ opcode_of op ∷ (s.after ++ left) = whole ∙ ap (λ z. z ++ (s.after ++ left)) h in
         let same : p ≡ opcode_of op = cc first in
-        let row : entry_at None (opcode_of op) ≡ entry_of op = ap (λ z. entry_at z (opcode_of op)) (sym e) ∙ told op in
+        let row : entry_at None (opcode_of op) ≡ entry_of op = ap (λ z. entry_at z (opcode_of op)) (sym e) ∙ entry_agrees op in
         absurd (no_prefixes (guard_of op) (kinds_of op) (sym row ∙ ap (entry_at None) (sym same) ∙ is))
     go (Some q) e (number, h, u) =
-        let first : p ∷ after ≡ q ∷ (number ++ (s.behind ++ left)) = whole ∙ ap (λ z. z ++ (s.behind ++ left)) h in
+        let first : p ∷ after ≡ q ∷ (number ++ (s.after ++ left)) = whole ∙ ap (λ z. z ++ (s.after ++ left)) h in
         let same : p ≡ q = cc first in
-        (number, s.behind, e ∙ ap Some (sym same), u, cc first)
+        (number, s.after, e ∙ ap Some (sym same), u, cc first)
 
 -- reading the subopcode fails
-pub refuses_subopcode : (k : FrameKind) (start p : ℕ) (e : Error) (mid now new : Reader) → p < 256 → entry_at None p ≡ prefixes → StandsBehind start None p mid →
+pub refuses_subopcode : (k : FrameKind) (start p : ℕ) (e : Error) (mid now new : Reader) → p < 256 → entry_at None p ≡ prefixes → IsAfterCode start None p mid →
     (now ≡ mid) × IsRefusal (EncodesUnsigned 32) e mid → U32Fault e.message mid e.offset → new ≡ at_position now start →
     RefusesOperator (EncodesAllowed mid.features k) (OperatorFault mid.features k) e (at_position mid start) new
 refuses_subopcode k start p e mid now new small is b (same, h) fault went = go b.opcode
@@ -195,10 +195,10 @@ refuses_subopcode k start p e mid now new small is b (same, h) fault went = go b
         )
 
 -- decoding after the subopcode is decoding after the prefix byte
-pub behind_prefix : {V A : Type 0} (visits : V → Operator → A → V → Type 0) (k : FrameKind) (start : ℕ) (mid now new : Reader) (v w : V) (result : Result A Error) →
+pub after_prefix : {V A : Type 0} (visits : V → Operator → A → V → Type 0) (k : FrameKind) (start : ℕ) (mid now new : Reader) (v w : V) (result : Result A Error) →
     now ≡ at_position mid now.position → Decodes visits (EncodesAllowed now.features k) (OperatorFault now.features k) result (at_position now start) new v w →
     Decodes visits (EncodesAllowed mid.features k) (OperatorFault mid.features k) result (at_position mid start) new v w
-behind_prefix visits k start mid now new v w result stays h =
+after_prefix visits k start mid now new v w result stays h =
     subst (λ (z : Reader). Decodes visits (EncodesAllowed z.features k) (OperatorFault z.features k) result (at_position z start) new v w) stays h
 
 -- ---- visitors without SIMD operators
@@ -216,14 +216,14 @@ prefix_vector (operator.Simd op) e = tt
 prefix_vector op e = absurd (omega (arith, ap number_in e))
 
 -- an operator that does not start with the byte 0xfd is not a SIMD operator
-scalar_behind : (f : WasmFeatures) (op : Operator) (code : ℕ) (text after left : List ℕ) → code ≢ 0xfd → EncodesOperator f op text → code ∷ after ≡ text ++ left → ¬ IsVector op
-scalar_behind f op code text after left other s eq h = go (prefix_of op) refl s.code
+scalar_after : (f : WasmFeatures) (op : Operator) (code : ℕ) (text after left : List ℕ) → code ≢ 0xfd → EncodesOperator f op text → code ∷ after ≡ text ++ left → ¬ IsVector op
+scalar_after f op code text after left other s eq h = go (prefix_of op) refl s.code
   where
     go : (q : Option ℕ) → prefix_of op ≡ q → EncodesOpcode q (opcode_of op) s.head → ⊥
     go None e code_is = cc (sym e ∙ vector_prefix op h)
     go (Some q) e (number, head, u) =
-        let first : code ∷ after ≡ q ∷ (number ++ (s.behind ++ left)) = eq ∙ ap (λ z. z ++ left) s.parts ∙ append_assoc s.head s.behind left ∙
-        ap (λ z. z ++ (s.behind ++ left)) head in
+        let first : code ∷ after ≡ q ∷ (number ++ (s.after ++ left)) = eq ∙ ap (λ z. z ++ left) s.parts ∙ append_assoc s.head s.after left ∙
+        ap (λ z. z ++ (s.after ++ left)) head in
         let same : code ≡ q = cc first in
         let is : q ≡ 0xfd = cc (sym e ∙ vector_prefix op h) in
         other (same ∙ is)
@@ -244,7 +244,7 @@ refused_scalar f k e old h =
 
 -- decoding after another opcode than 0xfd is the same for a visitor without SIMD operators
 pub to_scalar : {V A : Type 0} (visits : V → Operator → A → V → Type 0) (k : FrameKind) (start code : ℕ) (mid new : Reader) (v w : V) (result : Result A Error) → code ≢ 0xfd →
-    StandsBehind start None code mid → Decodes visits (EncodesAllowed mid.features k) (OperatorFault mid.features k) result (at_position mid start) new v w →
+    IsAfterCode start None code mid → Decodes visits (EncodesAllowed mid.features k) (OperatorFault mid.features k) result (at_position mid start) new v w →
     Decodes visits (EncodesScalar mid.features k) (ScalarOperatorFault mid.features k) result (at_position mid start) new v w
 to_scalar {V} {A} visits k start code mid new v w result other b h = go b.opcode result h
   where
@@ -253,7 +253,7 @@ to_scalar {V} {A} visits k start code mid new v w result other b h = go b.opcode
         Decodes visits (EncodesScalar mid.features k) (ScalarOperatorFault mid.features k) result (at_position mid start) new v w
     go (head, opcode, t) (Ok a) (text, op, s, taken, vis) =
         let parts : rest (at_position mid start) ≡ code ∷ rest mid = t.parts ∙ ap (λ z. z ++ rest mid) opcode in
-        (text, op, (s, scalar_behind mid.features op code text (rest mid) (rest new) other s.0 (sym parts ∙ taken.parts)), taken, vis)
+        (text, op, (s, scalar_after mid.features op code text (rest mid) (rest new) other s.0 (sym parts ∙ taken.parts)), taken, vis)
     go (head, opcode, t) (Err e) (same, (went, h, fault)) =
         let parts : rest (at_position mid start) ≡ code ∷ rest mid = t.parts ∙ ap (λ z. z ++ rest mid) opcode in (
           same,
@@ -271,7 +271,7 @@ refuses_end_scalar k e old new r end =
     empty more q = cc q
 
 -- the byte 0xfd, whatever follows
-pub refuses_vector : (k : FrameKind) (start : ℕ) (e : Error) (mid new : Reader) → entry_at None 0xfd ≡ prefixes → StandsBehind start None 0xfd mid → new ≡ at_position mid start →
+pub refuses_vector : (k : FrameKind) (start : ℕ) (e : Error) (mid new : Reader) → entry_at None 0xfd ≡ prefixes → IsAfterCode start None 0xfd mid → new ≡ at_position mid start →
     e.message ≡ message.UnexpectedSimd → e.offset ≡ mid.start + start →
     RefusesOperator (EncodesScalar mid.features k) (ScalarOperatorFault mid.features k) e (at_position mid start) new
 refuses_vector k start e mid new is b went m at = go b.opcode
@@ -280,7 +280,7 @@ refuses_vector k start e mid new is b went m at = go b.opcode
         RefusesOperator (EncodesScalar mid.features k) (ScalarOperatorFault mid.features k) e (at_position mid start) new
     go (head, opcode, t) =
         let parts : rest (at_position mid start) ≡ 0xfd ∷ rest mid = t.parts ∙ ap (λ z. z ++ rest mid) opcode in
-        let within = within_behind start None 0xfd mid b in
+        let within = within_after_code start None 0xfd mid b in
         let begun = b.begun in (
           went,
           record {
@@ -308,63 +308,63 @@ from_start visits E F k start old mid new v w result back h =
 
 -- decoding by a visitor that returns the operator is reading
 pub as_read : {V : Type 0} (E : List ℕ → Operator → Type 0) (F : Message → Reader → ℕ → Type 0) (old new : Reader) (v w : V) (result : Result Operator Error) →
-    Decodes {V = V} (λ before op answer after. answer ≡ op) E F result old new v w → DecodesOperator E F result old new
+    Decodes {V = V} (λ before op outcome after. outcome ≡ op) E F result old new v w → DecodesOperator E F result old new
 as_read E F old new v w (Ok op) (text, it, s, taken, same) = (text, subst (E text) (sym same) s, taken)
 as_read E F old new v w (Err e) (same, h) = h
 
 -- reading is decoding by such a visitor
 pub as_visited : (E : List ℕ → Operator → Type 0) (F : Message → Reader → ℕ → Type 0) (old new : Reader) (result : Result Operator Error) →
-    DecodesOperator E F result old new → Decodes {V = Unit {0}} (λ before op answer after. answer ≡ op) E F result old new tt tt
+    DecodesOperator E F result old new → Decodes {V = Unit {0}} (λ before op outcome after. outcome ≡ op) E F result old new tt tt
 as_visited E F old new (Ok op) (text, s, taken) = (text, op, s, taken, refl)
 as_visited E F old new (Err e) h = (refl, h)
 
 module _ (k : FrameKind) (start : ℕ) (old lent mid : Reader) (same : lent ≡ old) where
-  abbrev AnswersOperator : Unit {0} → Operator → Operator → Unit {0} → Type 0
-  AnswersOperator before op answer after = answer ≡ op
+  abbrev ReturnsOperator : Unit {0} → Operator → Operator → Unit {0} → Type 0
+  ReturnsOperator before op outcome after = outcome ≡ op
 
-  visited : (result : Result Operator Error) → DecodesOperatorAt k start result lent mid → DecodesAt AnswersOperator k start result lent mid tt tt
+  visited : (result : Result Operator Error) → DecodesOperatorAt k start result lent mid → DecodesAt ReturnsOperator k start result lent mid tt tt
   visited result h = as_visited (EncodesAllowed lent.features k) (OperatorFault lent.features k) (at_position lent start) mid result h
 
   -- the same by a copy of the reader
-  pub read_within : (p : Option ℕ) (code : ℕ) (op : Operator) → StandsBehind start p code old → DecodesOperatorAt k start (Ok op) lent mid →
+  pub read_within : (p : Option ℕ) (code : ℕ) (op : Operator) → IsAfterCode start p code old → DecodesOperatorAt k start (Ok op) lent mid →
       mid.position ≤ length old.buffer
-  read_within p code op b h = copy_within AnswersOperator k start old lent mid tt tt same p code op b (visited (Ok op) h)
+  read_within p code op b h = copy_within ReturnsOperator k start old lent mid tt tt same p code op b (visited (Ok op) h)
 
   pub read_by_copy : (result : Result Operator Error) (new : Reader) (position : ℕ) → DecodesOperatorAt k start result lent mid → position ≡ mid.position →
       new ≡ at_position old position → DecodesOperatorAt k start result old new
   read_by_copy result new position h at went =
       as_read (EncodesAllowed old.features k) (OperatorFault old.features k) (at_position old start) new tt tt result
-      (by_copy AnswersOperator k start old lent mid tt tt same result new position (visited result h) at went)
+      (by_copy ReturnsOperator k start old lent mid tt tt same result new position (visited result h) at went)
 
   pub read_refused : (e : Error) (new : Reader) → DecodesOperatorAt k start (Err e) lent mid → new ≡ at_position old start →
       DecodesOperatorAt k start (Err e) old new
   read_refused e new h went =
       as_read (EncodesAllowed old.features k) (OperatorFault old.features k) (at_position old start) new tt tt (Err e)
-      (copy_refused AnswersOperator k start old lent mid tt tt same e new (visited (Err e) h) went)
+      (copy_refused ReturnsOperator k start old lent mid tt tt same e new (visited (Err e) h) went)
 
 -- ---- reading after the prefix byte 0xfb
 
 -- the operator of a visit, if its prefix byte is 0xfb
 abbrev IsGc : Operator → GcOperator → Type 0
-IsGc op answer = (made : GcOperator) → op ≡ operator.Gc made → answer ≡ made
+IsGc op outcome = (made : GcOperator) → op ≡ operator.Gc made → outcome ≡ made
 
-prefix_gc : (op : Operator) (answer : GcOperator) → prefix_of op ≡ Some 0xfb → IsGc op answer → op ≡ operator.Gc answer
-prefix_gc (operator.Gc op) answer e is = ap operator.Gc (sym (is op refl))
-prefix_gc op answer e is = absurd (omega (arith, ap number_in e))
+prefix_gc : (op : Operator) (outcome : GcOperator) → prefix_of op ≡ Some 0xfb → IsGc op outcome → op ≡ operator.Gc outcome
+prefix_gc (operator.Gc op) outcome e is = ap operator.Gc (sym (is op refl))
+prefix_gc op outcome e is = absurd (omega (arith, ap number_in e))
 
 -- decoding by a visitor that returns the GcOperator, after the subopcode
 pub as_gc : {V : Type 0} (k : FrameKind) (start : ℕ) (old mid new : Reader) (v w : V) (result : Result GcOperator Error) → entry_at None 0xfb ≡ prefixes →
-    StandsBehind start None 0xfb old → mid ≡ at_position old mid.position → DecodesAt {V = V} (λ before op answer after. IsGc op answer) k start result mid new v w →
+    IsAfterCode start None 0xfb old → mid ≡ at_position old mid.position → DecodesAt {V = V} (λ before op outcome after. IsGc op outcome) k start result mid new v w →
     DecodesGcAt k start result old new
 as_gc {V} k start old mid new v w result prefix b stays h =
-    go result b.opcode (subst (λ r. DecodesAt {V = V} (λ before op answer after. IsGc op answer) k start result r new v w) stays h)
+    go result b.opcode (subst (λ r. DecodesAt {V = V} (λ before op outcome after. IsGc op outcome) k start result r new v w) stays h)
   where
     go : (result : Result GcOperator Error) → Reads (λ text it. EncodesOpcode None it text) (Ok 0xfb) (at_position old start) old →
-        DecodesAt {V = V} (λ before op answer after. IsGc op answer) k start result old new v w → DecodesGcAt k start result old new
-    go (Ok answer) (head, opcode, t) (text, op, s, taken, visited) =
+        DecodesAt {V = V} (λ before op outcome after. IsGc op outcome) k start result old new v w → DecodesGcAt k start result old new
+    go (Ok outcome) (head, opcode, t) (text, op, s, taken, visited) =
         let parts : rest (at_position old start) ≡ 0xfb ∷ rest old = t.parts ∙ ap (λ z. z ++ rest old) opcode in
         let o = begins_prefix old.features op 0xfb text (rest old) (rest new) prefix s.0 (sym parts ∙ taken.parts) in
-        (text, subst (EncodesAllowed old.features k text) (prefix_gc op answer o.2 visited) s, taken)
+        (text, subst (EncodesAllowed old.features k text) (prefix_gc op outcome o.2 visited) s, taken)
     go (Err e) read (same, refused) = refused
 
 pub read_from_start : (E : WasmFeatures → FrameKind → List ℕ → Operator → Type 0) (F : WasmFeatures → FrameKind → Message → Reader → ℕ → Type 0) (k : FrameKind) (start : ℕ)

@@ -20,7 +20,7 @@ use Rattle.wasm_visit.proofs.of_imm.ConstantDeterminedRefusals.{lanes_determines
 use Rattle.wasm_visit.proofs.of_imm.DeterminedControlRefusals.{branch_determines, select_determines, block_determines, cast_determines, try_determines, resume_determines}
 use Rattle.wasm_visit.specs.instr.Immediate.{Kind, is_unsigned_32, is_signed_32, is_signed_64, is_float_32, is_float_64, is_vector, is_one_lane, is_sixteen_lanes, is_memory_argument, is_memory_index, is_table_index, is_order, is_fence_order, is_heap_type, is_cast, is_block_type, is_branch_table, is_select_types, is_try_clauses, is_resume_clauses}
 use Rattle.wasm_visit.specs.opcodes.declared.guard.Guard.{Guard}
-use Rattle.wasm_visit.specs.opcodes.Entry.{Entry, unknown, prefixes, free, guarded, role_behind, instruction_behind, frame_behind}
+use Rattle.wasm_visit.specs.opcodes.Entry.{Entry, unknown, prefixes, free, guarded, guarded_role, guarded_instruction, needed_frame}
 use Rattle.wasm_visit.specs.opcodes.Entries.{entry_at}
 use Rattle.wasm_visit.specs.opcodes.Kinds.{EncodesKind}
 use Rattle.wasm_visit.specs.opcodes.OperatorFaults.{KindFault, KindsFault, FreeFault, SubopcodeFault, LacksFeature, GuardFault, EntryFault, OpcodeFault, OperatorFault, ScalarOperatorFault, FaultIn}
@@ -66,11 +66,11 @@ free_determines f start p code (guarded g ks) m k r a b h q = absurd h
 guard_determines : (f : WasmFeatures) (k : FrameKind) (start : ℕ) (g : Guard) (Later : Message → Reader → ℕ → Type 0) → DeterminesRefusal Later →
     DeterminesRefusal (GuardFault f k start g Later)
 guard_determines f k start g Later d =
-    check_determines (LacksFeature f g) (message.FeatureRequired (instruction_behind g)) start inner
-    (λ m n r a b h q. check_determines (¬ Allows k (role_behind g)) (message.WrongFrame (instruction_behind g) (frame_behind g)) (offset_of r) Later d m n r a b h q)
+    check_determines (LacksFeature f g) (message.FeatureRequired (guarded_instruction g)) start inner
+    (λ m n r a b h q. check_determines (¬ Allows k (guarded_role g)) (message.WrongFrame (guarded_instruction g) (needed_frame g)) (offset_of r) Later d m n r a b h q)
   where
     inner : Message → Reader → ℕ → Type 0
-    inner m r = CheckFault (¬ Allows k (role_behind g)) (message.WrongFrame (instruction_behind g) (frame_behind g)) (offset_of r) Later m r
+    inner m r = CheckFault (¬ Allows k (guarded_role g)) (message.WrongFrame (guarded_instruction g) (needed_frame g)) (offset_of r) Later m r
 
 entry_determines : (f : WasmFeatures) (k : FrameKind) (start code : ℕ) (e : Entry) → DeterminesRefusal (EntryFault f k start code e)
 entry_determines f k start code prefixes m n r a b h q =

@@ -19,7 +19,7 @@ impl Visitor for GcFactory {
     type Output = GcOperator;
 
     // An operator with the prefix byte 0xfb is returned.
-    ghost visits = { λ before op answer after. (made : GcOperator) → op ≡ Operator.Gc made → answer ≡ made };
+    ghost visits = { λ before op outcome after. (made : GcOperator) → op ≡ Operator.Gc made → outcome ≡ made };
 
     #[inline(always)]
     fn visit_any(&mut self, op: Operator<'static>) -> GcOperator {

@@ -5,7 +5,7 @@
 //! of `wasm_decode_opcodes`: `Decodes`, `EncodesAllowed` and `OperatorFault`.
 #![tactic(auto)]
 
-mod behind;
+mod after;
 mod gc_factory;
 pub mod laws;
 mod out_of_line;
@@ -14,10 +14,11 @@ mod read;
 mod refusals;
 mod visit;
 
-pub use read::{read_behind, read_operator};
+pub use read::{read_after_opcode, read_operator};
 pub use refusals::no_frame;
 pub use visit::{
-    visit_behind, visit_behind_simd, visit_below_0x20, visit_operator, visit_operator_simd,
+    visit_after_opcode, visit_after_opcode_simd, visit_below_0x20, visit_operator,
+    visit_operator_simd,
 };
 pub use wasm_visit::{below, grammar, imm, instr};
 

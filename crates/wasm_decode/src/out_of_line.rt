@@ -6,14 +6,14 @@
 //! around the call after the loop that contains it.
 ghost use Rattle.std.specs.Prelude.{◌≡◌, ℕ, Option, Ok, Err, IfSome, IfNone};
 ghost use Rattle.wasm_visit.specs.grammar.declared.frame_kind.FrameKind.{FrameKind};
-ghost use Rattle.wasm_visit.specs.opcodes.Decoding.{StandsBehind, DecodesAt};
+ghost use Rattle.wasm_visit.specs.opcodes.Decoding.{IsAfterCode, DecodesAt};
 
 use wasm_visit::Visitor;
 use wasm_visit::below::{BinaryReader, Error, Message, Result};
 
 /// A decoder that starts after a prefix byte, or after the subopcode that follows it, for the
 /// visitor `V`.
-pub trait BehindPrefix<V: Visitor> {
+pub trait AfterPrefix<V: Visitor> {
     // The prefix byte if a subopcode was read too, else `None`.
     ghost prefix: { Self → Option ℕ };
 
@@ -21,8 +21,8 @@ pub trait BehindPrefix<V: Visitor> {
     ghost code: { Self → ℕ };
 
     /// Reads the rest of the operator and visits it.
-    fn decode(self, v: &mut V, reader: &mut BinaryReader<'_>, start: usize) -> Result<V::Output>
-        requires { StandsBehind start (prefix self) (code self) reader.old }
+    fn visit(self, v: &mut V, reader: &mut BinaryReader<'_>, start: usize) -> Result<V::Output>
+        requires { IsAfterCode start (prefix self) (code self) reader.old }
         ensures { (frame : FrameKind) → DecodesAt V.visits frame start result reader.old reader.new v.old v.new };
 }
 
@@ -34,21 +34,21 @@ pub fn place() -> Error {
 
 /// Decodes and visits the operator by a call that is not inlined.
 #[inline(always)]
-pub fn visit_behind_prefix<V: Visitor, B: BehindPrefix<V>>(
+pub fn visit_after_prefix<V: Visitor, B: AfterPrefix<V>>(
     v: &mut V,
     reader: &mut BinaryReader<'_>,
     start: usize,
-    behind: B,
+    after: B,
 ) -> Result<V::Output>
-    requires { StandsBehind start (B.prefix behind) (B.code behind) reader.old }
+    requires { IsAfterCode start (B.prefix after) (B.code after) reader.old }
     ensures { (frame : FrameKind) → DecodesAt V.visits frame start result reader.old reader.new v.old v.new }
 {
     let mut lent = reader.clone();
     let mut refusal = place();
-    match out_of_line(v, &mut lent, start, behind, &mut refusal) {
-        Some(answer) => {
+    match out_of_line(v, &mut lent, start, after, &mut refusal) {
+        Some(outcome) => {
             reader.set_position(lent.current_position());
-            Ok(answer)
+            Ok(outcome)
         }
         None => {
             reader.rewind(start);
@@ -60,21 +60,21 @@ pub fn visit_behind_prefix<V: Visitor, B: BehindPrefix<V>>(
 /// Returns the result of the visit, or writes the error to `refusal`.
 #[cold]
 #[inline(never)]
-fn out_of_line<V: Visitor, B: BehindPrefix<V>>(
+fn out_of_line<V: Visitor, B: AfterPrefix<V>>(
     v: &mut V,
     reader: &mut BinaryReader<'_>,
     start: usize,
-    behind: B,
+    after: B,
     refusal: &mut Error,
 ) -> Option<V::Output>
-    requires { StandsBehind start (B.prefix behind) (B.code behind) reader.old }
-    ensures visited { IfSome result (λ answer. (frame : FrameKind)
-        → DecodesAt V.visits frame start (Ok answer) reader.old reader.new v.old v.new) }
+    requires { IsAfterCode start (B.prefix after) (B.code after) reader.old }
+    ensures visited { IfSome result (λ outcome. (frame : FrameKind)
+        → DecodesAt V.visits frame start (Ok outcome) reader.old reader.new v.old v.new) }
     ensures refused { IfNone result ((frame : FrameKind)
         → DecodesAt V.visits frame start (Err refusal.new) reader.old reader.new v.old v.new) }
 {
-    match behind.decode(v, reader, start) {
-        Ok(answer) => Some(answer),
+    match after.visit(v, reader, start) {
+        Ok(outcome) => Some(outcome),
         Err(e) => {
             *refusal = e;
             None

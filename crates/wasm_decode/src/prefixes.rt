@@ -1,8 +1,8 @@
 //! Decoders that start after a prefix byte, by the methods of a visitor.
 ghost use Rattle.std.specs.Prelude.{Some, None};
 
-use crate::behind::subopcode;
-use crate::out_of_line::BehindPrefix;
+use crate::after::subopcode;
+use crate::out_of_line::AfterPrefix;
 use wasm_visit::below::{BinaryReader, Result};
 use wasm_visit::{VisitGroups, VisitSimdOperator};
 
@@ -10,13 +10,13 @@ use wasm_visit::{VisitGroups, VisitSimdOperator};
 #[derive(Drop)]
 pub struct Gc;
 
-impl<V: VisitGroups> BehindPrefix<V> for Gc {
+impl<V: VisitGroups> AfterPrefix<V> for Gc {
     ghost prefix = { λ it. None };
 
     ghost code = { λ it. 0xfb };
 
     #[inline(always)]
-    fn decode(self, v: &mut V, reader: &mut BinaryReader<'_>, start: usize) -> Result<V::Output> {
+    fn visit(self, v: &mut V, reader: &mut BinaryReader<'_>, start: usize) -> Result<V::Output> {
         match subopcode(reader, start, 0xfb) {
             Ok(code) => v.decode_gc(reader, start, code),
             Err(e) => Err(e),
@@ -28,13 +28,13 @@ impl<V: VisitGroups> BehindPrefix<V> for Gc {
 #[derive(Drop)]
 pub struct Misc;
 
-impl<V: VisitGroups> BehindPrefix<V> for Misc {
+impl<V: VisitGroups> AfterPrefix<V> for Misc {
     ghost prefix = { λ it. None };
 
     ghost code = { λ it. 0xfc };
 
     #[inline(always)]
-    fn decode(self, v: &mut V, reader: &mut BinaryReader<'_>, start: usize) -> Result<V::Output> {
+    fn visit(self, v: &mut V, reader: &mut BinaryReader<'_>, start: usize) -> Result<V::Output> {
         match subopcode(reader, start, 0xfc) {
             Ok(code) => v.decode_misc(reader, start, code),
             Err(e) => Err(e),
@@ -46,13 +46,13 @@ impl<V: VisitGroups> BehindPrefix<V> for Misc {
 #[derive(Drop)]
 pub struct Atomic;
 
-impl<V: VisitGroups> BehindPrefix<V> for Atomic {
+impl<V: VisitGroups> AfterPrefix<V> for Atomic {
     ghost prefix = { λ it. None };
 
     ghost code = { λ it. 0xfe };
 
     #[inline(always)]
-    fn decode(self, v: &mut V, reader: &mut BinaryReader<'_>, start: usize) -> Result<V::Output> {
+    fn visit(self, v: &mut V, reader: &mut BinaryReader<'_>, start: usize) -> Result<V::Output> {
         match subopcode(reader, start, 0xfe) {
             Ok(code) => v.decode_atomic(reader, start, code),
             Err(e) => Err(e),
@@ -66,13 +66,13 @@ pub struct Simd {
     pub code: u32,
 }
 
-impl<V: VisitSimdOperator> BehindPrefix<V> for Simd {
+impl<V: VisitSimdOperator> AfterPrefix<V> for Simd {
     ghost prefix = { λ it. Some 0xfd };
 
     ghost code = { λ it. it.code };
 
     #[inline(always)]
-    fn decode(self, v: &mut V, reader: &mut BinaryReader<'_>, start: usize) -> Result<V::Output> {
+    fn visit(self, v: &mut V, reader: &mut BinaryReader<'_>, start: usize) -> Result<V::Output> {
         if self.code < 0x80 {
             v.decode_simd_low(reader, start, self.code)
         } else {

@@ -2,9 +2,9 @@
 ghost use Rattle.std.specs.Prelude.{◌≡◌, ◌≢◌, None, Some, Ok, Err, IfSome, IfNone};
 ghost use Rattle.wasm_decode.specs.Reading.{DecodesOperatorIn, DecodesOperatorAt, DecodesGcAt};
 ghost use Rattle.wasm_visit.specs.grammar.declared.frame_kind.FrameKind.{FrameKind};
-ghost use Rattle.wasm_visit.specs.opcodes.Decoding.{StandsBehind};
+ghost use Rattle.wasm_visit.specs.opcodes.Decoding.{IsAfterCode};
 
-use crate::behind::{group_behind, simd_of, subopcode, vector_without_immediates};
+use crate::after::{group_after_opcode, simd_of, subopcode, vector_without_immediates};
 use crate::gc_factory::GcFactory;
 use crate::out_of_line::place;
 use crate::refusals::no_frame;
@@ -33,23 +33,23 @@ pub fn read_operator<'a>(
     };
     let start = reader.current_position();
     match reader.read_u8() {
-        Ok(code) => read_behind(alloc, reader, start, frame, code),
+        Ok(code) => read_after_opcode(alloc, reader, start, frame, code),
         Err(e) => Err(e),
     }
 }
 
 /// Reads the rest of the operator with this opcode, which was read at the position `start`.
 ///
-/// Fails like `visit_behind_simd`.
+/// Fails like `visit_after_opcode_simd`.
 #[inline(always)]
-pub fn read_behind<'a>(
+pub fn read_after_opcode<'a>(
     alloc: Global,
     reader: &mut BinaryReader<'a>,
     start: usize,
     frame: FrameKind,
     code: u8,
 ) -> Result<Operator<'a>>
-    requires { StandsBehind start None code reader.old }
+    requires { IsAfterCode start None code reader.old }
     ensures { DecodesOperatorAt frame start result reader.old reader.new }
 {
     match code {
@@ -63,7 +63,7 @@ pub fn read_behind<'a>(
 /// Reads the rest of a branch table, the only operator that borrows.
 #[inline(always)]
 fn read_table<'a>(reader: &mut BinaryReader<'a>, start: usize) -> Result<Operator<'a>>
-    requires { StandsBehind start None 0x0e reader.old }
+    requires { IsAfterCode start None 0x0e reader.old }
     ensures { (frame : FrameKind) → DecodesOperatorAt frame start result reader.old reader.new }
 {
     match immediates::branch_table(reader, start) {
@@ -76,7 +76,7 @@ fn read_table<'a>(reader: &mut BinaryReader<'a>, start: usize) -> Result<Operato
 /// reader.
 #[inline(always)]
 fn read_gc(reader: &mut BinaryReader<'_>, start: usize) -> Result<Operator<'static>>
-    requires { StandsBehind start None 0xfb reader.old }
+    requires { IsAfterCode start None 0xfb reader.old }
     ensures { (frame : FrameKind) → DecodesOperatorAt frame start result reader.old reader.new }
 {
     let mut lent = reader.clone();
@@ -102,7 +102,7 @@ fn gc_out_of_line(
     start: usize,
     refusal: &mut Error,
 ) -> Option<Operator<'static>>
-    requires { StandsBehind start None 0xfb reader.old }
+    requires { IsAfterCode start None 0xfb reader.old }
     ensures read { IfSome result (λ op. (frame : FrameKind)
         → DecodesOperatorAt frame start (Ok op) reader.old reader.new) }
     ensures refused { IfNone result ((frame : FrameKind)
@@ -121,7 +121,7 @@ fn gc_out_of_line(
 /// Reads an operator after the prefix byte 0xfb, as a `GcOperator`.
 #[inline(always)]
 fn gc_of(reader: &mut BinaryReader<'_>, start: usize) -> Result<GcOperator>
-    requires { StandsBehind start None 0xfb reader.old }
+    requires { IsAfterCode start None 0xfb reader.old }
     ensures { (frame : FrameKind) → DecodesGcAt frame start result reader.old reader.new }
 {
     match subopcode(reader, start, 0xfb) {
@@ -133,7 +133,7 @@ fn gc_of(reader: &mut BinaryReader<'_>, start: usize) -> Result<GcOperator>
 /// Reads a SIMD operator after the prefix byte 0xfd.
 #[inline(always)]
 fn read_simd(reader: &mut BinaryReader<'_>, start: usize) -> Result<Operator<'static>>
-    requires { StandsBehind start None 0xfd reader.old }
+    requires { IsAfterCode start None 0xfd reader.old }
     ensures { (frame : FrameKind) → DecodesOperatorAt frame start result reader.old reader.new }
 {
     match subopcode(reader, start, 0xfd) {
@@ -146,7 +146,7 @@ fn read_simd(reader: &mut BinaryReader<'_>, start: usize) -> Result<Operator<'st
 /// factory's method, which would return it through memory.
 #[inline(always)]
 fn read_simd_of(reader: &mut BinaryReader<'_>, start: usize, code: u32) -> Result<Operator<'static>>
-    requires { StandsBehind start (Some 0xfd) code reader.old }
+    requires { IsAfterCode start (Some 0xfd) code reader.old }
     ensures { (frame : FrameKind) → DecodesOperatorAt frame start result reader.old reader.new }
 {
     if decode::has_no_immediates(code) {
@@ -164,10 +164,10 @@ fn read_group(
     frame: FrameKind,
     code: u8,
 ) -> Result<Operator<'static>>
-    requires behind { StandsBehind start None code reader.old }
+    requires after { IsAfterCode start None code reader.old }
     requires table { code ≢ 0x0e }
     requires vector { code ≢ 0xfd }
     ensures { DecodesOperatorAt frame start result reader.old reader.new }
 {
-    group_behind(&mut Factory, alloc, reader, start, frame, code)
+    group_after_opcode(&mut Factory, alloc, reader, start, frame, code)
 }

@@ -2,7 +2,7 @@
 ghost use Rattle.std.specs.Prelude.{◌≡◌, ◌≤◌, None};
 ghost use Rattle.wasm_visit.specs.below.Source.{offset_of, end_of};
 ghost use Rattle.wasm_visit.specs.grammar.declared.frame_kind.FrameKind.{FrameKind};
-ghost use Rattle.wasm_visit.specs.opcodes.Decoding.{StandsBehind, RefusesScalarAt};
+ghost use Rattle.wasm_visit.specs.opcodes.Decoding.{IsAfterCode, RefusesScalarAt};
 
 use wasm_visit::below::{BinaryReader, Error, Message};
 
@@ -22,7 +22,7 @@ pub fn no_frame(reader: &BinaryReader<'_>) -> Error
 /// reader goes back to `start`.
 #[inline(always)]
 pub fn unexpected_simd(reader: &mut BinaryReader<'_>, start: usize) -> Error
-    requires { StandsBehind start None 0xfd reader.old }
+    requires { IsAfterCode start None 0xfd reader.old }
     ensures { (frame : FrameKind) → RefusesScalarAt frame start result reader.old reader.new }
 {
     reader.refuse(start, Message::UnexpectedSimd)

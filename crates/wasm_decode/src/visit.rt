@@ -2,9 +2,9 @@
 ghost use Rattle.std.specs.Prelude.{◌≡◌, ◌<◌, ◌≤◌, [], ◌∷◌, false, None};
 ghost use Rattle.wasm_visit.specs.grammar.declared.frame_kind.FrameKind.{FrameKind};
 ghost use Rattle.wasm_visit.specs.instr.Immediate.{branch_table, is_branch_table};
-ghost use Rattle.wasm_visit.specs.opcodes.Decoding.{DecodesIn, DecodesScalarIn, StandsBehind, DecodesAt, DecodesScalarAt, ReadsKinds};
+ghost use Rattle.wasm_visit.specs.opcodes.Decoding.{DecodesIn, DecodesScalarIn, IsAfterCode, DecodesAt, DecodesScalarAt, ReadsKinds};
 
-use crate::behind::{group_behind, simd_behind};
+use crate::after::{group_after_opcode, simd_after_prefix};
 use crate::refusals::{no_frame, unexpected_simd};
 use std::alloc::Global;
 use wasm_visit::below::{BinaryReader, Result};
@@ -36,7 +36,7 @@ where
     };
     let start = reader.current_position();
     match reader.read_u8() {
-        Ok(code) => visit_behind_simd(v, alloc, reader, start, frame, code),
+        Ok(code) => visit_after_opcode_simd(v, alloc, reader, start, frame, code),
         Err(e) => Err(e),
     }
 }
@@ -46,7 +46,7 @@ where
 ///
 /// Fails like `visit_operator_simd`, but never for a missing frame or a missing opcode.
 #[inline(always)]
-pub fn visit_behind_simd<'a, V>(
+pub fn visit_after_opcode_simd<'a, V>(
     v: &mut V,
     alloc: Global,
     reader: &mut BinaryReader<'a>,
@@ -56,13 +56,13 @@ pub fn visit_behind_simd<'a, V>(
 ) -> Result<V::Output>
 where
     V: VisitOperator<'a> + VisitSimdOperator,
-    requires { StandsBehind start None code reader.old }
+    requires { IsAfterCode start None code reader.old }
     ensures { DecodesAt V.visits frame start result reader.old reader.new v.old v.new }
 {
     match code {
-        0x0e => table_behind(v, reader, start),
-        0xfd => simd_behind(v, reader, start),
-        _ => group_behind(v, alloc, reader, start, frame, code),
+        0x0e => table_after_opcode(v, reader, start),
+        0xfd => simd_after_prefix(v, reader, start),
+        _ => group_after_opcode(v, alloc, reader, start, frame, code),
     }
 }
 
@@ -85,7 +85,7 @@ pub fn visit_operator<'a, V: VisitOperator<'a>>(
     };
     let start = reader.current_position();
     match reader.read_u8() {
-        Ok(code) => visit_behind(v, alloc, reader, start, frame, code),
+        Ok(code) => visit_after_opcode(v, alloc, reader, start, frame, code),
         Err(e) => Err(e),
     }
 }
@@ -94,9 +94,9 @@ pub fn visit_operator<'a, V: VisitOperator<'a>>(
 /// visits it, for a visitor without SIMD operators.
 ///
 /// Fails with `UnexpectedSimd` at `start` if the opcode is 0xfd, and otherwise like
-/// `visit_behind_simd`.
+/// `visit_after_opcode_simd`.
 #[inline(always)]
-pub fn visit_behind<'a, V: VisitOperator<'a>>(
+pub fn visit_after_opcode<'a, V: VisitOperator<'a>>(
     v: &mut V,
     alloc: Global,
     reader: &mut BinaryReader<'a>,
@@ -104,20 +104,20 @@ pub fn visit_behind<'a, V: VisitOperator<'a>>(
     frame: FrameKind,
     code: u8,
 ) -> Result<V::Output>
-    requires { StandsBehind start None code reader.old }
+    requires { IsAfterCode start None code reader.old }
     ensures { DecodesScalarAt V.visits frame start result reader.old reader.new v.old v.new }
 {
     match code {
-        0x0e => table_behind(v, reader, start),
+        0x0e => table_after_opcode(v, reader, start),
         0xfd => Err(unexpected_simd(reader, start)),
-        _ => group_behind(v, alloc, reader, start, frame, code),
+        _ => group_after_opcode(v, alloc, reader, start, frame, code),
     }
 }
 
 /// Reads the rest of a control or parametric instruction, whose opcode below 0x20 was read at the
 /// position `start`, and visits it.
 ///
-/// Fails like `visit_behind_simd`.
+/// Fails like `visit_after_opcode_simd`.
 #[inline(always)]
 pub fn visit_below_0x20<'a, V: VisitOperator<'a>>(
     v: &mut V,
@@ -127,25 +127,25 @@ pub fn visit_below_0x20<'a, V: VisitOperator<'a>>(
     frame: FrameKind,
     code: u8,
 ) -> Result<V::Output>
-    requires behind { StandsBehind start None code reader.old }
+    requires after { IsAfterCode start None code reader.old }
     requires low { code < 0x20 }
     ensures allowed { DecodesAt V.visits frame start result reader.old reader.new v.old v.new }
     ensures scalar { DecodesScalarAt V.visits frame start result reader.old reader.new v.old v.new }
 {
     match code {
-        0x0e => table_behind(v, reader, start),
+        0x0e => table_after_opcode(v, reader, start),
         _ => v.decode_below_0x20(alloc, reader, start, frame, code),
     }
 }
 
 /// Reads and visits a branch table, the only operator that borrows, after its opcode.
 #[inline(always)]
-fn table_behind<'a, V: VisitOperator<'a>>(
+fn table_after_opcode<'a, V: VisitOperator<'a>>(
     v: &mut V,
     reader: &mut BinaryReader<'a>,
     start: usize,
 ) -> Result<V::Output>
-    requires { StandsBehind start None 0x0e reader.old }
+    requires { IsAfterCode start None 0x0e reader.old }
     ensures { (frame : FrameKind) → DecodesAt V.visits frame start result reader.old reader.new v.old v.new }
 {
     match branch_table(reader, start) {

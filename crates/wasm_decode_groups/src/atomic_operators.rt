@@ -2,7 +2,7 @@
 ghost use Rattle.std.specs.Prelude.{◌≡◌, ◌<◌, [], ◌∷◌, Some, None};
 ghost use Rattle.wasm_visit_groups.specs.grammar.declared.frame_kind.FrameKind.{FrameKind};
 ghost use Rattle.wasm_visit_groups.specs.instr.Immediate.{unsigned_32, memory_argument, order, is_unsigned_32, is_order, is_memory_argument};
-ghost use Rattle.wasm_decode_opcodes.specs.Decoding.{DecodesAt, StandsBehind, VisitsRow};
+ghost use Rattle.wasm_decode_opcodes.specs.Decoding.{DecodesAt, IsAfterCode, VisitsRow};
 ghost use Rattle.wasm_decode_opcodes.specs.Entries.{entry_at, align_at};
 ghost use Rattle.wasm_decode_opcodes.specs.Entry.{free};
 
@@ -19,7 +19,7 @@ pub fn atomic<V: VisitAtomic>(
     start: usize,
     code: u32,
 ) -> Result<V::Output>
-    requires behind { StandsBehind start (Some 0xfe) code reader.old }
+    requires after { IsAfterCode start (Some 0xfe) code reader.old }
     ensures { (frame : FrameKind) → DecodesAt V.visits frame start result reader.old reader.new v.old v.new }
 {
     match code {
@@ -44,7 +44,7 @@ fn memory<V: VisitAtomic>(
     start: usize,
     code: u32,
 ) -> Result<V::Output>
-    requires behind { StandsBehind start (Some 0xfe) code reader.old }
+    requires after { IsAfterCode start (Some 0xfe) code reader.old }
     requires kinds { entry_at (Some 0xfe) code
         ≡ free (is_memory_argument MemArgKind.Plain (align_at (Some 0xfe) code) ∷ []) }
     ensures { (frame : FrameKind) → DecodesAt V.visits frame start result reader.old reader.new v.old v.new }
@@ -89,7 +89,7 @@ fn atomic_fence<V: VisitAtomic>(
     reader: &mut BinaryReader<'_>,
     start: usize,
 ) -> Result<V::Output>
-    requires behind { StandsBehind start (Some 0xfe) 0x03 reader.old }
+    requires after { IsAfterCode start (Some 0xfe) 0x03 reader.old }
     ensures { (frame : FrameKind) → DecodesAt V.visits frame start result reader.old reader.new v.old v.new }
 {
     match immediates::fence(reader, start) {
@@ -106,7 +106,7 @@ fn memory_op<V: VisitAtomic>(
     start: usize,
     code: u32,
 ) -> Result<V::Output>
-    requires behind { StandsBehind start (Some 0xfe) code reader.old }
+    requires after { IsAfterCode start (Some 0xfe) code reader.old }
     requires kinds { entry_at (Some 0xfe) code
         ≡ free (is_memory_argument MemArgKind.Op (align_at (Some 0xfe) code) ∷ []) }
     ensures { (frame : FrameKind) → DecodesAt V.visits frame start result reader.old reader.new v.old v.new }
@@ -174,7 +174,7 @@ fn memory_rmw<V: VisitAtomic>(
     start: usize,
     code: u32,
 ) -> Result<V::Output>
-    requires behind { StandsBehind start (Some 0xfe) code reader.old }
+    requires after { IsAfterCode start (Some 0xfe) code reader.old }
     requires kinds { entry_at (Some 0xfe) code
         ≡ free (is_memory_argument MemArgKind.Rmw (align_at (Some 0xfe) code) ∷ []) }
     ensures { (frame : FrameKind) → DecodesAt V.visits frame start result reader.old reader.new v.old v.new }
@@ -312,7 +312,7 @@ fn ordered<V: VisitAtomic>(
     start: usize,
     code: u32,
 ) -> Result<V::Output>
-    requires behind { StandsBehind start (Some 0xfe) code reader.old }
+    requires after { IsAfterCode start (Some 0xfe) code reader.old }
     requires kinds { entry_at (Some 0xfe) code ≡ free (is_order ∷ is_unsigned_32 ∷ []) }
     ensures { (frame : FrameKind) → DecodesAt V.visits frame start result reader.old reader.new v.old v.new }
 {
@@ -364,7 +364,7 @@ fn ordered_two<V: VisitAtomic>(
     start: usize,
     code: u32,
 ) -> Result<V::Output>
-    requires behind { StandsBehind start (Some 0xfe) code reader.old }
+    requires after { IsAfterCode start (Some 0xfe) code reader.old }
     requires kinds { entry_at (Some 0xfe) code ≡ free (is_order ∷ is_unsigned_32 ∷ is_unsigned_32 ∷ []) }
     ensures { (frame : FrameKind) → DecodesAt V.visits frame start result reader.old reader.new v.old v.new }
 {
@@ -404,7 +404,7 @@ fn without_immediates<V: VisitAtomic>(
     start: usize,
     code: u32,
 ) -> Result<V::Output>
-    requires behind { StandsBehind start (Some 0xfe) code reader.old }
+    requires after { IsAfterCode start (Some 0xfe) code reader.old }
     requires kinds { entry_at (Some 0xfe) code ≡ free ([]) }
     ensures { (frame : FrameKind) → DecodesAt V.visits frame start result reader.old reader.new v.old v.new }
 {

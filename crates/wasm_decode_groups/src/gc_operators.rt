@@ -2,7 +2,7 @@
 ghost use Rattle.std.specs.Prelude.{◌≡◌, ◌<◌, [], ◌∷◌, Some, None};
 ghost use Rattle.wasm_visit_groups.specs.grammar.declared.frame_kind.FrameKind.{FrameKind};
 ghost use Rattle.wasm_visit_groups.specs.instr.Immediate.{unsigned_32, heap_type, cast, is_unsigned_32, is_heap_type, is_cast};
-ghost use Rattle.wasm_decode_opcodes.specs.Decoding.{DecodesAt, StandsBehind, VisitsRow};
+ghost use Rattle.wasm_decode_opcodes.specs.Decoding.{DecodesAt, IsAfterCode, VisitsRow};
 ghost use Rattle.wasm_decode_opcodes.specs.Entries.{entry_at};
 ghost use Rattle.wasm_decode_opcodes.specs.Entry.{free};
 
@@ -19,7 +19,7 @@ pub fn gc<V: VisitGc>(
     start: usize,
     code: u32,
 ) -> Result<V::Output>
-    requires behind { StandsBehind start (Some 0xfb) code reader.old }
+    requires after { IsAfterCode start (Some 0xfb) code reader.old }
     ensures { (frame : FrameKind) → DecodesAt V.visits frame start result reader.old reader.new v.old v.new }
 {
     match code {
@@ -49,7 +49,7 @@ fn unsigned<V: VisitGc>(
     start: usize,
     code: u32,
 ) -> Result<V::Output>
-    requires behind { StandsBehind start (Some 0xfb) code reader.old }
+    requires after { IsAfterCode start (Some 0xfb) code reader.old }
     requires kinds { entry_at (Some 0xfb) code ≡ free (is_unsigned_32 ∷ []) }
     ensures { (frame : FrameKind) → DecodesAt V.visits frame start result reader.old reader.new v.old v.new }
 {
@@ -89,7 +89,7 @@ fn two_unsigned<V: VisitGc>(
     start: usize,
     code: u32,
 ) -> Result<V::Output>
-    requires behind { StandsBehind start (Some 0xfb) code reader.old }
+    requires after { IsAfterCode start (Some 0xfb) code reader.old }
     requires kinds { entry_at (Some 0xfb) code ≡ free (is_unsigned_32 ∷ is_unsigned_32 ∷ []) }
     ensures { (frame : FrameKind) → DecodesAt V.visits frame start result reader.old reader.new v.old v.new }
 {
@@ -127,7 +127,7 @@ fn without_immediates<V: VisitGc>(
     start: usize,
     code: u32,
 ) -> Result<V::Output>
-    requires behind { StandsBehind start (Some 0xfb) code reader.old }
+    requires after { IsAfterCode start (Some 0xfb) code reader.old }
     requires kinds { entry_at (Some 0xfb) code ≡ free ([]) }
     ensures { (frame : FrameKind) → DecodesAt V.visits frame start result reader.old reader.new v.old v.new }
 {
@@ -158,7 +158,7 @@ fn heap_type<V: VisitGc>(
     start: usize,
     code: u32,
 ) -> Result<V::Output>
-    requires behind { StandsBehind start (Some 0xfb) code reader.old }
+    requires after { IsAfterCode start (Some 0xfb) code reader.old }
     requires kinds { entry_at (Some 0xfb) code ≡ free (is_heap_type ∷ []) }
     ensures { (frame : FrameKind) → DecodesAt V.visits frame start result reader.old reader.new v.old v.new }
 {
@@ -192,7 +192,7 @@ fn cast<V: VisitGc>(
     start: usize,
     code: u32,
 ) -> Result<V::Output>
-    requires behind { StandsBehind start (Some 0xfb) code reader.old }
+    requires after { IsAfterCode start (Some 0xfb) code reader.old }
     requires kinds { entry_at (Some 0xfb) code ≡ free (is_cast ∷ []) }
     ensures { (frame : FrameKind) → DecodesAt V.visits frame start result reader.old reader.new v.old v.new }
 {

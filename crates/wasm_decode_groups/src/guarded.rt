@@ -2,7 +2,7 @@
 //! list.
 ghost use Rattle.std.specs.Prelude.{None};
 ghost use Rattle.wasm_visit_groups.specs.grammar.declared.frame_kind.FrameKind.{FrameKind};
-ghost use Rattle.wasm_decode_opcodes.specs.Decoding.{StandsBehind, DecodesAt};
+ghost use Rattle.wasm_decode_opcodes.specs.Decoding.{IsAfterCode, DecodesAt};
 
 use std::alloc::Global;
 use wasm_decode_opcodes::{Guard, immediates};
@@ -19,7 +19,7 @@ pub fn else_in_if<V: VisitOneByte>(
     start: usize,
     frame: FrameKind,
 ) -> Result<V::Output>
-    requires behind { StandsBehind start None 0x05 reader.old }
+    requires after { IsAfterCode start None 0x05 reader.old }
     ensures { DecodesAt V.visits frame start result reader.old reader.new v.old v.new }
 {
     match Guard::Else.check(reader, start, frame) {
@@ -36,7 +36,7 @@ pub fn legacy_try<V: VisitOneByte>(
     start: usize,
     frame: FrameKind,
 ) -> Result<V::Output>
-    requires behind { StandsBehind start None 0x06 reader.old }
+    requires after { IsAfterCode start None 0x06 reader.old }
     ensures { DecodesAt V.visits frame start result reader.old reader.new v.old v.new }
 {
     match Guard::Try.check(reader, start, frame) {
@@ -56,7 +56,7 @@ pub fn legacy_catch<V: VisitOneByte>(
     start: usize,
     frame: FrameKind,
 ) -> Result<V::Output>
-    requires behind { StandsBehind start None 0x07 reader.old }
+    requires after { IsAfterCode start None 0x07 reader.old }
     ensures { DecodesAt V.visits frame start result reader.old reader.new v.old v.new }
 {
     match Guard::Catch.check(reader, start, frame) {
@@ -76,7 +76,7 @@ pub fn legacy_delegate<V: VisitOneByte>(
     start: usize,
     frame: FrameKind,
 ) -> Result<V::Output>
-    requires behind { StandsBehind start None 0x18 reader.old }
+    requires after { IsAfterCode start None 0x18 reader.old }
     ensures { DecodesAt V.visits frame start result reader.old reader.new v.old v.new }
 {
     match Guard::Delegate.check(reader, start, frame) {
@@ -96,7 +96,7 @@ pub fn legacy_catch_all<V: VisitOneByte>(
     start: usize,
     frame: FrameKind,
 ) -> Result<V::Output>
-    requires behind { StandsBehind start None 0x19 reader.old }
+    requires after { IsAfterCode start None 0x19 reader.old }
     ensures { DecodesAt V.visits frame start result reader.old reader.new v.old v.new }
 {
     match Guard::CatchAll.check(reader, start, frame) {
@@ -113,7 +113,7 @@ pub fn typed_select<V: VisitOneByte>(
     reader: &mut BinaryReader<'_>,
     start: usize,
 ) -> Result<V::Output>
-    requires behind { StandsBehind start None 0x1c reader.old }
+    requires after { IsAfterCode start None 0x1c reader.old }
     ensures { (frame : FrameKind) → DecodesAt V.visits frame start result reader.old reader.new v.old v.new }
 {
     match immediates::select(alloc, reader, start) {
@@ -131,7 +131,7 @@ pub fn try_table<V: VisitOneByte>(
     reader: &mut BinaryReader<'_>,
     start: usize,
 ) -> Result<V::Output>
-    requires behind { StandsBehind start None 0x1f reader.old }
+    requires after { IsAfterCode start None 0x1f reader.old }
     ensures { (frame : FrameKind) → DecodesAt V.visits frame start result reader.old reader.new v.old v.new }
 {
     match immediates::try_table(alloc, reader, start) {
@@ -148,7 +148,7 @@ pub fn resume<V: VisitOneByte>(
     reader: &mut BinaryReader<'_>,
     start: usize,
 ) -> Result<V::Output>
-    requires behind { StandsBehind start None 0xe3 reader.old }
+    requires after { IsAfterCode start None 0xe3 reader.old }
     ensures { (frame : FrameKind) → DecodesAt V.visits frame start result reader.old reader.new v.old v.new }
 {
     match immediates::resume(alloc, reader, start) {
@@ -165,7 +165,7 @@ pub fn resume_throw<V: VisitOneByte>(
     reader: &mut BinaryReader<'_>,
     start: usize,
 ) -> Result<V::Output>
-    requires behind { StandsBehind start None 0xe4 reader.old }
+    requires after { IsAfterCode start None 0xe4 reader.old }
     ensures { (frame : FrameKind) → DecodesAt V.visits frame start result reader.old reader.new v.old v.new }
 {
     match immediates::resume_throw(alloc, reader, start) {
@@ -182,7 +182,7 @@ pub fn resume_throw_ref<V: VisitOneByte>(
     reader: &mut BinaryReader<'_>,
     start: usize,
 ) -> Result<V::Output>
-    requires behind { StandsBehind start None 0xe5 reader.old }
+    requires after { IsAfterCode start None 0xe5 reader.old }
     ensures { (frame : FrameKind) → DecodesAt V.visits frame start result reader.old reader.new v.old v.new }
 {
     match immediates::resume(alloc, reader, start) {

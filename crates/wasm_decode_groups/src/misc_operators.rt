@@ -2,7 +2,7 @@
 ghost use Rattle.std.specs.Prelude.{◌≡◌, ◌<◌, [], ◌∷◌, Some, None};
 ghost use Rattle.wasm_visit_groups.specs.grammar.declared.frame_kind.FrameKind.{FrameKind};
 ghost use Rattle.wasm_visit_groups.specs.instr.Immediate.{unsigned_32, is_unsigned_32};
-ghost use Rattle.wasm_decode_opcodes.specs.Decoding.{DecodesAt, StandsBehind, VisitsRow};
+ghost use Rattle.wasm_decode_opcodes.specs.Decoding.{DecodesAt, IsAfterCode, VisitsRow};
 ghost use Rattle.wasm_decode_opcodes.specs.Entries.{entry_at};
 ghost use Rattle.wasm_decode_opcodes.specs.Entry.{free};
 
@@ -18,7 +18,7 @@ pub fn misc<V: VisitMisc>(
     start: usize,
     code: u32,
 ) -> Result<V::Output>
-    requires behind { StandsBehind start (Some 0xfc) code reader.old }
+    requires after { IsAfterCode start (Some 0xfc) code reader.old }
     ensures { (frame : FrameKind) → DecodesAt V.visits frame start result reader.old reader.new v.old v.new }
 {
     match code {
@@ -44,7 +44,7 @@ fn without_immediates<V: VisitMisc>(
     start: usize,
     code: u32,
 ) -> Result<V::Output>
-    requires behind { StandsBehind start (Some 0xfc) code reader.old }
+    requires after { IsAfterCode start (Some 0xfc) code reader.old }
     requires kinds { entry_at (Some 0xfc) code ≡ free ([]) }
     ensures { (frame : FrameKind) → DecodesAt V.visits frame start result reader.old reader.new v.old v.new }
 {
@@ -81,7 +81,7 @@ fn two_unsigned<V: VisitMisc>(
     start: usize,
     code: u32,
 ) -> Result<V::Output>
-    requires behind { StandsBehind start (Some 0xfc) code reader.old }
+    requires after { IsAfterCode start (Some 0xfc) code reader.old }
     requires kinds { entry_at (Some 0xfc) code ≡ free (is_unsigned_32 ∷ is_unsigned_32 ∷ []) }
     ensures { (frame : FrameKind) → DecodesAt V.visits frame start result reader.old reader.new v.old v.new }
 {
@@ -113,7 +113,7 @@ fn unsigned<V: VisitMisc>(
     start: usize,
     code: u32,
 ) -> Result<V::Output>
-    requires behind { StandsBehind start (Some 0xfc) code reader.old }
+    requires after { IsAfterCode start (Some 0xfc) code reader.old }
     requires kinds { entry_at (Some 0xfc) code ≡ free (is_unsigned_32 ∷ []) }
     ensures { (frame : FrameKind) → DecodesAt V.visits frame start result reader.old reader.new v.old v.new }
 {

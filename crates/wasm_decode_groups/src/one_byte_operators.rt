@@ -2,7 +2,7 @@
 ghost use Rattle.std.specs.Prelude.{◌≡◌, ◌≤◌, ◌<◌, [], ◌∷◌, Some, None, IfSome, IfNone};
 ghost use Rattle.wasm_visit_groups.specs.grammar.declared.frame_kind.FrameKind.{FrameKind};
 ghost use Rattle.wasm_visit_groups.specs.instr.Immediate.{unsigned_32, signed_32, memory_argument, memory_index, block_type, is_unsigned_32, is_memory_index, is_block_type, is_memory_argument};
-ghost use Rattle.wasm_decode_opcodes.specs.Decoding.{DecodesAt, StandsBehind, VisitsRow};
+ghost use Rattle.wasm_decode_opcodes.specs.Decoding.{DecodesAt, IsAfterCode, VisitsRow};
 ghost use Rattle.wasm_decode_opcodes.specs.Entries.{entry_at, align_at};
 ghost use Rattle.wasm_decode_opcodes.specs.Entry.{free};
 ghost use Rattle.wasm_decode_groups.specs.OneByte.{IsOneByteCode};
@@ -29,12 +29,12 @@ pub fn one_byte<V: VisitOneByte>(
     frame: FrameKind,
     code: u8,
 ) -> Result<V::Output>
-    requires behind { StandsBehind start None code reader.old }
+    requires after { IsAfterCode start None code reader.old }
     requires apart { IsOneByteCode code }
     ensures { DecodesAt V.visits frame start result reader.old reader.new v.old v.new }
 {
     match common_one_byte(v, reader, start, code) {
-        Some(answer) => answer,
+        Some(outcome) => outcome,
         None => other_one_byte(v, alloc, reader, start, frame, code),
     }
 }
@@ -49,9 +49,9 @@ pub fn common_one_byte<V: VisitOneByte>(
     start: usize,
     code: u8,
 ) -> Option<Result<V::Output>>
-    requires { StandsBehind start None code reader.old }
+    requires { IsAfterCode start None code reader.old }
     ensures common { IfSome result
-        (λ answer. (frame : FrameKind) → DecodesAt V.visits frame start answer reader.old reader.new v.old v.new) }
+        (λ outcome. (frame : FrameKind) → DecodesAt V.visits frame start outcome reader.old reader.new v.old v.new) }
     ensures reader { IfNone result (reader.new ≡ reader.old) }
     ensures visitor { IfNone result (v.new ≡ v.old) }
 {
@@ -84,7 +84,7 @@ pub fn any_one_byte<V: VisitOneByte>(
     frame: FrameKind,
     code: u8,
 ) -> Result<V::Output>
-    requires behind { StandsBehind start None code reader.old }
+    requires after { IsAfterCode start None code reader.old }
     requires apart { IsOneByteCode code }
     ensures { DecodesAt V.visits frame start result reader.old reader.new v.old v.new }
 {
@@ -139,7 +139,7 @@ fn without_immediates<V: VisitOneByte>(
     start: usize,
     code: u8,
 ) -> Result<V::Output>
-    requires behind { StandsBehind start None code reader.old }
+    requires after { IsAfterCode start None code reader.old }
     requires kinds { entry_at None code ≡ free ([]) }
     requires bound { 0x45 ≤ code → code ≤ 0xc4 → ⊥ }
     ensures { (frame : FrameKind) → DecodesAt V.visits frame start result reader.old reader.new v.old v.new }
@@ -176,7 +176,7 @@ fn block_type<V: VisitOneByte>(
     start: usize,
     code: u8,
 ) -> Result<V::Output>
-    requires behind { StandsBehind start None code reader.old }
+    requires after { IsAfterCode start None code reader.old }
     requires kinds { entry_at None code ≡ free (is_block_type ∷ []) }
     ensures { (frame : FrameKind) → DecodesAt V.visits frame start result reader.old reader.new v.old v.new }
 {
@@ -207,7 +207,7 @@ fn unsigned<V: VisitOneByte>(
     start: usize,
     code: u8,
 ) -> Result<V::Output>
-    requires behind { StandsBehind start None code reader.old }
+    requires after { IsAfterCode start None code reader.old }
     requires kinds { entry_at None code ≡ free (is_unsigned_32 ∷ []) }
     ensures { (frame : FrameKind) → DecodesAt V.visits frame start result reader.old reader.new v.old v.new }
 {
@@ -254,7 +254,7 @@ fn call_indirect<V: VisitOneByte>(
     reader: &mut BinaryReader<'_>,
     start: usize,
 ) -> Result<V::Output>
-    requires behind { StandsBehind start None 0x11 reader.old }
+    requires after { IsAfterCode start None 0x11 reader.old }
     ensures { (frame : FrameKind) → DecodesAt V.visits frame start result reader.old reader.new v.old v.new }
 {
     match immediates::call_indirect(reader, start) {
@@ -271,7 +271,7 @@ fn memory<V: VisitOneByte>(
     start: usize,
     code: u8,
 ) -> Result<V::Output>
-    requires behind { StandsBehind start None code reader.old }
+    requires after { IsAfterCode start None code reader.old }
     requires kinds { entry_at None code ≡ free (is_memory_argument MemArgKind.Plain (align_at None code) ∷ []) }
     ensures { (frame : FrameKind) → DecodesAt V.visits frame start result reader.old reader.new v.old v.new }
 {
@@ -356,7 +356,7 @@ fn memory_index<V: VisitOneByte>(
     start: usize,
     code: u8,
 ) -> Result<V::Output>
-    requires behind { StandsBehind start None code reader.old }
+    requires after { IsAfterCode start None code reader.old }
     requires kinds { entry_at None code ≡ free (is_memory_index ∷ []) }
     ensures { (frame : FrameKind) → DecodesAt V.visits frame start result reader.old reader.new v.old v.new }
 {
@@ -385,7 +385,7 @@ fn i32_const<V: VisitOneByte>(
     reader: &mut BinaryReader<'_>,
     start: usize,
 ) -> Result<V::Output>
-    requires behind { StandsBehind start None 0x41 reader.old }
+    requires after { IsAfterCode start None 0x41 reader.old }
     ensures { (frame : FrameKind) → DecodesAt V.visits frame start result reader.old reader.new v.old v.new }
 {
     match immediates::signed_32(reader, start) {
@@ -401,7 +401,7 @@ fn i64_const<V: VisitOneByte>(
     reader: &mut BinaryReader<'_>,
     start: usize,
 ) -> Result<V::Output>
-    requires behind { StandsBehind start None 0x42 reader.old }
+    requires after { IsAfterCode start None 0x42 reader.old }
     ensures { (frame : FrameKind) → DecodesAt V.visits frame start result reader.old reader.new v.old v.new }
 {
     match immediates::signed_64(reader, start) {
@@ -417,7 +417,7 @@ fn f32_const<V: VisitOneByte>(
     reader: &mut BinaryReader<'_>,
     start: usize,
 ) -> Result<V::Output>
-    requires behind { StandsBehind start None 0x43 reader.old }
+    requires after { IsAfterCode start None 0x43 reader.old }
     ensures { (frame : FrameKind) → DecodesAt V.visits frame start result reader.old reader.new v.old v.new }
 {
     match immediates::float_32(reader, start) {
@@ -433,7 +433,7 @@ fn f64_const<V: VisitOneByte>(
     reader: &mut BinaryReader<'_>,
     start: usize,
 ) -> Result<V::Output>
-    requires behind { StandsBehind start None 0x44 reader.old }
+    requires after { IsAfterCode start None 0x44 reader.old }
     ensures { (frame : FrameKind) → DecodesAt V.visits frame start result reader.old reader.new v.old v.new }
 {
     match immediates::float_64(reader, start) {
@@ -449,7 +449,7 @@ fn ref_null<V: VisitOneByte>(
     reader: &mut BinaryReader<'_>,
     start: usize,
 ) -> Result<V::Output>
-    requires behind { StandsBehind start None 0xd0 reader.old }
+    requires after { IsAfterCode start None 0xd0 reader.old }
     ensures { (frame : FrameKind) → DecodesAt V.visits frame start result reader.old reader.new v.old v.new }
 {
     match immediates::heap_type(reader, start) {
@@ -466,7 +466,7 @@ fn two_unsigned<V: VisitOneByte>(
     start: usize,
     code: u8,
 ) -> Result<V::Output>
-    requires behind { StandsBehind start None code reader.old }
+    requires after { IsAfterCode start None code reader.old }
     requires kinds { entry_at None code ≡ free (is_unsigned_32 ∷ is_unsigned_32 ∷ []) }
     ensures { (frame : FrameKind) → DecodesAt V.visits frame start result reader.old reader.new v.old v.new }
 {
@@ -496,7 +496,7 @@ fn unreachable_alone<V: VisitOneByte>(
     reader: &mut BinaryReader<'_>,
     start: usize,
 ) -> Result<V::Output>
-    requires behind { StandsBehind start None 0x00 reader.old }
+    requires after { IsAfterCode start None 0x00 reader.old }
     ensures { (frame : FrameKind) → DecodesAt V.visits frame start result reader.old reader.new v.old v.new }
 {
     Ok(v.visit_unreachable())
@@ -509,7 +509,7 @@ fn nop_alone<V: VisitOneByte>(
     reader: &mut BinaryReader<'_>,
     start: usize,
 ) -> Result<V::Output>
-    requires behind { StandsBehind start None 0x01 reader.old }
+    requires after { IsAfterCode start None 0x01 reader.old }
     ensures { (frame : FrameKind) → DecodesAt V.visits frame start result reader.old reader.new v.old v.new }
 {
     Ok(v.visit_nop())
@@ -522,7 +522,7 @@ fn end_alone<V: VisitOneByte>(
     reader: &mut BinaryReader<'_>,
     start: usize,
 ) -> Result<V::Output>
-    requires behind { StandsBehind start None 0x0b reader.old }
+    requires after { IsAfterCode start None 0x0b reader.old }
     ensures { (frame : FrameKind) → DecodesAt V.visits frame start result reader.old reader.new v.old v.new }
 {
     Ok(v.visit_end())
@@ -535,7 +535,7 @@ fn br_alone<V: VisitOneByte>(
     reader: &mut BinaryReader<'_>,
     start: usize,
 ) -> Result<V::Output>
-    requires behind { StandsBehind start None 0x0c reader.old }
+    requires after { IsAfterCode start None 0x0c reader.old }
     ensures { (frame : FrameKind) → DecodesAt V.visits frame start result reader.old reader.new v.old v.new }
 {
     match immediates::unsigned(reader, start) {
@@ -551,7 +551,7 @@ fn br_if_alone<V: VisitOneByte>(
     reader: &mut BinaryReader<'_>,
     start: usize,
 ) -> Result<V::Output>
-    requires behind { StandsBehind start None 0x0d reader.old }
+    requires after { IsAfterCode start None 0x0d reader.old }
     ensures { (frame : FrameKind) → DecodesAt V.visits frame start result reader.old reader.new v.old v.new }
 {
     match immediates::unsigned(reader, start) {
@@ -567,7 +567,7 @@ fn return_alone<V: VisitOneByte>(
     reader: &mut BinaryReader<'_>,
     start: usize,
 ) -> Result<V::Output>
-    requires behind { StandsBehind start None 0x0f reader.old }
+    requires after { IsAfterCode start None 0x0f reader.old }
     ensures { (frame : FrameKind) → DecodesAt V.visits frame start result reader.old reader.new v.old v.new }
 {
     Ok(v.visit_return())
@@ -580,7 +580,7 @@ fn call_alone<V: VisitOneByte>(
     reader: &mut BinaryReader<'_>,
     start: usize,
 ) -> Result<V::Output>
-    requires behind { StandsBehind start None 0x10 reader.old }
+    requires after { IsAfterCode start None 0x10 reader.old }
     ensures { (frame : FrameKind) → DecodesAt V.visits frame start result reader.old reader.new v.old v.new }
 {
     match immediates::unsigned(reader, start) {
@@ -596,7 +596,7 @@ fn drop_alone<V: VisitOneByte>(
     reader: &mut BinaryReader<'_>,
     start: usize,
 ) -> Result<V::Output>
-    requires behind { StandsBehind start None 0x1a reader.old }
+    requires after { IsAfterCode start None 0x1a reader.old }
     ensures { (frame : FrameKind) → DecodesAt V.visits frame start result reader.old reader.new v.old v.new }
 {
     Ok(v.visit_drop())
@@ -609,7 +609,7 @@ fn select_alone<V: VisitOneByte>(
     reader: &mut BinaryReader<'_>,
     start: usize,
 ) -> Result<V::Output>
-    requires behind { StandsBehind start None 0x1b reader.old }
+    requires after { IsAfterCode start None 0x1b reader.old }
     ensures { (frame : FrameKind) → DecodesAt V.visits frame start result reader.old reader.new v.old v.new }
 {
     Ok(v.visit_select())

@@ -4,7 +4,7 @@
 //! result of a visit stay in registers.
 ghost use Rattle.std.specs.Prelude.{◌≡◌, None, Ok, Err, IfSome, IfNone};
 ghost use Rattle.wasm_decode_groups.specs.OneByte.{IsOneByteCode};
-ghost use Rattle.wasm_decode_opcodes.specs.Decoding.{DecodesAt, StandsBehind};
+ghost use Rattle.wasm_decode_opcodes.specs.Decoding.{DecodesAt, IsAfterCode};
 
 use crate::one_byte_operators::any_one_byte;
 use std::alloc::Global;
@@ -22,16 +22,16 @@ pub fn other_one_byte<V: VisitOneByte>(
     frame: FrameKind,
     code: u8,
 ) -> Result<V::Output>
-    requires behind { StandsBehind start None code reader.old }
+    requires after { IsAfterCode start None code reader.old }
     requires apart { IsOneByteCode code }
     ensures { DecodesAt V.visits frame start result reader.old reader.new v.old v.new }
 {
     let mut lent = reader.clone();
     let mut refusal = Error::new(Message::EndOfData, 0);
-    let answer = out_of_line(v, alloc, &mut lent, start, frame, code, &mut refusal);
+    let outcome = out_of_line(v, alloc, &mut lent, start, frame, code, &mut refusal);
     reader.set_position(lent.current_position());
-    match answer {
-        Some(answer) => Ok(answer),
+    match outcome {
+        Some(outcome) => Ok(outcome),
         None => Err(refusal),
     }
 }
@@ -48,15 +48,15 @@ fn out_of_line<V: VisitOneByte>(
     code: u8,
     refusal: &mut Error,
 ) -> Option<V::Output>
-    requires behind { StandsBehind start None code reader.old }
+    requires after { IsAfterCode start None code reader.old }
     requires apart { IsOneByteCode code }
     ensures visited { IfSome result
-        (λ answer. DecodesAt V.visits frame start (Ok answer) reader.old reader.new v.old v.new) }
+        (λ outcome. DecodesAt V.visits frame start (Ok outcome) reader.old reader.new v.old v.new) }
     ensures refused { IfNone result
         (DecodesAt V.visits frame start (Err refusal.new) reader.old reader.new v.old v.new) }
 {
     match any_one_byte(v, alloc, reader, start, frame, code) {
-        Ok(answer) => Some(answer),
+        Ok(outcome) => Some(outcome),
         Err(e) => {
             *refusal = e;
             None

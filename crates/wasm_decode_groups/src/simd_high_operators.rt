@@ -2,7 +2,7 @@
 ghost use Rattle.std.specs.Prelude.{◌≡◌, ◌≤◌, ◌<◌, [], ◌∷◌, Some, None};
 ghost use Rattle.wasm_visit_groups.specs.grammar.declared.frame_kind.FrameKind.{FrameKind};
 ghost use Rattle.wasm_visit_groups.specs.instr.Immediate.{vector};
-ghost use Rattle.wasm_decode_opcodes.specs.Decoding.{DecodesAt, StandsBehind, VisitsRow};
+ghost use Rattle.wasm_decode_opcodes.specs.Decoding.{DecodesAt, IsAfterCode, VisitsRow};
 ghost use Rattle.wasm_decode_opcodes.specs.Entries.{entry_at};
 ghost use Rattle.wasm_decode_opcodes.specs.Entry.{free};
 
@@ -19,7 +19,7 @@ pub fn simd_high<V: VisitSimdHigh>(
     start: usize,
     code: u32,
 ) -> Result<V::Output>
-    requires behind { StandsBehind start (Some 0xfd) code reader.old }
+    requires after { IsAfterCode start (Some 0xfd) code reader.old }
     requires half { 0x80 ≤ code }
     ensures { (frame : FrameKind) → DecodesAt V.visits frame start result reader.old reader.new v.old v.new }
 {
@@ -37,7 +37,7 @@ pub fn without_immediates<V: VisitSimdHigh>(
     start: usize,
     code: u32,
 ) -> Result<V::Output>
-    requires behind { StandsBehind start (Some 0xfd) code reader.old }
+    requires after { IsAfterCode start (Some 0xfd) code reader.old }
     requires kinds { entry_at (Some 0xfd) code ≡ free ([]) }
     requires bound { 0x80 ≤ code }
     ensures { (frame : FrameKind) → DecodesAt V.visits frame start result reader.old reader.new v.old v.new }

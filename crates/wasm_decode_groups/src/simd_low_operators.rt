@@ -2,7 +2,7 @@
 ghost use Rattle.std.specs.Prelude.{◌≡◌, ◌<◌, [], ◌∷◌, Some, None};
 ghost use Rattle.wasm_visit_groups.specs.grammar.declared.frame_kind.FrameKind.{FrameKind};
 ghost use Rattle.wasm_visit_groups.specs.instr.Immediate.{vector, one_lane, memory_argument, is_one_lane, is_memory_argument};
-ghost use Rattle.wasm_decode_opcodes.specs.Decoding.{DecodesAt, StandsBehind, VisitsRow};
+ghost use Rattle.wasm_decode_opcodes.specs.Decoding.{DecodesAt, IsAfterCode, VisitsRow};
 ghost use Rattle.wasm_decode_opcodes.specs.Entries.{entry_at, align_at};
 ghost use Rattle.wasm_decode_opcodes.specs.Entry.{free};
 
@@ -20,7 +20,7 @@ pub fn simd_low<V: VisitSimdLow>(
     start: usize,
     code: u32,
 ) -> Result<V::Output>
-    requires behind { StandsBehind start (Some 0xfd) code reader.old }
+    requires after { IsAfterCode start (Some 0xfd) code reader.old }
     requires half { code < 0x80 }
     ensures { (frame : FrameKind) → DecodesAt V.visits frame start result reader.old reader.new v.old v.new }
 {
@@ -45,7 +45,7 @@ fn memory<V: VisitSimdLow>(
     start: usize,
     code: u32,
 ) -> Result<V::Output>
-    requires behind { StandsBehind start (Some 0xfd) code reader.old }
+    requires after { IsAfterCode start (Some 0xfd) code reader.old }
     requires kinds { entry_at (Some 0xfd) code
         ≡ free (is_memory_argument MemArgKind.Plain (align_at (Some 0xfd) code) ∷ []) }
     ensures { (frame : FrameKind) → DecodesAt V.visits frame start result reader.old reader.new v.old v.new }
@@ -113,7 +113,7 @@ fn memory_lane<V: VisitSimdLow>(
     start: usize,
     code: u32,
 ) -> Result<V::Output>
-    requires behind { StandsBehind start (Some 0xfd) code reader.old }
+    requires after { IsAfterCode start (Some 0xfd) code reader.old }
     requires kinds { entry_at (Some 0xfd) code
         ≡ free (is_memory_argument MemArgKind.Plain (align_at (Some 0xfd) code) ∷ is_one_lane ∷ []) }
     ensures { (frame : FrameKind) → DecodesAt V.visits frame start result reader.old reader.new v.old v.new }
@@ -170,7 +170,7 @@ fn v128_const<V: VisitSimdLow>(
     reader: &mut BinaryReader<'_>,
     start: usize,
 ) -> Result<V::Output>
-    requires behind { StandsBehind start (Some 0xfd) 0x0c reader.old }
+    requires after { IsAfterCode start (Some 0xfd) 0x0c reader.old }
     ensures { (frame : FrameKind) → DecodesAt V.visits frame start result reader.old reader.new v.old v.new }
 {
     match immediates::vector(reader, start) {
@@ -186,7 +186,7 @@ fn i8x16_shuffle<V: VisitSimdLow>(
     reader: &mut BinaryReader<'_>,
     start: usize,
 ) -> Result<V::Output>
-    requires behind { StandsBehind start (Some 0xfd) 0x0d reader.old }
+    requires after { IsAfterCode start (Some 0xfd) 0x0d reader.old }
     ensures { (frame : FrameKind) → DecodesAt V.visits frame start result reader.old reader.new v.old v.new }
 {
     match immediates::lanes(reader, start) {
@@ -203,7 +203,7 @@ fn lane<V: VisitSimdLow>(
     start: usize,
     code: u32,
 ) -> Result<V::Output>
-    requires behind { StandsBehind start (Some 0xfd) code reader.old }
+    requires after { IsAfterCode start (Some 0xfd) code reader.old }
     requires kinds { entry_at (Some 0xfd) code ≡ free (is_one_lane ∷ []) }
     ensures { (frame : FrameKind) → DecodesAt V.visits frame start result reader.old reader.new v.old v.new }
 {
@@ -245,7 +245,7 @@ pub fn without_immediates<V: VisitSimdLow>(
     start: usize,
     code: u32,
 ) -> Result<V::Output>
-    requires behind { StandsBehind start (Some 0xfd) code reader.old }
+    requires after { IsAfterCode start (Some 0xfd) code reader.old }
     requires kinds { entry_at (Some 0xfd) code ≡ free ([]) }
     requires bound { code < 0x80 }
     ensures { (frame : FrameKind) → DecodesAt V.visits frame start result reader.old reader.new v.old v.new }

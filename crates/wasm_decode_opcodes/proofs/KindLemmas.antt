@@ -28,7 +28,7 @@ use Rattle.wasm_instr.specs.imm.Vectors.{EncodesSixteen, EncodesVector}
 use Rattle.wasm_instr.proofs.of_imm.Faults.{none_here}
 use Rattle.wasm_instr.specs.Immediate.{Immediate, unsigned_32, signed_32, signed_64, float_32, float_64, vector, one_lane, sixteen_lanes, memory_argument, memory_index, table_index_32, order, fence_order, heap_type, cast, block_type, branch_table, select_types, try_clauses, resume_clauses, Kind, is_unsigned_32, is_signed_32, is_signed_64, is_float_32, is_float_64, is_vector, is_one_lane, is_sixteen_lanes, is_memory_argument, is_memory_index, is_table_index, is_order, is_fence_order, is_heap_type, is_cast, is_block_type, is_branch_table, is_select_types, is_try_clauses, is_resume_clauses, kind_of, EncodesImmediate, EncodesImmediates}
 use Rattle.wasm_instr.proofs.ImmediatePrefixCodes.{immediate_prefix_code}
-use Rattle.wasm_decode_opcodes.specs.Decoding.{IsRefusedBehind}
+use Rattle.wasm_decode_opcodes.specs.Decoding.{IsRefusedAfterCode}
 use Rattle.wasm_decode_opcodes.specs.Kinds.{EncodesKind, EncodesKinds}
 use Rattle.wasm_decode_opcodes.specs.OperatorFaults.{KindFault, KindsFault}
 
@@ -219,13 +219,13 @@ none_kind P f k immediate o bytes none text left i h eq = let x = o.through text
 -- The claims of a failed call: the reader went back, no such immediates follow, and the fault.
 abbrev pub RefusesKinds : List Kind → Bool → ℕ → Error → Reader → Reader → Type 0
 RefusesKinds ks takes start e old new =
-    (new ≡ at_position old start) × IsRefusedBehind (EncodesKinds old.features ks) takes start e old × HasFault (KindsFault old.features (old.start + start) ks) e old
+    (new ≡ at_position old start) × IsRefusedAfterCode (EncodesKinds old.features ks) takes start e old × HasFault (KindsFault old.features (old.start + start) ks) e old
 
 -- reading the first immediate fails, and the call went back
-pub first_refused : {X : Type 0} (P : List ℕ → X → Type 0) (k : Kind) (ks : List Kind) (immediate : X → Immediate) (takes : Bool) (start : ℕ) (e told : Error)
+pub first_refused : {X : Type 0} (P : List ℕ → X → Type 0) (k : Kind) (ks : List Kind) (immediate : X → Immediate) (takes : Bool) (start : ℕ) (e reported : Error)
     (old mid new : Reader) → OfKind P old.features k immediate → start ≤ old.position → (mid ≡ old) × IsRefusal P e old →
-    KindFault old.features (old.start + start) k e.message old e.offset → new ≡ at_position mid start → told ≡ e → RefusesKinds (k ∷ ks) takes start told old new
-first_refused P k ks immediate takes start e told old mid new o begun (same, h) fault went kept =
+    KindFault old.features (old.start + start) k e.message old e.offset → new ≡ at_position mid start → reported ≡ e → RefusesKinds (k ∷ ks) takes start reported old new
+first_refused P k ks immediate takes start e reported old mid new o begun (same, h) fault went kept =
     subst (λ z. RefusesKinds (k ∷ ks) takes start z old new) (sym kept) (
       went ∙ ap (λ z. at_position z start) same,
       record {
@@ -297,11 +297,11 @@ later_read P k ks immediate old mid new x is o (first, p, t) (more, q, u) = (
 -- ---- immediates that may allocate
 
 -- reading such an immediate fails, and allocation failure is reported at the operator's start
-pub memory_refused : {X : Type 0} (P : List ℕ → X → Type 0) (k : Kind) (immediate : X → Immediate) (start : ℕ) (e told : Error) (old mid new : Reader) →
+pub memory_refused : {X : Type 0} (P : List ℕ → X → Type 0) (k : Kind) (immediate : X → Immediate) (start : ℕ) (e reported : Error) (old mid new : Reader) →
     OfKind P old.features k immediate → start ≤ old.position → offset_of old ≤ end_of old → (mid ≡ old) × IsRefused P true e old →
-    HasFault (KindFault old.features (old.start + start) k) e old → new ≡ at_position mid start → IsRefusedFrom (mid.start + start) e told →
-    RefusesKinds (k ∷ []) true start told old new
-memory_refused P k immediate start e told old mid new o begun within (same, h) fault went (kept, place) =
+    HasFault (KindFault old.features (old.start + start) k) e old → new ≡ at_position mid start → IsRefusedFrom (mid.start + start) e reported →
+    RefusesKinds (k ∷ []) true start reported old new
+memory_refused P k immediate start e reported old mid new o begun within (same, h) fault went (kept, place) =
     let starts : mid.start + start ≡ old.start + start = ap (λ (r : Reader). r.start + start) same in
     let here = subst (λ z. Place z) starts place in (
       went ∙ ap (λ z. at_position z start) same,
@@ -314,31 +314,31 @@ memory_refused P k immediate start e told old mid new o begun within (same, h) f
     )
   where
     Place : ℕ → Type 0
-    Place offset = IsOutOfMemoryAt offset told ⊎ ((e.message ≢ message.OutOfMemory) × (told.offset ≡ e.offset))
+    Place offset = IsOutOfMemoryAt offset reported ⊎ ((e.message ≢ message.OutOfMemory) × (reported.offset ≡ e.offset))
 
-    placed : Place (old.start + start) → IsAhead (at_position old start) told.offset
+    placed : Place (old.start + start) → IsAhead (at_position old start) reported.offset
     placed (inl s) = (omega (arith, s.1), omega (arith, s.1, within, begun))
     placed (inr s) = (omega (arith, s.1, h.ahead.0, begun), omega (arith, s.1, h.ahead.1))
 
-    said : Place (old.start + start) → told.message ≡ message.OutOfMemory → told.offset ≡ old.start + start
+    said : Place (old.start + start) → reported.message ≡ message.OutOfMemory → reported.offset ≡ old.start + start
     said (inl s) m = s.1
     said (inr s) m = absurd (s.0 (sym kept ∙ m))
 
-    faulty : Place (old.start + start) → told.message ≢ message.OutOfMemory → KindsFault old.features (old.start + start) (k ∷ []) told.message old told.offset
+    faulty : Place (old.start + start) → reported.message ≢ message.OutOfMemory → KindsFault old.features (old.start + start) (k ∷ []) reported.message old reported.offset
     faulty (inl s) some = absurd (some s.0)
     faulty (inr s) some =
         inl (
           none_kind P old.features k immediate o (rest old) (none_here P e.message old s.0 h.refuses),
-          subst (λ m. KindFault old.features (old.start + start) k m old told.offset) (sym kept)
+          subst (λ m. KindFault old.features (old.start + start) k m old reported.offset) (sym kept)
               (subst (λ z. KindFault old.features (old.start + start) k e.message old z) (sym s.1) (fault s.0)),
         )
 
 -- ---- the byte of a fence, whose error may be at the operator's start
 
-pub fence_refused : (start begun : ℕ) (e told : Error) (old mid new : Reader) → begun ≡ old.start + start → start ≤ old.position →
-    ReadsFrom begun (EncodesFence old.features) (Err e) old mid → FenceFault old.features begun e.message old e.offset → new ≡ at_position mid start → told ≡ e →
-    RefusesKinds (is_fence_order ∷ []) false start told old new
-fence_refused start begun e told old mid new at before (same, refuses, readable, from, to) fault went kept =
+pub fence_refused : (start begun : ℕ) (e reported : Error) (old mid new : Reader) → begun ≡ old.start + start → start ≤ old.position →
+    ReadsFrom begun (EncodesFence old.features) (Err e) old mid → FenceFault old.features begun e.message old e.offset → new ≡ at_position mid start → reported ≡ e →
+    RefusesKinds (is_fence_order ∷ []) false start reported old new
+fence_refused start begun e reported old mid new at before (same, refuses, readable, from, to) fault went kept =
     subst (λ z. RefusesKinds (is_fence_order ∷ []) false start z old new) (sym kept) (
       went ∙ ap (λ z. at_position z start) same,
       record {

@@ -2,4 +2,4 @@ pub mod GuardLemmas
 pub mod KindLemmas
 pub mod MemoryLemmas
 pub mod OperatorLemmas
-pub mod Told
+pub mod EntriesAgree

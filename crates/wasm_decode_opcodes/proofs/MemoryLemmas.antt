@@ -13,13 +13,13 @@ use Rattle.wasm_instr.specs.Immediate.{Kind, is_unsigned_32, is_select_types, is
 use Rattle.wasm_instr.specs.Kinds.{HoldsList}
 use Rattle.wasm_instr.specs.Row.{prefix_of, immediates_of}
 use Rattle.wasm_decode_opcodes.specs.Allowed.{EncodesAllowed}
-use Rattle.wasm_decode_opcodes.specs.Decoding.{Decodes, StandsBehind}
+use Rattle.wasm_decode_opcodes.specs.Decoding.{Decodes, IsAfterCode}
 use Rattle.wasm_decode_opcodes.specs.Entry.{free, kinds_of}
 use Rattle.wasm_decode_opcodes.specs.Entries.{entry_at}
 use Rattle.wasm_decode_opcodes.specs.OperatorFaults.{OperatorFault}
 use Rattle.wasm_decode_opcodes.specs.Refused.{LeadsList, MayAllocate}
 use Rattle.wasm_decode_opcodes.proofs.KindLemmas.{RefusesKinds}
-use Rattle.wasm_decode_opcodes.proofs.OperatorLemmas.{IsCode, own, kinds_behind, has_kinds, refused_operator, free_fault}
+use Rattle.wasm_decode_opcodes.proofs.OperatorLemmas.{IsCode, own, kinds_of_code, has_kinds, refused_operator, free_fault}
 
 -- ---- the lists of these operators
 
@@ -68,7 +68,7 @@ one_type f op text p k without i = absurd (cc k)
 
 -- no operator that owns no list begins there
 pub needs_memory : (k : FrameKind) (code start : ℕ) (ks : List Kind) (mid : Reader) → IsCode None code → entry_at None code ≡ free ks → LeadsList code →
-    StandsBehind start None code mid →
+    IsAfterCode start None code mid →
     ((op : Operator) (text left : List ℕ) → prefix_of op ≡ None → kinds_of op ≡ ks → (HoldsList op → ⊥) → EncodesImmediates mid.features (immediates_of op) text →
     rest mid ≡ text ++ left → ⊥) → MayAllocate (EncodesAllowed mid.features k) (at_position mid start)
 needs_memory k code start ks mid c is leads b none = go b.opcode
@@ -80,17 +80,17 @@ needs_memory k code start ks mid c is leads b none = go b.opcode
           owns = λ text left op (s, without) eq.
               (
               let o = own mid.features None code head (rest mid) text left op c h s.0 (sym t.parts ∙ eq) in
-              none op o.behind left o.same_prefix (kinds_behind op None code ks o.same_prefix o.same_code (has_kinds None code ks is)) without o.immediates o.goes_on
+              none op o.after left o.same_prefix (kinds_of_code op None code ks o.same_prefix o.same_code (has_kinds None code ks is)) without o.immediates o.goes_on
               );
         }
 
 pub needs_list : (k : FrameKind) (code start : ℕ) (ks : List Kind) (mid : Reader) → IsCode None code → entry_at None code ≡ free ks → LeadsList code →
-    StandsBehind start None code mid → ((op : Operator) → prefix_of op ≡ None → kinds_of op ≡ ks → HoldsList op) →
+    IsAfterCode start None code mid → ((op : Operator) → prefix_of op ≡ None → kinds_of op ≡ ks → HoldsList op) →
     MayAllocate (EncodesAllowed mid.features k) (at_position mid start)
 needs_list k code start ks mid c is leads b owns = needs_memory k code start ks mid c is leads b (λ op text left p q without i eq. without (owns op p q))
 
 pub needs_types : (k : FrameKind) (code start : ℕ) (mid : Reader) → IsCode None code → entry_at None code ≡ free (is_select_types ∷ []) → LeadsList code →
-    StandsBehind start None code mid → NoPrefix EncodesOne (rest mid) → MayAllocate (EncodesAllowed mid.features k) (at_position mid start)
+    IsAfterCode start None code mid → NoPrefix EncodesOne (rest mid) → MayAllocate (EncodesAllowed mid.features k) (at_position mid start)
 needs_types k code start mid c is leads b lone = needs_memory k code start (is_select_types ∷ []) mid c is leads b none
   where
     none : (op : Operator) (text left : List ℕ) → prefix_of op ≡ None → kinds_of op ≡ is_select_types ∷ [] → (HoldsList op → ⊥) →
@@ -101,7 +101,7 @@ needs_types k code start mid c is leads b lone = needs_memory k code start (is_s
 
 -- reading the immediates fails, after an opcode whose operators may own a list
 pub refuses_list : {V A : Type 0} (visits : V → Operator → A → V → Type 0) (k : FrameKind) (code : ℕ) (ks : List Kind) (start : ℕ) (e : Error) (mid new : Reader) (v : V) →
-    IsCode None code → entry_at None code ≡ free ks → StandsBehind start None code mid → RefusesKinds ks true start e mid new →
+    IsCode None code → entry_at None code ≡ free ks → IsAfterCode start None code mid → RefusesKinds ks true start e mid new →
     (e.message ≡ message.OutOfMemory → MayAllocate (EncodesAllowed mid.features k) (at_position mid start)) →
     Decodes visits (EncodesAllowed mid.features k) (OperatorFault mid.features k) (Err e) (at_position mid start) new v v
 refuses_list visits k code ks start e mid new v c is b (went, h, fault) memory = (

@@ -19,7 +19,7 @@ use Rattle.wasm_instr.specs.Immediate.{Immediate, Kind, kind_of, EncodesImmediat
 use Rattle.wasm_instr.specs.Roles.{role_of}
 use Rattle.wasm_instr.specs.Row.{prefix_of, opcode_of, immediates_of}
 use Rattle.wasm_decode_opcodes.specs.Allowed.{EncodesAllowed}
-use Rattle.wasm_decode_opcodes.specs.Decoding.{Decodes, StandsBehind, VisitsRow, IsRefusedBehind}
+use Rattle.wasm_decode_opcodes.specs.Decoding.{Decodes, IsAfterCode, VisitsRow, IsRefusedAfterCode}
 use Rattle.wasm_decode_opcodes.specs.declared.guard.Guard.{Guard}
 use Rattle.wasm_decode_opcodes.specs.Entry.{Entry, prefixes, unknown, free, guarded, kinds_of, guard_of, guarded_entry, entry_of, HasKinds}
 use Rattle.wasm_decode_opcodes.specs.Entries.{entry_at}
@@ -27,7 +27,7 @@ use Rattle.wasm_decode_opcodes.specs.Kinds.{EncodesKinds}
 use Rattle.wasm_decode_opcodes.specs.OperatorFaults.{KindsFault, FreeFault, SubopcodeFault, EntryFault, OpcodeFault, OperatorFault}
 use Rattle.wasm_decode_opcodes.specs.Refused.{IsRefusedOperator, MayAllocate}
 use Rattle.wasm_decode_opcodes.proofs.KindLemmas.{RefusesKinds}
-use Rattle.wasm_decode_opcodes.proofs.Told.{told, prefix_told}
+use Rattle.wasm_decode_opcodes.proofs.EntriesAgree.{entry_agrees, prefix_agrees}
 
 -- The code is an opcode that is not a prefix byte, or a subopcode after a prefix byte.
 abbrev pub IsCode : Option ℕ → ℕ → Type 0
@@ -48,11 +48,11 @@ agrees None None op code head other x y e c h k eq =
 agrees None (Some q) op code head other x y e c h (number, k, u) eq =
     let whole : code ∷ x ≡ q ∷ (number ++ y) = ap (λ z. z ++ x) (sym h) ∙ eq ∙ ap (λ z. z ++ y) k in
     let same : code ≡ q = cc whole in
-    absurd (c.0 (ap (entry_at None) same ∙ prefix_told op q e))
+    absurd (c.0 (ap (entry_at None) same ∙ prefix_agrees op q e))
 agrees (Some p) None op code head other x y e c (number, h, u) k eq =
     let whole : p ∷ (number ++ x) ≡ opcode_of op ∷ y = ap (λ z. z ++ x) (sym h) ∙ eq ∙ ap (λ z. z ++ y) k in
     let same : p ≡ opcode_of op = cc whole in
-    let row : entry_at None (opcode_of op) ≡ entry_of op = ap (λ z. entry_at z (opcode_of op)) (sym e) ∙ told op in
+    let row : entry_at None (opcode_of op) ≡ entry_of op = ap (λ z. entry_at z (opcode_of op)) (sym e) ∙ entry_agrees op in
     absurd (no_prefixes (guard_of op) (kinds_of op) (sym row ∙ ap (entry_at None) (sym same) ∙ c.0))
 agrees (Some p) (Some q) op code head other x y e c (number, h, u) (more, k, v) eq =
     let whole : p ∷ (number ++ x) ≡ q ∷ (more ++ y) = ap (λ z. z ++ x) (sym h) ∙ eq ∙ ap (λ z. z ++ y) k in
@@ -61,38 +61,38 @@ agrees (Some p) (Some q) op code head other x y e c (number, h, u) (more, k, v) 
     (ap Some (sym same), sym n.1, h ∙ cc (same, n.0) ∙ sym k)
 
 -- The parts of an operator whose encoding begins with the bytes that were read.
-pub record Own (f : WasmFeatures) (p : Option ℕ) (code : ℕ) (head after text left : List ℕ) (op : Operator) : Type 0 where
+pub record Own (f : WasmFeatures) (p : Option ℕ) (code : ℕ) (head later text left : List ℕ) (op : Operator) : Type 0 where
   pub same_prefix : prefix_of op ≡ p
   pub same_code : opcode_of op ≡ code
-  pub behind : List ℕ
-  pub parts : text ≡ head ++ behind
-  pub goes_on : after ≡ behind ++ left
-  pub immediates : EncodesImmediates f (immediates_of op) behind
+  pub after : List ℕ
+  pub parts : text ≡ head ++ after
+  pub goes_on : later ≡ after ++ left
+  pub immediates : EncodesImmediates f (immediates_of op) after
 
 pub own : (f : WasmFeatures) (p : Option ℕ) (code : ℕ) (head after text left : List ℕ) (op : Operator) → IsCode p code → EncodesOpcode p code head →
     EncodesOperator f op text → head ++ after ≡ text ++ left → Own f p code head after text left op
 own f p code head after text left op c h s eq =
-    let whole : head ++ after ≡ s.head ++ (s.behind ++ left) = eq ∙ ap (λ z. z ++ left) s.parts ∙ append_assoc s.head s.behind left in
-    let a = agrees p (prefix_of op) op code head s.head after (s.behind ++ left) refl c h s.code whole in
+    let whole : head ++ after ≡ s.head ++ (s.after ++ left) = eq ∙ ap (λ z. z ++ left) s.parts ∙ append_assoc s.head s.after left in
+    let a = agrees p (prefix_of op) op code head s.head after (s.after ++ left) refl c h s.code whole in
     record {
       same_prefix = a.0;
       same_code = a.1;
-      behind = s.behind;
-      parts = s.parts ∙ ap (λ z. z ++ s.behind) (sym a.2);
-      goes_on = same_rest head s.head after (s.behind ++ left) a.2 whole;
+      after = s.after;
+      parts = s.parts ∙ ap (λ z. z ++ s.after) (sym a.2);
+      goes_on = same_rest head s.head after (s.after ++ left) a.2 whole;
       immediates = s.immediates;
     }
 
 pub same_entry : (op : Operator) (p : Option ℕ) (code : ℕ) → prefix_of op ≡ p → opcode_of op ≡ code → entry_at p code ≡ entry_of op
-same_entry op p code prefix opcode = ap (λ z. entry_at z code) (sym prefix) ∙ ap (entry_at (prefix_of op)) (sym opcode) ∙ told op
+same_entry op p code prefix opcode = ap (λ z. entry_at z code) (sym prefix) ∙ ap (entry_at (prefix_of op)) (sym opcode) ∙ entry_agrees op
 
 kinds_in : (g : Option Guard) (own_kinds ks : List Kind) → HasKinds (guarded_entry g own_kinds) ks → own_kinds ≡ ks
 kinds_in None own_kinds ks h = h
 kinds_in (Some g) own_kinds ks h = h
 
 -- the kinds in the entry of an opcode are those of its operators
-pub kinds_behind : (op : Operator) (p : Option ℕ) (code : ℕ) (ks : List Kind) → prefix_of op ≡ p → opcode_of op ≡ code → HasKinds (entry_at p code) ks → kinds_of op ≡ ks
-kinds_behind op p code ks prefix opcode h =
+pub kinds_of_code : (op : Operator) (p : Option ℕ) (code : ℕ) (ks : List Kind) → prefix_of op ≡ p → opcode_of op ≡ code → HasKinds (entry_at p code) ks → kinds_of op ≡ ks
+kinds_of_code op p code ks prefix opcode h =
     kinds_in (guard_of op) (kinds_of op) ks (subst (λ z. HasKinds z ks) (same_entry op p code prefix opcode) h)
 
 -- the guard in the entry of an opcode is that of its operators
@@ -125,8 +125,8 @@ some_head None code head h = let n : length head ≡ 1 = ap length h in omega ar
 some_head (Some p) code head (number, h, u) = let n : length head ≡ suc (length number) = ap length h in omega arith
 
 -- the position is at most the length of the bytes
-pub within_behind : (start : ℕ) (p : Option ℕ) (code : ℕ) (mid : Reader) → StandsBehind start p code mid → offset_of mid ≤ end_of mid
-within_behind start p code mid b = go b.opcode
+pub within_after_code : (start : ℕ) (p : Option ℕ) (code : ℕ) (mid : Reader) → IsAfterCode start p code mid → offset_of mid ≤ end_of mid
+within_after_code start p code mid b = go b.opcode
   where
     go : Reads (λ text it. EncodesOpcode p it text) (Ok code) (at_position mid start) mid → offset_of mid ≤ end_of mid
     go (head, h, t) =
@@ -136,14 +136,14 @@ within_behind start p code mid b = go b.opcode
         omega arith
 
 -- if no immediates of the kinds follow the opcode, no operator begins at its start
-pub none_behind : (f : WasmFeatures) (k : FrameKind) (p : Option ℕ) (code : ℕ) (ks : List Kind) (head after : List ℕ) → IsCode p code → HasKinds (entry_at p code) ks →
+pub none_after : (f : WasmFeatures) (k : FrameKind) (p : Option ℕ) (code : ℕ) (ks : List Kind) (head after : List ℕ) → IsCode p code → HasKinds (entry_at p code) ks →
     EncodesOpcode p code head → NoPrefix (EncodesKinds f ks) after → NoPrefix (EncodesAllowed f k) (head ++ after)
-none_behind f k p code ks head after c has h none text left op s eq =
+none_after f k p code ks head after c has h none text left op s eq =
     let o = own f p code head after text left op c h s.0 eq in
-    none o.behind left (immediates_of op) (kinds_behind op p code ks o.same_prefix o.same_code has, o.immediates) o.goes_on
+    none o.after left (immediates_of op) (kinds_of_code op p code ks o.same_prefix o.same_code has, o.immediates) o.goes_on
 
 pub refused_operator : (k : FrameKind) (p : Option ℕ) (code : ℕ) (ks : List Kind) (takes : Bool) (start : ℕ) (e : Error) (mid : Reader) → IsCode p code →
-    HasKinds (entry_at p code) ks → StandsBehind start p code mid → IsRefusedBehind (EncodesKinds mid.features ks) takes start e mid →
+    HasKinds (entry_at p code) ks → IsAfterCode start p code mid → IsRefusedAfterCode (EncodesKinds mid.features ks) takes start e mid →
     (takes ≡ true → e.message ≡ message.OutOfMemory → MayAllocate (EncodesAllowed mid.features k) (at_position mid start)) →
     IsRefusedOperator (EncodesAllowed mid.features k) e (at_position mid start)
 refused_operator k p code ks takes start e mid c has b h memory = go b.opcode
@@ -152,7 +152,7 @@ refused_operator k p code ks takes start e mid c has b h memory = go b.opcode
     go (head, opcode, t) =
         record {
           refuses = λ more follow. subst (NoPrefix (EncodesAllowed mid.features k)) (sym (ap (λ z. z ++ more) t.parts ∙ append_assoc head (rest mid) more))
-              (none_behind mid.features k p code ks head (rest mid ++ more) c has opcode (h.refuses more follow));
+              (none_after mid.features k p code ks head (rest mid ++ more) c has opcode (h.refuses more follow));
           ahead = h.ahead;
           memory = λ m. (let g = h.memory m in (g.1, memory g.0 m));
         }
@@ -167,7 +167,7 @@ byte_before old mid p number t =
     let goes : mid ≡ at_position now (now.position + length number) = t.moved ∙ ap (at_position old) (omega arith) in
     (now, record { moved = refl; parts = t.parts ∙ ap (λ z. p ∷ z) (sym left) }, record { moved = goes; parts = left })
 
-pub opcode_fault : (k : FrameKind) (code start : ℕ) (m : Message) (mid : Reader) (offset : ℕ) → code < 256 → StandsBehind start None code mid →
+pub opcode_fault : (k : FrameKind) (code start : ℕ) (m : Message) (mid : Reader) (offset : ℕ) → code < 256 → IsAfterCode start None code mid →
     OpcodeFault mid.features k (mid.start + start) code m mid offset → OperatorFault mid.features k m (at_position mid start) offset
 opcode_fault k code start m mid offset small b fault = go b.opcode
   where
@@ -175,7 +175,7 @@ opcode_fault k code start m mid offset small b fault = go b.opcode
     go (head, opcode, t) = inr (code, mid, (head, (opcode, small), t), fault)
 
 pub subopcode_fault : (k : FrameKind) (p code start : ℕ) (m : Message) (mid : Reader) (offset : ℕ) → p < 256 → entry_at None p ≡ prefixes →
-    StandsBehind start (Some p) code mid → SubopcodeFault mid.features (mid.start + start) p code m mid offset → OperatorFault mid.features k m (at_position mid start) offset
+    IsAfterCode start (Some p) code mid → SubopcodeFault mid.features (mid.start + start) p code m mid offset → OperatorFault mid.features k m (at_position mid start) offset
 subopcode_fault k p code start m mid offset small is b fault = go b.opcode
   where
     go : Reads (λ text it. EncodesOpcode (Some p) it text) (Ok code) (at_position mid start) mid → OperatorFault mid.features k m (at_position mid start) offset
@@ -190,7 +190,7 @@ subopcode_fault k p code start m mid offset small is b fault = go b.opcode
 
 -- the fault of immediates after an opcode without a guard
 pub free_fault : (k : FrameKind) (p : Option ℕ) (code : ℕ) (ks : List Kind) (start : ℕ) (e : Error) (mid : Reader) → IsCode p code → entry_at p code ≡ free ks →
-    StandsBehind start p code mid → HasFault (KindsFault mid.features (mid.start + start) ks) e mid → HasFault (OperatorFault mid.features k) e (at_position mid start)
+    IsAfterCode start p code mid → HasFault (KindsFault mid.features (mid.start + start) ks) e mid → HasFault (OperatorFault mid.features k) e (at_position mid start)
 free_fault k None code ks start e mid c is b fault some =
     opcode_fault k code start e.message mid e.offset c.1 b
     (subst (λ z. EntryFault mid.features k (mid.start + start) code z e.message mid e.offset) (sym is) (fault some))
@@ -205,7 +205,7 @@ has_kinds p code ks is = subst (λ z. HasKinds z ks) (sym is) refl
 
 -- reading the immediates fails, after an opcode without a guard
 pub refuses_free : {V A : Type 0} (visits : V → Operator → A → V → Type 0) (k : FrameKind) (p : Option ℕ) (code : ℕ) (ks : List Kind) (start : ℕ) (e : Error) (mid new : Reader)
-    (v : V) → IsCode p code → entry_at p code ≡ free ks → StandsBehind start p code mid → RefusesKinds ks false start e mid new →
+    (v : V) → IsCode p code → entry_at p code ≡ free ks → IsAfterCode start p code mid → RefusesKinds ks false start e mid new →
     Decodes visits (EncodesAllowed mid.features k) (OperatorFault mid.features k) (Err e) (at_position mid start) new v v
 refuses_free visits k p code ks start e mid new v c is b (went, h, fault) = (
   refl,
@@ -222,7 +222,7 @@ pub encodes_read : (f : WasmFeatures) (op : Operator) (p : Option ℕ) (code : �
 encodes_read f op p code is head text h i prefix opcode immediates enabled =
     record {
       head = head;
-      behind = text;
+      after = text;
       parts = refl;
       code = subst (λ z. EncodesOpcode z (opcode_of op) head) (sym prefix) (subst (λ z. EncodesOpcode p z head) (sym opcode) h);
       immediates = subst (λ z. EncodesImmediates f z text) (sym immediates) i;
@@ -231,7 +231,7 @@ encodes_read f op p code is head text h i prefix opcode immediates enabled =
 
 -- the immediates after an opcode were read, and the visit was made
 pub reads_visited : {V A : Type 0} (visits : V → Operator → A → V → Type 0) (Fault : Message → Reader → ℕ → Type 0) (k : FrameKind) (p : Option ℕ) (code : ℕ) (ks : List Kind)
-    (is : List Immediate) (start : ℕ) (mid new : Reader) (v w : V) (a : A) → StandsBehind start p code mid → VisitsRow visits p code is v a w →
+    (is : List Immediate) (start : ℕ) (mid new : Reader) (v w : V) (a : A) → IsAfterCode start p code mid → VisitsRow visits p code is v a w →
     (text : List ℕ) × EncodesKinds mid.features ks text is × Takes mid new text →
     ((op : Operator) → prefix_of op ≡ p → opcode_of op ≡ code → IsEnabled mid.features op × Allows k (role_of op)) →
     Decodes visits (EncodesAllowed mid.features k) Fault (Ok a) (at_position mid start) new v w
@@ -249,7 +249,7 @@ reads_visited visits Fault k p code ks is start mid new v w a b (op, prefix, opc
         )
 
 pub visited_free : {V A : Type 0} (visits : V → Operator → A → V → Type 0) (Fault : Message → Reader → ℕ → Type 0) (k : FrameKind) (p : Option ℕ) (code : ℕ) (ks : List Kind)
-    (is : List Immediate) (start : ℕ) (mid new : Reader) (v w : V) (a : A) → entry_at p code ≡ free ks → StandsBehind start p code mid → VisitsRow visits p code is v a w →
+    (is : List Immediate) (start : ℕ) (mid new : Reader) (v w : V) (a : A) → entry_at p code ≡ free ks → IsAfterCode start p code mid → VisitsRow visits p code is v a w →
     (text : List ℕ) × EncodesKinds mid.features ks text is × Takes mid new text →
     Decodes visits (EncodesAllowed mid.features k) Fault (Ok a) (at_position mid start) new v w
 visited_free visits Fault k p code ks is start mid new v w a e b vis i =
@@ -258,7 +258,7 @@ visited_free visits Fault k p code ks is start mid new v w a e b vis i =
 
 -- an operator without immediates
 pub visited_without_immediates : {V A : Type 0} (visits : V → Operator → A → V → Type 0) (Fault : Message → Reader → ℕ → Type 0) (k : FrameKind) (p : Option ℕ) (code : ℕ) (start : ℕ)
-    (mid : Reader) (v w : V) (a : A) → entry_at p code ≡ free [] → StandsBehind start p code mid → VisitsRow visits p code [] v a w →
+    (mid : Reader) (v w : V) (a : A) → entry_at p code ≡ free [] → IsAfterCode start p code mid → VisitsRow visits p code [] v a w →
     Decodes visits (EncodesAllowed mid.features k) Fault (Ok a) (at_position mid start) mid v w
 visited_without_immediates visits Fault k p code start mid v w a e b vis = visited_free visits Fault k p code [] [] start mid mid v w a e b vis ([], (refl, refl), takes_none mid)
 

@@ -53,7 +53,7 @@ abbrev pub RefusesScalarAt : FrameKind → ℕ → Error → Reader → Reader �
 RefusesScalarAt frame start e old new = RefusesOperator (EncodesScalar old.features frame) (ScalarOperatorFault old.features frame) e (at_position old start) new
 
 -- The reader is directly after this opcode, or after this prefix byte and subopcode, which were read from the position `start` on.
-pub record StandsBehind (start : ℕ) (prefix : Option ℕ) (code : ℕ) (r : Reader) : Type 0 where
+pub record IsAfterCode (start : ℕ) (prefix : Option ℕ) (code : ℕ) (r : Reader) : Type 0 where
   pub begun : start ≤ r.position
   pub opcode : Reads (λ text c. EncodesOpcode prefix c text) (Ok code) (at_position r start) r
 
@@ -62,7 +62,7 @@ abbrev pub VisitsRow : {V A : Type 0} → (V → Operator → A → V → Type 0
 VisitsRow visits prefix code is v a w = (op : Operator) × (prefix_of op ≡ prefix) × (opcode_of op ≡ code) × (immediates_of op ≡ is) × visits v op a w
 
 -- The bytes after an opcode do not encode a value, so the call fails, for an operator that began at the position `start`.
-pub record IsRefusedBehind {X : Type 0} (Encodes : List ℕ → X → Type 0) (takes_memory : Bool) (start : ℕ) (e : Error) (old : Reader) : Type 0 where
+pub record IsRefusedAfterCode {X : Type 0} (Encodes : List ℕ → X → Type 0) (takes_memory : Bool) (start : ℕ) (e : Error) (old : Reader) : Type 0 where
   pub refuses : Refuses Encodes (rest old) e.message
   pub ahead : IsAhead (at_position old start) e.offset
   pub memory : e.message ≡ message.OutOfMemory → (takes_memory ≡ true) × (e.offset ≡ old.start + start)
@@ -70,4 +70,4 @@ pub record IsRefusedBehind {X : Type 0} (Encodes : List ℕ → X → Type 0) (t
 -- The call returns Ok if and only if immediates of these kinds follow the opcode, unless allocation fails. On Ok it takes them. On Err the reader goes back to the start of the operator, and the error is that of the first immediate that cannot be read.
 abbrev pub ReadsKinds : {X : Type 0} → List Kind → (X → List Immediate) → Bool → ℕ → Result X Error → Reader → Reader → Type 0
 ReadsKinds ks immediates takes_memory start (Ok x) old new = (text : List ℕ) × EncodesKinds old.features ks text (immediates x) × Takes old new text
-ReadsKinds ks immediates takes_memory start (Err e) old new = (new ≡ at_position old start) × IsRefusedBehind (EncodesKinds old.features ks) takes_memory start e old × HasFault (KindsFault old.features (old.start + start) ks) e old
+ReadsKinds ks immediates takes_memory start (Err e) old new = (new ≡ at_position old start) × IsRefusedAfterCode (EncodesKinds old.features ks) takes_memory start e old × HasFault (KindsFault old.features (old.start + start) ks) e old

@@ -741,8 +741,8 @@ atomic_entries =
     []
 
 -- The entries of the subopcodes after a prefix byte.
-abbrev pub entries_behind : ℕ → List Entry
-entries_behind prefix =
+abbrev pub entries_after : ℕ → List Entry
+entries_after prefix =
     if prefix == 0xfb then gc_entries else (
     if prefix == 0xfc then misc_entries else (
     if prefix == 0xfd then simd_entries else (
@@ -752,7 +752,7 @@ entries_behind prefix =
 -- The entry of an opcode, or of a subopcode after a prefix byte: the kinds of the immediates, if an operator has it.
 abbrev pub entry_at : Option ℕ → ℕ → Entry
 entry_at None code = slice_index_or opcode_entries code unknown
-entry_at (Some prefix) code = slice_index_or (entries_behind prefix) code unknown
+entry_at (Some prefix) code = slice_index_or (entries_after prefix) code unknown
 
 -- The exponent of the natural alignment of the operator with this code, if it has a memory argument.
 abbrev pub align_at : Option ℕ → ℕ → ℕ

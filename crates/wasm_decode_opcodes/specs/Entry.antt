@@ -43,25 +43,25 @@ abbrev pub entry_of : Operator → Entry
 entry_of op = guarded_entry (guard_of op) (kinds_of op)
 
 -- The role of a guarded operator, with 0 as its immediate.
-abbrev pub role_behind : Guard → Role ℕ
-role_behind guard.Else = turns_else
-role_behind guard.Try = opens_try 0
-role_behind guard.Catch = turns_catch 0
-role_behind guard.CatchAll = turns_catch_all
-role_behind guard.Delegate = delegates 0
+abbrev pub guarded_role : Guard → Role ℕ
+guarded_role guard.Else = turns_else
+guarded_role guard.Try = opens_try 0
+guarded_role guard.Catch = turns_catch 0
+guarded_role guard.CatchAll = turns_catch_all
+guarded_role guard.Delegate = delegates 0
 
 -- The name of a guarded operator in messages.
-abbrev pub instruction_behind : Guard → InstructionName
-instruction_behind guard.Else = instruction_name.Else
-instruction_behind guard.Try = instruction_name.Try
-instruction_behind guard.Catch = instruction_name.Catch
-instruction_behind guard.CatchAll = instruction_name.CatchAll
-instruction_behind guard.Delegate = instruction_name.Delegate
+abbrev pub guarded_instruction : Guard → InstructionName
+guarded_instruction guard.Else = instruction_name.Else
+guarded_instruction guard.Try = instruction_name.Try
+guarded_instruction guard.Catch = instruction_name.Catch
+guarded_instruction guard.CatchAll = instruction_name.CatchAll
+guarded_instruction guard.Delegate = instruction_name.Delegate
 
 -- The name of the frame that a guarded operator needs, in messages.
-abbrev pub frame_behind : Guard → FrameName
-frame_behind guard.Else = frame_name.If
-frame_behind _ = frame_name.LegacyTry
+abbrev pub needed_frame : Guard → FrameName
+needed_frame guard.Else = frame_name.If
+needed_frame _ = frame_name.LegacyTry
 
 -- The operator needs the feature legacy_exceptions.
 abbrev pub NeedsLegacy : Guard → Type 0

@@ -21,7 +21,7 @@ use Rattle.wasm_instr.specs.imm.Orderings.{OrderingByteFault, FenceFault}
 use Rattle.wasm_instr.specs.imm.Vectors.{LanesFault}
 use Rattle.wasm_instr.specs.Immediate.{Kind, is_unsigned_32, is_signed_32, is_signed_64, is_float_32, is_float_64, is_vector, is_one_lane, is_sixteen_lanes, is_memory_argument, is_memory_index, is_table_index, is_order, is_fence_order, is_heap_type, is_cast, is_block_type, is_branch_table, is_select_types, is_try_clauses, is_resume_clauses}
 use Rattle.wasm_decode_opcodes.specs.declared.guard.Guard.{Guard}
-use Rattle.wasm_decode_opcodes.specs.Entry.{Entry, unknown, prefixes, free, guarded, role_behind, instruction_behind, frame_behind, NeedsLegacy}
+use Rattle.wasm_decode_opcodes.specs.Entry.{Entry, unknown, prefixes, free, guarded, guarded_role, guarded_instruction, needed_frame, NeedsLegacy}
 use Rattle.wasm_decode_opcodes.specs.Entries.{entry_at}
 use Rattle.wasm_decode_opcodes.specs.Kinds.{EncodesKind}
 
@@ -74,7 +74,7 @@ LacksFeature f g = NeedsLegacy g × ¬ HasFeature legacy_exceptions f
 
 -- The error of a guarded operator: first the feature, reported at the operator's start; then the frame, reported after the opcode; then the immediates.
 abbrev pub GuardFault : WasmFeatures → FrameKind → ℕ → Guard → (Message → Reader → ℕ → Type 0) → Message → Reader → ℕ → Type 0
-GuardFault f k start g Later = CheckFault (LacksFeature f g) (message.FeatureRequired (instruction_behind g)) start (λ m r. CheckFault (¬ Allows k (role_behind g)) (message.WrongFrame (instruction_behind g) (frame_behind g)) (offset_of r) Later m r)
+GuardFault f k start g Later = CheckFault (LacksFeature f g) (message.FeatureRequired (guarded_instruction g)) start (λ m r. CheckFault (¬ Allows k (guarded_role g)) (message.WrongFrame (guarded_instruction g) (needed_frame g)) (offset_of r) Later m r)
 
 -- The error after an opcode with this entry.
 abbrev pub EntryFault : WasmFeatures → FrameKind → ℕ → ℕ → Entry → Message → Reader → ℕ → Type 0

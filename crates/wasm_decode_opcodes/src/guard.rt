@@ -4,9 +4,9 @@ ghost use Rattle.wasm_instr.specs.below.Features.{HasFeature, legacy_exceptions}
 ghost use Rattle.wasm_instr.specs.below.Source.{at_position};
 ghost use Rattle.wasm_instr.specs.grammar.Frames.{Allows};
 ghost use Rattle.wasm_instr.specs.Immediate.{Kind};
-ghost use Rattle.wasm_decode_opcodes.specs.Decoding.{StandsBehind, RefusesAt};
+ghost use Rattle.wasm_decode_opcodes.specs.Decoding.{IsAfterCode, RefusesAt};
 ghost use Rattle.wasm_decode_opcodes.specs.Entries.{entry_at};
-ghost use Rattle.wasm_decode_opcodes.specs.Entry.{guarded, role_behind, instruction_behind, frame_behind, NeedsLegacy};
+ghost use Rattle.wasm_decode_opcodes.specs.Entry.{guarded, guarded_role, guarded_instruction, needed_frame, NeedsLegacy};
 ghost use Rattle.wasm_decode_opcodes.specs.OperatorFaults.{GuardFault, LacksFeature};
 
 use wasm_instr::below::{
@@ -39,13 +39,13 @@ impl Guard {
         requires { start ≤ reader.old.position }
         ensures stays { IfOk result (λ u. reader.new ≡ reader.old) }
         ensures feature { IfOk result (λ u. NeedsLegacy self → HasFeature legacy_exceptions reader.old.features) }
-        ensures allows { IfOk result (λ u. Allows frame (role_behind self)) }
+        ensures allows { IfOk result (λ u. Allows frame (guarded_role self)) }
         ensures back { IfErr result (λ e. reader.new ≡ at_position reader.old start) }
         ensures fault { IfErr result
             (λ e. GuardFault reader.old.features frame (reader.old.start + start) self (λ m r offset. ⊥)
             e.message reader.old e.offset) }
         ensures refuses { IfErr result
-            (λ e. (code : ℕ) (ks : List Kind) → code < 256 → StandsBehind start None code reader.old
+            (λ e. (code : ℕ) (ks : List Kind) → code < 256 → IsAfterCode start None code reader.old
             → entry_at None code ≡ guarded self ks
             → RefusesAt frame start e reader.old reader.new) }
     {
@@ -75,7 +75,7 @@ impl Guard {
     /// Returns whether this frame allows the operator.
     #[inline(always)]
     fn allows(self, frame: FrameKind) -> bool
-        ensures { IsTrue result ↔ Allows frame (role_behind self) }
+        ensures { IsTrue result ↔ Allows frame (guarded_role self) }
     {
         match self {
             Guard::Else => matches!(frame, FrameKind::If),
@@ -94,10 +94,10 @@ impl Guard {
     fn wrong_frame(self, reader: &mut BinaryReader<'_>, start: usize) -> Error
         requires { start ≤ reader.old.position }
         ensures back { reader.new ≡ at_position reader.old start }
-        ensures message { result.message ≡ Message.WrongFrame (instruction_behind self) (frame_behind self) }
+        ensures message { result.message ≡ Message.WrongFrame (guarded_instruction self) (needed_frame self) }
         ensures offset { result.offset ≡ reader.old.start + reader.old.position }
     {
-        let message = Message::WrongFrame(self.instruction(), self.wanted());
+        let message = Message::WrongFrame(self.instruction(), self.needed());
         let offset = reader.original_position();
         reader.rewind(start);
         Error::new(message, offset)
@@ -105,7 +105,7 @@ impl Guard {
 
     /// Returns the name of the operator in messages.
     fn instruction(self) -> InstructionName
-        ensures { result ≡ instruction_behind self }
+        ensures { result ≡ guarded_instruction self }
     {
         match self {
             Guard::Else => InstructionName::Else,
@@ -117,8 +117,8 @@ impl Guard {
     }
 
     /// Returns the name of the frame that the operator needs, in messages.
-    fn wanted(self) -> FrameName
-        ensures { result ≡ frame_behind self }
+    fn needed(self) -> FrameName
+        ensures { result ≡ needed_frame self }
     {
         match self {
             Guard::Else => FrameName::If,

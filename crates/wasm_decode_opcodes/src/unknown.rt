@@ -1,7 +1,7 @@
 //! Opcodes and subopcodes that no operator has.
 ghost use Rattle.std.specs.Prelude.{◌≡◌, Some, None};
 ghost use Rattle.wasm_instr.specs.grammar.declared.frame_kind.FrameKind.{FrameKind};
-ghost use Rattle.wasm_decode_opcodes.specs.Decoding.{StandsBehind, RefusesAt};
+ghost use Rattle.wasm_decode_opcodes.specs.Decoding.{IsAfterCode, RefusesAt};
 ghost use Rattle.wasm_decode_opcodes.specs.Entries.{entry_at};
 ghost use Rattle.wasm_decode_opcodes.specs.Entry.{prefixes, unknown};
 
@@ -12,7 +12,7 @@ use wasm_instr::below::{BinaryReader, Error, Message};
 #[cold]
 #[inline(never)]
 pub fn unknown_opcode(reader: &mut BinaryReader<'_>, start: usize, code: u8) -> Error
-    requires behind { StandsBehind start None code reader.old }
+    requires after { IsAfterCode start None code reader.old }
     requires unknown { entry_at None code ≡ unknown }
     ensures { (frame : FrameKind) → RefusesAt frame start result reader.old reader.new }
 {
@@ -29,7 +29,7 @@ pub fn unknown_subopcode(
     prefix: u8,
     code: u32,
 ) -> Error
-    requires behind { StandsBehind start (Some prefix) code reader.old }
+    requires after { IsAfterCode start (Some prefix) code reader.old }
     requires prefix { entry_at None prefix ≡ prefixes }
     requires unknown { entry_at (Some prefix) code ≡ unknown }
     ensures { (frame : FrameKind) → RefusesAt frame start result reader.old reader.new }

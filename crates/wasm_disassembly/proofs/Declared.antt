@@ -98,9 +98,9 @@ pub way_goes_on : (start : ℕ) (bytes shown : List ℕ) (parameters many first 
     (at next : ℕ) → IsOnTheWay start bytes parameters many first old mid before between_lines → ReadsDeclaration (Ok d) mid new → at ≡ offset_of mid.reader →
     shown ≡ between start bytes at (offset_of new.reader) → Appends between_lines after (line_of 0 at shown (declaration_text first d)) → next ≡ first + d.0 →
     IsOnTheWay start bytes parameters (many + 1) next old new before after
-way_goes_on start bytes shown parameters many first old mid new before between_lines after d at next way ((text, encodes, takes), count, total) stands shows wrote goes =
+way_goes_on start bytes shown parameters many first old mid new before between_lines after d at next way ((text, encodes, takes), count, total) occurs shows wrote goes =
     let h = way.writes.takes in
-    let begins : at ≡ offset_of old.reader + length h.text = stands ∙ ap offset_of h.takes.moved ∙ omega arith in
+    let begins : at ≡ offset_of old.reader + length h.text = occurs ∙ ap offset_of h.takes.moved ∙ omega arith in
     let more = locals_more way.placed d at in
     let sum : new.total ≡ old.total + locals_in (declarations_of (way.placed ++ (d, at) ∷ [])) =
     let t = h.total in omega (arith, total, t, more) in
@@ -109,7 +109,7 @@ way_goes_on start bytes shown parameters many first old mid new before between_l
     let lines : ℕ → List ℕ = λ end. declaration_lines start bytes end parameters way.placed in
     let line : List ℕ → ℕ → List ℕ = λ t n. line_of 0 at t (declaration_text n d) in
     let same : lines (offset_of mid.reader) ++ line shown first ≡ declaration_lines start bytes (offset_of new.reader) parameters (way.placed ++ (d, at) ∷ []) =
-    ap (λ e. lines e ++ line shown first) (sym stands) ∙ ap (λ t. lines at ++ line t first) shows ∙
+    ap (λ e. lines e ++ line shown first) (sym occurs) ∙ ap (λ t. lines at ++ line t first) shows ∙
     ap (λ n. lines at ++ line (between start bytes at (offset_of new.reader)) n) way.index ∙
     sym (lines_more start bytes (offset_of new.reader) parameters way.placed d at) in
     record {
@@ -159,42 +159,42 @@ ends_here message.OutOfMemory other = absurd (other refl)
 ends_here _ other = tt
 
 -- The next declaration, after `many`, is encoded at the start of what is left.
-record NextStands (many total : ℕ) (left : List ℕ) : Type 0 where
+record NextOccurs (many total : ℕ) (left : List ℕ) : Type 0 where
   declaration : Declaration
   text : List ℕ
   more : List ℕ
   encodes : EncodesDeclaration text declaration
-  stands : left ≡ text ++ more
+  occurs : left ≡ text ++ more
   few : many + declaration.0 ≤ total
 
-next_stands : (offset : ℕ) (placed : PlacedLocals) (ds : List Declaration) (a b x y : List ℕ) → PrefixCode EncodesDeclaration →
+next_occurs : (offset : ℕ) (placed : PlacedLocals) (ds : List Declaration) (a b x y : List ℕ) → PrefixCode EncodesDeclaration →
     LaidOutLocals offset placed a → EncodesEach EncodesDeclaration b ds → a ++ x ≡ b ++ y → length placed < length ds →
-    NextStands (locals_in (declarations_of placed)) (locals_in ds) x
-next_stands offset placed [] a b x y code laid each same short = absurd (omega (arith, short))
-next_stands offset [] (d ∷ ds) a b x y code none (t, m, parts, encodes, each) same short =
+    NextOccurs (locals_in (declarations_of placed)) (locals_in ds) x
+next_occurs offset placed [] a b x y code laid each same short = absurd (omega (arith, short))
+next_occurs offset [] (d ∷ ds) a b x y code none (t, m, parts, encodes, each) same short =
     let here : x ≡ t ++ (m ++ y) = ap (λ z. z ++ x) (sym none) ∙ same ∙ ap (λ z. z ++ y) parts ∙ append_assoc t m y in
     let few : 0 + d.0 ≤ d.0 + locals_in ds = omega arith in
-    record { declaration = d; text = t; more = m ++ y; encodes = encodes; stands = here; few = few }
-next_stands offset (p ∷ ps) (d ∷ ds) a b x y code (is, t, m, parts, encodes, laid) (u, v, others, encoded, each) same short =
+    record { declaration = d; text = t; more = m ++ y; encodes = encodes; occurs = here; few = few }
+next_occurs offset (p ∷ ps) (d ∷ ds) a b x y code (is, t, m, parts, encodes, laid) (u, v, others, encoded, each) same short =
     let whole : t ++ (m ++ x) ≡ u ++ (v ++ y) = sym (append_assoc t m x) ∙ ap (λ z. z ++ x) (sym parts) ∙ same ∙ ap (λ z. z ++ y) others ∙ append_assoc u v y in
     let one = code t u (m ++ x) (v ++ y) p.0 d encodes encoded whole in
-    let behind : m ++ x ≡ v ++ y = append_cancel_left t (m ++ x) (v ++ y) (whole ∙ ap (λ z. z ++ (v ++ y)) (sym one.0)) in
+    let after : m ++ x ≡ v ++ y = append_cancel_left t (m ++ x) (v ++ y) (whole ∙ ap (λ z. z ++ (v ++ y)) (sym one.0)) in
     let fewer : length ps < length ds = omega (arith, short) in
-    let h = next_stands (offset + length t) ps ds m v x y code laid each behind fewer in
+    let h = next_occurs (offset + length t) ps ds m v x y code laid each after fewer in
     let number : p.0.0 ≡ d.0 = ap (λ (z : Declaration). z.0) one.1 in
     let few : p.0.0 + locals_in (declarations_of ps) + h.declaration.0 ≤ d.0 + locals_in ds = let f = h.few in omega (arith, f, number) in
-    record { declaration = h.declaration; text = h.text; more = h.more; encodes = h.encodes; stands = h.stands; few = few }
+    record { declaration = h.declaration; text = h.text; more = h.more; encodes = h.encodes; occurs = h.occurs; few = few }
 
 -- So the next read does not fail.
 pub none_refused : (P : Type 0) (start : ℕ) (bytes : List ℕ) (parameters many first : ℕ) (old mid new : Locals) (before after : Option (List ℕ)) (e : Error)
     (ds : List Declaration) (text more : List ℕ) → PrefixCode EncodesDeclaration → many < old.count →
     IsOnTheWay start bytes parameters many first old mid before after → ReadsDeclaration (Err e) mid new →
     EncodesMany EncodesDeclaration old.count text ds → rest old.reader ≡ text ++ more → old.total + locals_in ds ≤ max_locals → P
-none_refused P start bytes parameters many first old mid new before after e ds text more code some way (same, (same_reader, refused), fault) (all, each) stands few =
+none_refused P start bytes parameters many first old mid new before after e ds text more code some way (same, (same_reader, refused), fault) (all, each) occurs few =
     let h = way.writes.takes in
-    let left : h.text ++ rest mid.reader ≡ text ++ more = sym h.takes.parts ∙ stands in
+    let left : h.text ++ rest mid.reader ≡ text ++ more = sym h.takes.parts ∙ occurs in
     let short : length way.placed < length ds = let m = way.so_many in omega (arith, m, some, all) in
-    let next = next_stands (offset_of old.reader) way.placed ds h.text text (rest mid.reader) more code h.laid each left short in
+    let next = next_occurs (offset_of old.reader) way.placed ds h.text text (rest mid.reader) more code h.laid each left short in
     let fits : mid.total + next.declaration.0 ≤ 4294967295 = let t = h.total in let f = next.few in let g : old.total + locals_in ds ≤ 4294967295 = few in omega (arith, t, f, g) in
     let other : e.message ≢ message.OutOfMemory = λ is. absurd (cc (refused.memory is).0) in
-    absurd (refused.refuses [] (ends_here e.message other) next.text next.more next.declaration (next.encodes, fits) (append-nil (rest mid.reader) ∙ next.stands))
+    absurd (refused.refuses [] (ends_here e.message other) next.text next.more next.declaration (next.encodes, fits) (append-nil (rest mid.reader) ∙ next.occurs))

@@ -49,20 +49,20 @@ pub record IsListedTo (h : Heading) (body reader : Reader) (before listed : Opti
   pub locals : PlacedLocals
   pub reads : ReadsLocals body unread read locals
   pub all : length locals ≡ unread.count
-  pub stands : reader ≡ read.reader
+  pub occurs : reader ≡ read.reader
   pub is : Appends before listed (header h (source_of body) ++ local_lines h (source_of body) locals (offset_of read.reader))
 
 pub listed_to : (h : Heading) (x : Unit {0}) (body reader : Reader) (unread read : Locals) (before headed listed : Option (List ℕ)) →
     OpensLocals (Ok unread) body → reader ≡ read.reader → Appends before headed (header h (source_of body)) →
     ListsDeclarations (offset_of body) (rest body) h.parameters (Ok x) unread read headed listed → IsListedTo h body reader before listed
-listed_to h x body reader unread read before headed listed opens stands begins (placed, all, writes) =
+listed_to h x body reader unread read before headed listed opens occurs begins (placed, all, writes) =
     record {
       unread = unread;
       read = read;
       locals = placed;
       reads = record { opens = opens; takes = writes.takes };
       all = all;
-      stands = stands;
+      occurs = occurs;
       is = appends_both before headed listed (header h (source_of body)) (local_lines h (source_of body) placed (offset_of read.reader)) begins writes.written;
     }
 
@@ -107,8 +107,8 @@ stopped_in_locals h fault.Memory body unread read before headed listed opens beg
 stopped_in_locals h fault.Writing body unread read before headed listed opens begins lists = tt
 
 -- The statement of the law `past_locals`: a body is its locals, followed by an expression.
-abbrev pub IsBodyBehind : Type 0
-IsBodyBehind = (body r : Reader) (declarations : List Declaration) (placed : Placed) → IsPastLocals declarations body r → EncodesExpression (source_of r) placed →
+abbrev pub IsBodyAfterLocals : Type 0
+IsBodyAfterLocals = (body r : Reader) (declarations : List Declaration) (placed : Placed) → IsPastLocals declarations body r → EncodesExpression (source_of r) placed →
     EncodesBody (source_of body) declarations placed
 
 same_end : (a b : Reader) (text : List ℕ) → Takes a b text → offset_of b + length (rest b) ≡ offset_of a + length (rest a)
@@ -118,14 +118,14 @@ same_end a b text t =
     omega (arith, long, place)
 
 -- The operators are read to the end of the expression, or up to an error.
-pub operators_ended : (h : Heading) (r : Result (Unit {0}) DisassemblyFault) (body reader : Reader) (before listed after : Option (List ℕ)) → IsBodyBehind →
+pub operators_ended : (h : Heading) (r : Result (Unit {0}) DisassemblyFault) (body reader : Reader) (before listed after : Option (List ℕ)) → IsBodyAfterLocals →
     IsListedTo h body reader before listed → ListsOperators (offset_of body) (rest body) r reader listed after → Disassembles h r body before after
 operators_ended h (Ok x) body reader before listed after law to (placed, encodes, is) =
     let past = locals_past body to.unread to.read to.locals to.reads to.all in
     let s = source_of body in
-    let there : EncodesExpression (source_of to.read.reader) placed = subst (λ z. EncodesExpression (source_of z) placed) to.stands encodes in
+    let there : EncodesExpression (source_of to.read.reader) placed = subst (λ z. EncodesExpression (source_of z) placed) to.occurs encodes in
     let end : offset_of reader + length (rest reader) ≡ offset_of body + length (rest body) =
-    ap (λ (z : Reader). offset_of z + length (rest z)) to.stands ∙ same_end body to.read.reader past.0 past.2 in
+    ap (λ (z : Reader). offset_of z + length (rest z)) to.occurs ∙ same_end body to.read.reader past.0 past.2 in
     let locals = local_lines h s to.locals (offset_of to.read.reader) in
     let ops = operator_lines s placed (offset_of body + length (rest body)) in
     let wrote : Appends listed after ops = subst (λ n. Appends listed after (operator_lines s placed n)) end is in (
@@ -158,7 +158,7 @@ operators_ended h (Err (fault.Refused e)) body reader before listed after law to
         placed = placed;
         stops = record {
           opened = opened;
-          opens = ((declarations_of to.locals, subst (λ z. IsPastLocals (declarations_of to.locals) body z) (sym (same ∙ to.stands)) past), fresh);
+          opens = ((declarations_of to.locals, subst (λ z. IsPastLocals (declarations_of to.locals) body z) (sym (same ∙ to.occurs)) past), fresh);
           stopped = stopped;
           reads = reads;
         };
@@ -172,9 +172,9 @@ operators_ended h (Err fault.Writing) body reader before listed after law to lis
 -- ---- if the bytes encode a body
 
 -- The number of the declarations is not an error.
-pub count_stands : (P : Type 0) (e : Error) (body : Reader) (declarations : List Declaration) (placed : Placed) → OpensLocals (Err e) body →
+pub count_occurs : (P : Type 0) (e : Error) (body : Reader) (declarations : List Declaration) (placed : Placed) → OpensLocals (Err e) body →
     EncodesBody (source_of body) declarations placed → P
-count_stands P e body declarations placed (refused, fault) h =
+count_occurs P e body declarations placed (refused, fault) h =
     let l = h.encodes_locals in
     let other : e.message ≢ message.OutOfMemory = λ is. absurd (subst IsReadFault is refused.fault) in
     let there : rest body ≡ l.0 ++ (l.1 ++ h.expression) = h.parts ∙ ap (λ z. z ++ h.expression) l.3 ∙ append_assoc l.0 l.1 h.expression in
@@ -185,7 +185,7 @@ pub record AreAnnounced (unread : Locals) (declarations : List Declaration) : Ty
   pub text : List ℕ
   pub more : List ℕ
   pub each : EncodesMany EncodesDeclaration unread.count text declarations
-  pub stands : rest unread.reader ≡ text ++ more
+  pub occurs : rest unread.reader ≡ text ++ more
 
 pub announced : (body : Reader) (unread : Locals) (declarations : List Declaration) (placed : Placed) → PrefixCode (EncodesUnsigned 32) →
     OpensLocals (Ok unread) body → EncodesBody (source_of body) declarations placed → AreAnnounced unread declarations
@@ -198,5 +198,5 @@ announced body unread declarations placed code (number, encodes, takes, none) h 
       text = l.1;
       more = h.expression;
       each = subst (λ n. EncodesMany EncodesDeclaration n l.1 declarations) (sym one.1) l.5;
-      stands = append_cancel_left number (rest unread.reader) (l.1 ++ h.expression) (there ∙ ap (λ z. z ++ (l.1 ++ h.expression)) (sym one.0));
+      occurs = append_cancel_left number (rest unread.reader) (l.1 ++ h.expression) (there ∙ ap (λ z. z ++ (l.1 ++ h.expression)) (sym one.0));
     }

@@ -9,11 +9,11 @@ use Rattle.wasm_operators.specs.instr.declared.operator.Operator.{Operator}
 use Rattle.wasm_operators.specs.opcodes.Allowed.{EncodesAllowed}
 use Rattle.wasm_operators.specs.opcodes.OperatorFaults.{OperatorFault}
 use Rattle.wasm_operators.specs.Expression.{Placed, IsAny, EncodesExpression}
-use Rattle.wasm_operators.specs.Headline.{ReadsTree, ReadsBeginning}
+use Rattle.wasm_operators.specs.MainTheorem.{ReadsTree, ReadsBeginning}
 use Rattle.wasm_operators.specs.Laws.{TakesNone, TakesOneMore, TakesBytes}
 use Rattle.wasm_operators.specs.Reading.{State, IsFresh, Anywhere, TakesOperator, TakesOperators}
 use Rattle.wasm_lines.specs.Rows.{line_of}
-use Rattle.wasm_lines.specs.Lines.{opens, closes, depth_of, depth_behind, between, next_offset, lines_from, lines_of}
+use Rattle.wasm_lines.specs.Lines.{opens, closes, depth_of, depth_after, between, next_offset, lines_from, lines_of}
 use Rattle.wasm_lines.specs.text.Operands.{text_of}
 use Rattle.wasm_disassembly.specs.declared.fault.DisassemblyFault.TheVariants as fault
 use Rattle.wasm_disassembly.specs.Disassembly.{ListsOperators}
@@ -22,12 +22,12 @@ use Rattle.wasm_disassembly.proofs.Written.{appends_none, appends_both}
 -- ---- along the loop
 
 -- These operators are read and their lines written; the lines of whatever follows come after them.
-pub record AreListed (start : ℕ) (bytes : List ℕ) (opened now : State) (depth : ℕ) (before after : Option (List ℕ)) : Type 0 where
+pub record AreListed (start : ℕ) (bytes : List ℕ) (opened now : State) (depth : ℕ) (before later : Option (List ℕ)) : Type 0 where
   pub placed : Placed
   pub ran : TakesOperators opened now placed
   pub written : List ℕ
-  pub appends : Appends before after written
-  pub behind : (end : ℕ) (more : Placed) → next_offset end more ≡ offset_of now.reader →
+  pub appends : Appends before later written
+  pub after : (end : ℕ) (more : Placed) → next_offset end more ≡ offset_of now.reader →
       lines_of text_of start bytes end (placed ++ more) ≡ written ++ lines_from text_of start bytes end depth more
   pub few : depth ≤ offset_of now.reader
 
@@ -37,7 +37,7 @@ listed_none start bytes opened before first = record {
   ran = first opened;
   written = [];
   appends = appends_none before;
-  behind = λ end more next. refl;
+  after = λ end more next. refl;
   few = omega arith;
 }
 
@@ -49,9 +49,9 @@ one_deeper false false n = omega arith
 pub listed_more : (start depth deeper at : ℕ) (bytes shown : List ℕ) (opened mid new : State) (before between_lines after : Option (List ℕ)) (op : Operator) →
     TakesOneMore → TakesBytes → AreListed start bytes opened mid depth before between_lines → TakesOperator EncodesAllowed op mid new →
     at ≡ offset_of mid.reader → shown ≡ between start bytes at (offset_of new.reader) →
-    Appends between_lines after (line_of (depth_of (slice_index shown 0) depth) at shown (text_of op)) → deeper ≡ depth_behind (slice_index shown 0) depth →
+    Appends between_lines after (line_of (depth_of (slice_index shown 0) depth) at shown (text_of op)) → deeper ≡ depth_after (slice_index shown 0) depth →
     AreListed start bytes opened new deeper before after
-listed_more start depth deeper at bytes shown opened mid new before between_lines after op next_law progresses l takes stands shows wrote goes =
+listed_more start depth deeper at bytes shown opened mid new before between_lines after op next_law progresses l takes occurs shows wrote goes =
     let p : Operator × ℕ = (op, offset_of mid.reader) in
     let code = slice_index shown 0 in
     let line : List ℕ = line_of (depth_of code depth) at shown (text_of op) in
@@ -62,14 +62,14 @@ listed_more start depth deeper at bytes shown opened mid new before between_line
       ran = next_law opened mid new l.placed op l.ran takes;
       written = l.written ++ line;
       appends = appends_both before between_lines after l.written line l.appends wrote;
-      behind = λ end more follows.
+      after = λ end more follows.
           let here : shown ≡ between start bytes (offset_of mid.reader) (next_offset end more) =
-          shows ∙ ap (λ n. between start bytes n (offset_of new.reader)) stands ∙ ap (λ n. between start bytes (offset_of mid.reader) n) (sym follows) in
-          ap (lines_of text_of start bytes end) (append_assoc l.placed (p ∷ []) more) ∙ l.behind end (p ∷ more) refl ∙
+          shows ∙ ap (λ n. between start bytes n (offset_of new.reader)) occurs ∙ ap (λ n. between start bytes (offset_of mid.reader) n) (sym follows) in
+          ap (lines_of text_of start bytes end) (append_assoc l.placed (p ∷ []) more) ∙ l.after end (p ∷ more) refl ∙
           ap (λ t. l.written ++ (line_of (depth_of (slice_index t 0) depth) (offset_of mid.reader) t (text_of op) ++
-          lines_from text_of start bytes end (depth_behind (slice_index t 0) depth) more)) (sym here) ∙
+          lines_from text_of start bytes end (depth_after (slice_index t 0) depth) more)) (sym here) ∙
           ap (λ n. l.written ++ (line_of (depth_of code depth) n shown (text_of op) ++
-          lines_from text_of start bytes end (depth_behind code depth) more)) (sym stands) ∙
+          lines_from text_of start bytes end (depth_after code depth) more)) (sym occurs) ∙
           ap (λ d. l.written ++ (line ++ lines_from text_of start bytes end d more)) (sym goes) ∙
           sym (append_assoc l.written line (lines_from text_of start bytes end deeper more));
       few = let f = l.few in omega (arith, f, on, most, goes);
@@ -87,9 +87,9 @@ fewer_left op old new progresses t =
 all_listed : (start : ℕ) (bytes : List ℕ) (opened now : State) (depth end : ℕ) (before after : Option (List ℕ))
     (l : AreListed start bytes opened now depth before after) → end ≡ offset_of now.reader →
     Appends before after (lines_of text_of start bytes end l.placed)
-all_listed start bytes opened now depth end before after l stands =
+all_listed start bytes opened now depth end before after l occurs =
     let all : l.written ≡ lines_of text_of start bytes end l.placed =
-    sym (append-nil l.written) ∙ sym (l.behind end [] stands) ∙ ap (lines_of text_of start bytes end) (append-nil l.placed) in
+    sym (append-nil l.written) ∙ sym (l.after end [] occurs) ∙ ap (lines_of text_of start bytes end) (append-nil l.placed) in
     subst (Appends before after) all l.appends
 
 -- ---- at the end

@@ -9,7 +9,7 @@ use Rattle.wasm_operators.specs.opcodes.Allowed.{EncodesAllowed}
 use Rattle.wasm_operators.specs.opcodes.OperatorFaults.{OperatorFault}
 use Rattle.wasm_operators.specs.Body.{EncodesBody, NoExpression}
 use Rattle.wasm_operators.specs.Expression.{Placed, IsAny, EncodesExpression}
-use Rattle.wasm_operators.specs.Headline.{ReadsBeginning}
+use Rattle.wasm_operators.specs.MainTheorem.{ReadsBeginning}
 use Rattle.wasm_operators.specs.Locals.{Locals, OpensLocals, ReadsDeclaration}
 use Rattle.wasm_operators.specs.Reading.{State, IsFresh, Anywhere}
 use Rattle.wasm_lines.specs.Lines.{header_of, lines_of}
@@ -28,9 +28,9 @@ pub record Heading : Type 0 where
 abbrev pub header : Heading → Source → List ℕ
 header h body = header_of body.offset h.index h.name
 
--- The lines of the locals of a body, the last of which ends at the offset `behind`.
+-- The lines of the locals of a body, the last of which ends at the offset `after`.
 abbrev pub local_lines : Heading → Source → PlacedLocals → ℕ → List ℕ
-local_lines h body locals behind = declaration_lines body.offset body.bytes behind h.parameters locals
+local_lines h body locals after = declaration_lines body.offset body.bytes after h.parameters locals
 
 -- The lines of the operators of a body, the last of which ends at the offset `end`.
 abbrev pub operator_lines : Source → Placed → ℕ → List ℕ

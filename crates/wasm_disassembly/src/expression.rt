@@ -4,7 +4,7 @@ ghost use Rattle.std.specs.Io.KnownBytes.{Appends};
 ghost use Rattle.wasm_operators.specs.below.Source.{source_of};
 ghost use Rattle.wasm_operators.specs.Expression.{Placed, EncodesExpression};
 ghost use Rattle.wasm_lines.specs.Rows.{line_of};
-ghost use Rattle.wasm_lines.specs.Lines.{depth_of, depth_behind};
+ghost use Rattle.wasm_lines.specs.Lines.{depth_of, depth_after};
 ghost use Rattle.wasm_lines.specs.text.Operands.{text_of};
 ghost use Rattle.wasm_disassembly.specs.Disassembly.{ListsOperators};
 ghost use Rattle.wasm_disassembly.specs.Faults.{IsHalt};
@@ -30,15 +30,15 @@ fn write_operator<W: Write>(
     requires deep { depth + 1 < 2 ^ 64 }
     ensures lines { OnOk result (Appends (W.contents writer.old) (W.contents writer.new)
         (line_of (depth_of (slice_index bytes.now 0) depth) offset bytes.now (text_of op.entry))) }
-    ensures behind { IfOk result (λ behind. behind ≡ depth_behind (slice_index bytes.now 0) depth) }
+    ensures after { IfOk result (λ after. after ≡ depth_after (slice_index bytes.now 0) depth) }
     ensures halts { IfErr result (λ fault. IsHalt fault) }
 {
     line.clear();
-    let Ok(behind) = write_line(line, depth, offset, bytes, &op) else {
+    let Ok(after) = write_line(line, depth, offset, bytes, &op) else {
         return Err(DisassemblyFault::Memory);
     };
     match write_text(writer, line.as_str()) {
-        Ok(()) => Ok(behind),
+        Ok(()) => Ok(after),
         Err(fault) => Err(fault),
     }
 }
@@ -71,7 +71,7 @@ pub fn write_operators<W: Write>(
         };
         let shown = bytes_between(bytes, start, offset, operators.original_position());
         depth = match write_operator(writer, line, depth, offset, shown, op) {
-            Ok(behind) => behind,
+            Ok(after) => after,
             Err(fault) => return Err(fault),
         };
     }

@@ -6,7 +6,7 @@ use Rattle.wasm_module.specs.below.Sequence.{PrefixCode}
 use Rattle.wasm_module.specs.below.Source.{Reader}
 use Rattle.wasm_module.specs.Imports.{EncodesImport}
 use Rattle.wasm_functions.specs.Sections.{IsSection}
-use Rattle.wasm_functions.specs.ModuleFunctions.{ModuleFunctions, functions_in, CountsImports, ListsTypes, NamesFunctions, TellsFunctions}
+use Rattle.wasm_functions.specs.ModuleFunctions.{ModuleFunctions, functions_in, CountsImports, ListsTypes, NamesFunctions, DescribesFunctions}
 use Rattle.wasm_functions.proofs.Next.{one_list}
 use Rattle.wasm_functions.proofs.Unique.{one_found}
 
@@ -21,7 +21,7 @@ module _ (numbers : PrefixCode (EncodesUnsigned 32)) where
   one_types (Some contents) ts us a b = one_list (EncodesUnsigned 32) numbers numbers contents ts us a b
 
 pub one_own : PrefixCode (EncodesUnsigned 32) → PrefixCode (EncodesFixed w32) → PrefixCode EncodesImport → (whole : Reader) (t u : ModuleFunctions) →
-    TellsFunctions whole t → TellsFunctions whole u → (t.imported ≡ u.imported) × (t.types ≡ u.types)
+    DescribesFunctions whole t → DescribesFunctions whole u → (t.imported ≡ u.imported) × (t.types ≡ u.types)
 one_own numbers fixed code whole t u a b =
     let imports = one_found numbers fixed whole 2 a.imports b.imports a.section_of_imports b.section_of_imports in
     let functions = one_found numbers fixed whole 3 a.functions b.functions a.section_of_functions b.section_of_functions in (
@@ -31,7 +31,7 @@ one_own numbers fixed code whole t u a b =
 
 -- The module names as many functions as were found.
 pub names_of_functions : PrefixCode (EncodesUnsigned 32) → PrefixCode (EncodesFixed w32) → PrefixCode EncodesImport → (whole : Reader) (t : ModuleFunctions) →
-    TellsFunctions whole t → (n : ℕ) → (section : Option Reader) × IsSection whole 2 section × CountsImports section n → (types : List ℕ) →
+    DescribesFunctions whole t → (n : ℕ) → (section : Option Reader) × IsSection whole 2 section × CountsImports section n → (types : List ℕ) →
     (section : Option Reader) × IsSection whole 3 section × ListsTypes section types → (count : ℕ) → count ≡ length types →
     NamesFunctions whole n count t.names
 names_of_functions numbers fixed code whole t is n (imports, there, counted) types (functions, there', listed) count all =

@@ -1,4 +1,4 @@
-pub mod Standing
+pub mod Occurring
 pub mod Listed
 pub mod Texts
 pub mod RecTypes

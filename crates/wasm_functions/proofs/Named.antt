@@ -17,10 +17,10 @@ use Rattle.wasm_functions.specs.Sections.{first_with}
 use Rattle.wasm_functions.specs.Names.{bytes_of, with_name, with_exports, with_names, IsNames, NoneIsNames, LastNames}
 
 -- Setting an item after the end changes nothing.
-pub set_behind : {X : Type 0} (xs : List X) (i : ℕ) (x : X) → length xs ≤ i → set xs i x ≡ xs
-set_behind [] i x h = refl
-set_behind (y ∷ ys) zero x h = absurd (omega (arith, h))
-set_behind (y ∷ ys) (suc i) x h = ap (λ zs. y ∷ zs) (set_behind ys i x (omega (arith, h)))
+pub set_past_end : {X : Type 0} (xs : List X) (i : ℕ) (x : X) → length xs ≤ i → set xs i x ≡ xs
+set_past_end [] i x h = refl
+set_past_end (y ∷ ys) zero x h = absurd (omega (arith, h))
+set_past_end (y ∷ ys) (suc i) x h = ap (λ zs. y ∷ zs) (set_past_end ys i x (omega (arith, h)))
 
 pub exports_more : (imported : ℕ) (names : List (List ℕ)) (es : List ExportParts) (e : ExportParts) →
     with_exports imported names (es ++ e ∷ []) ≡ with_exports imported (with_exports imported names es) (e ∷ [])

@@ -8,8 +8,8 @@ use Rattle.wasm_module.specs.below.Sequence.{PrefixCode}
 use Rattle.wasm_module.specs.below.Source.{Reader, rest, at_position, BeginsWith, IsRefusal, Reads}
 use Rattle.wasm_module.specs.Types.{EncodesSubType, EncodesRecTypeLength}
 use Rattle.wasm_module.specs.declared.composite.CompositeType.{CompositeType}
-use Rattle.wasm_functions.specs.Items.{ItemsStand, IsList}
-use Rattle.wasm_functions.specs.Parameters.{Announces, RecTypeStands, RecTypesStand, AreTypes}
+use Rattle.wasm_functions.specs.Items.{ItemsOccur, IsList}
+use Rattle.wasm_functions.specs.Parameters.{Announces, RecTypeOccurs, RecTypesOccur, AreTypes}
 use Rattle.wasm_functions.proofs.Named.{not_both}
 
 pub all_at : {X : Type 0} (P : X → Type 0) (xs : List X) (y : X) (zs ys : List X) → ys ≡ xs ++ y ∷ zs → All P ys → P y
@@ -28,44 +28,44 @@ one_read P code r a b x y (text, is, takes) (other, is_other, takes_other) =
 
 module _ {X : Type 0} (P : List ℕ → X → Type 0) (code : PrefixCode P) where
   -- The same number of items of the same bytes are the same.
-  pub same_items : (r : Reader) (xs ys : List X) (mid end : Reader) → ItemsStand P r xs mid → ItemsStand P r ys end → length xs ≡ length ys →
+  pub same_items : (r : Reader) (xs ys : List X) (mid end : Reader) → ItemsOccur P r xs mid → ItemsOccur P r ys end → length xs ≡ length ys →
       (xs ≡ ys) × (mid ≡ end)
   same_items r [] [] mid end a b l = (refl, a ∙ sym b)
   same_items r [] (y ∷ ys) mid end a b l = absurd (omega (arith, l))
   same_items r (x ∷ xs) [] mid end a b l = absurd (omega (arith, l))
   same_items r (x ∷ xs) (y ∷ ys) mid end (n, reads, others) (n', reads', others') l =
       let first = one_read P code r n n' x y reads reads' in
-      let more = same_items n xs ys mid end others (subst (λ z. ItemsStand P z ys end) (sym first.1) others') (omega (arith, l)) in
+      let more = same_items n xs ys mid end others (subst (λ z. ItemsOccur P z ys end) (sym first.1) others') (omega (arith, l)) in
       (ap (λ z. z ∷ xs) first.0 ∙ ap (λ zs. y ∷ zs) more.0, more.1)
 
   -- After fewer items, one more item follows.
-  pub more_items : (r : Reader) (xs ys : List X) (mid end : Reader) → ItemsStand P r xs mid → ItemsStand P r ys end → length xs < length ys →
+  pub more_items : (r : Reader) (xs ys : List X) (mid end : Reader) → ItemsOccur P r xs mid → ItemsOccur P r ys end → length xs < length ys →
       (y : X) × (zs : List X) × (next : Reader) × (ys ≡ xs ++ y ∷ zs) × Reads P (Ok y) mid next
   more_items r xs [] mid end a b l = absurd (omega (arith, l))
   more_items r [] (y ∷ ys) mid end a (next, reads, others) l = (y, ys, next, refl, subst (λ z. Reads P (Ok y) z next) (sym a) reads)
   more_items r (x ∷ xs) (y ∷ ys) mid end (n, reads, others) (n', reads', others') l =
       let first = one_read P code r n n' x y reads reads' in
-      let (z, zs, next, is, read) = more_items n xs ys mid end others (subst (λ r. ItemsStand P r ys end) (sym first.1) others') (omega (arith, l)) in
+      let (z, zs, next, is, read) = more_items n xs ys mid end others (subst (λ r. ItemsOccur P r ys end) (sym first.1) others') (omega (arith, l)) in
       (z, zs, next, ap (λ v. y ∷ v) is ∙ ap (λ v. v ∷ (xs ++ z ∷ zs)) (sym first.0), read)
 
   pub next_item : PrefixCode (EncodesUnsigned 32) → (contents first mid : Reader) (n : ℕ) (xs ys : List X) → Reads (EncodesUnsigned 32) (Ok n) contents first →
-      ItemsStand P first xs mid → length xs < n → IsList P contents ys →
+      ItemsOccur P first xs mid → length xs < n → IsList P contents ys →
       (y : X) × (zs : List X) × (next : Reader) × (ys ≡ xs ++ y ∷ zs) × Reads P (Ok y) mid next
-  next_item numbers contents first mid n xs ys counted stand fewer list =
+  next_item numbers contents first mid n xs ys counted occur fewer list =
       let same = one_read (EncodesUnsigned 32) numbers contents first list.first n (length ys) counted list.count in
-      more_items first xs ys mid list.end stand (subst (λ z. ItemsStand P z ys list.end) (sym same.1) list.stand) (subst (λ k. length xs < k) same.0 fewer)
+      more_items first xs ys mid list.end occur (subst (λ z. ItemsOccur P z ys list.end) (sym same.1) list.occur) (subst (λ k. length xs < k) same.0 fewer)
 
   -- A section has at most one list.
   pub one_list : PrefixCode (EncodesUnsigned 32) → (contents : Reader) (xs ys : List X) → IsList P contents xs → IsList P contents ys → xs ≡ ys
   one_list numbers contents xs ys a b =
       let same = one_read (EncodesUnsigned 32) numbers contents a.first b.first (length xs) (length ys) a.count b.count in
-      (same_items a.first xs ys a.end b.end a.stand (subst (λ z. ItemsStand P z ys b.end) (sym same.1) b.stand) same.0).0
+      (same_items a.first xs ys a.end b.end a.occur (subst (λ z. ItemsOccur P z ys b.end) (sym same.1) b.occur) same.0).0
 
   -- So no item of it is in error.
   pub none_refused : PrefixCode (EncodesUnsigned 32) → (contents first mid : Reader) (n : ℕ) (xs ys : List X) (e : Error) →
-      Reads (EncodesUnsigned 32) (Ok n) contents first → ItemsStand P first xs mid → length xs < n → IsRefusal P e mid → IsList P contents ys → ⊥
-  none_refused numbers contents first mid n xs ys e counted stand fewer refused list =
-      let (y, zs, next, is, reads) = next_item numbers contents first mid n xs ys counted stand fewer list in not_both P e mid next y refused reads
+      Reads (EncodesUnsigned 32) (Ok n) contents first → ItemsOccur P first xs mid → length xs < n → IsRefusal P e mid → IsList P contents ys → ⊥
+  none_refused numbers contents first mid n xs ys e counted occur fewer refused list =
+      let (y, zs, next, is, reads) = next_item numbers contents first mid n xs ys counted occur fewer list in not_both P e mid next y refused reads
 
 -- If a recursive type starts, its start is not in error.
 abbrev read : Result ℕ Error → Type 0
@@ -87,23 +87,23 @@ module _ (rec_type : PrefixCode EncodesRecTypeLength) (sub : PrefixCode EncodesS
   one_announced n m r a b (inr p) (inl q) = absurd (p.0 q.0)
   one_announced n m r a b (inr p) (inr q) = (p.1 ∙ sym q.1, p.2 ∙ sym q.2)
 
-  pub one_rec_type : (r mid end : Reader) (g h : List CompositeType) → RecTypeStands r g mid → RecTypeStands r h end → (g ≡ h) × (mid ≡ end)
-  one_rec_type r mid end g h (first, announces, stand) (first', announces', stand') =
+  pub one_rec_type : (r mid end : Reader) (g h : List CompositeType) → RecTypeOccurs r g mid → RecTypeOccurs r h end → (g ≡ h) × (mid ≡ end)
+  one_rec_type r mid end g h (first, announces, occur) (first', announces', occur') =
       let same = one_announced (length g) (length h) r first first' announces announces' in
-      same_items EncodesSubType sub first g h mid end stand (subst (λ z. ItemsStand EncodesSubType z h end) (sym same.1) stand') same.0
+      same_items EncodesSubType sub first g h mid end occur (subst (λ z. ItemsOccur EncodesSubType z h end) (sym same.1) occur') same.0
 
-  pub more_rec_types : (r : Reader) (gs hs : List (List CompositeType)) (mid end : Reader) → RecTypesStand r gs mid → RecTypesStand r hs end → length gs < length hs →
-      (h : List CompositeType) × (others : List (List CompositeType)) × (next : Reader) × (hs ≡ gs ++ h ∷ others) × RecTypeStands mid h next
+  pub more_rec_types : (r : Reader) (gs hs : List (List CompositeType)) (mid end : Reader) → RecTypesOccur r gs mid → RecTypesOccur r hs end → length gs < length hs →
+      (h : List CompositeType) × (others : List (List CompositeType)) × (next : Reader) × (hs ≡ gs ++ h ∷ others) × RecTypeOccurs mid h next
   more_rec_types r gs [] mid end a b l = absurd (omega (arith, l))
-  more_rec_types r [] (h ∷ hs) mid end a (next, stands, others) l = (h, hs, next, refl, subst (λ z. RecTypeStands z h next) (sym a) stands)
-  more_rec_types r (g ∷ gs) (h ∷ hs) mid end (n, stands, others) (n', stands', others') l =
-      let first = one_rec_type r n n' g h stands stands' in
-      let (i, is, next, parts, stand) = more_rec_types n gs hs mid end others (subst (λ r. RecTypesStand r hs end) (sym first.1) others') (omega (arith, l)) in
-      (i, is, next, ap (λ v. h ∷ v) parts ∙ ap (λ v. v ∷ (gs ++ i ∷ is)) (sym first.0), stand)
+  more_rec_types r [] (h ∷ hs) mid end a (next, occurs, others) l = (h, hs, next, refl, subst (λ z. RecTypeOccurs z h next) (sym a) occurs)
+  more_rec_types r (g ∷ gs) (h ∷ hs) mid end (n, occurs, others) (n', occurs', others') l =
+      let first = one_rec_type r n n' g h occurs occurs' in
+      let (i, is, next, parts, occur) = more_rec_types n gs hs mid end others (subst (λ r. RecTypesOccur r hs end) (sym first.1) others') (omega (arith, l)) in
+      (i, is, next, ap (λ v. h ∷ v) parts ∙ ap (λ v. v ∷ (gs ++ i ∷ is)) (sym first.0), occur)
 
   pub next_rec_type : PrefixCode (EncodesUnsigned 32) → (contents first mid : Reader) (n : ℕ) (gs hs : List (List CompositeType)) →
-      Reads (EncodesUnsigned 32) (Ok n) contents first → RecTypesStand first gs mid → length gs < n → AreTypes contents hs →
-      (h : List CompositeType) × (others : List (List CompositeType)) × (next : Reader) × (hs ≡ gs ++ h ∷ others) × RecTypeStands mid h next
-  next_rec_type numbers contents first mid n gs hs counted stand fewer types =
+      Reads (EncodesUnsigned 32) (Ok n) contents first → RecTypesOccur first gs mid → length gs < n → AreTypes contents hs →
+      (h : List CompositeType) × (others : List (List CompositeType)) × (next : Reader) × (hs ≡ gs ++ h ∷ others) × RecTypeOccurs mid h next
+  next_rec_type numbers contents first mid n gs hs counted occur fewer types =
       let same = one_read (EncodesUnsigned 32) numbers contents first types.first n (length hs) counted types.count in
-      more_rec_types first gs hs mid types.end stand (subst (λ z. RecTypesStand z hs types.end) (sym same.1) types.stand) (subst (λ k. length gs < k) same.0 fewer)
+      more_rec_types first gs hs mid types.end occur (subst (λ z. RecTypesOccur z hs types.end) (sym same.1) types.occur) (subst (λ k. length gs < k) same.0 fewer)

@@ -7,7 +7,7 @@ use Rattle.wasm_module.specs.below.Fault.{DeterminesRefusal}
 use Rattle.wasm_module.specs.below.Number.{EncodesUnsigned}
 use Rattle.wasm_module.specs.below.Sequence.{PrefixCode}
 use Rattle.wasm_module.specs.below.Source.{Reader, U32Fault, IsRefusal, Reads}
-use Rattle.wasm_functions.specs.Items.{ItemsStand, IsList}
+use Rattle.wasm_functions.specs.Items.{ItemsOccur, IsList}
 use Rattle.wasm_functions.specs.Refusals.{RefusedWith, HasItemsTo, ListFault}
 use Rattle.wasm_functions.specs.declared.fault.ModuleFault.{ModuleFault}
 use Rattle.wasm_functions.specs.declared.fault.ModuleFault.TheVariants as fault
@@ -53,25 +53,25 @@ refused_there P K e r refused x next reads known = not_both P e r next x refused
 
 module _ {X : Type 0} (P : List ℕ → X → Type 0) (code : PrefixCode P) (K : X → Type 0) where
   -- After fewer known items, one more item follows.
-  pub next_there : (r a b : Reader) (xs ys : List X) → ItemsStand P r xs a → ItemsStand P r ys b → All K ys → length xs < length ys →
+  pub next_there : (r a b : Reader) (xs ys : List X) → ItemsOccur P r xs a → ItemsOccur P r ys b → All K ys → length xs < length ys →
       (y : X) × (next : Reader) × Reads P (Ok y) a next × K y
-  next_there r a b xs ys stand stand' known less =
-      let (y, zs, next, is, reads) = more_items P code r xs ys a b stand stand' less in (y, next, reads, all_at K xs y zs ys is known)
+  next_there r a b xs ys occur occur' known less =
+      let (y, zs, next, is, reads) = more_items P code r xs ys a b occur occur' less in (y, next, reads, all_at K xs y zs ys is known)
 
-  place_by : (r a b : Reader) (xs ys : List X) → ItemsStand P r xs a → ItemsStand P r ys b → All K xs → All K ys →
+  place_by : (r a b : Reader) (xs ys : List X) → ItemsOccur P r xs a → ItemsOccur P r ys b → All K xs → All K ys →
       ((x : X) → (next : Reader) → Reads P (Ok x) a next → K x → ⊥) → ((x : X) → (next : Reader) → Reads P (Ok x) b next → K x → ⊥) →
       (length xs < length ys) ⊎ ((length xs ≡ length ys) ⊎ (length ys < length xs)) → a ≡ b
-  place_by r a b xs ys stand stand' known known' stops stops' (inl less) =
-      let (y, next, reads, is) = next_there r a b xs ys stand stand' known' less in absurd (stops y next reads is)
-  place_by r a b xs ys stand stand' known known' stops stops' (inr (inl same)) = (same_items P code r xs ys a b stand stand' same).1
-  place_by r a b xs ys stand stand' known known' stops stops' (inr (inr more)) =
-      let (x, next, reads, is) = next_there r b a ys xs stand' stand known more in absurd (stops' x next reads is)
+  place_by r a b xs ys occur occur' known known' stops stops' (inl less) =
+      let (y, next, reads, is) = next_there r a b xs ys occur occur' known' less in absurd (stops y next reads is)
+  place_by r a b xs ys occur occur' known known' stops stops' (inr (inl same)) = (same_items P code r xs ys a b occur occur' same).1
+  place_by r a b xs ys occur occur' known known' stops stops' (inr (inr more)) =
+      let (x, next, reads, is) = next_there r b a ys xs occur' occur known more in absurd (stops' x next reads is)
 
   -- Known items are encoded up to one place, after which no known item is encoded.
-  pub one_place : (r a b : Reader) (xs ys : List X) → ItemsStand P r xs a → ItemsStand P r ys b → All K xs → All K ys →
+  pub one_place : (r a b : Reader) (xs ys : List X) → ItemsOccur P r xs a → ItemsOccur P r ys b → All K xs → All K ys →
       ((x : X) → (next : Reader) → Reads P (Ok x) a next → K x → ⊥) → ((x : X) → (next : Reader) → Reads P (Ok x) b next → K x → ⊥) → a ≡ b
-  one_place r a b xs ys stand stand' known known' stops stops' =
-      place_by r a b xs ys stand stand' known known' stops stops' (order (length xs) (length ys))
+  one_place r a b xs ys occur occur' known known' stops stops' =
+      place_by r a b xs ys occur occur' known known' stops stops' (order (length xs) (length ys))
 
   module _ (numbers : PrefixCode (EncodesUnsigned 32)) where
     -- A list stops at one place.
@@ -79,13 +79,13 @@ module _ {X : Type 0} (P : List ℕ → X → Type 0) (code : PrefixCode P) (K :
         ((x : X) → (next : Reader) → Reads P (Ok x) a next → K x → ⊥) → ((x : X) → (next : Reader) → Reads P (Ok x) b next → K x → ⊥) → a ≡ b
     one_stop contents a b h k stops stops' =
         let same = (one_read (EncodesUnsigned 32) numbers contents h.first k.first h.announced k.announced h.count k.count).1 in
-        one_place h.first a b h.items k.items h.stand (subst (λ z. ItemsStand P z k.items b) (sym same) k.stand) h.known k.known stops stops'
+        one_place h.first a b h.items k.items h.occur (subst (λ z. ItemsOccur P z k.items b) (sym same) k.occur) h.known k.known stops stops'
 
     -- A complete list does not stop.
     pub no_stop : (contents a : Reader) (ys : List X) → HasItemsTo P K contents a → IsList P contents ys → All K ys →
         ((x : X) → (next : Reader) → Reads P (Ok x) a next → K x → ⊥) → ⊥
     no_stop contents a ys h list known stops =
-        let (y, zs, next, is, reads) = next_item P code numbers contents h.first a h.announced h.items ys h.count h.stand h.fewer list in
+        let (y, zs, next, is, reads) = next_item P code numbers contents h.first a h.announced h.items ys h.count h.occur h.fewer list in
         stops y next reads (all_at K h.items y zs ys is known)
 
     module _ (Fault : Message → Reader → ℕ → Type 0) (u32 : DeterminesRefusal U32Fault) (determines : DeterminesRefusal Fault) where

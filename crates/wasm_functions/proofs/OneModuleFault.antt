@@ -12,7 +12,7 @@ use Rattle.wasm_module.specs.Imports.{ImportParts, EncodesImport, ImportFault}
 use Rattle.wasm_module.specs.Module.{PreambleFault, SectionFault}
 use Rattle.wasm_module.specs.Types.{EncodesSubType, SubTypeFault, EncodesRecTypeLength, RecTypeLengthFault}
 use Rattle.wasm_functions.specs.Items.{IsList}
-use Rattle.wasm_functions.specs.ModuleFunctions.{ModuleFunctions, IsKnownImport, CountsImports, ListsTypes, TellsFunctions}
+use Rattle.wasm_functions.specs.ModuleFunctions.{ModuleFunctions, IsKnownImport, CountsImports, ListsTypes, DescribesFunctions}
 use Rattle.wasm_functions.specs.Names.{NamesExported}
 use Rattle.wasm_functions.specs.Parameters.{CountsParameters}
 use Rattle.wasm_functions.specs.Refusals.{ListFault, IsAny, TypesFault, ImportsFault, FunctionsFault, ExportsFault, SectionFaultAt, HasTypes, HasImports, HasFunctions, NamesFault, ModuleFunctionsFault}
@@ -31,26 +31,26 @@ use Rattle.wasm_functions.proofs.Unique.{one_found}
 
 module _ (numbers : PrefixCode (EncodesUnsigned 32)) (code : PrefixCode EncodesImport) where
   -- An import of no known kind is no import of a known kind.
-  unknown_there : (r behind : Reader) (i : ImportParts) (byte : ℕ) → Reads EncodesImport (Ok i) r behind → i.kind ≡ byte → 4 < byte →
+  unknown_there : (r after : Reader) (i : ImportParts) (byte : ℕ) → Reads EncodesImport (Ok i) r after → i.kind ≡ byte → 4 < byte →
       (x : ImportParts) → (next : Reader) → Reads EncodesImport (Ok x) r next → IsKnownImport x → ⊥
-  unknown_there r behind i byte reads is above x next reads' known =
-      let same = ap (λ (z : ImportParts). z.kind) (one_read EncodesImport code r behind next i x reads reads').0 in omega (arith, is, above, same, known)
+  unknown_there r after i byte reads is above x next reads' known =
+      let same = ap (λ (z : ImportParts). z.kind) (one_read EncodesImport code r after next i x reads reads').0 in omega (arith, is, above, same, known)
 
   refused_or_unknown : (e : Error) (byte offset : ℕ) (contents : Reader) → ImportsFault (fault.Refused e) contents →
       ImportsFault (fault.ImportKind byte offset) contents → ⊥
-  refused_or_unknown e byte offset contents (inl p) (b, k, at, i, behind, reads, is, above) =
+  refused_or_unknown e byte offset contents (inl p) (b, k, at, i, after, reads, is, above) =
       not_both (EncodesUnsigned 32) e contents k.first k.announced p.0 k.count
-  refused_or_unknown e byte offset contents (inr (a, h, p)) (b, k, at, i, behind, reads, is, above) =
+  refused_or_unknown e byte offset contents (inr (a, h, p)) (b, k, at, i, after, reads, is, above) =
       let same = one_stop EncodesImport code IsKnownImport numbers contents a b h k (refused_there EncodesImport IsKnownImport e a p.0)
-      (unknown_there b behind i byte reads is above) in
-      not_both EncodesImport e b behind i (subst (λ z. IsRefusal EncodesImport e z) same p.0) reads
+      (unknown_there b after i byte reads is above) in
+      not_both EncodesImport e b after i (subst (λ z. IsRefusal EncodesImport e z) same p.0) reads
 
   -- Known imports are not in error.
   no_imports_fault : (f : ModuleFault) (contents : Reader) (is : List ImportParts) → ImportsFault f contents → IsList EncodesImport contents is →
       All IsKnownImport is → ⊥
   no_imports_fault (fault.Refused e) contents is p list known = no_list_fault EncodesImport code IsKnownImport numbers ImportFault e contents is p list known
-  no_imports_fault (fault.ImportKind byte offset) contents is (b, k, at, i, behind, reads, same, above) list known =
-      no_stop EncodesImport code IsKnownImport numbers contents b is k list known (unknown_there b behind i byte reads same above)
+  no_imports_fault (fault.ImportKind byte offset) contents is (b, k, at, i, after, reads, same, above) list known =
+      no_stop EncodesImport code IsKnownImport numbers contents b is k list known (unknown_there b after i byte reads same above)
   no_imports_fault (fault.NotModule said) contents is p list known = p
   no_imports_fault (fault.TypeKind byte offset) contents is p list known = p
   no_imports_fault fault.Memory contents is p list known = p
@@ -66,11 +66,11 @@ module _ (numbers : PrefixCode (EncodesUnsigned 32)) (code : PrefixCode EncodesI
 
     import_unknown : (byte offset : ℕ) (g : ModuleFault) (contents : Reader) → ImportsFault (fault.ImportKind byte offset) contents → ImportsFault g contents →
         fault.ImportKind byte offset ≡ g
-    import_unknown byte offset (fault.ImportKind byte' offset') contents (a, h, at, i, behind, reads, is, above) (b, k, at', j, behind', reads', is', above') =
-        let same = one_stop EncodesImport code IsKnownImport numbers contents a b h k (unknown_there a behind i byte reads is above)
-        (unknown_there b behind' j byte' reads' is' above') in
-        let here = subst (λ z. Reads EncodesImport (Ok i) z behind) same reads in
-        let kinds = ap (λ (z : ImportParts). z.kind) (one_read EncodesImport code b behind behind' i j here reads').0 in
+    import_unknown byte offset (fault.ImportKind byte' offset') contents (a, h, at, i, after, reads, is, above) (b, k, at', j, after', reads', is', above') =
+        let same = one_stop EncodesImport code IsKnownImport numbers contents a b h k (unknown_there a after i byte reads is above)
+        (unknown_there b after' j byte' reads' is' above') in
+        let here = subst (λ z. Reads EncodesImport (Ok i) z after) same reads in
+        let kinds = ap (λ (z : ImportParts). z.kind) (one_read EncodesImport code b after after' i j here reads').0 in
         ap (λ x. fault.ImportKind x offset) (sym is ∙ kinds ∙ is') ∙ ap (λ o. fault.ImportKind byte' o) (at ∙ ap offset_of same ∙ sym at')
     import_unknown byte offset (fault.Refused e) contents p q = absurd (refused_or_unknown e byte offset contents q p)
     import_unknown byte offset (fault.NotModule said) contents p q = absurd q
@@ -178,7 +178,7 @@ module _ (numbers : PrefixCode (EncodesUnsigned 32)) (fixed : PrefixCode (Encode
       (λ contents names fault exported. no_exports_fault numbers exports f contents imported before names fault exported) p section after there named
 
   -- A module whose functions are known has no fault.
-  no_fault : (f : ModuleFault) (whole : Reader) (t : ModuleFunctions) → IsNotMemory f → ModuleFunctionsFault f whole → TellsFunctions whole t → ⊥
+  no_fault : (f : ModuleFault) (whole : Reader) (t : ModuleFunctions) → IsNotMemory f → ModuleFunctionsFault f whole → DescribesFunctions whole t → ⊥
   no_fault f whole t other (inl p) is = no_types f whole other p (is.signatures, t.parameters, is.section_of_types, is.parameters)
   no_fault f whole t other (inr (inl (types, p))) is = no_imports f whole p (is.imports, t.imported, is.section_of_imports, is.imported)
   no_fault f whole t other (inr (inr (inl (types, imported, p)))) is =
@@ -187,7 +187,7 @@ module _ (numbers : PrefixCode (EncodesUnsigned 32)) (fixed : PrefixCode (Encode
       let names = is.names in
       no_names f whole t.imported (replicate (length t.types) []) names.exports names.exported other p names.section_of_exports names.from_exports
 
-  pub memory_alone : (whole : Reader) (f : ModuleFault) (t : ModuleFunctions) → ModuleFunctionsFault f whole → TellsFunctions whole t → f ≡ fault.Memory
+  pub memory_alone : (whole : Reader) (f : ModuleFault) (t : ModuleFunctions) → ModuleFunctionsFault f whole → DescribesFunctions whole t → f ≡ fault.Memory
   memory_alone whole fault.Memory t p is = refl
   memory_alone whole (fault.NotModule said) t p is = absurd (no_fault (fault.NotModule said) whole t (λ e. subst IsMemory (sym e) tt) p is)
   memory_alone whole (fault.Refused e) t p is = absurd (no_fault (fault.Refused e) whole t (λ e. subst IsMemory (sym e) tt) p is)

@@ -9,8 +9,8 @@ use Rattle.wasm_module.specs.below.Source.{Reader, rest, BeginsWith, offset_of, 
 use Rattle.wasm_module.specs.Types.{EncodesSubType, SubTypeFault, EncodesRecTypeLength, RecTypeLengthFault}
 use Rattle.wasm_module.specs.declared.composite.CompositeType.{CompositeType}
 use Rattle.wasm_module.specs.declared.composite.CompositeType.TheVariants as composite
-use Rattle.wasm_functions.specs.Items.{ItemsStand}
-use Rattle.wasm_functions.specs.Parameters.{IsKnownType, AreKnownTypes, Announces, RecTypeStands, RecTypesStand, AreTypes}
+use Rattle.wasm_functions.specs.Items.{ItemsOccur}
+use Rattle.wasm_functions.specs.Parameters.{IsKnownType, AreKnownTypes, Announces, RecTypeOccurs, RecTypesOccur, AreTypes}
 use Rattle.wasm_functions.specs.Refusals.{IsRefusedAs, HasSubTypesTo, SubTypesFault, AnnouncedFault, RecTypeFault, HasTypesTo, TypesLengthFault, TypesFault}
 use Rattle.wasm_functions.specs.declared.fault.ModuleFault.{ModuleFault}
 use Rattle.wasm_functions.specs.declared.fault.ModuleFault.TheVariants as fault
@@ -28,33 +28,33 @@ byte_of _ = 0
 
 module _ (sub : PrefixCode EncodesSubType) where
   -- A type of no known sort is no type of a known sort.
-  other_there : (byte : ℕ) (r behind : Reader) → Reads EncodesSubType (Ok (composite.Other byte)) r behind →
+  other_there : (byte : ℕ) (r after : Reader) → Reads EncodesSubType (Ok (composite.Other byte)) r after →
       (x : CompositeType) → (next : Reader) → Reads EncodesSubType (Ok x) r next → IsKnownType x → ⊥
-  other_there byte r behind reads x next reads' known =
-      subst (λ t. IsKnownType t) (sym (one_read EncodesSubType sub r behind next (composite.Other byte) x reads reads').0) known
+  other_there byte r after reads x next reads' known =
+      subst (λ t. IsKnownType t) (sym (one_read EncodesSubType sub r after next (composite.Other byte) x reads reads').0) known
 
   sub_place : (n : ℕ) (r a b : Reader) → HasSubTypesTo n r a → HasSubTypesTo n r b →
       ((x : CompositeType) → (next : Reader) → Reads EncodesSubType (Ok x) a next → IsKnownType x → ⊥) →
       ((x : CompositeType) → (next : Reader) → Reads EncodesSubType (Ok x) b next → IsKnownType x → ⊥) → a ≡ b
-  sub_place n r a b h k stops stops' = one_place EncodesSubType sub IsKnownType r a b h.types k.types h.stand k.stand h.known k.known stops stops'
+  sub_place n r a b h k stops stops' = one_place EncodesSubType sub IsKnownType r a b h.types k.types h.occur k.occur h.known k.known stops stops'
 
   refused_or_other : (n : ℕ) (r : Reader) (e : Error) (byte offset : ℕ) → SubTypesFault (fault.Refused e) n r → SubTypesFault (fault.TypeKind byte offset) n r → ⊥
-  refused_or_other n r e byte offset (a, h, p) (b, k, at, behind, q) =
-      let same = sub_place n r a b h k (refused_there EncodesSubType IsKnownType e a p.0) (other_there byte b behind q) in
-      not_both EncodesSubType e b behind (composite.Other byte) (subst (λ z. IsRefusal EncodesSubType e z) same p.0) q
+  refused_or_other n r e byte offset (a, h, p) (b, k, at, after, q) =
+      let same = sub_place n r a b h k (refused_there EncodesSubType IsKnownType e a p.0) (other_there byte b after q) in
+      not_both EncodesSubType e b after (composite.Other byte) (subst (λ z. IsRefusal EncodesSubType e z) same p.0) q
 
   -- Known sub types, as many as are declared, are not in error.
   no_sub_types : (f : ModuleFault) (n : ℕ) (r end : Reader) (types : List CompositeType) → SubTypesFault f n r → IsNotMemory f →
-      ItemsStand EncodesSubType r types end → length types ≡ n → AreKnownTypes types → ⊥
-  no_sub_types (fault.Refused e) n r end types (a, h, p) other stand all known =
-      let (y, next, reads, is) = next_there EncodesSubType sub IsKnownType r a end h.types types h.stand stand known (subst (λ k. length h.types < k) (sym all) h.fewer) in
+      ItemsOccur EncodesSubType r types end → length types ≡ n → AreKnownTypes types → ⊥
+  no_sub_types (fault.Refused e) n r end types (a, h, p) other occur all known =
+      let (y, next, reads, is) = next_there EncodesSubType sub IsKnownType r a end h.types types h.occur occur known (subst (λ k. length h.types < k) (sym all) h.fewer) in
       not_both EncodesSubType e a next y p.0 reads
-  no_sub_types (fault.TypeKind byte offset) n r end types (a, h, at, behind, p) other stand all known =
-      let (y, next, reads, is) = next_there EncodesSubType sub IsKnownType r a end h.types types h.stand stand known (subst (λ k. length h.types < k) (sym all) h.fewer) in
-      other_there byte a behind p y next reads is
-  no_sub_types fault.Memory n r end types p other stand all known = other refl
-  no_sub_types (fault.NotModule said) n r end types p other stand all known = p
-  no_sub_types (fault.ImportKind byte offset) n r end types p other stand all known = p
+  no_sub_types (fault.TypeKind byte offset) n r end types (a, h, at, after, p) other occur all known =
+      let (y, next, reads, is) = next_there EncodesSubType sub IsKnownType r a end h.types types h.occur occur known (subst (λ k. length h.types < k) (sym all) h.fewer) in
+      other_there byte a after p y next reads is
+  no_sub_types fault.Memory n r end types p other occur all known = other refl
+  no_sub_types (fault.NotModule said) n r end types p other occur all known = p
+  no_sub_types (fault.ImportKind byte offset) n r end types p other occur all known = p
 
   module _ (determines : DeterminesRefusal SubTypeFault) where
     of_refused : (n : ℕ) (r : Reader) (e : Error) (g : ModuleFault) → SubTypesFault (fault.Refused e) n r → SubTypesFault g n r → IsNotMemory g → fault.Refused e ≡ g
@@ -69,11 +69,11 @@ module _ (sub : PrefixCode EncodesSubType) where
 
     of_kind : (n : ℕ) (r : Reader) (byte offset : ℕ) (g : ModuleFault) → SubTypesFault (fault.TypeKind byte offset) n r → SubTypesFault g n r → IsNotMemory g →
         fault.TypeKind byte offset ≡ g
-    of_kind n r byte offset (fault.TypeKind byte' offset') (a, h, at, behind, p) (b, k, at', behind', q) other =
-        let same = sub_place n r a b h k (other_there byte a behind p) (other_there byte' b behind' q) in
-        let reads = subst (λ z. Reads EncodesSubType (Ok (composite.Other byte)) z behind) same p in
+    of_kind n r byte offset (fault.TypeKind byte' offset') (a, h, at, after, p) (b, k, at', after', q) other =
+        let same = sub_place n r a b h k (other_there byte a after p) (other_there byte' b after' q) in
+        let reads = subst (λ z. Reads EncodesSubType (Ok (composite.Other byte)) z after) same p in
         let bytes : byte ≡ byte' =
-        ap byte_of (one_read EncodesSubType sub b behind behind' (composite.Other byte) (composite.Other byte') reads q).0 in
+        ap byte_of (one_read EncodesSubType sub b after after' (composite.Other byte) (composite.Other byte') reads q).0 in
         ap (λ x. fault.TypeKind x offset) bytes ∙ ap (λ o. fault.TypeKind byte' o) (at ∙ ap offset_of same ∙ sym at')
     of_kind n r byte offset (fault.Refused e) p q other = absurd (refused_or_other n r e byte offset q p)
     of_kind n r byte offset fault.Memory p q other = absurd (other refl)
@@ -95,7 +95,7 @@ announced_there e n r first here refused (inr not) = not.0 here
 no_announced : (f : ModuleFault) (n : ℕ) (r first : Reader) → AnnouncedFault f r → Announces n r first → ⊥
 no_announced f n r first p is =
     no_refusal (λ e. BeginsWith 0x4e (rest r) × IsRefusedAs EncodesRecTypeLength RecTypeLengthFault e r)
-    (λ e (here, (refused, told)). announced_there e n r first here refused is) f p
+    (λ e (here, (refused, reported)). announced_there e n r first here refused is) f p
 
 one_announced_fault : DeterminesRefusal RecTypeLengthFault → (f g : ModuleFault) (r : Reader) → AnnouncedFault f r → AnnouncedFault g r → f ≡ g
 one_announced_fault determines f g r p q =
@@ -116,33 +116,33 @@ one_length_fault u32 f g contents p q =
 
 module _ (rec_type : PrefixCode EncodesRecTypeLength) (sub : PrefixCode EncodesSubType) where
   -- A recursive type of known types is not in error.
-  no_rec_type : (f : ModuleFault) (r : Reader) → RecTypeFault f r → IsNotMemory f → (types : List CompositeType) → (next : Reader) → RecTypeStands r types next →
+  no_rec_type : (f : ModuleFault) (r : Reader) → RecTypeFault f r → IsNotMemory f → (types : List CompositeType) → (next : Reader) → RecTypeOccurs r types next →
       AreKnownTypes types → ⊥
-  no_rec_type f r (inl p) other types next (first, announces, stand) known = no_announced f (length types) r first p announces
-  no_rec_type f r (inr (n, first, announces, p)) other types next (first', announces', stand) known =
+  no_rec_type f r (inl p) other types next (first, announces, occur) known = no_announced f (length types) r first p announces
+  no_rec_type f r (inr (n, first, announces, p)) other types next (first', announces', occur) known =
       let same = one_announced rec_type sub n (length types) r first first' announces announces' in
-      no_sub_types sub f n first next types p other (subst (λ z. ItemsStand EncodesSubType z types next) (sym same.1) stand) (sym same.0) known
+      no_sub_types sub f n first next types p other (subst (λ z. ItemsOccur EncodesSubType z types next) (sym same.1) occur) (sym same.0) known
 
-  same_rec_types : (r : Reader) (gs hs : List (List CompositeType)) (a b : Reader) → RecTypesStand r gs a → RecTypesStand r hs b → length gs ≡ length hs → a ≡ b
+  same_rec_types : (r : Reader) (gs hs : List (List CompositeType)) (a b : Reader) → RecTypesOccur r gs a → RecTypesOccur r hs b → length gs ≡ length hs → a ≡ b
   same_rec_types r [] [] a b p q l = p ∙ sym q
   same_rec_types r [] (h ∷ hs) a b p q l = absurd (omega (arith, l))
   same_rec_types r (g ∷ gs) [] a b p q l = absurd (omega (arith, l))
-  same_rec_types r (g ∷ gs) (h ∷ hs) a b (n, stands, others) (n', stands', others') l =
-      let first = one_rec_type rec_type sub r n n' g h stands stands' in
-      same_rec_types n gs hs a b others (subst (λ z. RecTypesStand z hs b) (sym first.1) others') (omega (arith, l))
+  same_rec_types r (g ∷ gs) (h ∷ hs) a b (n, occurs, others) (n', occurs', others') l =
+      let first = one_rec_type rec_type sub r n n' g h occurs occurs' in
+      same_rec_types n gs hs a b others (subst (λ z. RecTypesOccur z hs b) (sym first.1) others') (omega (arith, l))
 
-  no_more : (r a b : Reader) (gs hs : List (List CompositeType)) (f : ModuleFault) → RecTypesStand r gs a → RecTypesStand r hs b → All AreKnownTypes hs →
+  no_more : (r a b : Reader) (gs hs : List (List CompositeType)) (f : ModuleFault) → RecTypesOccur r gs a → RecTypesOccur r hs b → All AreKnownTypes hs →
       RecTypeFault f a → IsNotMemory f → length gs < length hs → ⊥
-  no_more r a b gs hs f stand stand' known p other less =
-      let (t, others, next, is, stands) = more_rec_types rec_type sub r gs hs a b stand stand' less in
-      no_rec_type f a p other t next stands (all_at AreKnownTypes gs t others hs is known)
+  no_more r a b gs hs f occur occur' known p other less =
+      let (t, others, next, is, occurs) = more_rec_types rec_type sub r gs hs a b occur occur' less in
+      no_rec_type f a p other t next occurs (all_at AreKnownTypes gs t others hs is known)
 
-  place_by : (r a b : Reader) (gs hs : List (List CompositeType)) (f g : ModuleFault) → RecTypesStand r gs a → RecTypesStand r hs b → All AreKnownTypes gs →
+  place_by : (r a b : Reader) (gs hs : List (List CompositeType)) (f g : ModuleFault) → RecTypesOccur r gs a → RecTypesOccur r hs b → All AreKnownTypes gs →
       All AreKnownTypes hs → RecTypeFault f a → RecTypeFault g b → IsNotMemory f → IsNotMemory g →
       (length gs < length hs) ⊎ ((length gs ≡ length hs) ⊎ (length hs < length gs)) → a ≡ b
-  place_by r a b gs hs f g stand stand' known known' p q other other' (inl less) = absurd (no_more r a b gs hs f stand stand' known' p other less)
-  place_by r a b gs hs f g stand stand' known known' p q other other' (inr (inl same)) = same_rec_types r gs hs a b stand stand' same
-  place_by r a b gs hs f g stand stand' known known' p q other other' (inr (inr more)) = absurd (no_more r b a hs gs g stand' stand known q other' more)
+  place_by r a b gs hs f g occur occur' known known' p q other other' (inl less) = absurd (no_more r a b gs hs f occur occur' known' p other less)
+  place_by r a b gs hs f g occur occur' known known' p q other other' (inr (inl same)) = same_rec_types r gs hs a b occur occur' same
+  place_by r a b gs hs f g occur occur' known known' p q other other' (inr (inr more)) = absurd (no_more r b a hs gs g occur' occur known q other' more)
 
   module _ (numbers : PrefixCode (EncodesUnsigned 32)) where
     -- Known types are not in error.
@@ -150,14 +150,14 @@ module _ (rec_type : PrefixCode EncodesRecTypeLength) (sub : PrefixCode EncodesS
         All AreKnownTypes gs → ⊥
     no_types_fault f contents gs (inl p) other types known = no_length f contents types.first (length gs) p types.count
     no_types_fault f contents gs (inr (a, h, p)) other types known =
-        let (t, others, next, is, stands) = next_rec_type rec_type sub numbers contents h.first a h.announced h.rec_types gs h.count h.stand h.fewer types in
-        no_rec_type f a p other t next stands (all_at AreKnownTypes h.rec_types t others gs is known)
+        let (t, others, next, is, occurs) = next_rec_type rec_type sub numbers contents h.first a h.announced h.rec_types gs h.count h.occur h.fewer types in
+        no_rec_type f a p other t next occurs (all_at AreKnownTypes h.rec_types t others gs is known)
 
     types_place : (contents a b : Reader) (f g : ModuleFault) → HasTypesTo contents a → HasTypesTo contents b → RecTypeFault f a → RecTypeFault g b →
         IsNotMemory f → IsNotMemory g → a ≡ b
     types_place contents a b f g h k p q other other' =
         let same = (one_read (EncodesUnsigned 32) numbers contents h.first k.first h.announced k.announced h.count k.count).1 in
-        place_by h.first a b h.rec_types k.rec_types f g h.stand (subst (λ z. RecTypesStand z k.rec_types b) (sym same) k.stand) h.known k.known p q other other'
+        place_by h.first a b h.rec_types k.rec_types f g h.occur (subst (λ z. RecTypesOccur z k.rec_types b) (sym same) k.occur) h.known k.known p q other other'
         (order (length h.rec_types) (length k.rec_types))
 
     module _ (u32 : DeterminesRefusal U32Fault) (types : DeterminesRefusal SubTypeFault) (lengths : DeterminesRefusal RecTypeLengthFault) where

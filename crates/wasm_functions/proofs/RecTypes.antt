@@ -8,13 +8,13 @@ use Rattle.wasm_module.specs.below.bytes.error.Error.{Error}
 use Rattle.wasm_module.specs.below.Source.{Reader, rest, BeginsWith, Reads}
 use Rattle.wasm_module.specs.Types.{EncodesSubType, EncodesRecTypeLength}
 use Rattle.wasm_module.specs.declared.composite.CompositeType.{CompositeType}
-use Rattle.wasm_functions.specs.Items.{ItemsStand}
-use Rattle.wasm_functions.specs.Parameters.{parameter_count, parameters_in, Announces, RecTypeStands, RecTypesStand, AreTypes}
+use Rattle.wasm_functions.specs.Items.{ItemsOccur}
+use Rattle.wasm_functions.specs.Parameters.{parameter_count, parameters_in, Announces, RecTypeOccurs, RecTypesOccur, AreTypes}
 
-pub rec_type_more : (r : Reader) (gs : List (List CompositeType)) (mid new : Reader) (g : List CompositeType) → RecTypesStand r gs mid → RecTypeStands mid g new →
-    RecTypesStand r (gs ++ g ∷ []) new
-rec_type_more r [] mid new g same stands = (new, subst (λ z. RecTypeStands z g new) same stands, refl)
-rec_type_more r (h ∷ hs) mid new g (next, first, others) stands = (next, first, rec_type_more next hs mid new g others stands)
+pub rec_type_more : (r : Reader) (gs : List (List CompositeType)) (mid new : Reader) (g : List CompositeType) → RecTypesOccur r gs mid → RecTypeOccurs mid g new →
+    RecTypesOccur r (gs ++ g ∷ []) new
+rec_type_more r [] mid new g same occurs = (new, subst (λ z. RecTypeOccurs z g new) same occurs, refl)
+rec_type_more r (h ∷ hs) mid new g (next, first, others) occurs = (next, first, rec_type_more next hs mid new g others occurs)
 
 -- The number of parameters of one more type, after those before.
 pub count_more : (before : List ℕ) (types : List CompositeType) (ty : CompositeType) →
@@ -29,14 +29,14 @@ parameters_more rec_types types = flat_map_more (λ (g : List CompositeType). ma
 
 -- All types are encoded.
 pub all_types : (contents first end : Reader) (gs : List (List CompositeType)) (n : ℕ) → Reads (EncodesUnsigned 32) (Ok n) contents first →
-    RecTypesStand first gs end → length gs ≡ n → AreTypes contents gs
-all_types contents first end gs n counted stand all =
-    record { first = first; count = subst (λ k. Reads (EncodesUnsigned 32) (Ok k) contents first) (sym all) counted; end = end; stand = stand }
+    RecTypesOccur first gs end → length gs ≡ n → AreTypes contents gs
+all_types contents first end gs n counted occur all =
+    record { first = first; count = subst (λ k. Reads (EncodesUnsigned 32) (Ok k) contents first) (sym all) counted; end = end; occur = occur }
 
 -- Whether the byte is next.
-told : (b : Bool) → (b ≡ true) ⊎ (b ≡ false)
-told true = inl refl
-told false = inr refl
+reported : (b : Bool) → (b ≡ true) ⊎ (b ≡ false)
+reported true = inl refl
+reported false = inr refl
 
 begins_by : (byte b : ℕ) (bs : List ℕ) → (nat_eq b byte ≡ true) ⊎ (nat_eq b byte ≡ false) → BeginsWith byte (b ∷ bs) ⊎ (BeginsWith byte (b ∷ bs) → ⊥)
 begins_by byte b bs (inl is) = inl (bs, ap (λ z. z ∷ bs) (eqb-true b byte is))
@@ -44,7 +44,7 @@ begins_by byte b bs (inr not) = inr (λ h. eqb-false b byte not (ap (λ z. get_o
 
 pub begins : (byte : ℕ) (bs : List ℕ) → BeginsWith byte bs ⊎ (BeginsWith byte bs → ⊥)
 begins byte [] = inr (λ h. let none = ap length h.1 in absurd (omega (arith, none)))
-begins byte (b ∷ bs) = begins_by byte b bs (told (nat_eq b byte))
+begins byte (b ∷ bs) = begins_by byte b bs (reported (nat_eq b byte))
 
 abbrev value_or : Result ℕ Error → ℕ
 value_or (Ok n) = n
@@ -64,8 +64,8 @@ pub rec_type_announced : (n : ℕ) (r first : Reader) → (BeginsWith 0x4e (rest
 rec_type_announced n r first rec_type one = announced_by n r first rec_type one (begins 0x4e (rest r))
 
 -- A recursive type with as many sub types as it declares.
-pub rec_type_stands : (n : ℕ) (r first end : Reader) (types : List CompositeType) → (BeginsWith 0x4e (rest r) → Reads EncodesRecTypeLength (Ok n) r first) →
-    ((BeginsWith 0x4e (rest r) → ⊥) → (read n ≡ read 1) × (first ≡ r)) → length types ≡ n → ItemsStand EncodesSubType first types end →
-    RecTypeStands r types end
-rec_type_stands n r first end types rec_type one all stand =
-    (first, subst (λ k. Announces k r first) (sym all) (rec_type_announced n r first rec_type one), stand)
+pub rec_type_occurs : (n : ℕ) (r first end : Reader) (types : List CompositeType) → (BeginsWith 0x4e (rest r) → Reads EncodesRecTypeLength (Ok n) r first) →
+    ((BeginsWith 0x4e (rest r) → ⊥) → (read n ≡ read 1) × (first ≡ r)) → length types ≡ n → ItemsOccur EncodesSubType first types end →
+    RecTypeOccurs r types end
+rec_type_occurs n r first end types rec_type one all occur =
+    (first, subst (λ k. Announces k r first) (sym all) (rec_type_announced n r first rec_type one), occur)

@@ -11,10 +11,10 @@ use Rattle.wasm_module.specs.Module.{SectionParts}
 use Rattle.wasm_module.specs.Types.{EncodesSubType, EncodesRecTypeLength, RecTypeLengthFault}
 use Rattle.wasm_module.specs.declared.composite.CompositeType.{CompositeType}
 use Rattle.wasm_functions.specs.Faults.{fault_by, fault_of}
-use Rattle.wasm_functions.specs.Items.{ItemsStand}
-use Rattle.wasm_functions.specs.Parameters.{AreKnownTypes, RecTypesStand}
+use Rattle.wasm_functions.specs.Items.{ItemsOccur}
+use Rattle.wasm_functions.specs.Parameters.{AreKnownTypes, RecTypesOccur}
 use Rattle.wasm_functions.specs.Refusals.{HasSectionsTo, HasItemsTo, IsAny, HasSubTypesTo, AnnouncedFault, HasTypesTo}
-use Rattle.wasm_functions.specs.Sections.{BeginsModule, SectionsStand}
+use Rattle.wasm_functions.specs.Sections.{BeginsModule, SectionsOccur}
 use Rattle.wasm_functions.specs.declared.fault.ModuleFault.{ModuleFault}
 use Rattle.wasm_functions.specs.declared.fault.ModuleFault.TheVariants as fault
 use Rattle.wasm_functions.proofs.RecTypes.{begins}
@@ -33,25 +33,25 @@ any_items xs = λ k d few. tt
 
 -- Items are encoded up to here, and more are declared.
 pub items_to : {X : Type 0} (P : List ℕ → X → Type 0) (K : X → Type 0) (contents first next : Reader) (n : ℕ) (xs : List X) →
-    Reads (EncodesUnsigned 32) (Ok n) contents first → ItemsStand P first xs next → length xs < n → All K xs → HasItemsTo P K contents next
-items_to P K contents first next n xs count stand fewer known =
-    record { first = first; announced = n; count = count; items = xs; stand = stand; fewer = fewer; known = known }
+    Reads (EncodesUnsigned 32) (Ok n) contents first → ItemsOccur P first xs next → length xs < n → All K xs → HasItemsTo P K contents next
+items_to P K contents first next n xs count occur fewer known =
+    record { first = first; announced = n; count = count; items = xs; occur = occur; fewer = fewer; known = known }
 
 -- Sections are encoded up to here, and more bytes follow.
-pub sections_to : (whole behind next : Reader) (ss : List SectionParts) → BeginsModule whole behind → SectionsStand behind ss next → (rest next ≡ [] → ⊥) →
+pub sections_to : (whole after next : Reader) (ss : List SectionParts) → BeginsModule whole after → SectionsOccur after ss next → (rest next ≡ [] → ⊥) →
     HasSectionsTo whole next
-sections_to whole behind next ss begins stand more = record { behind = behind; begins = begins; sections = ss; stand = stand; more = more }
+sections_to whole after next ss begins occur more = record { after = after; begins = begins; sections = ss; occur = occur; more = more }
 
 -- Sub types are encoded up to here, and more are declared.
-pub sub_types_to : (n : ℕ) (r next : Reader) (types : List CompositeType) → ItemsStand EncodesSubType r types next → length types < n → AreKnownTypes types →
+pub sub_types_to : (n : ℕ) (r next : Reader) (types : List CompositeType) → ItemsOccur EncodesSubType r types next → length types < n → AreKnownTypes types →
     HasSubTypesTo n r next
-sub_types_to n r next types stand fewer known = record { types = types; stand = stand; fewer = fewer; known = known }
+sub_types_to n r next types occur fewer known = record { types = types; occur = occur; fewer = fewer; known = known }
 
 -- Recursive types are encoded up to here, and more are declared.
 pub types_to : (contents first next : Reader) (n : ℕ) (rec_types : List (List CompositeType)) → Reads (EncodesUnsigned 32) (Ok n) contents first →
-    RecTypesStand first rec_types next → length rec_types < n → All AreKnownTypes rec_types → HasTypesTo contents next
-types_to contents first next n rec_types count stand fewer known =
-    record { first = first; announced = n; count = count; rec_types = rec_types; stand = stand; fewer = fewer; known = known }
+    RecTypesOccur first rec_types next → length rec_types < n → All AreKnownTypes rec_types → HasTypesTo contents next
+types_to contents first next n rec_types count occur fewer known =
+    record { first = first; announced = n; count = count; rec_types = rec_types; occur = occur; fewer = fewer; known = known }
 
 -- The start of a recursive type is in error only if there is one.
 abbrev IsRead : Result ℕ Error → Type 0
@@ -74,6 +74,6 @@ read_fault_by e r new rec_type one (inr not) = absurd (subst IsRead (sym (one no
 
 pub announced_refused : (e : Error) (f : ModuleFault) (r new : Reader) → (BeginsWith 0x4e (rest r) → Reads EncodesRecTypeLength (Err e) r new) →
     ((BeginsWith 0x4e (rest r) → ⊥) → same (Err e) (Ok 1) × (new ≡ r)) → RecTypeLengthFault e.message r e.offset → f ≡ fault_of e → AnnouncedFault f r
-announced_refused e f r new rec_type one is told =
-    let stands = begins 0x4e (rest r) in
-    of_refusal (λ f. AnnouncedFault f r) e f told (read_fault_by e r new rec_type one stands) (refused_beginning e r new rec_type one is stands)
+announced_refused e f r new rec_type one is reported =
+    let occurs = begins 0x4e (rest r) in
+    of_refusal (λ f. AnnouncedFault f r) e f reported (read_fault_by e r new rec_type one occurs) (refused_beginning e r new rec_type one is occurs)

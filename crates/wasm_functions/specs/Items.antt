@@ -5,13 +5,13 @@ use Rattle.wasm_module.specs.below.Number.{EncodesUnsigned}
 use Rattle.wasm_module.specs.below.Source.{Reader, Reads}
 
 -- Between the two readers, the bytes encode these items, one after another.
-abbrev pub ItemsStand : {X : Type 0} → (List ℕ → X → Type 0) → Reader → List X → Reader → Type 0
-ItemsStand Encodes r [] end = end ≡ r
-ItemsStand Encodes r (x ∷ xs) end = (mid : Reader) × Reads Encodes (Ok x) r mid × ItemsStand Encodes mid xs end
+abbrev pub ItemsOccur : {X : Type 0} → (List ℕ → X → Type 0) → Reader → List X → Reader → Type 0
+ItemsOccur Encodes r [] end = end ≡ r
+ItemsOccur Encodes r (x ∷ xs) end = (mid : Reader) × Reads Encodes (Ok x) r mid × ItemsOccur Encodes mid xs end
 
 -- The contents of a section begin with a list of these items: their number, followed by the items.
 pub record IsList {X : Type 0} (Encodes : List ℕ → X → Type 0) (contents : Reader) (items : List X) : Type 0 where
   pub first : Reader
   pub count : Reads (EncodesUnsigned 32) (Ok (length items)) contents first
   pub end : Reader
-  pub stand : ItemsStand Encodes first items end
+  pub occur : ItemsOccur Encodes first items end

@@ -49,7 +49,7 @@ pub record NamesFunctions (whole : Reader) (imported count : ℕ) (names : List 
   pub from_names : NamesGiven imported given exported names
 
 -- What the sections of a module say about its functions.
-pub record TellsFunctions (whole : Reader) (t : ModuleFunctions) : Type 0 where
+pub record DescribesFunctions (whole : Reader) (t : ModuleFunctions) : Type 0 where
   pub imports : Option Reader
   pub section_of_imports : IsSection whole 2 imports
   pub imported : CountsImports imports t.imported

@@ -8,8 +8,8 @@ use Rattle.wasm_module.specs.below.Source.{Reader, rest, IsRefusal, Reads}
 use Rattle.wasm_module.specs.Exports.{ExportParts, EncodesExport}
 use Rattle.wasm_module.specs.Module.{SectionParts, EncodesSection}
 use Rattle.wasm_module.specs.Names.{NameParts, EncodesName, EncodesNameAssociation}
-use Rattle.wasm_functions.specs.Items.{ItemsStand, IsList}
-use Rattle.wasm_functions.specs.Sections.{SectionsStand, IsModule, first_with}
+use Rattle.wasm_functions.specs.Items.{ItemsOccur, IsList}
+use Rattle.wasm_functions.specs.Sections.{SectionsOccur, IsModule, first_with}
 
 -- The bytes of names.
 abbrev pub bytes_of : List (Bor (List ℕ)) → List (List ℕ)
@@ -40,7 +40,7 @@ pub record StopsList {X : Type 0} (Encodes : List ℕ → X → Type 0) (content
   pub all : ℕ
   pub count : Reads (EncodesUnsigned 32) (Ok all) contents first
   pub end : Reader
-  pub stand : ItemsStand Encodes first items end
+  pub occur : ItemsOccur Encodes first items end
   pub fewer : length items < all
   pub error : Error
   pub refused : IsRefusal Encodes error end
@@ -55,7 +55,7 @@ ReadsItems Encodes contents items =
 pub record GivesNames (contents : Reader) (names : List NameParts) : Type 0 where
   pub before : List SectionParts
   pub mid : Reader
-  pub stand : SectionsStand contents before mid
+  pub occur : SectionsOccur contents before mid
   pub others : first_with 1 before ≡ None
   pub gives :
       ((s : SectionParts) × (next : Reader) × Reads (EncodesSection mid.features) (Ok s) mid next × (s.id ≡ 1) × ReadsItems EncodesNameAssociation s.contents names) ⊎
@@ -88,7 +88,7 @@ HasNames whole found = (sections : List SectionParts) × IsModule whole sections
 abbrev pub NamesFirst : SectionParts → List ℕ → Type 0
 NamesFirst s name =
     ((s.id ≢ 0) × (name ≡ [])) ⊎
-    ((s.id ≡ 0) × (((behind : Reader) × Reads EncodesName (Ok name) s.contents behind) ⊎ ((error : Error) × IsRefusal EncodesName error s.contents × (name ≡ []))))
+    ((s.id ≡ 0) × (((after : Reader) × Reads EncodesName (Ok name) s.contents after) ⊎ ((error : Error) × IsRefusal EncodesName error s.contents × (name ≡ []))))
 
 -- The name that a custom section `name` assigns to the module, if there is one; otherwise the name is empty.
 abbrev pub GivesModule : Option Reader → List ℕ → Type 0

@@ -7,7 +7,7 @@ use Rattle.wasm_module.specs.below.Source.{Reader, rest, BeginsWith, Reads}
 use Rattle.wasm_module.specs.Types.{EncodesSubType, EncodesRecTypeLength}
 use Rattle.wasm_module.specs.declared.composite.CompositeType.{CompositeType}
 use Rattle.wasm_module.specs.declared.composite.CompositeType.TheVariants as composite
-use Rattle.wasm_functions.specs.Items.{ItemsStand}
+use Rattle.wasm_functions.specs.Items.{ItemsOccur}
 
 -- The number of parameters of a type: 0 if it is not a function type.
 abbrev pub parameter_count : CompositeType → ℕ
@@ -27,20 +27,20 @@ abbrev pub Announces : ℕ → Reader → Reader → Type 0
 Announces n r first = (BeginsWith 0x4e (rest r) × Reads EncodesRecTypeLength (Ok n) r first) ⊎ ((¬ BeginsWith 0x4e (rest r)) × (n ≡ 1) × (first ≡ r))
 
 -- A recursive type: as many sub types as it declares.
-abbrev pub RecTypeStands : Reader → List CompositeType → Reader → Type 0
-RecTypeStands r types end = (first : Reader) × Announces (length types) r first × ItemsStand EncodesSubType first types end
+abbrev pub RecTypeOccurs : Reader → List CompositeType → Reader → Type 0
+RecTypeOccurs r types end = (first : Reader) × Announces (length types) r first × ItemsOccur EncodesSubType first types end
 
 -- Between the two readers, the bytes encode these recursive types, one after another.
-abbrev pub RecTypesStand : Reader → List (List CompositeType) → Reader → Type 0
-RecTypesStand r [] end = end ≡ r
-RecTypesStand r (g ∷ gs) end = (mid : Reader) × RecTypeStands r g mid × RecTypesStand mid gs end
+abbrev pub RecTypesOccur : Reader → List (List CompositeType) → Reader → Type 0
+RecTypesOccur r [] end = end ≡ r
+RecTypesOccur r (g ∷ gs) end = (mid : Reader) × RecTypeOccurs r g mid × RecTypesOccur mid gs end
 
 -- The contents of a section begin with these recursive types: their number, followed by the types.
 pub record AreTypes (contents : Reader) (rec_types : List (List CompositeType)) : Type 0 where
   pub first : Reader
   pub count : Reads (EncodesUnsigned 32) (Ok (length rec_types)) contents first
   pub end : Reader
-  pub stand : RecTypesStand first rec_types end
+  pub occur : RecTypesOccur first rec_types end
 
 -- The number of parameters of each type in these recursive types.
 abbrev pub parameters_in : List (List CompositeType) → List ℕ

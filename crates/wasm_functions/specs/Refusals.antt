@@ -16,9 +16,9 @@ use Rattle.wasm_module.specs.declared.composite.CompositeType.TheVariants as com
 use Rattle.wasm_module.specs.declared.preamble.Preamble.{Preamble}
 use Rattle.wasm_module.specs.declared.preamble.PreambleKind.{PreambleKind}
 use Rattle.wasm_module.specs.declared.preamble.PreambleKind.TheVariants as kind
-use Rattle.wasm_functions.specs.Items.{ItemsStand}
-use Rattle.wasm_functions.specs.Parameters.{AreKnownTypes, Announces, RecTypesStand, CountsParameters}
-use Rattle.wasm_functions.specs.Sections.{BeginsModule, SectionsStand, IsSection}
+use Rattle.wasm_functions.specs.Items.{ItemsOccur}
+use Rattle.wasm_functions.specs.Parameters.{AreKnownTypes, Announces, RecTypesOccur, CountsParameters}
+use Rattle.wasm_functions.specs.Sections.{BeginsModule, SectionsOccur, IsSection}
 use Rattle.wasm_functions.specs.ModuleFunctions.{IsKnownImport, CountsImports, ListsTypes}
 use Rattle.wasm_functions.specs.declared.fault.ModuleFault.{ModuleFault}
 use Rattle.wasm_functions.specs.declared.fault.ModuleFault.TheVariants as fault
@@ -34,14 +34,14 @@ RefusedWith Holds _ = ⊥
 
 -- The bytes begin with a preamble that identifies this kind of binary.
 abbrev pub BeginsAs : PreambleKind → Reader → Type 0
-BeginsAs said whole = (preamble : Preamble) × (behind : Reader) × Reads EncodesPreamble (Ok preamble) whole behind × (preamble_kind preamble ≡ said)
+BeginsAs said whole = (preamble : Preamble) × (after : Reader) × Reads EncodesPreamble (Ok preamble) whole after × (preamble_kind preamble ≡ said)
 
 -- The bytes up to the second reader encode the preamble of a module and sections, and more bytes follow.
 pub record HasSectionsTo (whole next : Reader) : Type 0 where
-  pub behind : Reader
-  pub begins : BeginsModule whole behind
+  pub after : Reader
+  pub begins : BeginsModule whole after
   pub sections : List SectionParts
-  pub stand : SectionsStand behind sections next
+  pub occur : SectionsOccur after sections next
   pub more : rest next ≢ []
 
 -- The fault of bytes that are no module: the preamble identifies something else, or it is in error.
@@ -59,7 +59,7 @@ pub record HasItemsTo {X : Type 0} (Encodes : List ℕ → X → Type 0) (IsKnow
   pub announced : ℕ
   pub count : Reads (EncodesUnsigned 32) (Ok announced) contents first
   pub items : List X
-  pub stand : ItemsStand Encodes first items next
+  pub occur : ItemsOccur Encodes first items next
   pub fewer : length items < announced
   pub known : All IsKnown items
 
@@ -78,7 +78,7 @@ abbrev pub ImportsFault : ModuleFault → Reader → Type 0
 ImportsFault (fault.Refused e) contents = ListFault EncodesImport ImportFault IsKnownImport e contents
 ImportsFault (fault.ImportKind byte offset) contents =
     (next : Reader) × HasItemsTo EncodesImport IsKnownImport contents next × (offset ≡ offset_of next) ×
-    (import : ImportParts) × (behind : Reader) × Reads EncodesImport (Ok import) next behind × (import.kind ≡ byte) × (4 < byte)
+    (import : ImportParts) × (after : Reader) × Reads EncodesImport (Ok import) next after × (import.kind ≡ byte) × (4 < byte)
 ImportsFault _ contents = ⊥
 
 -- The fault of the contents of a function section.
@@ -94,7 +94,7 @@ ExportsFault f contents = RefusedWith (λ e. ListFault EncodesExport ExportFault
 -- Fewer than this many sub types, all of known sorts, are encoded up to the second reader.
 pub record HasSubTypesTo (n : ℕ) (r next : Reader) : Type 0 where
   pub types : List CompositeType
-  pub stand : ItemsStand EncodesSubType r types next
+  pub occur : ItemsOccur EncodesSubType r types next
   pub fewer : length types < n
   pub known : AreKnownTypes types
 
@@ -103,7 +103,7 @@ pub record HasSubTypesTo (n : ℕ) (r next : Reader) : Type 0 where
 abbrev pub SubTypesFault : ModuleFault → ℕ → Reader → Type 0
 SubTypesFault (fault.Refused e) n r = (next : Reader) × HasSubTypesTo n r next × IsRefusedAs EncodesSubType SubTypeFault e next
 SubTypesFault (fault.TypeKind byte offset) n r =
-    (next : Reader) × HasSubTypesTo n r next × (offset ≡ offset_of next) × (behind : Reader) × Reads EncodesSubType (Ok (composite.Other byte)) next behind
+    (next : Reader) × HasSubTypesTo n r next × (offset ≡ offset_of next) × (after : Reader) × Reads EncodesSubType (Ok (composite.Other byte)) next after
 SubTypesFault fault.Memory n r = Unit {0}
 SubTypesFault _ n r = ⊥
 
@@ -121,7 +121,7 @@ pub record HasTypesTo (contents next : Reader) : Type 0 where
   pub announced : ℕ
   pub count : Reads (EncodesUnsigned 32) (Ok announced) contents first
   pub rec_types : List (List CompositeType)
-  pub stand : RecTypesStand first rec_types next
+  pub occur : RecTypesOccur first rec_types next
   pub fewer : length rec_types < announced
   pub known : All AreKnownTypes rec_types
 

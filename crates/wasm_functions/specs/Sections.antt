@@ -7,22 +7,22 @@ use Rattle.wasm_module.specs.declared.preamble.Preamble.{Preamble}
 use Rattle.wasm_module.specs.declared.preamble.PreambleKind.TheVariants as kind
 
 -- Between the two readers, the bytes encode these sections, one after another. Their contents have the offsets of the module.
-abbrev pub SectionsStand : Reader → List SectionParts → Reader → Type 0
-SectionsStand r [] end = end ≡ r
-SectionsStand r (s ∷ ss) end = (mid : Reader) × Reads (EncodesSection r.features) (Ok s) r mid × (end_of s.contents ≡ offset_of mid) × SectionsStand mid ss end
+abbrev pub SectionsOccur : Reader → List SectionParts → Reader → Type 0
+SectionsOccur r [] end = end ≡ r
+SectionsOccur r (s ∷ ss) end = (mid : Reader) × Reads (EncodesSection r.features) (Ok s) r mid × (end_of s.contents ≡ offset_of mid) × SectionsOccur mid ss end
 
 -- The bytes begin with the preamble of a module, and the second reader is after it.
-pub record BeginsModule (whole behind : Reader) : Type 0 where
+pub record BeginsModule (whole after : Reader) : Type 0 where
   pub preamble : Preamble
-  pub begins : Reads EncodesPreamble (Ok preamble) whole behind
+  pub begins : Reads EncodesPreamble (Ok preamble) whole after
   pub is : preamble_kind preamble ≡ kind.Module
 
 -- The bytes are a module with these sections: its preamble, followed by the sections, up to the end.
 pub record IsModule (whole : Reader) (sections : List SectionParts) : Type 0 where
-  pub behind : Reader
-  pub begins : BeginsModule whole behind
+  pub after : Reader
+  pub begins : BeginsModule whole after
   pub end : Reader
-  pub stand : SectionsStand behind sections end
+  pub occur : SectionsOccur after sections end
   pub all : rest end ≡ []
 
 -- The contents of the first section with this number, if there is one.

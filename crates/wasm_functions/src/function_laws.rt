@@ -5,7 +5,7 @@ ghost use Rattle.wasm_module.specs.Module.{SectionParts};
 ghost use Rattle.wasm_functions.specs.Refusals.{SectionsFault, ModuleFunctionsFault};
 ghost use Rattle.wasm_functions.specs.Sections.{IsModule, IsSection};
 ghost use Rattle.wasm_functions.specs.declared.fault.ModuleFault.{ModuleFault};
-ghost use Rattle.wasm_functions.specs.ModuleFunctions.{ModuleFunctions, TellsFunctions};
+ghost use Rattle.wasm_functions.specs.ModuleFunctions.{ModuleFunctions, DescribesFunctions};
 
 use wasm_module::below::byte_laws::{fixed_numbers, number_refusals, unsigned_numbers};
 use wasm_module::module_laws;
@@ -30,7 +30,7 @@ pub fn refusals()
 
 /// States that the number of imported functions and the types of the defined functions are unique.
 pub fn own_functions()
-    ensures { (whole : Reader) → (t u : ModuleFunctions) → TellsFunctions whole t → TellsFunctions whole u → (t.imported ≡ u.imported) × (t.types ≡ u.types) }
+    ensures { (whole : Reader) → (t u : ModuleFunctions) → DescribesFunctions whole t → DescribesFunctions whole u → (t.imported ≡ u.imported) × (t.types ≡ u.types) }
 {
     unsigned_numbers();
     fixed_numbers();
@@ -43,7 +43,7 @@ pub fn faults()
     ensures one { (whole : Reader) → (a b : ModuleFault) → ModuleFunctionsFault a whole → ModuleFunctionsFault b whole
         → a ≢ ModuleFault.Memory → b ≢ ModuleFault.Memory → a ≡ b }
     ensures memory { (whole : Reader) → (fault : ModuleFault) → (t : ModuleFunctions) → ModuleFunctionsFault fault whole
-        → TellsFunctions whole t → fault ≡ ModuleFault.Memory }
+        → DescribesFunctions whole t → fault ≡ ModuleFault.Memory }
 {
     unsigned_numbers();
     fixed_numbers();

@@ -4,7 +4,7 @@ ghost use Rattle.wasm_module.specs.below.Source.{reader_of};
 ghost use Rattle.wasm_module.specs.Module.{SectionParts};
 ghost use Rattle.wasm_functions.specs.Refusals.{ModuleFunctionsFault};
 ghost use Rattle.wasm_functions.specs.Sections.{IsModule};
-ghost use Rattle.wasm_functions.specs.ModuleFunctions.{ModuleFunctions, TellsFunctions, IsOwn, index_of, parameters_at, text_of_name, name_at, NamesModule};
+ghost use Rattle.wasm_functions.specs.ModuleFunctions.{ModuleFunctions, DescribesFunctions, IsOwn, index_of, parameters_at, text_of_name, name_at, NamesModule};
 
 use crate::fault::ModuleFault;
 use crate::found::{find_function_names, find_imported, find_parameters, find_types};
@@ -51,8 +51,8 @@ impl<'a> Functions<'a> {
         features: WasmFeatures,
         bytes: &'a [u8],
     ) -> Result<Functions<'a>, ModuleFault>
-        ensures ok { IfOk result (λ f. TellsFunctions (reader_of features 0 bytes.now) f) }
-        ensures refused { IfErr result (λ fault. (t : ModuleFunctions) → TellsFunctions (reader_of features 0 bytes.now) t
+        ensures ok { IfOk result (λ f. DescribesFunctions (reader_of features 0 bytes.now) f) }
+        ensures refused { IfErr result (λ fault. (t : ModuleFunctions) → DescribesFunctions (reader_of features 0 bytes.now) t
             → fault ≡ ModuleFault.Memory) }
         ensures fault { IfErr result (λ fault. ModuleFunctionsFault fault (reader_of features 0 bytes.now)) }
     {

@@ -17,8 +17,8 @@ use wasm_module::{CustomSection, PreambleKind, Section, read_preamble, read_sect
 /// Fails with `NotModule` if the preamble is that of something else, and with `Refused` if the data
 /// ends within it.
 fn open_module<'a>(features: WasmFeatures, bytes: &'a [u8]) -> Result<BinaryReader<'a>, ModuleFault>
-    ensures ok { IfOk result (λ behind. BeginsModule (reader_of features 0 bytes.now) behind) }
-    ensures refused { IfErr result (λ fault. (behind : Reader) → BeginsModule (reader_of features 0 bytes.now) behind → ⊥) }
+    ensures ok { IfOk result (λ after. BeginsModule (reader_of features 0 bytes.now) after) }
+    ensures refused { IfErr result (λ fault. (after : Reader) → BeginsModule (reader_of features 0 bytes.now) after → ⊥) }
     ensures fault { IfErr result (λ fault. SectionsFault fault (reader_of features 0 bytes.now)) }
 {
     fixed_numbers();

@@ -5,7 +5,7 @@ ghost use Rattle.wasm_module.specs.below.Number.{EncodesUnsigned};
 ghost use Rattle.wasm_module.specs.below.Source.{Reader};
 ghost use Rattle.wasm_module.specs.Types.{EncodesSubType};
 ghost use Rattle.wasm_module.specs.declared.composite.CompositeType.{CompositeType};
-ghost use Rattle.wasm_functions.specs.Items.{IsList, ItemsStand};
+ghost use Rattle.wasm_functions.specs.Items.{IsList, ItemsOccur};
 ghost use Rattle.wasm_functions.specs.Parameters.{parameter_count, IsKnownType, CountsParameters};
 ghost use Rattle.wasm_functions.specs.Refusals.{SubTypesFault, TypesFault, FunctionsFault};
 
@@ -33,10 +33,10 @@ fn read_rec_type(
     len: u32,
     counts: &mut Vec<u32>,
 ) -> Result<(), ModuleFault>
-    ensures ok { IfOk result (λ done. (types : List CompositeType) × (length types ≡ len) × ItemsStand EncodesSubType reader.old types reader.new
+    ensures ok { IfOk result (λ done. (types : List CompositeType) × (length types ≡ len) × ItemsOccur EncodesSubType reader.old types reader.new
         × All IsKnownType types × (counts.new.items ≡ counts.old.items ++ map parameter_count types)) }
     ensures refused { IfErr result (λ fault. (types : List CompositeType) → (end : Reader) → length types ≡ len
-        → ItemsStand EncodesSubType reader.old types end → All IsKnownType types → fault ≡ ModuleFault.Memory) }
+        → ItemsOccur EncodesSubType reader.old types end → All IsKnownType types → fault ≡ ModuleFault.Memory) }
     ensures fault { IfErr result (λ fault. SubTypesFault fault len reader.old) }
 {
     module_laws::types();

@@ -58,8 +58,8 @@ empty_of_innermost [] e = refl
 empty_of_innermost (first ∷ inside) e = absurd (cc e)
 
 -- the frames without the innermost, followed by other frames
-abbrev behind : FrameKind → List FrameKind → List FrameKind → List FrameKind
-behind kind inside end = without_innermost_in kind inside ++ end
+abbrev after : FrameKind → List FrameKind → List FrameKind → List FrameKind
+after kind inside end = without_innermost_in kind inside ++ end
 
 map_same : {X : Type 0} (o : Option (List X)) → o ≡ option_map (λ (x : List X). [] ++ x) o
 map_same None = refl
@@ -77,7 +77,7 @@ pub step_by_innermost : {A : Type 0} (kind : FrameKind) (inside : List FrameKind
 step_by_innermost kind [] role = map_same (replacement kind role)
 step_by_innermost kind (next ∷ inside) role =
     ap (option_map (λ (x : List FrameKind). kind ∷ x)) (step_by_innermost next inside role) ∙
-    map_twice (behind next inside) (λ (x : List FrameKind). kind ∷ x) (replacement (innermost_in next inside) role)
+    map_twice (after next inside) (λ (x : List FrameKind). kind ∷ x) (replacement (innermost_in next inside) role)
 
 -- The frames after a role, from the innermost frame and what replaces it.
 pub step_at : {A : Type 0} (frames : List FrameKind) (kind : FrameKind) (role : Role A) →
@@ -86,7 +86,7 @@ pub step_at : {A : Type 0} (frames : List FrameKind) (kind : FrameKind) (role : 
 step_at [] kind role e = absurd (cc e)
 step_at (first ∷ inside) kind role e =
     let at : innermost_in first inside ≡ kind = cc e in
-    step_by_innermost first inside role ∙ ap (λ (x : FrameKind). option_map (behind first inside) (replacement x role)) at
+    step_by_innermost first inside role ∙ ap (λ (x : FrameKind). option_map (after first inside) (replacement x role)) at
 
 is_some_map : {X Y : Type 0} (f : X → Y) (o : Option X) → IsSome o → IsSome (option_map f o)
 is_some_map f None h = absurd (cc h)
@@ -115,15 +115,15 @@ may_not_step frames kind role e h =
 -- the frames after a role that is allowed
 stepped : {A : Type 0} (kind : FrameKind) (inside : List FrameKind) (role : Role A) →
     IsSome (frames_after_in kind inside role) →
-    (end : List FrameKind) × (replacement (innermost_in kind inside) role ≡ Some end) × (frames_after_in kind inside role ≡ Some (behind kind inside end))
+    (end : List FrameKind) × (replacement (innermost_in kind inside) role ≡ Some end) × (frames_after_in kind inside role ≡ Some (after kind inside end))
 stepped kind inside role h = go (replacement (innermost_in kind inside) role) refl
   where
     go : (o : Option (List FrameKind)) →
         replacement (innermost_in kind inside) role ≡ o →
-        (end : List FrameKind) × (replacement (innermost_in kind inside) role ≡ Some end) × (frames_after_in kind inside role ≡ Some (behind kind inside end))
+        (end : List FrameKind) × (replacement (innermost_in kind inside) role ≡ Some end) × (frames_after_in kind inside role ≡ Some (after kind inside end))
     go None e = let x = some_of (frames_after_in kind inside role) h in
-        absurd (none_some x.0 (sym (step_by_innermost kind inside role ∙ ap (option_map (behind kind inside)) e) ∙ x.1))
-    go (Some end) e = (end, e, step_by_innermost kind inside role ∙ ap (option_map (behind kind inside)) e)
+        absurd (none_some x.0 (sym (step_by_innermost kind inside role ∙ ap (option_map (after kind inside)) e) ∙ x.1))
+    go (Some end) e = (end, e, step_by_innermost kind inside role ∙ ap (option_map (after kind inside)) e)
 
 -- If a role opens a frame of this kind inside any frame, that frame is added.
 pub steps_open : {A : Type 0} (frames : List FrameKind) (role other : Role A) (kind : FrameKind) →
@@ -134,7 +134,7 @@ steps_open {A} (first ∷ inside) role other kind e h opening =
     let s = stepped first inside role h in
     let end_is : s.0 ≡ innermost_in first inside ∷ kind ∷ [] =
     cc (s.1, ap (λ (x : Role A). replacement (innermost_in first inside) x) e, opening (innermost_in first inside)) in
-    s.2 ∙ ap (λ (x : List FrameKind). some (behind first inside x)) end_is ∙
+    s.2 ∙ ap (λ (x : List FrameKind). some (after first inside x)) end_is ∙
     ap some (sym (append_assoc (without_innermost_in first inside) (innermost_in first inside ∷ []) (kind ∷ [])) ∙
     ap (λ (x : List FrameKind). x ++ kind ∷ []) (whole_again first inside))
 
@@ -147,7 +147,7 @@ pub steps_turn : {A : Type 0} (frames : List FrameKind) (role other : Role A) (k
 steps_turn [] role other kind e h turning = absurd (cc h)
 steps_turn {A} (first ∷ inside) role other kind e h turning =
     let s = stepped first inside role h in
-    s.2 ∙ ap (λ (x : List FrameKind). some (behind first inside x))
+    s.2 ∙ ap (λ (x : List FrameKind). some (after first inside x))
     (turning (innermost_in first inside) s.0 (sym (ap (λ (x : Role A). replacement (innermost_in first inside) x) e) ∙ s.1))
 
 -- If a role closes each frame that allows it, the innermost frame is closed.
@@ -158,7 +158,7 @@ pub steps_close : {A : Type 0} (frames : List FrameKind) (role other : Role A) �
 steps_close [] role other e h closing = absurd (cc h)
 steps_close {A} (first ∷ inside) role other e h closing =
     let s = stepped first inside role h in
-    s.2 ∙ ap (λ (x : List FrameKind). some (behind first inside x))
+    s.2 ∙ ap (λ (x : List FrameKind). some (after first inside x))
     (closing (innermost_in first inside) s.0 (sym (ap (λ (x : Role A). replacement (innermost_in first inside) x) e) ∙ s.1)) ∙
     ap some (append-nil (without_innermost_in first inside))
 
@@ -169,7 +169,7 @@ steps_stay [] role a e h = absurd (cc h)
 steps_stay {A} (first ∷ inside) role a e h =
     let s = stepped first inside role h in
     let end_is : s.0 ≡ innermost_in first inside ∷ [] = cc (s.1, ap (λ (x : Role A). replacement (innermost_in first inside) x) e) in
-    s.2 ∙ ap (λ (x : List FrameKind). some (behind first inside x)) end_is ∙ ap some (whole_again first inside)
+    s.2 ∙ ap (λ (x : List FrameKind). some (after first inside x)) end_is ∙ ap some (whole_again first inside)
 
 -- What replaces a frame that allows the role, for each role.
 pub turns_to_else : (A : Type 0) (kind : FrameKind) (end : List FrameKind) →

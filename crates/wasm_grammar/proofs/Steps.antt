@@ -71,13 +71,13 @@ walk-closed (of_catch_all a before parts) body =
     ap (λ roles. walk_instructions before ++ roles) (walk-handlers_of parts (for_all body)))
 
 -- complete instructions, a head, the body so far, and a role after it
-behind : {A : Type 0} → Instructions A → Head A → Instructions A → Role A → List (Role A)
-behind before head body role = (walk_instructions before ++ (walk_head head ++ walk_instructions body)) ++ role ∷ []
+after : {A : Type 0} → Instructions A → Head A → Instructions A → Role A → List (Role A)
+after before head body role = (walk_instructions before ++ (walk_head head ++ walk_instructions body)) ++ role ∷ []
 
-behind-is : {A : Type 0} (before : Instructions A) (head : Head A) (body : Instructions A) (role : Role A) →
-    behind before head body role ≡ walk_instructions before ++ (walk_head head ++ (walk_instructions body ++ role ∷ []))
-unfolding behind
-behind-is before head body role =
+after-is : {A : Type 0} (before : Instructions A) (head : Head A) (body : Instructions A) (role : Role A) →
+    after before head body role ≡ walk_instructions before ++ (walk_head head ++ (walk_instructions body ++ role ∷ []))
+unfolding after
+after-is before head body role =
     append_assoc (walk_instructions before) (walk_head head ++ walk_instructions body) (role ∷ [])
     ∙ ap (λ roles. walk_instructions before ++ roles) (append_assoc (walk_head head) (walk_instructions body) (role ∷ []))
 
@@ -93,13 +93,13 @@ to_frames roles frames next e path = subst (OpenPathIn roles) (some_is e) path
 
 -- one more instruction in the open body
 longer_path : {A : Type 0} (before : Instructions A) (head : Head A) (body : Instructions A) (a : A) →
-    OpenPathIn (behind before head body (plain a)) (kind_of_head head ∷ [])
+    OpenPathIn (after before head body (plain a)) (kind_of_head head ∷ [])
 longer_path before head body a = (
   before,
   head,
   walk_instructions (push body (single a)),
   refl,
-  behind-is before head body (plain a) ∙
+  after-is before head body (plain a) ∙
       ap (λ roles. walk_instructions before ++ (walk_head head ++ roles)) (walk_instructions-push body (single a)),
   (push body (single a), refl),
 )
@@ -108,13 +108,13 @@ longer_path before head body a = (
 opened_path : {A : Type 0} (before : Instructions A) (head : Head A) (body : Instructions A) (role : Role A)
     (other : Head A) →
     walk_head other ≡ role ∷ [] →
-    OpenPathIn (behind before head body role) (kind_of_head head ∷ kind_of_head other ∷ [])
+    OpenPathIn (after before head body role) (kind_of_head head ∷ kind_of_head other ∷ [])
 opened_path before head body role other e = (
   before,
   head,
   walk_instructions body ++ (walk_head other ++ []),
   refl,
-  behind-is before head body role ∙
+  after-is before head body role ∙
       ap (λ roles. walk_instructions before ++ (walk_head head ++ (walk_instructions body ++ roles))) (sym e ∙ sym (append-nil (walk_head other))),
   (body, other, [], refl, refl, (nil, refl)),
 )
@@ -123,13 +123,13 @@ opened_path before head body role other e = (
 turned_path : {A : Type 0} (before : Instructions A) (head : Head A) (body : Instructions A) (role : Role A)
     (other : Head A) →
     walk_head head ++ (walk_instructions body ++ role ∷ []) ≡ walk_head other →
-    OpenPathIn (behind before head body role) (kind_of_head other ∷ [])
+    OpenPathIn (after before head body role) (kind_of_head other ∷ [])
 turned_path before head body role other e = (
   before,
   other,
   [],
   refl,
-  behind-is before head body role ∙ ap (λ roles. walk_instructions before ++ roles) (e ∙ sym (append-nil (walk_head other))),
+  after-is before head body role ∙ ap (λ roles. walk_instructions before ++ roles) (e ∙ sym (append-nil (walk_head other))),
   (nil, refl),
 )
 
@@ -137,9 +137,9 @@ turned_path before head body role other e = (
 closed_path : {A : Type 0} (before : Instructions A) (head : Head A) (body : Instructions A) (role : Role A)
     (instruction : Instruction A) →
     walk_head head ++ (walk_instructions body ++ role ∷ []) ≡ walk_instruction instruction →
-    OpenPathIn (behind before head body role) []
+    OpenPathIn (after before head body role) []
 closed_path before head body role instruction e =
-    (push before instruction, behind-is before head body role ∙ ap (λ roles. walk_instructions before ++ roles) e ∙ walk_instructions-push before instruction)
+    (push before instruction, after-is before head body role ∙ ap (λ roles. walk_instructions before ++ roles) e ∙ walk_instructions-push before instruction)
 
 -- a handler is complete at the start of the next
 catch_head : {A : Type 0} (a : A) (before : Instructions A) (parts : Parts A) (tag : ℕ) (body : Instructions A)
@@ -154,37 +154,37 @@ catch_head a before parts tag body role = ap (λ roles. opens_try a ∷ roles) (
 -- a role that the frame of the open body allows
 step_innermost : {A : Type 0} (role : Role A) (before : Instructions A) (head : Head A) (body : Instructions A)
     (next : List FrameKind) →
-    replacement (kind_of_head head) role ≡ Some next → OpenPathIn (behind before head body role) next
+    replacement (kind_of_head head) role ≡ Some next → OpenPathIn (after before head body role) next
 step_innermost (plain a) before head body next e =
-    to_frames (behind before head body (plain a)) (kind_of_head head ∷ []) next e (longer_path before head body a)
+    to_frames (after before head body (plain a)) (kind_of_head head ∷ []) next e (longer_path before head body a)
 step_innermost (opens n a) before head body next e =
-    to_frames (behind before head body (opens n a)) (kind_of_head head ∷ kind_of_nest n ∷ []) next e
+    to_frames (after before head body (opens n a)) (kind_of_head head ∷ kind_of_nest n ∷ []) next e
     (opened_path before head body (opens n a) (of_nest n a) refl)
 step_innermost (opens_if a) before head body next e =
-    to_frames (behind before head body (opens_if a)) (kind_of_head head ∷ frame.If ∷ []) next e (opened_path before head body (opens_if a) (of_if a) refl)
+    to_frames (after before head body (opens_if a)) (kind_of_head head ∷ frame.If ∷ []) next e (opened_path before head body (opens_if a) (of_if a) refl)
 step_innermost (opens_try a) before head body next e =
-    to_frames (behind before head body (opens_try a)) (kind_of_head head ∷ frame.LegacyTry ∷ []) next e
+    to_frames (after before head body (opens_try a)) (kind_of_head head ∷ frame.LegacyTry ∷ []) next e
     (opened_path before head body (opens_try a) (of_try a) refl)
 step_innermost ends before head body next e =
-    to_frames (behind before head body ends) [] next e (closed_path before head body ends (closed head body) (walk-closed head body))
+    to_frames (after before head body ends) [] next e (closed_path before head body ends (closed head body) (walk-closed head body))
 step_innermost turns_else before (of_if a) body next e =
-    to_frames (behind before (of_if a) body turns_else) (frame.Else ∷ []) next e (turned_path before (of_if a) body turns_else (of_else a body) refl)
+    to_frames (after before (of_if a) body turns_else) (frame.Else ∷ []) next e (turned_path before (of_if a) body turns_else (of_else a body) refl)
 step_innermost (turns_catch tag) before (of_try a) body next e =
-    to_frames (behind before (of_try a) body (turns_catch tag)) (frame.LegacyCatch ∷ []) next e
+    to_frames (after before (of_try a) body (turns_catch tag)) (frame.LegacyCatch ∷ []) next e
     (turned_path before (of_try a) body (turns_catch tag) (of_catch a body [] tag) refl)
 step_innermost (turns_catch tag) before (of_catch a first parts last) body next e =
-    to_frames (behind before (of_catch a first parts last) body (turns_catch tag)) (frame.LegacyCatch ∷ []) next e
+    to_frames (after before (of_catch a first parts last) body (turns_catch tag)) (frame.LegacyCatch ∷ []) next e
     (turned_path before (of_catch a first parts last) body (turns_catch tag) (of_catch a first (parts ++ (last, body) ∷ []) tag)
     (catch_head a first parts last body (turns_catch tag)))
 step_innermost turns_catch_all before (of_try a) body next e =
-    to_frames (behind before (of_try a) body turns_catch_all) (frame.LegacyCatchAll ∷ []) next e
+    to_frames (after before (of_try a) body turns_catch_all) (frame.LegacyCatchAll ∷ []) next e
     (turned_path before (of_try a) body turns_catch_all (of_catch_all a body []) refl)
 step_innermost turns_catch_all before (of_catch a first parts last) body next e =
-    to_frames (behind before (of_catch a first parts last) body turns_catch_all) (frame.LegacyCatchAll ∷ []) next e
+    to_frames (after before (of_catch a first parts last) body turns_catch_all) (frame.LegacyCatchAll ∷ []) next e
     (turned_path before (of_catch a first parts last) body turns_catch_all (of_catch_all a first (parts ++ (last, body) ∷ []))
     (catch_head a first parts last body turns_catch_all))
 step_innermost (delegates depth) before (of_try a) body next e =
-    to_frames (behind before (of_try a) body (delegates depth)) [] next e
+    to_frames (after before (of_try a) body (delegates depth)) [] next e
     (closed_path before (of_try a) body (delegates depth) (try_delegate a body depth) refl)
 step_innermost role before (of_nest block a) body next e = absurd (cc e)
 step_innermost role before (of_nest loop a) body next e = absurd (cc e)
@@ -202,10 +202,10 @@ step_inside : {A : Type 0} (frames : List FrameKind) (kind : FrameKind) (roles :
     (next : List FrameKind) →
     OpenPathIn roles (kind ∷ frames) → frames_after_in kind frames role ≡ Some next →
     OpenPathIn (roles ++ role ∷ []) next
-unfolding behind
+unfolding after
 step_inside [] kind roles role next (before, head, inner, kind_is, roles_are, (body, inner_is)) e =
-    let at_h : OpenPathIn (behind before head body role) next = step_innermost role before head body next (ap (λ x. replacement x role) kind_is ∙ e) in
-    let same : behind before head body role ≡ roles ++ role ∷ [] =
+    let at_h : OpenPathIn (after before head body role) next = step_innermost role before head body next (ap (λ x. replacement x role) kind_is ∙ e) in
+    let same : after before head body role ≡ roles ++ role ∷ [] =
     ap (λ x. x ++ role ∷ []) (sym (roles_are ∙ ap (λ x. walk_instructions before ++ (walk_head head ++ x)) inner_is)) in
     subst (λ x. OpenPathIn x next) same at_h
 step_inside (inside ∷ frames) kind roles role next (before, head, inner, kind_is, roles_are, path) e =

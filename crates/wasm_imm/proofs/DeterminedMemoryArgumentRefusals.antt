@@ -11,7 +11,7 @@ use Rattle.wasm_imm_control.specs.below.Source.{Reader, offset_of, U32Fault, U64
 use Rattle.wasm_imm_control.proofs.of_below.DeterminedRefusals.{number_determines, u32_determines, then_determines, either_determines, checked_determines}
 use Rattle.wasm_imm.specs.declared.memory_argument.MemArgKind.{MemArgKind}
 use Rattle.wasm_imm.specs.FlagsNumber.{NamesBoth, OrdersPlain, IsReserved, IsTarget, IsOrdering}
-use Rattle.wasm_imm.specs.MemoryArgumentFaults.{CheckFault, TargetFault, IsNoOrdering, OrderingFault, OffsetFault, BehindOrderingFault, BehindTargetFault, FlagsFault, MemArgFault}
+use Rattle.wasm_imm.specs.MemoryArgumentFaults.{CheckFault, TargetFault, IsNoOrdering, OrderingFault, OffsetFault, FaultAfterOrdering, FaultAfterTarget, FlagsFault, MemArgFault}
 use Rattle.wasm_imm.proofs.FlagsNumber.{target_prefix_code, ordering_prefix_code}
 use Rattle.wasm_imm_control.proofs.of_below.Steps.{number_prefix_code}
 
@@ -33,24 +33,24 @@ offset_determines : (f : WasmFeatures) → DeterminesRefusal (OffsetFault f)
 offset_determines f = either_determines (HasFeature memory64 f) U64Fault U32Fault (number_determines 64 number_name.VarU64) u32_determines
 
 module _ (f : WasmFeatures) (kind : MemArgKind) (flags start : ℕ) where
-  behind_ordering : DeterminesRefusal (BehindOrderingFault f flags start)
-  behind_ordering = check_determines (IsReserved f flags) message.ReservedFlags start (OffsetFault f) (offset_determines f)
+  after_ordering : DeterminesRefusal (FaultAfterOrdering f flags start)
+  after_ordering = check_determines (IsReserved f flags) message.ReservedFlags start (OffsetFault f) (offset_determines f)
 
-  behind_target : DeterminesRefusal (BehindTargetFault f kind flags start)
-  behind_target =
+  after_target : DeterminesRefusal (FaultAfterTarget f kind flags start)
+  after_target =
       check_determines (OrdersPlain f kind flags) message.OrderingOnPlain start
-      (ThenFault (IsOrdering f kind flags) (OrderingFault f kind flags) (λ o. BehindOrderingFault f flags start))
-      (then_determines (IsOrdering f kind flags) (OrderingFault f kind flags) (λ o. BehindOrderingFault f flags start) (ordering_prefix_code f kind flags)
-      (ordering_determines f kind flags) (λ o. behind_ordering))
+      (ThenFault (IsOrdering f kind flags) (OrderingFault f kind flags) (λ o. FaultAfterOrdering f flags start))
+      (then_determines (IsOrdering f kind flags) (OrderingFault f kind flags) (λ o. FaultAfterOrdering f flags start) (ordering_prefix_code f kind flags)
+      (ordering_determines f kind flags) (λ o. after_ordering))
 
-  behind_flags : DeterminesRefusal (FlagsFault f kind flags start)
-  behind_flags =
+  after_flags : DeterminesRefusal (FlagsFault f kind flags start)
+  after_flags =
       check_determines (NamesBoth f flags) message.MemoryAndArray start
-      (ThenFault (IsTarget f flags) (TargetFault f flags) (λ t. BehindTargetFault f kind flags start))
-      (then_determines (IsTarget f flags) (TargetFault f flags) (λ t. BehindTargetFault f kind flags start) (target_prefix_code f flags)
-      (target_determines f flags) (λ t. behind_target))
+      (ThenFault (IsTarget f flags) (TargetFault f flags) (λ t. FaultAfterTarget f kind flags start))
+      (then_determines (IsTarget f flags) (TargetFault f flags) (λ t. FaultAfterTarget f kind flags start) (target_prefix_code f flags)
+      (target_determines f flags) (λ t. after_target))
 
 pub memarg_determines : (f : WasmFeatures) (kind : MemArgKind) → DeterminesRefusal (MemArgFault f kind)
 memarg_determines f kind m k r a b h q =
     then_determines (EncodesUnsigned 32) U32Fault (λ flags. FlagsFault f kind flags (offset_of r)) (number_prefix_code 32) u32_determines
-    (λ flags. behind_flags f kind flags (offset_of r)) m k r a b h q
+    (λ flags. after_flags f kind flags (offset_of r)) m k r a b h q

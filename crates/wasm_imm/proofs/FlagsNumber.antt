@@ -20,7 +20,7 @@ use Rattle.wasm_imm.specs.declared.memory_argument.MemArgKind.{MemArgKind}
 use Rattle.wasm_imm.specs.declared.memory_argument.MemArgKind.TheVariants as kind
 use Rattle.wasm_imm.specs.declared.ordering.Ordering.{Ordering}
 use Rattle.wasm_imm.specs.declared.ordering.Ordering.TheVariants.{AcqRel, SeqCst}
-use Rattle.wasm_imm.specs.MemoryArgument.{ordering_byte, rmw_byte, IsOrderingByte, EncodesTarget, EncodesOrdering, EncodesOffset, EncodesBehindFlags, EncodesMemArg}
+use Rattle.wasm_imm.specs.MemoryArgument.{ordering_byte, rmw_byte, IsOrderingByte, EncodesTarget, EncodesOrdering, EncodesOffset, EncodesAfterFlags, EncodesMemArg}
 use Rattle.wasm_imm.specs.FlagsNumber.{NamesBoth, OrdersPlain, Announces, IsReserved, IsTarget, IsOrdering}
 
 -- what a target adds to the flags number
@@ -79,7 +79,7 @@ from_parts : (m : MemArg) (align max : ℕ) → m.align ≡ align → m.max_alig
 from_parts m align max ea em = ap (λ a. argument_of a m.max_align m.offset m.target m.ordering) ea ∙
     ap (λ x. argument_of align x m.offset m.target m.ordering) em
 
-pub to_stages : (f : WasmFeatures) (k : MemArgKind) (max flags : ℕ) (text : List ℕ) (m : MemArg) → EncodesBehindFlags f k max flags text m →
+pub to_stages : (f : WasmFeatures) (k : MemArgKind) (max flags : ℕ) (text : List ℕ) (m : MemArg) → EncodesAfterFlags f k max flags text m →
     Stages f k max flags text m
 to_stages f k max flags text m b =
     let h = halves b.of_target (part_of_target f b.of_target b.index m.target b.target) in
@@ -87,13 +87,13 @@ to_stages f k max flags text m b =
     let split = sixteens b.of_ordering (part_of_ordering f k b.of_ordering b.byte m.ordering b.ordering) in
     let sum : flags ≡ m.align + b.of_ordering + 32 * h.0 = omega (arith, b.sum, h.1) in (
       b.index,
-      b.byte ++ b.behind,
+      b.byte ++ b.after,
       m.target,
       b.parts,
       target_is f flags m.align b.of_ordering b.of_target b.index m.target b.target b.sum b.align le,
       (
         b.byte,
-        b.behind,
+        b.after,
         m.ordering,
         refl,
         ordering_is f k flags m.align b.of_ordering h.0 b.byte m.ordering b.ordering sum b.align,
@@ -155,7 +155,7 @@ last_prefix_code f max flags t o a b x y m n p q e =
 -- the encodings of memory arguments are a prefix code
 pub memarg_prefix_code : (f : WasmFeatures) (k : MemArgKind) (max : ℕ) → PrefixCode (EncodesMemArg f k max)
 memarg_prefix_code f k max =
-    then_prefix_code (EncodesUnsigned 32) (EncodesBehindFlags f k max) (number_prefix_code 32)
+    then_prefix_code (EncodesUnsigned 32) (EncodesAfterFlags f k max) (number_prefix_code 32)
     (λ flags a b x y m n p q e. stages flags a b x y m n (to_stages f k max flags a m p) (to_stages f k max flags b n q) e)
   where
     stages : (flags : ℕ) → PrefixCode (Stages f k max flags)
@@ -164,10 +164,10 @@ memarg_prefix_code f k max =
 
 ---- flags numbers that cannot start a memory argument
 
-abbrev pub NotBehind : WasmFeatures → MemArgKind → ℕ → ℕ → Type 0
-NotBehind f k max flags = (text : List ℕ) (m : MemArg) → ¬ EncodesBehindFlags f k max flags text m
+abbrev pub NotAfterFlags : WasmFeatures → MemArgKind → ℕ → ℕ → Type 0
+NotAfterFlags f k max flags = (text : List ℕ) (m : MemArg) → ¬ EncodesAfterFlags f k max flags text m
 
-pub both_ruled_out : (f : WasmFeatures) (k : MemArgKind) (max flags : ℕ) → NamesBoth f flags → NotBehind f k max flags
+pub both_ruled_out : (f : WasmFeatures) (k : MemArgKind) (max flags : ℕ) → NamesBoth f flags → NotAfterFlags f k max flags
 both_ruled_out f k max flags h text m b =
     let j = halves b.of_target (part_of_target f b.of_target b.index m.target b.target) in
     let le = at_most_16 b.of_ordering (part_of_ordering f k b.of_ordering b.byte m.ordering b.ordering) in
@@ -179,7 +179,7 @@ plain_has_none f k flags text None h i = i.0 h.1
 plain_has_none f k flags text (Some (ordering.Op o)) h (_, byte, _, is) = let e : kind.Plain ≡ kind.Op = sym h.0 ∙ is.0 in absurd (cc e)
 plain_has_none f k flags text (Some (ordering.Rmw o)) h (_, byte, _, is) = let e : kind.Plain ≡ kind.Rmw = sym h.0 ∙ is.0 in absurd (cc e)
 
-pub plain_ruled_out : (f : WasmFeatures) (k : MemArgKind) (max flags : ℕ) → OrdersPlain f k flags → NotBehind f k max flags
+pub plain_ruled_out : (f : WasmFeatures) (k : MemArgKind) (max flags : ℕ) → OrdersPlain f k flags → NotAfterFlags f k max flags
 plain_ruled_out f k max flags h text m b = let s = to_stages f k max flags text m b in plain_has_none f k flags s.5.0 s.5.2 h s.5.4
 
 has_memory : (f : WasmFeatures) (part : ℕ) (text : List ℕ) (t : MemArgTarget) → EncodesTarget f part text t → part ≡ 64 → HasFeature multi_memory f
@@ -197,7 +197,7 @@ has_ordering : (f : WasmFeatures) (k : MemArgKind) (part : ℕ) (text : List ℕ
 has_ordering f k part text None s e = absurd (e s.0)
 has_ordering f k part text (Some o) s e = s.0
 
-pub reserved_ruled_out : (f : WasmFeatures) (k : MemArgKind) (max flags : ℕ) → IsReserved f flags → NotBehind f k max flags
+pub reserved_ruled_out : (f : WasmFeatures) (k : MemArgKind) (max flags : ℕ) → IsReserved f flags → NotAfterFlags f k max flags
 reserved_ruled_out f k max flags h text m b =
     let j = halves b.of_target (part_of_target f b.of_target b.index m.target b.target) in
     let le = at_most_16 b.of_ordering (part_of_ordering f k b.of_ordering b.byte m.ordering b.ordering) in
@@ -249,10 +249,10 @@ ordering_part f k flags text (Some o) (a, byte, e, is) nr = (16, (a.0, refl, byt
 in_parts : (flags : ℕ) → flags ≡ flags % 16 + 16 * (flags / 16 % 2) + 32 * (flags / 32)
 in_parts flags = omega arith
 
-pub behind_ok : (f : WasmFeatures) (k : MemArgKind) (max flags : ℕ) (index byte behind : List ℕ) (t : MemArgTarget) (o : Option MemArgOrdering) (offset : ℕ) →
-    IsTarget f flags index t → IsOrdering f k flags byte o → EncodesOffset f behind offset → ¬ IsReserved f flags → ¬ NamesBoth f flags →
-    EncodesBehindFlags f k max flags (index ++ (byte ++ behind)) (argument_of (flags % 16) max offset t o)
-behind_ok f k max flags index byte behind t o offset ht ho hb nr nb =
+pub after_ok : (f : WasmFeatures) (k : MemArgKind) (max flags : ℕ) (index byte after : List ℕ) (t : MemArgTarget) (o : Option MemArgOrdering) (offset : ℕ) →
+    IsTarget f flags index t → IsOrdering f k flags byte o → EncodesOffset f after offset → ¬ IsReserved f flags → ¬ NamesBoth f flags →
+    EncodesAfterFlags f k max flags (index ++ (byte ++ after)) (argument_of (flags % 16) max offset t o)
+after_ok f k max flags index byte after t o offset ht ho hb nr nb =
     let pt = target_part f flags index t ht nr nb in
     let po = ordering_part f k flags byte o ho nr in
     record {
@@ -260,7 +260,7 @@ behind_ok f k max flags index byte behind t o offset ht ho hb nr nb =
       of_target = pt.0;
       index = index;
       byte = byte;
-      behind = behind;
+      after = after;
       sum = omega (arith, in_parts flags, po.2, pt.2);
       parts = refl;
       align = omega arith;
@@ -274,37 +274,37 @@ behind_ok f k max flags index byte behind t o offset ht ho hb nr nb =
 
 module _ (f : WasmFeatures) (k : MemArgKind) (max flags : ℕ) (old mid : Reader) (flagged : Reads (EncodesUnsigned 32) (Ok flags) old mid) where
   pub ruled_out : (e : Error) (now new : Reader) (text : List ℕ) (position : ℕ) → Takes old now text → position ≡ old.position →
-      new ≡ at_position now position → e.offset ≡ now.start + position → IsReadFault e.message → NotBehind f k max flags →
+      new ≡ at_position now position → e.offset ≡ now.start + position → IsReadFault e.message → NotAfterFlags f k max flags →
       (new ≡ old) × IsRefusal (EncodesMemArg f k max) e old
   ruled_out e now new text position t at went offset fault none =
       let start : now.start ≡ old.start = ap (λ (r : Reader). r.start) t.moved in
-      first_rules_out (EncodesUnsigned 32) (EncodesBehindFlags f k max) e old mid new flags (number_prefix_code 32) (λ text p. unsigned_some 32 text flags p)
+      first_rules_out (EncodesUnsigned 32) (EncodesAfterFlags f k max) e old mid new flags (number_prefix_code 32) (λ text p. unsigned_some 32 text flags p)
       flagged none (back old now new text position t at went) (omega (arith, offset, start, at)) fault
 
-  behind_refused : (e : Error) (now new : Reader) (text : List ℕ) (position : ℕ) → Takes old now text → position ≡ old.position →
+  after_refused : (e : Error) (now new : Reader) (text : List ℕ) (position : ℕ) → Takes old now text → position ≡ old.position →
       new ≡ at_position now position → IsRefusal (Stages f k max flags) e mid → (new ≡ old) × IsRefusal (EncodesMemArg f k max) e old
-  behind_refused e now new text position t at went h = (
+  after_refused e now new text position t at went h = (
     back old now new text position t at went,
-    then_second (EncodesUnsigned 32) (EncodesBehindFlags f k max) e old mid flags (number_prefix_code 32) flagged
-        (refuses_by (Stages f k max flags) (EncodesBehindFlags f k max flags) e mid (λ text m b. (m, to_stages f k max flags text m b)) h),
+    then_second (EncodesUnsigned 32) (EncodesAfterFlags f k max) e old mid flags (number_prefix_code 32) flagged
+        (refuses_by (Stages f k max flags) (EncodesAfterFlags f k max flags) e mid (λ text m b. (m, to_stages f k max flags text m b)) h),
   )
 
-  abbrev behind_target : MemArgTarget → List ℕ → MemArg → Type 0
-  behind_target t = Then (IsOrdering f k flags) (Last f max flags t)
+  abbrev after_target : MemArgTarget → List ℕ → MemArg → Type 0
+  after_target t = Then (IsOrdering f k flags) (Last f max flags t)
 
   pub target_refused : (e : Error) (mid2 new : Reader) (position : ℕ) → (mid2 ≡ mid) × IsRefusal (IsTarget f flags) e mid → position ≡ old.position →
       new ≡ at_position mid2 position → (new ≡ old) × IsRefusal (EncodesMemArg f k max) e old
   target_refused e mid2 new position h at went =
-      behind_refused e mid new flagged.0 position flagged.2 at (went ∙
-      ap (λ (r : Reader). at_position r position) h.0) (then_first (IsTarget f flags) behind_target e mid h.1)
+      after_refused e mid new flagged.0 position flagged.2 at (went ∙
+      ap (λ (r : Reader). at_position r position) h.0) (then_first (IsTarget f flags) after_target e mid h.1)
 
   pub ordering_refused : (e : Error) (now now2 new : Reader) (t : MemArgTarget) (position : ℕ) → Reads (IsTarget f flags) (Ok t) mid now →
       (now2 ≡ now) × IsRefusal (IsOrdering f k flags) e now → position ≡ old.position → new ≡ at_position now2 position →
       (new ≡ old) × IsRefusal (EncodesMemArg f k max) e old
   ordering_refused e now now2 new t position rt h at went =
-      behind_refused e now new (flagged.0 ++ rt.0) position (takes_then old mid now flagged.0 rt.0 flagged.2 rt.2) at (went ∙
+      after_refused e now new (flagged.0 ++ rt.0) position (takes_then old mid now flagged.0 rt.0 flagged.2 rt.2) at (went ∙
       ap (λ (r : Reader). at_position r position) h.0)
-      (then_second (IsTarget f flags) behind_target e mid now t (target_prefix_code f flags) rt
+      (then_second (IsTarget f flags) after_target e mid now t (target_prefix_code f flags) rt
       (then_first (IsOrdering f k flags) (Last f max flags t) e now h.1))
 
   pub offset_refused : (e : Error) (now last last2 new : Reader) (t : MemArgTarget) (o : Option MemArgOrdering) (position : ℕ) →
@@ -313,9 +313,9 @@ module _ (f : WasmFeatures) (k : MemArgKind) (max flags : ℕ) (old mid : Reader
   offset_refused e now last last2 new t o position rt ro h at went =
       let taken = takes_then old now last (flagged.0 ++ rt.0) ro.0 (takes_then old mid now flagged.0 rt.0 flagged.2 rt.2) ro.2 in
       let third = refuses_by (EncodesOffset f) (Last f max flags t o) e last (λ text m s. (m.offset, s.0)) h.1 in
-      behind_refused e last new ((flagged.0 ++ rt.0) ++ ro.0) position taken at (went ∙
+      after_refused e last new ((flagged.0 ++ rt.0) ++ ro.0) position taken at (went ∙
       ap (λ (r : Reader). at_position r position) h.0)
-      (then_second (IsTarget f flags) behind_target e mid now t (target_prefix_code f flags) rt
+      (then_second (IsTarget f flags) after_target e mid now t (target_prefix_code f flags) rt
       (then_second (IsOrdering f k flags) (Last f max flags t) e now last o (ordering_prefix_code f k flags) ro third))
 
   pub all_read : (now last new : Reader) (t : MemArgTarget) (o : Option MemArgOrdering) (offset : ℕ) → Reads (IsTarget f flags) (Ok t) mid now →
@@ -323,7 +323,7 @@ module _ (f : WasmFeatures) (k : MemArgKind) (max flags : ℕ) (old mid : Reader
       Reads (EncodesMemArg f k max) (Ok (argument_of (flags % 16) max offset t o)) old new
   all_read now last new t o offset rt ro rb nr nb = (
     flagged.0 ++ (rt.0 ++ (ro.0 ++ rb.0)),
-    (flagged.0, rt.0 ++ (ro.0 ++ rb.0), flags, refl, flagged.1, behind_ok f k max flags rt.0 ro.0 rb.0 t o offset rt.1 ro.1 rb.1 nr nb),
+    (flagged.0, rt.0 ++ (ro.0 ++ rb.0), flags, refl, flagged.1, after_ok f k max flags rt.0 ro.0 rb.0 t o offset rt.1 ro.1 rb.1 nr nb),
     takes_then old mid new flagged.0 (rt.0 ++ (ro.0 ++ rb.0)) flagged.2
         (takes_then mid now new rt.0 (ro.0 ++ rb.0) rt.2 (takes_then now last new ro.0 rb.0 ro.2 rb.2)),
   )

@@ -45,6 +45,6 @@ short_fault f k flags start old mid r small m offset h =
     (λ plain. absurd (omega (arith, plain.1))) None mid (no_ordering f k 0 flags old mid r small) m offset (none_reserved f k 0 flags old mid r small) h
 
 -- what follows the flags number has an error
-pub behind_fault : (f : WasmFeatures) (k : MemArgKind) (flags start : ℕ) (old mid : Reader) → Reads (EncodesUnsigned 32) (Ok flags) old mid →
+pub fault_after_flags : (f : WasmFeatures) (k : MemArgKind) (flags start : ℕ) (old mid : Reader) → Reads (EncodesUnsigned 32) (Ok flags) old mid →
     start ≡ offset_of old → (m : Message) (offset : ℕ) → FlagsFault f k flags start m mid offset → MemArgFault f k m old offset
-behind_fault f k flags start old mid r same m offset h = inr (flags, mid, r, subst (λ s. FlagsFault f k flags s m mid offset) same h)
+fault_after_flags f k flags start old mid r same m offset h = inr (flags, mid, r, subst (λ s. FlagsFault f k flags s m mid offset) same h)

@@ -19,9 +19,9 @@ use Rattle.wasm_imm_control.specs.declared.select.Select.TheVariants as select
 use Rattle.wasm_imm_control.specs.BranchTables.{BranchTable}
 use Rattle.wasm_imm.specs.Immediate.{Immediate, unsigned_32, signed_32, signed_64, float_32, float_64, vector, one_lane, sixteen_lanes, memory_argument, memory_index, table_index_32, order, fence_order, heap_type, cast, block_type, branch_table, select_types, try_clauses, resume_clauses}
 
-abbrev pub behind : List Immediate → List Immediate
-behind [] = []
-behind (i ∷ is) = is
+abbrev pub tail_of : List Immediate → List Immediate
+tail_of [] = []
+tail_of (i ∷ is) = is
 
 abbrev pub number_in : List Immediate → ℕ
 number_in (unsigned_32 n ∷ _) = n

@@ -51,22 +51,22 @@ EncodesOffset f text n = (HasFeature memory64 f × EncodesUnsigned 64 text n) �
 -- The part of a memory argument after the flags number: the index, the ordering and the offset. The
 -- flags number is the sum of the alignment, at most 15, and of what the ordering and the target
 -- add.
-pub record EncodesBehindFlags (f : WasmFeatures) (k : MemArgKind) (max : ℕ) (flags : ℕ) (text : List ℕ) (m : MemArg) : Type 0 where
+pub record EncodesAfterFlags (f : WasmFeatures) (k : MemArgKind) (max : ℕ) (flags : ℕ) (text : List ℕ) (m : MemArg) : Type 0 where
   pub of_ordering : ℕ
   pub of_target : ℕ
   pub index : List ℕ
   pub byte : List ℕ
-  pub behind : List ℕ
+  pub after : List ℕ
   pub sum : flags ≡ m.align + of_ordering + of_target
-  pub parts : text ≡ index ++ (byte ++ behind)
+  pub parts : text ≡ index ++ (byte ++ after)
   pub align : m.align ≤ 15
   pub max_align : m.max_align ≡ max
   pub target : EncodesTarget f of_target index m.target
   pub ordering : EncodesOrdering f k of_ordering byte m.ordering
-  pub offset : EncodesOffset f behind m.offset
+  pub offset : EncodesOffset f after m.offset
 
 -- A memory argument of an operator of this kind. `max` is the operator's natural alignment, as the
 -- exponent of a power of two.
 --   memarg ::= n:u32 m:u64 ⇒ (0, {align n, offset m}), if n < 2^6  |  n:u32 x:memidx m:u64 ⇒ (x, {align n - 2^6, offset m}), if 2^6 ≤ n < 2^7
 abbrev pub EncodesMemArg : WasmFeatures → MemArgKind → ℕ → List ℕ → MemArg → Type 0
-EncodesMemArg f k max = Then (EncodesUnsigned 32) (EncodesBehindFlags f k max)
+EncodesMemArg f k max = Then (EncodesUnsigned 32) (EncodesAfterFlags f k max)

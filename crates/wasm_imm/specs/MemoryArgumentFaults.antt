@@ -44,18 +44,18 @@ OffsetFault f m r offset = (HasFeature memory64 f × U64Fault m r offset) ⊎ (�
 
 -- The error after the ordering: `ReservedFlags` if a bit of the flags number has no meaning, and
 -- otherwise the error of the offset.
-abbrev pub BehindOrderingFault : WasmFeatures → ℕ → ℕ → Message → Reader → ℕ → Type 0
-BehindOrderingFault f flags start = CheckFault (IsReserved f flags) message.ReservedFlags start (OffsetFault f)
+abbrev pub FaultAfterOrdering : WasmFeatures → ℕ → ℕ → Message → Reader → ℕ → Type 0
+FaultAfterOrdering f flags start = CheckFault (IsReserved f flags) message.ReservedFlags start (OffsetFault f)
 
 -- The error after the index: `OrderingOnPlain` if an argument of kind `Plain` announces an
 -- ordering, and otherwise the error of the ordering or of what follows it.
-abbrev pub BehindTargetFault : WasmFeatures → MemArgKind → ℕ → ℕ → Message → Reader → ℕ → Type 0
-BehindTargetFault f k flags start = CheckFault (OrdersPlain f k flags) message.OrderingOnPlain start (ThenFault (IsOrdering f k flags) (OrderingFault f k flags) (λ o. BehindOrderingFault f flags start))
+abbrev pub FaultAfterTarget : WasmFeatures → MemArgKind → ℕ → ℕ → Message → Reader → ℕ → Type 0
+FaultAfterTarget f k flags start = CheckFault (OrdersPlain f k flags) message.OrderingOnPlain start (ThenFault (IsOrdering f k flags) (OrderingFault f k flags) (λ o. FaultAfterOrdering f flags start))
 
 -- The error after a flags number that starts at the offset `start`: `MemoryAndArray` if it has both
 -- bits, and otherwise the error of the index or of what follows it.
 abbrev pub FlagsFault : WasmFeatures → MemArgKind → ℕ → ℕ → Message → Reader → ℕ → Type 0
-FlagsFault f k flags start = CheckFault (NamesBoth f flags) message.MemoryAndArray start (ThenFault (IsTarget f flags) (TargetFault f flags) (λ t. BehindTargetFault f k flags start))
+FlagsFault f k flags start = CheckFault (NamesBoth f flags) message.MemoryAndArray start (ThenFault (IsTarget f flags) (TargetFault f flags) (λ t. FaultAfterTarget f k flags start))
 
 -- The error of a memory argument of an operator of this kind: the error of the flags number, or of
 -- what follows it.

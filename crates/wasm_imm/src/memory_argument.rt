@@ -153,9 +153,9 @@ fn read_announced(
         (offset_of (at_position reader.old start)) e.message reader.old e.offset) }
 {
     let mut lent = reader.clone();
-    let answer = read_announced_out_of_line(&mut lent, start, flags, max_align, kind);
+    let outcome = read_announced_out_of_line(&mut lent, start, flags, max_align, kind);
     reader.set_position(lent.current_position());
-    answer
+    outcome
 }
 
 /// Reads the rest of a memory argument that starts at `start` and whose flags number announces

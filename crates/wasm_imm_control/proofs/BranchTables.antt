@@ -26,18 +26,18 @@ with_last byte (n ∷ numbers) lt = ap (λ t. before_number t byte n numbers) (l
 with_more : (byte n : ℕ) (numbers : List ℕ) → 128 ≤ byte → with_byte byte (n ∷ numbers) ≡ (128 * n + (byte - 128)) ∷ numbers
 with_more byte n numbers le = ap (λ t. before_number t byte n numbers) (le-ltb byte 128 le)
 
-pub first_number : (width : ℕ) (text behind : List ℕ) (n : ℕ) → EncodesUnsigned width text n → numbers_of (text ++ behind) ≡ n ∷ numbers_of behind
-first_number width [] behind n p = absurd p
-first_number width (c ∷ []) behind n p = with_last c (numbers_of behind) p.0 ∙ ap (λ z. z ∷ numbers_of behind) (sym p.1)
-first_number width (c ∷ d ∷ text) behind n (w, le, lt, high, sum, p) =
-    let below = first_number (width - 7) (d ∷ text) behind high p in
+pub first_number : (width : ℕ) (text after : List ℕ) (n : ℕ) → EncodesUnsigned width text n → numbers_of (text ++ after) ≡ n ∷ numbers_of after
+first_number width [] after n p = absurd p
+first_number width (c ∷ []) after n p = with_last c (numbers_of after) p.0 ∙ ap (λ z. z ∷ numbers_of after) (sym p.1)
+first_number width (c ∷ d ∷ text) after n (w, le, lt, high, sum, p) =
+    let below = first_number (width - 7) (d ∷ text) after high p in
     let value : 128 * high + (c - 128) ≡ n = omega arith in
-    ap (with_byte c) below ∙ with_more c high (numbers_of behind) le ∙ ap (λ z. z ∷ numbers_of behind) value
+    ap (with_byte c) below ∙ with_more c high (numbers_of after) le ∙ ap (λ z. z ∷ numbers_of after) value
 
 pub numbers_are : (text : List ℕ) (numbers : List ℕ) → EncodesEach (EncodesUnsigned 32) text numbers → numbers_of text ≡ numbers
 numbers_are text [] p = ap numbers_of p
-numbers_are text (n ∷ numbers) (first, behind, e, p, ps) =
-    ap numbers_of e ∙ first_number 32 first behind n p ∙ ap (λ z. n ∷ z) (numbers_are behind numbers ps)
+numbers_are text (n ∷ numbers) (first, after, e, p, ps) =
+    ap numbers_of e ∙ first_number 32 first after n p ∙ ap (λ z. n ∷ z) (numbers_are after numbers ps)
 
 pub targets_encoded : (count : ℕ) (bytes : List ℕ) → AreTargets count bytes → EncodesMany (EncodesUnsigned 32) count bytes (numbers_of bytes)
 targets_encoded count bytes (numbers, h) = subst (EncodesMany (EncodesUnsigned 32) count bytes) (sym (numbers_are bytes numbers h.1)) h
@@ -47,16 +47,16 @@ pub next_target : (old new : Reader) (result : Result ℕ Error) (count : ℕ) �
     0 < count → AreTargets (count - 1) (rest new) × (map Ok (numbers_of (rest old)) ≡ result ∷ map Ok (numbers_of (rest new))) ×
     (length (numbers_of (rest old)) ≡ suc (length (numbers_of (rest new))))
 next_target old new (Ok n) count (text, p, takes) ([], (l, e)) some = absurd (omega (arith, l))
-next_target old new (Ok n) count (text, p, takes) (m ∷ ms, (l, (first, behind, e, q, qs))) some =
-    let o = unsigned_prefix_code text first 32 (rest new) behind n m p q (sym takes.parts ∙ e) in
-    let left : rest new ≡ behind = same_rest text first (rest new) behind o.0 (sym takes.parts ∙ e) in
+next_target old new (Ok n) count (text, p, takes) (m ∷ ms, (l, (first, after, e, q, qs))) some =
+    let o = unsigned_prefix_code text first 32 (rest new) after n m p q (sym takes.parts ∙ e) in
+    let left : rest new ≡ after = same_rest text first (rest new) after o.0 (sym takes.parts ∙ e) in
     let prefix : numbers_of (rest old) ≡ n ∷ numbers_of (rest new) = ap numbers_of takes.parts ∙ first_number 32 text (rest new) n p in (
       (ms, (omega (arith, l), subst (λ z. EncodesEach (EncodesUnsigned 32) z ms) (sym left) qs)),
       ap (map Ok) prefix,
       ap length prefix,
     )
 next_target old new (Err e) count h ([], (l, nil)) some = absurd (omega (arith, l))
-next_target old new (Err e) count h (m ∷ ms, (l, (first, behind, eq, q, qs))) some = absurd (refused_now (EncodesUnsigned 32) e old h.1 first behind m q eq)
+next_target old new (Err e) count h (m ∷ ms, (l, (first, after, eq, q, qs))) some = absurd (refused_now (EncodesUnsigned 32) e old h.1 first after m q eq)
 
 -- as many targets as the count says
 pub as_many : (count : ℕ) (bytes : List ℕ) → AreTargets count bytes → length (numbers_of bytes) ≡ count
@@ -72,24 +72,24 @@ targets_prefix_code count a b x y m n (lm, (p, ps)) (ln, (q, qs)) e =
 abbrev default_of : ℕ → ℕ → List ℕ → BranchTable → Type 0
 default_of count size text t = EncodesUnsigned 32 text t.default
 
-abbrev behind_count : ℕ → List ℕ → BranchTable → Type 0
-behind_count count = Then (EncodesTargets count) (default_of count)
+abbrev after_count : ℕ → List ℕ → BranchTable → Type 0
+after_count count = Then (EncodesTargets count) (default_of count)
 
 abbrev Chain : List ℕ → BranchTable → Type 0
-Chain = Then (EncodesSize max_targets) behind_count
+Chain = Then (EncodesSize max_targets) after_count
 
 to_chain : (text : List ℕ) (t : BranchTable) → EncodesBranchTable text t → Chain text t
 to_chain text t (count, default, e, pc, pt, pd) = (count, t.targets ++ default, t.count, e, pc, (t.targets, default, length t.targets, refl, (refl, pt), pd))
 
 module _ (old mid : Reader) (count : ℕ) (counted : Reads (EncodesSize max_targets) (Ok count) old mid) where
   chain_refused : (e : Error) (now new : Reader) (text : List ℕ) (position : ℕ) → Takes old now text → position ≡ old.position →
-      new ≡ at_position now position → IsRefusal (behind_count count) e mid → (new ≡ old) × IsRefusal EncodesBranchTable e old
+      new ≡ at_position now position → IsRefusal (after_count count) e mid → (new ≡ old) × IsRefusal EncodesBranchTable e old
   chain_refused e now new text position t at went h = (
     back old now new text position t at went,
     refuses_by Chain EncodesBranchTable e old (λ text t s. (
       t,
       to_chain text t s,
-    )) (then_second (EncodesSize max_targets) behind_count e old mid count (size_prefix_code max_targets) counted h),
+    )) (then_second (EncodesSize max_targets) after_count e old mid count (size_prefix_code max_targets) counted h),
   )
 
   pub targets_refused : (e : Error) (mid2 new : Reader) (position : ℕ) → (mid2 ≡ mid) × IsRefusal (EncodesTargets count) e mid → position ≡ old.position →
@@ -134,10 +134,10 @@ table_prefix_code a b x y s t (c1, d1, ea, pc, (m, pm), pd) (c2, d2, eb, qc, (n,
     let whole : c1 ++ (s.targets ++ (d1 ++ x)) ≡ c2 ++ (t.targets ++ (d2 ++ y)) = sym (three c1 s.targets d1 x) ∙ ap (λ z. z ++ x) (sym ea) ∙ e ∙
     ap (λ z. z ++ y) eb ∙ three c2 t.targets d2 y in
     let counts = size_prefix_code max_targets c1 c2 (s.targets ++ (d1 ++ x)) (t.targets ++ (d2 ++ y)) s.count t.count pc qc whole in
-    let behind = same_rest c1 c2 (s.targets ++ (d1 ++ x)) (t.targets ++ (d2 ++ y)) counts.0 whole in
+    let after = same_rest c1 c2 (s.targets ++ (d1 ++ x)) (t.targets ++ (d2 ++ y)) counts.0 whole in
     let targets = many_prefix_code (EncodesUnsigned 32) (number_prefix_code 32) s.count s.targets t.targets (d1 ++ x) (d2 ++ y) m n pm
-    (subst (λ z. EncodesMany (EncodesUnsigned 32) z t.targets n) (sym counts.1) qm) behind in
-    let defaults = unsigned_prefix_code d1 d2 32 x y s.default t.default pd qd (same_rest s.targets t.targets (d1 ++ x) (d2 ++ y) targets.0 behind) in
+    (subst (λ z. EncodesMany (EncodesUnsigned 32) z t.targets n) (sym counts.1) qm) after in
+    let defaults = unsigned_prefix_code d1 d2 32 x y s.default t.default pd qd (same_rest s.targets t.targets (d1 ++ x) (d2 ++ y) targets.0 after) in
     (ea ∙ cc (counts.0, targets.0, defaults.0) ∙ sym eb, same_parts s t counts.1 defaults.1 targets.0)
   where
     three : (p q r z : List ℕ) → (p ++ (q ++ r)) ++ z ≡ p ++ (q ++ (r ++ z))

@@ -49,9 +49,9 @@ many_fault P F zero done text old now m offset l p t none f = absurd (omega (ari
 many_fault P F (suc n) [] text old now m offset l p t none f =
     let same : now ≡ old = t.moved ∙ ap (λ z. at_position old (old.position + length z)) p ∙ ap (at_position old) (omega arith) in
     inl (subst (λ r. NoPrefix P (rest r)) same none, subst (λ r. F m r offset) same f)
-many_fault P F (suc n) (x ∷ done) text old now m offset l (first, behind, e, p, ps) t none f =
-    let s = split_takes old now first behind (subst (Takes old now) e t) in
-    inr (x, s.0, (first, p, s.1), many_fault P F n done behind s.0 now m offset (omega (arith, l)) ps s.2 none f)
+many_fault P F (suc n) (x ∷ done) text old now m offset l (first, after, e, p, ps) t none f =
+    let s = split_takes old now first after (subst (Takes old now) e t) in
+    inr (x, s.0, (first, p, s.1), many_fault P F n done after s.0 now m offset (omega (arith, l)) ps s.2 none f)
 
 -- an error of some members is an error of more members
 pub many_wider : {X : Type 0} (P : List ℕ → X → Type 0) (F : Message → Reader → ℕ → Type 0) (count : ℕ) (m : Message) (old : Reader) (offset : ℕ) →

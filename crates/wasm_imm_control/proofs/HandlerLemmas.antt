@@ -11,7 +11,7 @@ use Rattle.wasm_imm_control.specs.declared.handlers.Catch.{Catch}
 use Rattle.wasm_imm_control.specs.declared.handlers.Catch.TheVariants as clause
 use Rattle.wasm_imm_control.specs.declared.handlers.Handle.{Handle}
 use Rattle.wasm_imm_control.specs.declared.handlers.Handle.TheVariants as handle
-use Rattle.wasm_imm_control.specs.Handlers.{EncodesPair, catch_byte, EncodesCatchIndices, EncodesCatch, handle_byte, EncodesHandleIndices, EncodesHandle, IsCatchBehind, IsHandleBehind}
+use Rattle.wasm_imm_control.specs.Handlers.{EncodesPair, catch_byte, EncodesCatchIndices, EncodesCatch, handle_byte, EncodesHandleIndices, EncodesHandle, IsCatchAfterByte, IsHandleAfterByte}
 use Rattle.wasm_below.proofs.Steps.{number_prefix_code, second_refused}
 
 pub pair_prefix_code : PrefixCode EncodesPair
@@ -70,7 +70,7 @@ catch_prefix_code a b x y m n (a2, ea, p) (b2, eb, q) e =
     (ea ∙ cc (same, o.0) ∙ sym eb, o.1)
 
 -- the first two kinds have a tag and a label
-pub catch_pair : (byte : ℕ) → byte ≤ 1 → (text : List ℕ) (c : Catch) → IsCatchBehind byte text c → (p : ℕ × ℕ) × EncodesPair text p
+pub catch_pair : (byte : ℕ) → byte ≤ 1 → (text : List ℕ) (c : Catch) → IsCatchAfterByte byte text c → (p : ℕ × ℕ) × EncodesPair text p
 catch_pair byte le text (clause.One tag label) h = ((tag, label), h.1)
 catch_pair byte le text (clause.OneRef tag label) h = ((tag, label), h.1)
 catch_pair byte le text (clause.All label) h = absurd (omega (arith, h.0))
@@ -95,6 +95,6 @@ handle_prefix_code a b x y m n (a2, ea, p) (b2, eb, q) e =
     (ea ∙ cc (same, o.0) ∙ sym eb, o.1)
 
 -- the first kind has a tag and a label
-pub handle_pair : (byte : ℕ) → byte ≡ 0 → (text : List ℕ) (h : Handle) → IsHandleBehind byte text h → (p : ℕ × ℕ) × EncodesPair text p
+pub handle_pair : (byte : ℕ) → byte ≡ 0 → (text : List ℕ) (h : Handle) → IsHandleAfterByte byte text h → (p : ℕ × ℕ) × EncodesPair text p
 handle_pair byte none text (handle.OnLabel tag label) h = ((tag, label), h.1)
 handle_pair byte none text (handle.OnSwitch tag) h = absurd (omega (arith, h.0))

@@ -51,19 +51,19 @@ block_some : (text : List ℕ) (t : BlockType) → EncodesBlockType text t → 0
 block_some [] t p = absurd (block_empty t p)
 block_some (c ∷ text) t p = omega arith
 
-abbrev behind_type : BlockType → List ℕ → TryTable → Type 0
-behind_type ty text t = EncodesList max_catches EncodesCatch text t.catches
+abbrev after_type : BlockType → List ℕ → TryTable → Type 0
+after_type ty text t = EncodesList max_catches EncodesCatch text t.catches
 
 -- an error of the catches is an error of the table
 pub catches_refused : (e f : Error) (old mid mid2 new : Reader) (ty : BlockType) (position : ℕ) → Reads EncodesBlockType (Ok ty) old mid →
     (mid2 ≡ mid) × IsRefused (EncodesList max_catches EncodesCatch) true e mid → position ≡ old.position → new ≡ at_position mid2 position →
     IsRefusedFrom (mid2.start + position) e f → (new ≡ old) × IsRefused EncodesTryTable true f old
 catches_refused e f old mid mid2 new ty position r h at went begun =
-    let s = begun_refused EncodesBlockType behind_type e f old mid mid2 new ty position block_prefix_code (λ text p. block_some text ty p) r (
+    let s = begun_refused EncodesBlockType after_type e f old mid mid2 new ty position block_prefix_code (λ text p. block_some text ty p) r (
       h.0,
-      refused_by (EncodesList max_catches EncodesCatch) (behind_type ty) true e mid (λ text t q. (t.catches, q)) h.1,
+      refused_by (EncodesList max_catches EncodesCatch) (after_type ty) true e mid (λ text t q. (t.catches, q)) h.1,
     ) at went begun in
-    (s.0, refused_by (Then EncodesBlockType behind_type) EncodesTryTable true f old (λ text t (a, b, ab, pa, pb). (t, (a, b, t.ty, ab, pa, pb))) s.1)
+    (s.0, refused_by (Then EncodesBlockType after_type) EncodesTryTable true f old (λ text t (a, b, ab, pa, pb). (t, (a, b, t.ty, ab, pa, pb))) s.1)
 
 -- ---- the types of a select
 
@@ -101,13 +101,13 @@ pub type_refused : (e : Error) (old mid mid2 new : Reader) (count position : ℕ
     (mid2 ≡ mid) × IsRefusal EncodesValType e mid → position ≡ old.position → new ≡ at_position mid2 position →
     (new ≡ old) × IsRefused EncodesSelect true e old
 type_refused e old mid mid2 new count position one r h at went =
-    let behind : IsRefusal (EncodesMany EncodesValType count) e mid = record {
+    let later : IsRefusal (EncodesMany EncodesValType count) e mid = record {
       refuses = λ more follow text after tys p eq. lone (rest mid ++ more) text after tys p.0 p.1 (h.1.refuses more follow) eq;
       fault = h.1.fault;
       ahead = h.1.ahead;
     } in
     let s = second_refused (EncodesSize max_select_types) (EncodesMany EncodesValType) e old mid mid2 new count position (size_prefix_code max_select_types) r
-    (h.0, behind) at went in (
+    (h.0, later) at went in (
       s.0,
       refused_by (EncodesList max_select_types EncodesValType) EncodesSelect true e old (λ text t p. (
         types_of t,
@@ -118,8 +118,8 @@ type_refused e old mid mid2 new count position one r h at went =
     lone : (bytes text after : List ℕ) (tys : List ValType) → length tys ≡ count → EncodesEach EncodesValType text tys → NoPrefix EncodesValType bytes →
         bytes ≡ text ++ after → ⊥
     lone bytes text after [] l p none eq = absurd (omega (arith, l))
-    lone bytes text after (ty ∷ tys) l (first, behind, e, p, ps) none eq =
-        none first (behind ++ after) ty p (eq ∙ ap (λ z. z ++ after) e ∙ append_assoc first behind after)
+    lone bytes text after (ty ∷ tys) l (first, later, e, p, ps) none eq =
+        none first (later ++ after) ty p (eq ∙ ap (λ z. z ++ after) e ∙ append_assoc first later after)
 
 -- the first number is not 1
 pub not_one : (old mid : Reader) (count : ℕ) → Reads (EncodesSize max_select_types) (Ok count) old mid → count ≢ 1 → NoPrefix EncodesOne (rest old)

@@ -33,8 +33,8 @@ list_prefix_code limit P prefix_code = then_prefix_code (EncodesSize limit) (Enc
 pub each_both : {X : Type 0} (P : List ℕ → X → Type 0) (text more : List ℕ) (xs ys : List X) → EncodesEach P text xs → EncodesEach P more ys →
     EncodesEach P (text ++ more) (xs ++ ys)
 each_both P text more [] ys p q = subst (λ z. EncodesEach P (z ++ more) ys) (sym p) q
-each_both P text more (x ∷ xs) ys (first, behind, e, p, ps) q =
-    (first, behind ++ more, ap (λ z. z ++ more) e ∙ append_assoc first behind more, p, each_both P behind more xs ys ps q)
+each_both P text more (x ∷ xs) ys (first, after, e, p, ps) q =
+    (first, after ++ more, ap (λ z. z ++ more) e ∙ append_assoc first after more, p, each_both P after more xs ys ps q)
 
 -- one member more
 pub each_more : {X : Type 0} (P : List ℕ → X → Type 0) (text more : List ℕ) (xs : List X) (x : X) → EncodesEach P text xs → P more x →
@@ -53,8 +53,8 @@ PrefixAlone {X} P = (a b x y : List ℕ) (m n : X) → P a m → P b n → a ++ 
 each_no_prefix : {X : Type 0} (P : List ℕ → X → Type 0) → PrefixAlone P → (done xs : List X) (text after t2 more : List ℕ) → EncodesEach P text done →
     EncodesEach P t2 xs → length done < length xs → text ++ after ≡ t2 ++ more → NoPrefix P after → ⊥
 each_no_prefix P prefix_code [] [] text after t2 more p q l e none = absurd (omega (arith, l))
-each_no_prefix P prefix_code [] (v ∷ xs) text after t2 more p (first, behind, eb, pb, qb) l e none =
-    none first (behind ++ more) v pb (ap (λ z. z ++ after) (sym p) ∙ e ∙ ap (λ z. z ++ more) eb ∙ append_assoc first behind more)
+each_no_prefix P prefix_code [] (v ∷ xs) text after t2 more p (first, later, eb, pb, qb) l e none =
+    none first (later ++ more) v pb (ap (λ z. z ++ after) (sym p) ∙ e ∙ ap (λ z. z ++ more) eb ∙ append_assoc first later more)
 each_no_prefix P prefix_code (u ∷ done) [] text after t2 more p q l e none = absurd (omega (arith, l))
 each_no_prefix P prefix_code (u ∷ done) (v ∷ xs) text after t2 more (a1, a2, ea, pa, qa) (b1, b2, eb, pb, qb) l e none =
     let whole : a1 ++ (a2 ++ after) ≡ b1 ++ (b2 ++ more) = sym (append_assoc a1 a2 after) ∙ ap (λ z. z ++ after) (sym ea) ∙ e ∙ ap (λ z. z ++ more) eb ∙

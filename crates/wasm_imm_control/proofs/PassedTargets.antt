@@ -10,9 +10,9 @@ use Rattle.wasm_imm_control.specs.BranchTables.{HasTargets}
 use Rattle.wasm_imm_control.proofs.ListLemmas.{each_both}
 
 -- targets after targets
-pub targets_behind : (n m : ℕ) (bytes : List ℕ) (start middle behind : ℕ) → HasTargets n bytes start middle → HasTargets m bytes middle behind →
-    HasTargets (n + m) bytes start behind
-targets_behind n m bytes start middle behind a b =
+pub targets_after : (n m : ℕ) (bytes : List ℕ) (start middle after : ℕ) → HasTargets n bytes start middle → HasTargets m bytes middle after →
+    HasTargets (n + m) bytes start after
+targets_after n m bytes start middle after a b =
     record {
       text = a.text ++ b.text;
       targets = (
@@ -22,24 +22,24 @@ targets_behind n m bytes start middle behind a b =
           each_both (EncodesUnsigned 32) a.text b.text a.targets.0 b.targets.0 a.targets.1.1 b.targets.1.1,
         ),
       );
-      parts = a.parts ∙ ap (λ z. a.text ++ z) b.parts ∙ sym (append_assoc a.text b.text (drop behind bytes));
+      parts = a.parts ∙ ap (λ z. a.text ++ z) b.parts ∙ sym (append_assoc a.text b.text (drop after bytes));
       ends = omega (arith, a.ends, b.ends, length-append a.text b.text);
     }
 
 -- they lie in the bytes
-pub targets_within : (n : ℕ) (bytes : List ℕ) (start behind : ℕ) → start ≤ length bytes → HasTargets n bytes start behind → behind ≤ length bytes
-targets_within n bytes start behind le h =
-    let whole : length bytes - start ≡ length h.text + length (drop behind bytes) = sym (length-drop start bytes) ∙ ap length h.parts ∙
-    length-append h.text (drop behind bytes) in
+pub targets_within : (n : ℕ) (bytes : List ℕ) (start after : ℕ) → start ≤ length bytes → HasTargets n bytes start after → after ≤ length bytes
+targets_within n bytes start after le h =
+    let whole : length bytes - start ≡ length h.text + length (drop after bytes) = sym (length-drop start bytes) ∙ ap length h.parts ∙
+    length-append h.text (drop after bytes) in
     omega (arith, h.ends)
 
--- A number of at most `width` bits starts at position `start` and ends before position `behind`.
-pub record HasNumber (width : ℕ) (bytes : List ℕ) (start behind : ℕ) : Type 0 where
+-- A number of at most `width` bits starts at position `start` and ends before position `after`.
+pub record HasNumber (width : ℕ) (bytes : List ℕ) (start after : ℕ) : Type 0 where
   pub text : List ℕ
   pub value : ℕ
   pub encodes : EncodesUnsigned width text value
-  pub parts : drop start bytes ≡ text ++ drop behind bytes
-  pub ends : behind ≡ start + length text
+  pub parts : drop start bytes ≡ text ++ drop after bytes
+  pub ends : after ≡ start + length text
 
 byte_first : (bytes : List ℕ) (start : ℕ) → start < length bytes → drop start bytes ≡ get_or bytes start 0 ∷ drop (start + 1) bytes
 byte_first bytes start lt = drop-cons bytes start 0 lt ∙ ap (λ k. get_or bytes start 0 ∷ drop k bytes) (sym (add-one start))
@@ -62,9 +62,9 @@ byte_before width byte [] high wide more small p = absurd p
 byte_before width byte (c ∷ text) high wide more small p = (wide, more, small, high, omega arith, p)
 
 -- a continuation byte before it
-pub more_bytes : (width : ℕ) (bytes : List ℕ) (start next behind : ℕ) → 7 < width → start < length bytes → 128 ≤ get_or bytes start 0 →
-    get_or bytes start 0 < 256 → next ≡ start + 1 → HasNumber (width - 7) bytes next behind → HasNumber width bytes start behind
-more_bytes width bytes start next behind wide lt more small e h =
+pub more_bytes : (width : ℕ) (bytes : List ℕ) (start next after : ℕ) → 7 < width → start < length bytes → 128 ≤ get_or bytes start 0 →
+    get_or bytes start 0 < 256 → next ≡ start + 1 → HasNumber (width - 7) bytes next after → HasNumber width bytes start after
+more_bytes width bytes start next after wide lt more small e h =
     record {
       text = get_or bytes start 0 ∷ h.text;
       value = 128 * h.value + (get_or bytes start 0 - 128);
@@ -73,8 +73,8 @@ more_bytes width bytes start next behind wide lt more small e h =
       ends = omega (arith, e, h.ends);
     }
 
-pub is_target : (bytes : List ℕ) (start behind end : ℕ) → behind ≡ end → HasNumber 32 bytes start behind → HasTargets 1 bytes start end
-is_target bytes start behind end e h =
+pub is_target : (bytes : List ℕ) (start after end : ℕ) → after ≡ end → HasNumber 32 bytes start after → HasTargets 1 bytes start end
+is_target bytes start after end e h =
     subst (HasTargets 1 bytes start) e (record {
       text = h.text;
       targets = (h.value ∷ [], (refl, (h.text, [], sym (append-nil h.text), h.encodes, refl)));
@@ -96,4 +96,4 @@ short_more bytes start at bits le lt before small =
     let last : byte < 128 = omega (arith, le_or_r bits byte) in
     let count : at - start + 1 ≡ at + 1 - start = omega arith in
     subst (λ n. HasTargets n bytes start (at + 1)) count
-    (targets_behind (at - start) 1 bytes start at (at + 1) (before first) (is_target bytes at (at + 1) (at + 1) refl (short_byte 32 bytes at (omega arith) lt last)))
+    (targets_after (at - start) 1 bytes start at (at + 1) (before first) (is_target bytes at (at + 1) (at + 1) refl (short_byte 32 bytes at (omega arith) lt last)))

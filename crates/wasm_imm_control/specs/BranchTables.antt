@@ -14,12 +14,12 @@ pub record BranchTable : Type 0 where
 abbrev pub AreTargets : ℕ → List ℕ → Type 0
 AreTargets count bytes = (numbers : List ℕ) × EncodesMany (EncodesUnsigned 32) count bytes numbers
 
--- The bytes from position `start` up to position `behind` are `count` targets.
-pub record HasTargets (count : ℕ) (bytes : List ℕ) (start behind : ℕ) : Type 0 where
+-- The bytes from position `start` up to position `after` are `count` targets.
+pub record HasTargets (count : ℕ) (bytes : List ℕ) (start after : ℕ) : Type 0 where
   pub text : List ℕ
   pub targets : AreTargets count text
-  pub parts : drop start bytes ≡ text ++ drop behind bytes
-  pub ends : behind ≡ start + length text
+  pub parts : drop start bytes ≡ text ++ drop after bytes
+  pub ends : after ≡ start + length text
 
 -- The bytes are `count` targets, and `size` is their number of bytes.
 abbrev pub EncodesTargets : ℕ → List ℕ → ℕ → Type 0

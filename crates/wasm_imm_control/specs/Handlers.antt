@@ -29,7 +29,7 @@ EncodesCatchIndices text (clause.AllRef label) = EncodesUnsigned 32 text label
 -- A catch: its first byte and its indices. Control Instructions.
 --   catch ::= 0x00 x:tagidx l:labelidx | 0x01 x:tagidx l:labelidx | 0x02 l:labelidx | 0x03 l:labelidx
 abbrev pub EncodesCatch : List ℕ → Catch → Type 0
-EncodesCatch text c = (behind : List ℕ) × (text ≡ catch_byte c ∷ behind) × EncodesCatchIndices behind c
+EncodesCatch text c = (after : List ℕ) × (text ≡ catch_byte c ∷ after) × EncodesCatchIndices after c
 
 -- The first byte of a clause.
 abbrev pub handle_byte : Handle → ℕ
@@ -44,11 +44,11 @@ EncodesHandleIndices text (handle.OnSwitch tag) = EncodesUnsigned 32 text tag
 -- A clause: its first byte and its indices, a tag and a label or a tag alone. Proposal stack
 -- switching.
 abbrev pub EncodesHandle : List ℕ → Handle → Type 0
-EncodesHandle text h = (behind : List ℕ) × (text ≡ handle_byte h ∷ behind) × EncodesHandleIndices behind h
+EncodesHandle text h = (after : List ℕ) × (text ≡ handle_byte h ∷ after) × EncodesHandleIndices after h
 
 -- The rest of a catch, and the rest of a clause, after this first byte.
-abbrev pub IsCatchBehind : ℕ → List ℕ → Catch → Type 0
-IsCatchBehind byte text c = (byte ≡ catch_byte c) × EncodesCatchIndices text c
+abbrev pub IsCatchAfterByte : ℕ → List ℕ → Catch → Type 0
+IsCatchAfterByte byte text c = (byte ≡ catch_byte c) × EncodesCatchIndices text c
 
-abbrev pub IsHandleBehind : ℕ → List ℕ → Handle → Type 0
-IsHandleBehind byte text h = (byte ≡ handle_byte h) × EncodesHandleIndices text h
+abbrev pub IsHandleAfterByte : ℕ → List ℕ → Handle → Type 0
+IsHandleAfterByte byte text h = (byte ≡ handle_byte h) × EncodesHandleIndices text h

@@ -69,9 +69,9 @@ fn read_by_copy(reader: &mut BinaryReader<'_>) -> Result<BlockType>
     ensures fault { IfErr result (λ e. BlockTypeFault e.message reader.old e.offset) }
 {
     let mut lent = reader.clone();
-    let answer = read_other(&mut lent);
+    let outcome = read_other(&mut lent);
     reader.set_position(lent.current_position());
-    answer
+    outcome
 }
 
 /// Reads a block type of any form.
@@ -105,9 +105,9 @@ fn read_function_type(reader: &mut BinaryReader<'_>) -> Result<BlockType>
     let start = reader.current_position();
     let index = reader.read_var_s33()?;
     if index < 0 {
-        let behind = reader.original_position();
+        let after = reader.original_position();
         reader.rewind(start);
-        return Err(Error::new(Message::InvalidFunctionType, behind));
+        return Err(Error::new(Message::InvalidFunctionType, after));
     }
     Ok(BlockType::FuncType(index as u32))
 }

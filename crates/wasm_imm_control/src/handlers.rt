@@ -2,7 +2,7 @@
 ghost use Rattle.std.specs.Prelude.{◌<◌, ◌≤◌, ◌≡◌, false, IfErr};
 ghost use Rattle.wasm_below.specs.Source.{Reads};
 ghost use Rattle.wasm_imm_control.specs.HandlerFaults.{PairFault, IndicesFault, CatchFault, HandleFault};
-ghost use Rattle.wasm_imm_control.specs.Handlers.{EncodesPair, EncodesCatch, EncodesHandle, IsCatchBehind, IsHandleBehind};
+ghost use Rattle.wasm_imm_control.specs.Handlers.{EncodesPair, EncodesCatch, EncodesHandle, IsCatchAfterByte, IsHandleAfterByte};
 
 use std::alloc::Global;
 use wasm_below::{
@@ -44,7 +44,7 @@ impl Catch {
                 Message::InvalidLeadingByte(byte, LeadingByteName::Catch),
             ));
         }
-        match Catch::read_behind(reader, byte) {
+        match Catch::read_after_byte(reader, byte) {
             Ok(catch) => Ok(catch),
             Err(e) => {
                 reader.rewind(start);
@@ -55,9 +55,9 @@ impl Catch {
 
     /// Reads the rest of a catch whose first byte is `byte`.
     #[inline(always)]
-    fn read_behind(reader: &mut BinaryReader<'_>, byte: u8) -> Result<Catch>
+    fn read_after_byte(reader: &mut BinaryReader<'_>, byte: u8) -> Result<Catch>
         requires { byte ≤ 3 }
-        ensures reads { Reads (IsCatchBehind byte) result reader.old reader.new }
+        ensures reads { Reads (IsCatchAfterByte byte) result reader.old reader.new }
         ensures fault { IfErr result (λ e. IndicesFault 1 byte e.message reader.old e.offset) }
     {
         if byte <= 1 {
@@ -129,7 +129,7 @@ impl Handle {
                 Message::InvalidLeadingByte(byte, LeadingByteName::OnClause),
             ));
         }
-        match Handle::read_behind(reader, byte) {
+        match Handle::read_after_byte(reader, byte) {
             Ok(handle) => Ok(handle),
             Err(e) => {
                 reader.rewind(start);
@@ -140,9 +140,9 @@ impl Handle {
 
     /// Reads the rest of a clause whose first byte is `byte`.
     #[inline(always)]
-    fn read_behind(reader: &mut BinaryReader<'_>, byte: u8) -> Result<Handle>
+    fn read_after_byte(reader: &mut BinaryReader<'_>, byte: u8) -> Result<Handle>
         requires { byte ≤ 1 }
-        ensures reads { Reads (IsHandleBehind byte) result reader.old reader.new }
+        ensures reads { Reads (IsHandleAfterByte byte) result reader.old reader.new }
         ensures fault { IfErr result (λ e. IndicesFault 0 byte e.message reader.old e.offset) }
     {
         if byte == 0 {

@@ -78,7 +78,7 @@ pub fn read_members<'a, T: FromReader<'a>>(
 pub fn refuse_from(reader: &mut BinaryReader<'_>, position: usize, e: Error) -> Error
     requires { position ≤ reader.old.position }
     ensures back { reader.new ≡ at_position reader.old position }
-    ensures told { IsRefusedFrom (reader.old.start + position) e result }
+    ensures reported { IsRefusedFrom (reader.old.start + position) e result }
 {
     reader.rewind(position);
     match e.message {

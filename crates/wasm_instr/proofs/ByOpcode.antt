@@ -6,7 +6,7 @@ use Rattle.wasm_instr_ops.specs.imm.control.select.Select.TheVariants as select
 use Rattle.wasm_instr.specs.declared.operator.Operator.{Operator}
 use Rattle.wasm_instr.specs.declared.operator.Operator.TheVariants as operator
 use Rattle.wasm_instr_ops.specs.imm.Immediate.{Immediate}
-use Rattle.wasm_instr_ops.proofs.of_imm.Values.{behind, number_in, integer_in, argument_in, heap_type_in, block_type_in, branch_table_in, select_in, try_table_in, resume_table_in}
+use Rattle.wasm_instr_ops.proofs.of_imm.Values.{tail_of, number_in, integer_in, argument_in, heap_type_in, block_type_in, branch_table_in, select_in, try_table_in, resume_table_in}
 
 abbrev select_at : Select → Operator
 select_at (select.One ty) = operator.TypedSelect ty
@@ -31,9 +31,9 @@ makers =
     (λ is. operator.BrTable (branch_table_in is)) ∷
     (λ is. operator.Return) ∷
     (λ is. operator.Call (number_in is)) ∷
-    (λ is. operator.CallIndirect (number_in is) (number_in (behind is))) ∷
+    (λ is. operator.CallIndirect (number_in is) (number_in (tail_of is))) ∷
     (λ is. operator.ReturnCall (number_in is)) ∷
-    (λ is. operator.ReturnCallIndirect (number_in is) (number_in (behind is))) ∷
+    (λ is. operator.ReturnCallIndirect (number_in is) (number_in (tail_of is))) ∷
     (λ is. operator.CallRef (number_in is)) ∷
     (λ is. operator.ReturnCallRef (number_in is)) ∷
     (λ is. operator.Nop) ∷
@@ -239,12 +239,12 @@ makers =
     (λ is. operator.Nop) ∷
     (λ is. operator.Nop) ∷
     (λ is. operator.ContNew (number_in is)) ∷
-    (λ is. operator.ContBind (number_in is) (number_in (behind is))) ∷
+    (λ is. operator.ContBind (number_in is) (number_in (tail_of is))) ∷
     (λ is. operator.Suspend (number_in is)) ∷
-    (λ is. operator.Resume (number_in is) (resume_table_in (behind is))) ∷
-    (λ is. operator.ResumeThrow (number_in is) (number_in (behind is)) (resume_table_in (behind (behind is)))) ∷
-    (λ is. operator.ResumeThrowRef (number_in is) (resume_table_in (behind is))) ∷
-    (λ is. operator.Switch (number_in is) (number_in (behind is))) ∷
+    (λ is. operator.Resume (number_in is) (resume_table_in (tail_of is))) ∷
+    (λ is. operator.ResumeThrow (number_in is) (number_in (tail_of is)) (resume_table_in (tail_of (tail_of is)))) ∷
+    (λ is. operator.ResumeThrowRef (number_in is) (resume_table_in (tail_of is))) ∷
+    (λ is. operator.Switch (number_in is) (number_in (tail_of is))) ∷
     []
 
 -- The operator with this opcode, which is not numeric, and these immediates.

@@ -51,15 +51,15 @@ kinds_by_opcode (operator.Atomic op) = atomic_kinds op
 kinds_by_opcode op = refl
 
 -- No opcode of an operator of one byte is a prefix byte.
-abbrev IsTold : Option ℕ → ℕ → Type 0
-IsTold None code = ltb code 0xfb ≡ true
-IsTold (Some prefix) code = ltb prefix 0xfb ≡ false
+abbrev IsInRange : Option ℕ → ℕ → Type 0
+IsInRange None code = ltb code 0xfb ≡ true
+IsInRange (Some prefix) code = ltb prefix 0xfb ≡ false
 
-told : (op : Operator) → IsTold (prefix_of op) (opcode_of op)
-told (operator.Numeric op) = numeric_short op
-told op = refl
+in_range : (op : Operator) → IsInRange (prefix_of op) (opcode_of op)
+in_range (operator.Numeric op) = numeric_short op
+in_range op = refl
 
-opcode_prefix_code : (p q : Option ℕ) (c d : ℕ) (a b x y : List ℕ) → IsTold p c → IsTold q d → EncodesOpcode p c a → EncodesOpcode q d b → a ++ x ≡ b ++ y →
+opcode_prefix_code : (p q : Option ℕ) (c d : ℕ) (a b x y : List ℕ) → IsInRange p c → IsInRange q d → EncodesOpcode p c a → EncodesOpcode q d b → a ++ x ≡ b ++ y →
     (p ≡ q) × (c ≡ d) × (a ≡ b)
 opcode_prefix_code None None c d a b x y s t h k e =
     let whole : c ∷ x ≡ d ∷ y = ap (λ z. z ++ x) (sym h) ∙ e ∙ ap (λ z. z ++ y) k in
@@ -82,14 +82,14 @@ opcode_prefix_code (Some p) (Some q) c d a b x y s t (number, h, u) (other, k, v
 pub operator_prefix_code : (f : WasmFeatures) (op po : Operator) (a b x y : List ℕ) → EncodesOperator f op a → EncodesOperator f po b → a ++ x ≡ b ++ y →
     (op ≡ po) × (a ≡ b)
 operator_prefix_code f op po a b x y p q e =
-    let whole : p.head ++ (p.behind ++ x) ≡ q.head ++ (q.behind ++ y) = sym (append_assoc p.head p.behind x) ∙ ap (λ z. z ++ x) (sym p.parts) ∙ e ∙
-    ap (λ z. z ++ y) q.parts ∙ append_assoc q.head q.behind y in
-    let h = opcode_prefix_code (prefix_of op) (prefix_of po) (opcode_of op) (opcode_of po) p.head q.head (p.behind ++ x) (q.behind ++ y) (told op) (told po)
+    let whole : p.head ++ (p.after ++ x) ≡ q.head ++ (q.after ++ y) = sym (append_assoc p.head p.after x) ∙ ap (λ z. z ++ x) (sym p.parts) ∙ e ∙
+    ap (λ z. z ++ y) q.parts ∙ append_assoc q.head q.after y in
+    let h = opcode_prefix_code (prefix_of op) (prefix_of po) (opcode_of op) (opcode_of po) p.head q.head (p.after ++ x) (q.after ++ y) (in_range op) (in_range po)
     p.code q.code whole in
     let kinds : map kind_of (immediates_of op) ≡ map kind_of (immediates_of po) = kinds_by_opcode op ∙ ap (λ z. kinds_at z (opcode_of op)) h.0 ∙
     ap (kinds_at (prefix_of po)) h.1 ∙ sym (kinds_by_opcode po) in
-    let is = immediates_prefix_code f (immediates_of op) (immediates_of po) p.behind q.behind x y kinds p.immediates q.immediates
-    (same_rest p.head q.head (p.behind ++ x) (q.behind ++ y) h.2 whole) in
+    let is = immediates_prefix_code f (immediates_of op) (immediates_of po) p.after q.after x y kinds p.immediates q.immediates
+    (same_rest p.head q.head (p.after ++ x) (q.after ++ y) h.2 whole) in
     let same : op ≡ po = sym (again op) ∙ ap (λ z. operator_at z (opcode_of op) (immediates_of op)) h.0 ∙
     ap (λ z. operator_at (prefix_of po) z (immediates_of op)) h.1 ∙ ap (operator_at (prefix_of po) (opcode_of po)) is.0 ∙ again po in
     (same, p.parts ∙ cc (h.2, is.1) ∙ sym q.parts)

@@ -46,9 +46,9 @@ shared op po p c = go (is_select op) refl
     same : operator_at (prefix_of op) (opcode_of op) [] ≡ operator_at (prefix_of po) (opcode_of po) []
     same = ap (λ z. operator_at z (opcode_of op) []) p ∙ ap (λ z. operator_at (prefix_of po) z []) c
 
-    alike : is_select po ≡ is_select op
-    alike = select_by_opcode po ∙ ap is_select (sym same) ∙ sym (select_by_opcode op)
+    agree : is_select po ≡ is_select op
+    agree = select_by_opcode po ∙ ap is_select (sym same) ∙ sym (select_by_opcode op)
 
     go : (s : Bool) → is_select op ≡ s → (name_of op ≡ name_of po) ⊎ (IsTypedSelect op × IsTypedSelect po)
-    go true e = inr (typed op e, typed po (alike ∙ e))
-    go false e = inl (named op e ∙ ap name_of same ∙ sym (named po (alike ∙ e)))
+    go true e = inr (typed op e, typed po (agree ∙ e))
+    go false e = inl (named op e ∙ ap name_of same ∙ sym (named po (agree ∙ e)))

@@ -24,8 +24,8 @@ IsEnabled f _ = Unit {0}
 -- Under these features the bytes encode the operator: its opcode, followed by its immediates in order.
 pub record EncodesOperator (f : WasmFeatures) (op : Operator) (bytes : List ℕ) : Type 0 where
   pub head : List ℕ
-  pub behind : List ℕ
-  pub parts : bytes ≡ head ++ behind
+  pub after : List ℕ
+  pub parts : bytes ≡ head ++ after
   pub code : EncodesOpcode (prefix_of op) (opcode_of op) head
-  pub immediates : EncodesImmediates f (immediates_of op) behind
+  pub immediates : EncodesImmediates f (immediates_of op) after
   pub enabled : IsEnabled f op

@@ -2,7 +2,7 @@ pub mod Row
 pub mod Roles
 pub mod Kinds
 pub mod Encoding
-pub mod Answers
+pub mod ModuleFacts
 pub mod FixedArity
 pub mod Arity
 pub use Rattle.wasm_instr_ops.specs.imm.Immediate

@@ -14,44 +14,44 @@ use wasm_instr_ops::imm::BlockType;
 /// A pair is the numbers of parameters and results.
 pub trait ModuleArity {
     ghost use Rattle.std.specs.Prelude.{◌≡◌};
-    ghost use Rattle.wasm_instr.specs.Answers.{Answers};
+    ghost use Rattle.wasm_instr.specs.ModuleFacts.{ModuleFacts};
 
     /// The results of all methods.
-    ghost answers: { Self → Answers };
+    ghost facts: { Self → ModuleFacts };
 
     /// Returns the numbers of parameters and results of the function type with this index.
     fn func_type_arity(&self, type_index: u32) -> Option<(u32, u32)>
-        ensures { result ≡ (answers self.now).func_type_arity type_index };
+        ensures { result ≡ (facts self.now).func_type_arity type_index };
 
     /// Returns the number of fields of the structure type with this index.
     fn struct_type_fields(&self, type_index: u32) -> Option<u32>
-        ensures { result ≡ (answers self.now).struct_type_fields type_index };
+        ensures { result ≡ (facts self.now).struct_type_fields type_index };
 
     /// Returns the index of the function type of the continuation type with this index.
     fn cont_type_func(&self, type_index: u32) -> Option<u32>
-        ensures { result ≡ (answers self.now).cont_type_func type_index };
+        ensures { result ≡ (facts self.now).cont_type_func type_index };
 
     /// Returns the index of the continuation type that is the last parameter of the function type
     /// with this index.
     fn cont_type_of_last_param(&self, type_index: u32) -> Option<u32>
-        ensures { result ≡ (answers self.now).cont_type_of_last_param type_index };
+        ensures { result ≡ (facts self.now).cont_type_of_last_param type_index };
 
     /// Returns the numbers of parameters and results of the tag with this index.
     fn tag_type_arity(&self, tag_index: u32) -> Option<(u32, u32)>
-        ensures { result ≡ (answers self.now).tag_type_arity tag_index };
+        ensures { result ≡ (facts self.now).tag_type_arity tag_index };
 
     /// Returns the type index of the function with this index.
     fn type_index_of_function(&self, function_index: u32) -> Option<u32>
-        ensures { result ≡ (answers self.now).type_index_of_function function_index };
+        ensures { result ≡ (facts self.now).type_index_of_function function_index };
 
     /// Returns the number of open frames.
     fn control_stack_height(&self) -> u32
-        ensures { result ≡ (answers self.now).control_stack_height };
+        ensures { result ≡ (facts self.now).control_stack_height };
 
     /// Returns the block type and the kind of the frame at this depth. The innermost frame has
     /// depth 0.
     fn label_block(&self, depth: u32) -> Option<(BlockType, FrameKind)>
-        ensures { result ≡ (answers self.now).label_block depth };
+        ensures { result ≡ (facts self.now).label_block depth };
 }
 
 impl<'a> Operator<'a> {
@@ -60,7 +60,7 @@ impl<'a> Operator<'a> {
     /// Returns `None` if a method of the module that is needed returns `None`. Returns `None` if a
     /// number is above 4294967295 or would be below 0.
     pub fn operator_arity<M: ModuleArity>(&self, context: &M) -> Option<(u32, u32)>
-        ensures { result ≡ arity_of (M.answers context.now) self.now }
+        ensures { result ≡ arity_of (M.facts context.now) self.now }
     {
         match self {
             Operator::Block { blockty } | Operator::Loop { blockty } | Operator::Try { blockty } =>
@@ -154,7 +154,7 @@ fn going(arity: Option<(u32, u32)>) -> Option<(u32, u32)>
 
 /// Returns the numbers of parameters and results of a block type.
 fn block_arity<M: ModuleArity>(context: &M, ty: BlockType) -> Option<(u32, u32)>
-    ensures { result ≡ arity_of_block (M.answers context.now) ty }
+    ensures { result ≡ arity_of_block (M.facts context.now) ty }
 {
     match ty {
         BlockType::Empty => Some((0, 0)),
@@ -165,7 +165,7 @@ fn block_arity<M: ModuleArity>(context: &M, ty: BlockType) -> Option<(u32, u32)>
 
 /// Returns the numbers of parameters and results of the block of a frame.
 fn frame_arity<M: ModuleArity>(context: &M, depth: u32) -> Option<(u32, u32)>
-    ensures { result ≡ arity_of_frame (M.answers context.now) depth }
+    ensures { result ≡ arity_of_frame (M.facts context.now) depth }
 {
     match context.label_block(depth) {
         Some((ty, _)) => block_arity(context, ty),
@@ -175,7 +175,7 @@ fn frame_arity<M: ModuleArity>(context: &M, depth: u32) -> Option<(u32, u32)>
 
 /// Returns the number of values that a branch to this depth carries.
 fn label_arity<M: ModuleArity>(context: &M, depth: u32) -> Option<u32>
-    ensures { result ≡ arity_of_label (M.answers context.now) depth }
+    ensures { result ≡ arity_of_label (M.facts context.now) depth }
 {
     match context.label_block(depth) {
         Some((ty, kind)) => match block_arity(context, ty) {
@@ -192,7 +192,7 @@ fn label_arity<M: ModuleArity>(context: &M, depth: u32) -> Option<u32>
 
 /// Returns the numbers of parameters and results of a function.
 fn function_arity<M: ModuleArity>(context: &M, index: u32) -> Option<(u32, u32)>
-    ensures { result ≡ arity_of_function (M.answers context.now) index }
+    ensures { result ≡ arity_of_function (M.facts context.now) index }
 {
     match context.type_index_of_function(index) {
         Some(ty) => context.func_type_arity(ty),
@@ -202,7 +202,7 @@ fn function_arity<M: ModuleArity>(context: &M, index: u32) -> Option<(u32, u32)>
 
 /// Returns the numbers of parameters and results of the function type of a continuation type.
 fn continuation_arity<M: ModuleArity>(context: &M, index: u32) -> Option<(u32, u32)>
-    ensures { result ≡ arity_of_continuation (M.answers context.now) index }
+    ensures { result ≡ arity_of_continuation (M.facts context.now) index }
 {
     match context.cont_type_func(index) {
         Some(ty) => context.func_type_arity(ty),
@@ -212,7 +212,7 @@ fn continuation_arity<M: ModuleArity>(context: &M, index: u32) -> Option<(u32, u
 
 /// Returns the arity of `block`, `loop`, `try` and `try_table`.
 fn entry_arity<M: ModuleArity>(context: &M, ty: BlockType) -> Option<(u32, u32)>
-    ensures { result ≡ arity_of_entry (M.answers context.now) ty }
+    ensures { result ≡ arity_of_entry (M.facts context.now) ty }
 {
     match block_arity(context, ty) {
         Some((parameters, _)) => Some((parameters, parameters)),
@@ -221,13 +221,13 @@ fn entry_arity<M: ModuleArity>(context: &M, ty: BlockType) -> Option<(u32, u32)>
 }
 
 fn if_arity<M: ModuleArity>(context: &M, ty: BlockType) -> Option<(u32, u32)>
-    ensures { result ≡ arity_of_if (M.answers context.now) ty }
+    ensures { result ≡ arity_of_if (M.facts context.now) ty }
 {
     one_more(entry_arity(context, ty))
 }
 
 fn else_arity<M: ModuleArity>(context: &M) -> Option<(u32, u32)>
-    ensures { result ≡ arity_of_else (M.answers context.now) }
+    ensures { result ≡ arity_of_else (M.facts context.now) }
 {
     match frame_arity(context, 0) {
         Some((parameters, results)) => Some((results, parameters)),
@@ -236,7 +236,7 @@ fn else_arity<M: ModuleArity>(context: &M) -> Option<(u32, u32)>
 }
 
 fn catch_arity<M: ModuleArity>(context: &M, tag: u32) -> Option<(u32, u32)>
-    ensures { result ≡ arity_of_catch (M.answers context.now) tag }
+    ensures { result ≡ arity_of_catch (M.facts context.now) tag }
 {
     match frame_arity(context, 0) {
         Some((_, results)) => match context.tag_type_arity(tag) {
@@ -248,7 +248,7 @@ fn catch_arity<M: ModuleArity>(context: &M, tag: u32) -> Option<(u32, u32)>
 }
 
 fn catch_all_arity<M: ModuleArity>(context: &M) -> Option<(u32, u32)>
-    ensures { result ≡ arity_of_catch_all (M.answers context.now) }
+    ensures { result ≡ arity_of_catch_all (M.facts context.now) }
 {
     match frame_arity(context, 0) {
         Some((_, results)) => Some((results, 0)),
@@ -258,7 +258,7 @@ fn catch_all_arity<M: ModuleArity>(context: &M) -> Option<(u32, u32)>
 
 /// Returns the arity of `end` and `delegate`.
 fn end_arity<M: ModuleArity>(context: &M) -> Option<(u32, u32)>
-    ensures { result ≡ arity_of_end (M.answers context.now) }
+    ensures { result ≡ arity_of_end (M.facts context.now) }
 {
     match frame_arity(context, 0) {
         Some((_, results)) => Some((results, results)),
@@ -267,7 +267,7 @@ fn end_arity<M: ModuleArity>(context: &M) -> Option<(u32, u32)>
 }
 
 fn return_arity<M: ModuleArity>(context: &M) -> Option<(u32, u32)>
-    ensures { result ≡ arity_of_return (M.answers context.now) }
+    ensures { result ≡ arity_of_return (M.facts context.now) }
 {
     let height = context.control_stack_height();
     if height == 0 {
@@ -281,7 +281,7 @@ fn return_arity<M: ModuleArity>(context: &M) -> Option<(u32, u32)>
 
 /// Returns the arity of a branch that may fall through.
 fn branch_arity<M: ModuleArity>(context: &M, depth: u32) -> Option<(u32, u32)>
-    ensures { result ≡ arity_of_branch (M.answers context.now) depth }
+    ensures { result ≡ arity_of_branch (M.facts context.now) depth }
 {
     match label_arity(context, depth) {
         Some(carries) => Some((carries, carries)),
@@ -291,13 +291,13 @@ fn branch_arity<M: ModuleArity>(context: &M, depth: u32) -> Option<(u32, u32)>
 
 /// Returns the arity of a branch with a condition.
 fn branch_if_arity<M: ModuleArity>(context: &M, depth: u32) -> Option<(u32, u32)>
-    ensures { result ≡ arity_of_branch_if (M.answers context.now) depth }
+    ensures { result ≡ arity_of_branch_if (M.facts context.now) depth }
 {
     one_more(branch_arity(context, depth))
 }
 
 fn branch_on_null_arity<M: ModuleArity>(context: &M, depth: u32) -> Option<(u32, u32)>
-    ensures { result ≡ arity_of_branch_on_null (M.answers context.now) depth }
+    ensures { result ≡ arity_of_branch_on_null (M.facts context.now) depth }
 {
     match label_arity(context, depth) {
         Some(carries) => match sum(carries, 1) {
@@ -309,7 +309,7 @@ fn branch_on_null_arity<M: ModuleArity>(context: &M, depth: u32) -> Option<(u32,
 }
 
 fn branch_on_non_null_arity<M: ModuleArity>(context: &M, depth: u32) -> Option<(u32, u32)>
-    ensures { result ≡ arity_of_branch_on_non_null (M.answers context.now) depth }
+    ensures { result ≡ arity_of_branch_on_non_null (M.facts context.now) depth }
 {
     match label_arity(context, depth) {
         Some(0) => None,
@@ -320,7 +320,7 @@ fn branch_on_non_null_arity<M: ModuleArity>(context: &M, depth: u32) -> Option<(
 
 /// Returns the arity of a call through a table or a reference.
 fn type_call_arity<M: ModuleArity>(context: &M, index: u32) -> Option<(u32, u32)>
-    ensures { result ≡ arity_of_type_call (M.answers context.now) index }
+    ensures { result ≡ arity_of_type_call (M.facts context.now) index }
 {
     one_more(context.func_type_arity(index))
 }
@@ -352,7 +352,7 @@ fn bound(parameters: u32, later: u32) -> Option<(u32, u32)>
 }
 
 fn bind_arity<M: ModuleArity>(context: &M, from: u32, to: u32) -> Option<(u32, u32)>
-    ensures { result ≡ arity_of_bind (M.answers context.now) from to }
+    ensures { result ≡ arity_of_bind (M.facts context.now) from to }
 {
     match continuation_arity(context, from) {
         Some((parameters, _)) => match continuation_arity(context, to) {
@@ -364,13 +364,13 @@ fn bind_arity<M: ModuleArity>(context: &M, from: u32, to: u32) -> Option<(u32, u
 }
 
 fn resume_arity<M: ModuleArity>(context: &M, index: u32) -> Option<(u32, u32)>
-    ensures { result ≡ arity_of_resume (M.answers context.now) index }
+    ensures { result ≡ arity_of_resume (M.facts context.now) index }
 {
     one_more(continuation_arity(context, index))
 }
 
 fn resume_throw_arity<M: ModuleArity>(context: &M, index: u32, tag: u32) -> Option<(u32, u32)>
-    ensures { result ≡ arity_of_resume_throw (M.answers context.now) index tag }
+    ensures { result ≡ arity_of_resume_throw (M.facts context.now) index tag }
 {
     match context.tag_type_arity(tag) {
         Some((parameters, _)) => match continuation_arity(context, index) {
@@ -382,7 +382,7 @@ fn resume_throw_arity<M: ModuleArity>(context: &M, index: u32, tag: u32) -> Opti
 }
 
 fn resume_throw_ref_arity<M: ModuleArity>(context: &M, index: u32) -> Option<(u32, u32)>
-    ensures { result ≡ arity_of_resume_throw_ref (M.answers context.now) index }
+    ensures { result ≡ arity_of_resume_throw_ref (M.facts context.now) index }
 {
     match continuation_arity(context, index) {
         Some((_, results)) => Some((2, results)),
@@ -392,7 +392,7 @@ fn resume_throw_ref_arity<M: ModuleArity>(context: &M, index: u32) -> Option<(u3
 
 /// Returns the numbers of parameters and results of the continuation that a `switch` resumes.
 fn switched_arity<M: ModuleArity>(context: &M, index: u32) -> Option<(u32, u32)>
-    ensures { result ≡ arity_of_switched (M.answers context.now) index }
+    ensures { result ≡ arity_of_switched (M.facts context.now) index }
 {
     match context.cont_type_func(index) {
         Some(ty) => match context.cont_type_of_last_param(ty) {
@@ -404,7 +404,7 @@ fn switched_arity<M: ModuleArity>(context: &M, index: u32) -> Option<(u32, u32)>
 }
 
 fn switch_arity<M: ModuleArity>(context: &M, index: u32) -> Option<(u32, u32)>
-    ensures { result ≡ arity_of_switch (M.answers context.now) index }
+    ensures { result ≡ arity_of_switch (M.facts context.now) index }
 {
     match continuation_arity(context, index) {
         Some((parameters, _)) => match switched_arity(context, index) {
@@ -416,7 +416,7 @@ fn switch_arity<M: ModuleArity>(context: &M, index: u32) -> Option<(u32, u32)>
 }
 
 fn struct_arity<M: ModuleArity>(context: &M, index: u32) -> Option<(u32, u32)>
-    ensures { result ≡ arity_of_struct (M.answers context.now) index }
+    ensures { result ≡ arity_of_struct (M.facts context.now) index }
 {
     match context.struct_type_fields(index) {
         Some(fields) => Some((fields, 1)),
@@ -426,7 +426,7 @@ fn struct_arity<M: ModuleArity>(context: &M, index: u32) -> Option<(u32, u32)>
 
 /// Returns the arity of an operator with the prefix byte 0xfb.
 fn gc_arity<M: ModuleArity>(context: &M, op: &GcOperator) -> Option<(u32, u32)>
-    ensures { result ≡ gc_arity_of (M.answers context.now) op.now }
+    ensures { result ≡ gc_arity_of (M.facts context.now) op.now }
 {
     match op {
         GcOperator::StructNew { struct_type_index } => struct_arity(context, *struct_type_index),

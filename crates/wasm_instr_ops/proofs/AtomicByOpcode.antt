@@ -9,7 +9,7 @@ use Rattle.wasm_instr_ops.specs.declared.atomic.AtomicFields.{AtomicFields}
 use Rattle.wasm_instr_ops.specs.declared.atomic.AtomicFields.TheVariants as fields
 use Rattle.wasm_instr_ops.specs.Atomic.{atomic_name, atomic_subopcode, atomic_immediates, atomic_fields}
 use Rattle.wasm_imm.specs.Immediate.{Immediate, kind_of, unsigned_32, memory_argument, order, fence_order}
-use Rattle.wasm_imm.proofs.Values.{behind, number_in, argument_in, order_in}
+use Rattle.wasm_imm.proofs.Values.{tail_of, number_in, argument_in, order_in}
 
 abbrev makers : List (List Immediate → AtomicOperator)
 makers =
@@ -92,41 +92,41 @@ makers =
     (λ is. atomic.I64AtomicRmw8CmpxchgU (argument_in is)) ∷
     (λ is. atomic.I64AtomicRmw16CmpxchgU (argument_in is)) ∷
     (λ is. atomic.I64AtomicRmw32CmpxchgU (argument_in is)) ∷
-    (λ is. atomic.GlobalAtomicGet (order_in is) (number_in (behind is))) ∷
-    (λ is. atomic.GlobalAtomicSet (order_in is) (number_in (behind is))) ∷
-    (λ is. atomic.GlobalAtomicRmwAdd (order_in is) (number_in (behind is))) ∷
-    (λ is. atomic.GlobalAtomicRmwSub (order_in is) (number_in (behind is))) ∷
-    (λ is. atomic.GlobalAtomicRmwAnd (order_in is) (number_in (behind is))) ∷
-    (λ is. atomic.GlobalAtomicRmwOr (order_in is) (number_in (behind is))) ∷
-    (λ is. atomic.GlobalAtomicRmwXor (order_in is) (number_in (behind is))) ∷
-    (λ is. atomic.GlobalAtomicRmwXchg (order_in is) (number_in (behind is))) ∷
-    (λ is. atomic.GlobalAtomicRmwCmpxchg (order_in is) (number_in (behind is))) ∷
-    (λ is. atomic.TableAtomicGet (order_in is) (number_in (behind is))) ∷
-    (λ is. atomic.TableAtomicSet (order_in is) (number_in (behind is))) ∷
-    (λ is. atomic.TableAtomicRmwXchg (order_in is) (number_in (behind is))) ∷
-    (λ is. atomic.TableAtomicRmwCmpxchg (order_in is) (number_in (behind is))) ∷
-    (λ is. atomic.StructAtomicGet (order_in is) (number_in (behind is)) (number_in (behind (behind is)))) ∷
-    (λ is. atomic.StructAtomicGetS (order_in is) (number_in (behind is)) (number_in (behind (behind is)))) ∷
-    (λ is. atomic.StructAtomicGetU (order_in is) (number_in (behind is)) (number_in (behind (behind is)))) ∷
-    (λ is. atomic.StructAtomicSet (order_in is) (number_in (behind is)) (number_in (behind (behind is)))) ∷
-    (λ is. atomic.StructAtomicRmwAdd (order_in is) (number_in (behind is)) (number_in (behind (behind is)))) ∷
-    (λ is. atomic.StructAtomicRmwSub (order_in is) (number_in (behind is)) (number_in (behind (behind is)))) ∷
-    (λ is. atomic.StructAtomicRmwAnd (order_in is) (number_in (behind is)) (number_in (behind (behind is)))) ∷
-    (λ is. atomic.StructAtomicRmwOr (order_in is) (number_in (behind is)) (number_in (behind (behind is)))) ∷
-    (λ is. atomic.StructAtomicRmwXor (order_in is) (number_in (behind is)) (number_in (behind (behind is)))) ∷
-    (λ is. atomic.StructAtomicRmwXchg (order_in is) (number_in (behind is)) (number_in (behind (behind is)))) ∷
-    (λ is. atomic.StructAtomicRmwCmpxchg (order_in is) (number_in (behind is)) (number_in (behind (behind is)))) ∷
-    (λ is. atomic.ArrayAtomicGet (order_in is) (number_in (behind is))) ∷
-    (λ is. atomic.ArrayAtomicGetS (order_in is) (number_in (behind is))) ∷
-    (λ is. atomic.ArrayAtomicGetU (order_in is) (number_in (behind is))) ∷
-    (λ is. atomic.ArrayAtomicSet (order_in is) (number_in (behind is))) ∷
-    (λ is. atomic.ArrayAtomicRmwAdd (order_in is) (number_in (behind is))) ∷
-    (λ is. atomic.ArrayAtomicRmwSub (order_in is) (number_in (behind is))) ∷
-    (λ is. atomic.ArrayAtomicRmwAnd (order_in is) (number_in (behind is))) ∷
-    (λ is. atomic.ArrayAtomicRmwOr (order_in is) (number_in (behind is))) ∷
-    (λ is. atomic.ArrayAtomicRmwXor (order_in is) (number_in (behind is))) ∷
-    (λ is. atomic.ArrayAtomicRmwXchg (order_in is) (number_in (behind is))) ∷
-    (λ is. atomic.ArrayAtomicRmwCmpxchg (order_in is) (number_in (behind is))) ∷
+    (λ is. atomic.GlobalAtomicGet (order_in is) (number_in (tail_of is))) ∷
+    (λ is. atomic.GlobalAtomicSet (order_in is) (number_in (tail_of is))) ∷
+    (λ is. atomic.GlobalAtomicRmwAdd (order_in is) (number_in (tail_of is))) ∷
+    (λ is. atomic.GlobalAtomicRmwSub (order_in is) (number_in (tail_of is))) ∷
+    (λ is. atomic.GlobalAtomicRmwAnd (order_in is) (number_in (tail_of is))) ∷
+    (λ is. atomic.GlobalAtomicRmwOr (order_in is) (number_in (tail_of is))) ∷
+    (λ is. atomic.GlobalAtomicRmwXor (order_in is) (number_in (tail_of is))) ∷
+    (λ is. atomic.GlobalAtomicRmwXchg (order_in is) (number_in (tail_of is))) ∷
+    (λ is. atomic.GlobalAtomicRmwCmpxchg (order_in is) (number_in (tail_of is))) ∷
+    (λ is. atomic.TableAtomicGet (order_in is) (number_in (tail_of is))) ∷
+    (λ is. atomic.TableAtomicSet (order_in is) (number_in (tail_of is))) ∷
+    (λ is. atomic.TableAtomicRmwXchg (order_in is) (number_in (tail_of is))) ∷
+    (λ is. atomic.TableAtomicRmwCmpxchg (order_in is) (number_in (tail_of is))) ∷
+    (λ is. atomic.StructAtomicGet (order_in is) (number_in (tail_of is)) (number_in (tail_of (tail_of is)))) ∷
+    (λ is. atomic.StructAtomicGetS (order_in is) (number_in (tail_of is)) (number_in (tail_of (tail_of is)))) ∷
+    (λ is. atomic.StructAtomicGetU (order_in is) (number_in (tail_of is)) (number_in (tail_of (tail_of is)))) ∷
+    (λ is. atomic.StructAtomicSet (order_in is) (number_in (tail_of is)) (number_in (tail_of (tail_of is)))) ∷
+    (λ is. atomic.StructAtomicRmwAdd (order_in is) (number_in (tail_of is)) (number_in (tail_of (tail_of is)))) ∷
+    (λ is. atomic.StructAtomicRmwSub (order_in is) (number_in (tail_of is)) (number_in (tail_of (tail_of is)))) ∷
+    (λ is. atomic.StructAtomicRmwAnd (order_in is) (number_in (tail_of is)) (number_in (tail_of (tail_of is)))) ∷
+    (λ is. atomic.StructAtomicRmwOr (order_in is) (number_in (tail_of is)) (number_in (tail_of (tail_of is)))) ∷
+    (λ is. atomic.StructAtomicRmwXor (order_in is) (number_in (tail_of is)) (number_in (tail_of (tail_of is)))) ∷
+    (λ is. atomic.StructAtomicRmwXchg (order_in is) (number_in (tail_of is)) (number_in (tail_of (tail_of is)))) ∷
+    (λ is. atomic.StructAtomicRmwCmpxchg (order_in is) (number_in (tail_of is)) (number_in (tail_of (tail_of is)))) ∷
+    (λ is. atomic.ArrayAtomicGet (order_in is) (number_in (tail_of is))) ∷
+    (λ is. atomic.ArrayAtomicGetS (order_in is) (number_in (tail_of is))) ∷
+    (λ is. atomic.ArrayAtomicGetU (order_in is) (number_in (tail_of is))) ∷
+    (λ is. atomic.ArrayAtomicSet (order_in is) (number_in (tail_of is))) ∷
+    (λ is. atomic.ArrayAtomicRmwAdd (order_in is) (number_in (tail_of is))) ∷
+    (λ is. atomic.ArrayAtomicRmwSub (order_in is) (number_in (tail_of is))) ∷
+    (λ is. atomic.ArrayAtomicRmwAnd (order_in is) (number_in (tail_of is))) ∷
+    (λ is. atomic.ArrayAtomicRmwOr (order_in is) (number_in (tail_of is))) ∷
+    (λ is. atomic.ArrayAtomicRmwXor (order_in is) (number_in (tail_of is))) ∷
+    (λ is. atomic.ArrayAtomicRmwXchg (order_in is) (number_in (tail_of is))) ∷
+    (λ is. atomic.ArrayAtomicRmwCmpxchg (order_in is) (number_in (tail_of is))) ∷
     (λ is. atomic.RefI31Shared) ∷
     []
 

@@ -6,30 +6,30 @@ use Rattle.wasm_instr_ops.specs.declared.gc.GcOperator.{GcOperator}
 use Rattle.wasm_instr_ops.specs.declared.gc.GcOperator.TheVariants as gc
 use Rattle.wasm_instr_ops.specs.Gc.{gc_name, gc_subopcode, gc_immediates}
 use Rattle.wasm_imm.specs.Immediate.{Immediate, kind_of}
-use Rattle.wasm_imm.proofs.Values.{behind, number_in, heap_type_in, depth_in, from_in, to_in}
+use Rattle.wasm_imm.proofs.Values.{tail_of, number_in, heap_type_in, depth_in, from_in, to_in}
 
 abbrev makers : List (List Immediate → GcOperator)
 makers =
     (λ is. gc.StructNew (number_in is)) ∷
     (λ is. gc.StructNewDefault (number_in is)) ∷
-    (λ is. gc.StructGet (number_in is) (number_in (behind is))) ∷
-    (λ is. gc.StructGetS (number_in is) (number_in (behind is))) ∷
-    (λ is. gc.StructGetU (number_in is) (number_in (behind is))) ∷
-    (λ is. gc.StructSet (number_in is) (number_in (behind is))) ∷
+    (λ is. gc.StructGet (number_in is) (number_in (tail_of is))) ∷
+    (λ is. gc.StructGetS (number_in is) (number_in (tail_of is))) ∷
+    (λ is. gc.StructGetU (number_in is) (number_in (tail_of is))) ∷
+    (λ is. gc.StructSet (number_in is) (number_in (tail_of is))) ∷
     (λ is. gc.ArrayNew (number_in is)) ∷
     (λ is. gc.ArrayNewDefault (number_in is)) ∷
-    (λ is. gc.ArrayNewFixed (number_in is) (number_in (behind is))) ∷
-    (λ is. gc.ArrayNewData (number_in is) (number_in (behind is))) ∷
-    (λ is. gc.ArrayNewElem (number_in is) (number_in (behind is))) ∷
+    (λ is. gc.ArrayNewFixed (number_in is) (number_in (tail_of is))) ∷
+    (λ is. gc.ArrayNewData (number_in is) (number_in (tail_of is))) ∷
+    (λ is. gc.ArrayNewElem (number_in is) (number_in (tail_of is))) ∷
     (λ is. gc.ArrayGet (number_in is)) ∷
     (λ is. gc.ArrayGetS (number_in is)) ∷
     (λ is. gc.ArrayGetU (number_in is)) ∷
     (λ is. gc.ArraySet (number_in is)) ∷
     (λ is. gc.ArrayLen) ∷
     (λ is. gc.ArrayFill (number_in is)) ∷
-    (λ is. gc.ArrayCopy (number_in is) (number_in (behind is))) ∷
-    (λ is. gc.ArrayInitData (number_in is) (number_in (behind is))) ∷
-    (λ is. gc.ArrayInitElem (number_in is) (number_in (behind is))) ∷
+    (λ is. gc.ArrayCopy (number_in is) (number_in (tail_of is))) ∷
+    (λ is. gc.ArrayInitData (number_in is) (number_in (tail_of is))) ∷
+    (λ is. gc.ArrayInitElem (number_in is) (number_in (tail_of is))) ∷
     (λ is. gc.RefTestNonNull (heap_type_in is)) ∷
     (λ is. gc.RefTestNullable (heap_type_in is)) ∷
     (λ is. gc.RefCastNonNull (heap_type_in is)) ∷

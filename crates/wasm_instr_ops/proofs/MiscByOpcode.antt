@@ -6,7 +6,7 @@ use Rattle.wasm_instr_ops.specs.declared.misc.MiscOperator.{MiscOperator}
 use Rattle.wasm_instr_ops.specs.declared.misc.MiscOperator.TheVariants as misc
 use Rattle.wasm_instr_ops.specs.Misc.{misc_name, misc_subopcode, misc_immediates}
 use Rattle.wasm_imm.specs.Immediate.{Immediate, kind_of}
-use Rattle.wasm_imm.proofs.Values.{behind, number_in}
+use Rattle.wasm_imm.proofs.Values.{tail_of, number_in}
 
 abbrev makers : List (List Immediate → MiscOperator)
 makers =
@@ -18,13 +18,13 @@ makers =
     (λ is. misc.I64TruncSatF32U) ∷
     (λ is. misc.I64TruncSatF64S) ∷
     (λ is. misc.I64TruncSatF64U) ∷
-    (λ is. misc.MemoryInit (number_in is) (number_in (behind is))) ∷
+    (λ is. misc.MemoryInit (number_in is) (number_in (tail_of is))) ∷
     (λ is. misc.DataDrop (number_in is)) ∷
-    (λ is. misc.MemoryCopy (number_in is) (number_in (behind is))) ∷
+    (λ is. misc.MemoryCopy (number_in is) (number_in (tail_of is))) ∷
     (λ is. misc.MemoryFill (number_in is)) ∷
-    (λ is. misc.TableInit (number_in is) (number_in (behind is))) ∷
+    (λ is. misc.TableInit (number_in is) (number_in (tail_of is))) ∷
     (λ is. misc.ElemDrop (number_in is)) ∷
-    (λ is. misc.TableCopy (number_in is) (number_in (behind is))) ∷
+    (λ is. misc.TableCopy (number_in is) (number_in (tail_of is))) ∷
     (λ is. misc.TableGrow (number_in is)) ∷
     (λ is. misc.TableSize (number_in is)) ∷
     (λ is. misc.TableFill (number_in is)) ∷

@@ -6,7 +6,7 @@ use Rattle.wasm_instr_simd.specs.declared.simd.SimdOperator.{SimdOperator}
 use Rattle.wasm_instr_simd.specs.declared.simd.SimdOperator.TheVariants as simd
 use Rattle.wasm_instr_simd.specs.Simd.{simd_name, simd_subopcode, simd_immediates}
 use Rattle.wasm_imm.specs.Immediate.{Immediate, kind_of}
-use Rattle.wasm_imm.proofs.Values.{behind, number_in, bytes_in, vector_in, argument_in}
+use Rattle.wasm_imm.proofs.Values.{tail_of, number_in, bytes_in, vector_in, argument_in}
 
 abbrev makers : List (List Immediate → SimdOperator)
 makers =
@@ -94,14 +94,14 @@ makers =
     (λ is. simd.V128Xor) ∷
     (λ is. simd.V128Bitselect) ∷
     (λ is. simd.V128AnyTrue) ∷
-    (λ is. simd.V128Load8Lane (argument_in is) (number_in (behind is))) ∷
-    (λ is. simd.V128Load16Lane (argument_in is) (number_in (behind is))) ∷
-    (λ is. simd.V128Load32Lane (argument_in is) (number_in (behind is))) ∷
-    (λ is. simd.V128Load64Lane (argument_in is) (number_in (behind is))) ∷
-    (λ is. simd.V128Store8Lane (argument_in is) (number_in (behind is))) ∷
-    (λ is. simd.V128Store16Lane (argument_in is) (number_in (behind is))) ∷
-    (λ is. simd.V128Store32Lane (argument_in is) (number_in (behind is))) ∷
-    (λ is. simd.V128Store64Lane (argument_in is) (number_in (behind is))) ∷
+    (λ is. simd.V128Load8Lane (argument_in is) (number_in (tail_of is))) ∷
+    (λ is. simd.V128Load16Lane (argument_in is) (number_in (tail_of is))) ∷
+    (λ is. simd.V128Load32Lane (argument_in is) (number_in (tail_of is))) ∷
+    (λ is. simd.V128Load64Lane (argument_in is) (number_in (tail_of is))) ∷
+    (λ is. simd.V128Store8Lane (argument_in is) (number_in (tail_of is))) ∷
+    (λ is. simd.V128Store16Lane (argument_in is) (number_in (tail_of is))) ∷
+    (λ is. simd.V128Store32Lane (argument_in is) (number_in (tail_of is))) ∷
+    (λ is. simd.V128Store64Lane (argument_in is) (number_in (tail_of is))) ∷
     (λ is. simd.V128Load32Zero (argument_in is)) ∷
     (λ is. simd.V128Load64Zero (argument_in is)) ∷
     (λ is. simd.F32x4DemoteF64x2Zero) ∷

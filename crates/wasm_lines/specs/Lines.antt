@@ -36,8 +36,8 @@ abbrev pub depth_of : ℕ → ℕ → ℕ
 depth_of opcode depth = if is_outside opcode then depth - 1 else depth
 
 -- How many constructs are open after an operator.
-abbrev pub depth_behind : ℕ → ℕ → ℕ
-depth_behind opcode depth = if opens opcode then depth + 1 else (if closes opcode then depth - 1 else depth)
+abbrev pub depth_after : ℕ → ℕ → ℕ
+depth_after opcode depth = if opens opcode then depth + 1 else (if closes opcode then depth - 1 else depth)
 
 -- The bytes from one offset to another, of bytes that start at the offset `start`.
 abbrev pub between : ℕ → List ℕ → ℕ → ℕ → List ℕ
@@ -54,7 +54,7 @@ abbrev pub lines_from : {Op : Type 0} → (Op → List ℕ) → ℕ → List ℕ
 lines_from text start bytes end depth [] = []
 lines_from text start bytes end depth (p ∷ ps) =
     let shown = between start bytes p.1 (next_offset end ps) in
-    line_of (depth_of (slice_index shown 0) depth) p.1 shown (text p.0) ++ lines_from text start bytes end (depth_behind (slice_index shown 0) depth) ps
+    line_of (depth_of (slice_index shown 0) depth) p.1 shown (text p.0) ++ lines_from text start bytes end (depth_after (slice_index shown 0) depth) ps
 
 -- The lines of the operators of a body.
 abbrev pub lines_of : {Op : Type 0} → (Op → List ℕ) → ℕ → List ℕ → ℕ → List (Op × ℕ) → List ℕ

@@ -1,7 +1,7 @@
 //! The lines of an operator.
 ghost use Rattle.std.specs.Prelude.{◌≡◌, ◌++◌, ◌+◌, ◌^◌, ◌<◌, OnOk, IfOk, string_bytes, length, slice_index};
 ghost use Rattle.wasm_lines.specs.Rows.{line_of};
-ghost use Rattle.wasm_lines.specs.Lines.{is_outside, opens, closes, depth_of, depth_behind, between};
+ghost use Rattle.wasm_lines.specs.Lines.{is_outside, opens, closes, depth_of, depth_after, between};
 ghost use Rattle.wasm_text.specs.Operands.{text_of};
 
 use crate::rows::{begin_line, end_line};
@@ -43,9 +43,9 @@ fn depth_of(opcode: u8, depth: usize) -> usize
 }
 
 /// Returns how many constructs are open after an operator, if `depth` are open before it.
-fn depth_behind(opcode: u8, depth: usize) -> usize
+fn depth_after(opcode: u8, depth: usize) -> usize
     requires { depth + 1 < 2 ^ 64 }
-    ensures { result ≡ depth_behind opcode depth }
+    ensures { result ≡ depth_after opcode depth }
 {
     if opens(opcode) {
         depth + 1
@@ -72,16 +72,16 @@ pub fn bytes_between(bytes: &[u8], start: u64, from: u64, to: u64) -> &[u8]
     ensures bytes { result.now ≡ between start bytes.now from to }
     ensures fits { from + length result.now < 2 ^ 64 }
 {
-    let behind = from.saturating_sub(start);
-    if behind > bytes.len() as u64 {
+    let after = from.saturating_sub(start);
+    if after > bytes.len() as u64 {
         return &[];
     }
-    let left = &bytes[behind as usize..];
-    let wanted = to.saturating_sub(from);
-    if wanted > left.len() as u64 {
+    let left = &bytes[after as usize..];
+    let needed = to.saturating_sub(from);
+    if needed > left.len() as u64 {
         return left;
     }
-    &left[..wanted as usize]
+    &left[..needed as usize]
 }
 
 /// Writes the lines of the operator at `offset`, and returns how many constructs are open after it.
@@ -98,11 +98,11 @@ pub fn write_line(
     requires deep { depth + 1 < 2 ^ 64 }
     ensures lines { OnOk result (string_bytes out.new ≡ string_bytes out.old
         ++ line_of (depth_of (slice_index bytes.now 0) depth) offset bytes.now (text_of op.now)) }
-    ensures behind { IfOk result (λ behind. behind ≡ depth_behind (slice_index bytes.now 0) depth) }
+    ensures after { IfOk result (λ after. after ≡ depth_after (slice_index bytes.now 0) depth) }
 {
     let opcode = opcode_of(bytes);
     begin_line(out, depth_of(opcode, depth), offset, bytes)?;
     write_operator(out, op)?;
     end_line(out, offset, bytes)?;
-    Ok(depth_behind(opcode, depth))
+    Ok(depth_after(opcode, depth))
 }

@@ -54,7 +54,7 @@ fn write_times(out: &mut String, times: usize, text: &str) -> Written
 }
 
 /// Returns three spaces for each missing byte, and then the bar.
-fn bar_behind(missing: usize) -> &'static str
+fn bar_after(missing: usize) -> &'static str
     requires { missing ≤ 9 }
     ensures { result.now ≡ repeat missing (codes "   ") ++ codes " | " }
 {
@@ -80,7 +80,7 @@ fn write_room(out: &mut String, bytes: &[u8]) -> Written
         ++ (repeat (9 - length bytes.now) (codes "   ") ++ codes " | "))) }
 {
     write_shown_bytes(out, bytes)?;
-    out.push_str(bar_behind(BYTES - bytes.len()))
+    out.push_str(bar_after(BYTES - bytes.len()))
 }
 
 /// Writes the first columns of a row: an address and its bytes.

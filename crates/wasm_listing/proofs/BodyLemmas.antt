@@ -7,7 +7,7 @@ use Rattle.wasm_operators.specs.below.Source.{Reader, source_of}
 use Rattle.wasm_operators.specs.opcodes.Allowed.{EncodesAllowed}
 use Rattle.wasm_operators.specs.opcodes.OperatorFaults.{OperatorFault}
 use Rattle.wasm_operators.specs.Expression.{Placed, OfPlaced, IsAny}
-use Rattle.wasm_operators.specs.Headline.{ReadsTree, ReadsBeginning, ReadsRest}
+use Rattle.wasm_operators.specs.MainTheorem.{ReadsTree, ReadsBeginning, ReadsRest}
 use Rattle.wasm_operators.specs.Next.{NextMayAllocate}
 use Rattle.wasm_operators.specs.Reading.{Allocating, State, StopsRun, RunsToEnd}
 use Rattle.wasm_operators.specs.Body.{EncodesBody, OpensBody, StopsBody, ReadsBody}
@@ -25,17 +25,17 @@ IsStopped Allocates = (e : Error) (body : Reader) (opened new : State) (placed :
     ReadsBeginning IsAny EncodesAllowed OperatorFault Allocates [] e opened new placed → StopsBody e body placed
 
 -- The locals are in error.
-pub refused_body : (X : Type 0) (Happened : OfPlaced) (e : Error) (body : Reader) → Happened [] → StopsBody e body [] → ReadsBody {X = X} Happened (Err e) body
-refused_body X Happened e body none stops = λ other. ([], none, stops)
+pub refused_body : (X : Type 0) (Effect : OfPlaced) (e : Error) (body : Reader) → Effect [] → StopsBody e body [] → ReadsBody {X = X} Effect (Err e) body
+refused_body X Effect e body none stops = λ other. ([], none, stops)
 
 -- The locals were read, and then the operators.
-pub opened_body : {X : Type 0} (Happened : OfPlaced) (Allocates : Allocating) (r : Result X Error) (body : Reader) (opened new : State) → IsWhole →
-    IsStopped Allocates → OpensBody (Ok opened) body → ReadsRest Happened IsAny EncodesAllowed OperatorFault Allocates [] r opened new →
-    ReadsBody Happened r body
-opened_body Happened Allocates (Ok x) body opened new whole stopped opens h =
+pub opened_body : {X : Type 0} (Effect : OfPlaced) (Allocates : Allocating) (r : Result X Error) (body : Reader) (opened new : State) → IsWhole →
+    IsStopped Allocates → OpensBody (Ok opened) body → ReadsRest Effect IsAny EncodesAllowed OperatorFault Allocates [] r opened new →
+    ReadsBody Effect r body
+opened_body Effect Allocates (Ok x) body opened new whole stopped opens h =
     let all = whole body opened new h.tree.0 opens h.tree.2 in
     (all.0, h.tree.0, h.tree.1, all.1)
-opened_body Happened Allocates (Err e) body opened new whole stopped opens h =
+opened_body Effect Allocates (Err e) body opened new whole stopped opens h =
     λ other. (h.beginning.0, h.beginning.1, stopped e body opened new h.beginning.0 opens h.beginning.2)
 
 -- Reading locals does not fail with `OutOfMemory`.
@@ -43,11 +43,11 @@ pub refused_no_memory : (P : Type 0) (e : Error) (body : Reader) → RefusesLoca
 refused_no_memory P e body h is = absurd (subst IsReadFault is h.refusal.fault)
 
 -- Reading operators fails with `OutOfMemory` only if they may allocate.
-pub opened_memory : {X : Type 0} (Happened : OfPlaced) (r : Result X Error) (body : Reader) (opened new : State) →
+pub opened_memory : {X : Type 0} (Effect : OfPlaced) (r : Result X Error) (body : Reader) (opened new : State) →
     ((e : Error) (s : State) → StopsRun EncodesAllowed OperatorFault (NextMayAllocate EncodesAllowed) e s → e.message ≡ message.OutOfMemory →
     NextMayAllocate EncodesAllowed s) → OpensBody (Ok opened) body →
-    RunsToEnd Happened EncodesAllowed OperatorFault (NextMayAllocate EncodesAllowed) r opened new →
+    RunsToEnd Effect EncodesAllowed OperatorFault (NextMayAllocate EncodesAllowed) r opened new →
     IfErr r (λ e. e.message ≡ message.OutOfMemory → BodyMayAllocate body)
-opened_memory Happened (Ok x) body opened new asked opens runs = tt
-opened_memory Happened (Err e) body opened new asked opens (placed, happened, takes, stops) = λ is.
+opened_memory Effect (Ok x) body opened new asked opens runs = tt
+opened_memory Effect (Err e) body opened new asked opens (placed, effect, takes, stops) = λ is.
     record { opened = opened; opens = opens; stopped = new; placed = placed; takes = takes; asks = asked e new stops is }

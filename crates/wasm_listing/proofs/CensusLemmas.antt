@@ -69,11 +69,11 @@ counted_adds (q ∷ qs) (n ∷ ns) p placed most h below =
     ap (λ others. (n + (cond b 1 0 + count_of q placed)) ∷ others) (counted_adds qs ns p placed most h.1 below)
 
 -- After visits of a list, each count is increased by the list's operators, if the sum is not too large.
-counts_along : (placed : Placed) (answers : List (Unit {0})) (before after : List ℕ) (most : ℕ) → length proposals ≡ length before → AreWithin most before →
-    most + length placed ≤ 2 ^ 64 - 1 → VisitRun {A = Unit {0}} (λ s op a t. CountsVisit s op t) before placed answers after →
+counts_along : (placed : Placed) (outcomes : List (Unit {0})) (before after : List ℕ) (most : ℕ) → length proposals ≡ length before → AreWithin most before →
+    most + length placed ≤ 2 ^ 64 - 1 → VisitRun {A = Unit {0}} (λ s op a t. CountsVisit s op t) before placed outcomes after →
     after ≡ added proposals before placed
-counts_along [] answers before after most same h below run = run.1 ∙ added_none proposals before same
-counts_along (p ∷ ps) answers before after most same h below (first, others, between, is, visits, run) =
+counts_along [] outcomes before after most same h below run = run.1 ∙ added_none proposals before same
+counts_along (p ∷ ps) outcomes before after most same h below (first, others, between, is, visits, run) =
     let more : most + 1 + length ps ≤ 2 ^ 64 - 1 = omega (arith, below) in
     let next : most + 1 ≤ 2 ^ 64 - 1 = omega (arith, below) in
     let counted_now : AreWithin (most + 1) between = subst (AreWithin (most + 1)) (sym visits) (counted_within (proposal_of p.0) proposals before most h) in
@@ -88,8 +88,8 @@ zeros_within (p ∷ ps) = (omega arith, zeros_within ps)
 -- After visits that start with no count, the counts are the counts of the list.
 pub visited_counts : (placed : Placed) (before after : List ℕ) → before ≡ map (λ p. 0) proposals → length placed ≤ 2 ^ 64 - 1 →
     Visited {A = Unit {0}} (λ s op a t. CountsVisit s op t) before after placed → after ≡ counts_of placed
-visited_counts placed before after none below (answers, run) =
-    counts_along placed answers before after 0 (ap length (sym none)) (subst (AreWithin 0) (sym none) (zeros_within proposals)) (omega (arith, below)) run ∙
+visited_counts placed before after none below (outcomes, run) =
+    counts_along placed outcomes before after 0 (ap length (sym none)) (subst (AreWithin 0) (sym none) (zeros_within proposals)) (omega (arith, below)) run ∙
     ap (λ counts. added proposals counts placed) none ∙ added_zeros proposals placed
 
 -- A body has at most as many operators as bytes.

@@ -45,23 +45,23 @@ pub whole_refused : (known : Option (List ℕ)) (f : WasmFeatures) (input slice 
     IfSome known (λ bytes. input ≡ bytes) → slice ≡ input → end ≡ Err e →
     ((declarations : List Declaration) (placed : Placed) → IsBody (input_of f slice) declarations placed → IsOk end) →
     IfSome known (λ bytes. (declarations : List Declaration) (placed : Placed) → IsBody (input_of f bytes) declarations placed → ⊥)
-whole_refused None f input slice end e told same is whole = tt
-whole_refused (Some bytes) f input slice end e told same is whole = λ declarations placed encodes.
+whole_refused None f input slice end e reported same is whole = tt
+whole_refused (Some bytes) f input slice end e reported same is whole = λ declarations placed encodes.
     err_not_ok end e is (whole declarations placed (subst (λ b. IsBody (input_of f b) declarations placed) (sym same)
-    (subst (λ b. IsBody (input_of f b) declarations placed) (sym told) encodes)))
+    (subst (λ b. IsBody (input_of f b) declarations placed) (sym reported) encodes)))
 
 -- For other input, the lines of the operators that were read are written.
 pub dumps_refused : (known : Option (List ℕ)) (f : WasmFeatures) (input slice text : List ℕ) (end : Result (Unit {0}) Error) (e : Error)
     (old new : Option (List ℕ)) → IfSome known (λ bytes. input ≡ bytes) → slice ≡ input → end ≡ Err e → Lists (input_of f slice) end text →
     Appends old new text → IfSome known (λ bytes. Dumps {X = Unit {0}} (input_of f bytes) (Err (fault.Refused e)) old new)
-dumps_refused None f input slice text end e old new told same is lists writes = tt
-dumps_refused (Some bytes) f input slice text end e old new told same is lists writes =
+dumps_refused None f input slice text end e old new reported same is lists writes = tt
+dumps_refused (Some bytes) f input slice text end e old new reported same is lists writes =
     let listed : Lists {X = Unit {0}} (input_of f bytes) (Err e) text =
-    subst (λ b. Lists {X = Unit {0}} (input_of f b) (Err e) text) (same ∙ told) (subst (λ r. Lists (input_of f slice) r text) is lists) in
+    subst (λ b. Lists {X = Unit {0}} (input_of f b) (Err e) text) (same ∙ reported) (subst (λ r. Lists (input_of f slice) r text) is lists) in
     (listed.0, listed.1, subst (Appends old new) listed.2 writes)
 
 -- Unless allocation failed, the result is `Ok`.
 pub ok_unless : (r : Result (Unit {0}) Error) (b : Bool) → b ≡ false → (IsErrAnd r (λ e. e.message ≡ message.OutOfMemory) → IsTrue b) →
     IfErr r (λ e. e.message ≡ message.OutOfMemory) → IsOk r
-ok_unless (Ok x) b isnt tells h = refl
-ok_unless (Err e) b isnt tells h = let t : IsTrue false = subst IsTrue isnt (tells h) in absurd (cc t)
+ok_unless (Ok x) b isnt reports h = refl
+ok_unless (Err e) b isnt reports h = let t : IsTrue false = subst IsTrue isnt (reports h) in absurd (cc t)

@@ -63,7 +63,7 @@ CountsVisit before op after = after ≡ one_more_of (proposal_of op) proposals b
 
 -- These operators were counted, one visit each.
 abbrev pub Counted : List ℕ → List ℕ → OfPlaced
-Counted before after placed = Visited {A = Unit {0}} (λ s op answer t. CountsVisit s op t) before after placed
+Counted before after placed = Visited {A = Unit {0}} (λ s op outcome t. CountsVisit s op t) before after placed
 
 -- Reading the body that starts here may allocate: after its locals and some of its operators, the next operator opens a frame
 -- for which no capacity is left, or owns a list.

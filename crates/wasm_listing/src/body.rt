@@ -1,7 +1,7 @@
 //! The body that a program's input encodes.
 ghost use Rattle.std.specs.Prelude.{[], IfOk};
 ghost use Rattle.wasm_operators.specs.Body.{OpensBody};
-ghost use Rattle.wasm_operators.specs.Headline.{StoodBefore};
+ghost use Rattle.wasm_operators.specs.MainTheorem.{ReadSoFar};
 ghost use Rattle.wasm_listing.specs.Dump.{input_of};
 
 use std::alloc::Global;
@@ -16,7 +16,7 @@ pub fn open_body<'a>(
     bytes: &'a [u8],
 ) -> Result<OperatorsReader<'a>>
     ensures opens { OpensBody result (input_of features bytes.now) }
-    ensures stood { IfOk result (λ operators. StoodBefore [] operators) }
+    ensures read_so_far { IfOk result (λ operators. ReadSoFar [] operators) }
 {
     let reader = BinaryReader::new_features(bytes, 0, features);
     FunctionBody::new(reader).get_operators_reader(alloc)

@@ -83,7 +83,7 @@ impl Visitor for Census {
     type Output = ();
 
     // A visit adds one to the count of the operator's proposal.
-    ghost visits = { λ before op answer after. CountsVisit before op after };
+    ghost visits = { λ before op outcome after. CountsVisit before op after };
 
     fn visit_any(&mut self, op: Operator<'static>) {
         self.count(op.info().proposal);

@@ -6,7 +6,7 @@ use Rattle.wasm_below.specs.Number.{EncodesUnsigned}
 use Rattle.wasm_below.specs.Sequence.{PrefixCode}
 use Rattle.wasm_below.specs.Source.{Reader, rest, BeginsWith, IsByte, EndFault, U32Fault, Reads}
 use Rattle.wasm_below.specs.TypeEncoding.{EncodesValType, ValTypeFault}
-use Rattle.wasm_module.specs.Types.{EncodesValueTypes, ValueTypesFault, EncodesSignature, SignatureFault, IsField, FieldFault, EncodesFields, FieldsFault, EncodesBehind, BehindFault, EncodesComposite, CompositeFault, NamesSupertypes, EncodesIndices, IndicesFault, EncodesWithSupertypes, WithSupertypesFault, EncodesSubBehind, SubBehindFault, EncodesSubType, SubTypeFault, EncodesRecTypeLength, RecTypeLengthFault}
+use Rattle.wasm_module.specs.Types.{EncodesValueTypes, ValueTypesFault, EncodesSignature, SignatureFault, IsField, FieldFault, EncodesFields, FieldsFault, EncodesAfterByte, FaultAfterByte, EncodesComposite, CompositeFault, NamesSupertypes, EncodesIndices, IndicesFault, EncodesWithSupertypes, WithSupertypesFault, EncodesSubAfterByte, SubFaultAfterByte, EncodesSubType, SubTypeFault, EncodesRecTypeLength, RecTypeLengthFault}
 use Rattle.wasm_module.specs.declared.composite.CompositeType.{CompositeType}
 use Rattle.wasm_module.specs.declared.composite.CompositeType.TheVariants as composite
 use Rattle.wasm_module.proofs.Fields.{field_code, field_determines}
@@ -18,51 +18,51 @@ use Rattle.wasm_module.proofs.Sequences.{then_code, both_code, refused_as}
 
 module _ (byte : ℕ) where
   pub function_read : byte ≡ 0x60 → (old new : Reader) (parameters results : ℕ) → Reads EncodesSignature (Ok (parameters, results)) old new →
-      Reads (EncodesBehind byte) (Ok (composite.Function parameters results)) old new
+      Reads (EncodesAfterByte byte) (Ok (composite.Function parameters results)) old new
   function_read is old new parameters results (a, p, t) = (a, (is, p), t)
 
   pub struct_read : byte ≡ 0x5f → (old new : Reader) (fields : ℕ) → Reads EncodesFields (Ok fields) old new →
-      Reads (EncodesBehind byte) (Ok (composite.Struct fields)) old new
+      Reads (EncodesAfterByte byte) (Ok (composite.Struct fields)) old new
   struct_read is old new fields (a, p, t) = (a, (is, p), t)
 
-  pub array_read : byte ≡ 0x5e → (old new : Reader) → Reads IsField (Ok tt) old new → Reads (EncodesBehind byte) (Ok composite.Array) old new
+  pub array_read : byte ≡ 0x5e → (old new : Reader) → Reads IsField (Ok tt) old new → Reads (EncodesAfterByte byte) (Ok composite.Array) old new
   array_read is old new (a, p, t) = (a, (is, p), t)
 
-  as_function : byte ≡ 0x60 → (text : List ℕ) (ty : CompositeType) → EncodesBehind byte text ty → (p : ℕ × ℕ) × EncodesSignature text p
+  as_function : byte ≡ 0x60 → (text : List ℕ) (ty : CompositeType) → EncodesAfterByte byte text ty → (p : ℕ × ℕ) × EncodesSignature text p
   as_function is text (composite.Function parameters results) b = ((parameters, results), b.1)
   as_function is text (composite.Struct fields) b = let other = b.0 in absurd (omega (arith, is, other))
   as_function is text composite.Array b = let other = b.0 in absurd (omega (arith, is, other))
   as_function is text (composite.Other kind) b = absurd (b.0.0 is)
 
-  pub function_refused : byte ≡ 0x60 → (e : Error) (old new : Reader) → Reads EncodesSignature (Err e) old new → Reads (EncodesBehind byte) (Err e) old new
-  function_refused is = refused_as EncodesSignature (EncodesBehind byte) (as_function is)
+  pub function_refused : byte ≡ 0x60 → (e : Error) (old new : Reader) → Reads EncodesSignature (Err e) old new → Reads (EncodesAfterByte byte) (Err e) old new
+  function_refused is = refused_as EncodesSignature (EncodesAfterByte byte) (as_function is)
 
-  as_struct : byte ≡ 0x5f → (text : List ℕ) (ty : CompositeType) → EncodesBehind byte text ty → (n : ℕ) × EncodesFields text n
+  as_struct : byte ≡ 0x5f → (text : List ℕ) (ty : CompositeType) → EncodesAfterByte byte text ty → (n : ℕ) × EncodesFields text n
   as_struct is text (composite.Function parameters results) b = let other = b.0 in absurd (omega (arith, is, other))
   as_struct is text (composite.Struct fields) b = (fields, b.1)
   as_struct is text composite.Array b = let other = b.0 in absurd (omega (arith, is, other))
   as_struct is text (composite.Other kind) b = absurd (b.0.1 is)
 
-  pub struct_refused : byte ≡ 0x5f → (e : Error) (old new : Reader) → Reads EncodesFields (Err e) old new → Reads (EncodesBehind byte) (Err e) old new
-  struct_refused is = refused_as EncodesFields (EncodesBehind byte) (as_struct is)
+  pub struct_refused : byte ≡ 0x5f → (e : Error) (old new : Reader) → Reads EncodesFields (Err e) old new → Reads (EncodesAfterByte byte) (Err e) old new
+  struct_refused is = refused_as EncodesFields (EncodesAfterByte byte) (as_struct is)
 
-  as_array : byte ≡ 0x5e → (text : List ℕ) (ty : CompositeType) → EncodesBehind byte text ty → (done : Unit {0}) × IsField text done
+  as_array : byte ≡ 0x5e → (text : List ℕ) (ty : CompositeType) → EncodesAfterByte byte text ty → (done : Unit {0}) × IsField text done
   as_array is text (composite.Function parameters results) b = let other = b.0 in absurd (omega (arith, is, other))
   as_array is text (composite.Struct fields) b = let other = b.0 in absurd (omega (arith, is, other))
   as_array is text composite.Array b = (tt, b.1)
   as_array is text (composite.Other kind) b = absurd (b.0.2 is)
 
-  pub array_refused : byte ≡ 0x5e → (e : Error) (old new : Reader) → Reads IsField (Err e) old new → Reads (EncodesBehind byte) (Err e) old new
-  array_refused is = refused_as IsField (EncodesBehind byte) (as_array is)
+  pub array_refused : byte ≡ 0x5e → (e : Error) (old new : Reader) → Reads IsField (Err e) old new → Reads (EncodesAfterByte byte) (Err e) old new
+  array_refused is = refused_as IsField (EncodesAfterByte byte) (as_array is)
 
-  as_with_supertypes : NamesSupertypes byte → (text : List ℕ) (ty : CompositeType) → EncodesSubBehind byte text ty → (same : CompositeType) × EncodesWithSupertypes text same
+  as_with_supertypes : NamesSupertypes byte → (text : List ℕ) (ty : CompositeType) → EncodesSubAfterByte byte text ty → (same : CompositeType) × EncodesWithSupertypes text same
   as_with_supertypes named text ty (inl p) = (ty, p.1)
   as_with_supertypes named text ty (inr p) = absurd (p.0 named)
 
   pub with_supertypes_reads : NamesSupertypes byte → (result : Result CompositeType Error) (old new : Reader) → Reads EncodesWithSupertypes result old new →
-      Reads (EncodesSubBehind byte) result old new
+      Reads (EncodesSubAfterByte byte) result old new
   with_supertypes_reads named (Ok ty) old new (a, p, t) = (a, inl (named, p), t)
-  with_supertypes_reads named (Err e) old new h = refused_as EncodesWithSupertypes (EncodesSubBehind byte) (as_with_supertypes named) e old new h
+  with_supertypes_reads named (Err e) old new h = refused_as EncodesWithSupertypes (EncodesSubAfterByte byte) (as_with_supertypes named) e old new h
 
 pub names_supertypes : (byte : ℕ) → 0x4f ≤ byte → byte < 0x51 → NamesSupertypes byte
 names_supertypes byte low high = named_at (byte - 0x4f) (omega (arith, low)) (omega (arith, low, high))
@@ -94,11 +94,11 @@ module _ (numbers : PrefixCode (EncodesUnsigned 32)) where
   pub indices_code : PrefixCode EncodesIndices
   indices_code = length_code (EncodesUnsigned 32) U32Fault numbers numbers
 
-  rec_type_behind : (byte : ℕ) → PrefixCode (λ text n. (byte ≡ 0x4e) × EncodesUnsigned 32 text n)
-  rec_type_behind byte a b x y m n p q e = numbers a b x y m n p.1 q.1 e
+  rec_type_after : (byte : ℕ) → PrefixCode (λ text n. (byte ≡ 0x4e) × EncodesUnsigned 32 text n)
+  rec_type_after byte a b x y m n p q e = numbers a b x y m n p.1 q.1 e
 
   pub rec_type_code : PrefixCode EncodesRecTypeLength
-  rec_type_code = then_code IsByte (λ byte text n. (byte ≡ 0x4e) × EncodesUnsigned 32 text n) byte_prefix_code rec_type_behind
+  rec_type_code = then_code IsByte (λ byte text n. (byte ≡ 0x4e) × EncodesUnsigned 32 text n) byte_prefix_code rec_type_after
 
   pub rec_type_determines : DeterminesRefusal U32Fault → DeterminesRefusal RecTypeLengthFault
   rec_type_determines small m k r a b p q =
@@ -114,39 +114,39 @@ module _ (numbers : PrefixCode (EncodesUnsigned 32)) where
     fields_code : PrefixCode EncodesFields
     fields_code = length_code IsField FieldFault (field_code values) numbers
 
-    behind_code : (byte : ℕ) → PrefixCode (EncodesBehind byte)
-    behind_code byte a b x y (composite.Function p r) (composite.Function s t) h q e =
+    after_byte_code : (byte : ℕ) → PrefixCode (EncodesAfterByte byte)
+    after_byte_code byte a b x y (composite.Function p r) (composite.Function s t) h q e =
         let o = signature_code a b x y (p, r) (s, t) h.1 q.1 e in (o.0, ap (λ v. composite.Function v.0 v.1) o.1)
-    behind_code byte a b x y (composite.Function p r) (composite.Struct n) h q e = let u = h.0 in let v = q.0 in absurd (omega (arith, u, v))
-    behind_code byte a b x y (composite.Function p r) composite.Array h q e = let u = h.0 in let v = q.0 in absurd (omega (arith, u, v))
-    behind_code byte a b x y (composite.Function p r) (composite.Other k) h q e = absurd (q.0.0 h.0)
-    behind_code byte a b x y (composite.Struct n) (composite.Function p r) h q e = let u = h.0 in let v = q.0 in absurd (omega (arith, u, v))
-    behind_code byte a b x y (composite.Struct n) (composite.Struct l) h q e = let o = fields_code a b x y n l h.1 q.1 e in (o.0, ap composite.Struct o.1)
-    behind_code byte a b x y (composite.Struct n) composite.Array h q e = let u = h.0 in let v = q.0 in absurd (omega (arith, u, v))
-    behind_code byte a b x y (composite.Struct n) (composite.Other k) h q e = absurd (q.0.1 h.0)
-    behind_code byte a b x y composite.Array (composite.Function p r) h q e = let u = h.0 in let v = q.0 in absurd (omega (arith, u, v))
-    behind_code byte a b x y composite.Array (composite.Struct n) h q e = let u = h.0 in let v = q.0 in absurd (omega (arith, u, v))
-    behind_code byte a b x y composite.Array composite.Array h q e = ((field_code values a b x y tt tt h.1 q.1 e).0, refl)
-    behind_code byte a b x y composite.Array (composite.Other k) h q e = absurd (q.0.2 h.0)
-    behind_code byte a b x y (composite.Other k) (composite.Function p r) h q e = absurd (h.0.0 q.0)
-    behind_code byte a b x y (composite.Other k) (composite.Struct n) h q e = absurd (h.0.1 q.0)
-    behind_code byte a b x y (composite.Other k) composite.Array h q e = absurd (h.0.2 q.0)
-    behind_code byte a b x y (composite.Other k) (composite.Other l) h q e = (h.2 ∙ sym q.2, ap composite.Other (h.1 ∙ sym q.1))
+    after_byte_code byte a b x y (composite.Function p r) (composite.Struct n) h q e = let u = h.0 in let v = q.0 in absurd (omega (arith, u, v))
+    after_byte_code byte a b x y (composite.Function p r) composite.Array h q e = let u = h.0 in let v = q.0 in absurd (omega (arith, u, v))
+    after_byte_code byte a b x y (composite.Function p r) (composite.Other k) h q e = absurd (q.0.0 h.0)
+    after_byte_code byte a b x y (composite.Struct n) (composite.Function p r) h q e = let u = h.0 in let v = q.0 in absurd (omega (arith, u, v))
+    after_byte_code byte a b x y (composite.Struct n) (composite.Struct l) h q e = let o = fields_code a b x y n l h.1 q.1 e in (o.0, ap composite.Struct o.1)
+    after_byte_code byte a b x y (composite.Struct n) composite.Array h q e = let u = h.0 in let v = q.0 in absurd (omega (arith, u, v))
+    after_byte_code byte a b x y (composite.Struct n) (composite.Other k) h q e = absurd (q.0.1 h.0)
+    after_byte_code byte a b x y composite.Array (composite.Function p r) h q e = let u = h.0 in let v = q.0 in absurd (omega (arith, u, v))
+    after_byte_code byte a b x y composite.Array (composite.Struct n) h q e = let u = h.0 in let v = q.0 in absurd (omega (arith, u, v))
+    after_byte_code byte a b x y composite.Array composite.Array h q e = ((field_code values a b x y tt tt h.1 q.1 e).0, refl)
+    after_byte_code byte a b x y composite.Array (composite.Other k) h q e = absurd (q.0.2 h.0)
+    after_byte_code byte a b x y (composite.Other k) (composite.Function p r) h q e = absurd (h.0.0 q.0)
+    after_byte_code byte a b x y (composite.Other k) (composite.Struct n) h q e = absurd (h.0.1 q.0)
+    after_byte_code byte a b x y (composite.Other k) composite.Array h q e = absurd (h.0.2 q.0)
+    after_byte_code byte a b x y (composite.Other k) (composite.Other l) h q e = (h.2 ∙ sym q.2, ap composite.Other (h.1 ∙ sym q.1))
 
     composite_code : PrefixCode EncodesComposite
-    composite_code = then_code IsByte EncodesBehind byte_prefix_code behind_code
+    composite_code = then_code IsByte EncodesAfterByte byte_prefix_code after_byte_code
 
     with_supertypes_code : PrefixCode EncodesWithSupertypes
     with_supertypes_code = then_code EncodesIndices (λ supertypes. EncodesComposite) indices_code (λ supertypes. composite_code)
 
-    sub_behind_code : (byte : ℕ) → PrefixCode (EncodesSubBehind byte)
-    sub_behind_code byte a b x y m n (inl p) (inl q) e = with_supertypes_code a b x y m n p.1 q.1 e
-    sub_behind_code byte a b x y m n (inl p) (inr q) e = absurd (q.0 p.0)
-    sub_behind_code byte a b x y m n (inr p) (inl q) e = absurd (p.0 q.0)
-    sub_behind_code byte a b x y m n (inr p) (inr q) e = behind_code byte a b x y m n p.1 q.1 e
+    sub_after_byte_code : (byte : ℕ) → PrefixCode (EncodesSubAfterByte byte)
+    sub_after_byte_code byte a b x y m n (inl p) (inl q) e = with_supertypes_code a b x y m n p.1 q.1 e
+    sub_after_byte_code byte a b x y m n (inl p) (inr q) e = absurd (q.0 p.0)
+    sub_after_byte_code byte a b x y m n (inr p) (inl q) e = absurd (p.0 q.0)
+    sub_after_byte_code byte a b x y m n (inr p) (inr q) e = after_byte_code byte a b x y m n p.1 q.1 e
 
     pub sub_type_code : PrefixCode EncodesSubType
-    sub_type_code = then_code IsByte EncodesSubBehind byte_prefix_code sub_behind_code
+    sub_type_code = then_code IsByte EncodesSubAfterByte byte_prefix_code sub_after_byte_code
 
     -- ---- errors
 
@@ -162,30 +162,30 @@ module _ (numbers : PrefixCode (EncodesUnsigned 32)) where
       fields_determine : DeterminesRefusal FieldsFault
       fields_determine = length_determines IsField FieldFault (field_code values) numbers small (field_determines values value)
 
-      behind_determines : (byte : ℕ) → DeterminesRefusal (BehindFault byte)
-      behind_determines byte m k r a b (inl p) (inl q) = signature_determines m k r a b p.1 q.1
-      behind_determines byte m k r a b (inl p) (inr (inl q)) = let u = p.0 in let v = q.0 in absurd (omega (arith, u, v))
-      behind_determines byte m k r a b (inl p) (inr (inr q)) = let u = p.0 in let v = q.0 in absurd (omega (arith, u, v))
-      behind_determines byte m k r a b (inr (inl p)) (inl q) = let u = p.0 in let v = q.0 in absurd (omega (arith, u, v))
-      behind_determines byte m k r a b (inr (inl p)) (inr (inl q)) = fields_determine m k r a b p.1 q.1
-      behind_determines byte m k r a b (inr (inl p)) (inr (inr q)) = let u = p.0 in let v = q.0 in absurd (omega (arith, u, v))
-      behind_determines byte m k r a b (inr (inr p)) (inl q) = let u = p.0 in let v = q.0 in absurd (omega (arith, u, v))
-      behind_determines byte m k r a b (inr (inr p)) (inr (inl q)) = let u = p.0 in let v = q.0 in absurd (omega (arith, u, v))
-      behind_determines byte m k r a b (inr (inr p)) (inr (inr q)) = field_determines values value m k r a b p.1 q.1
+      after_byte_determines : (byte : ℕ) → DeterminesRefusal (FaultAfterByte byte)
+      after_byte_determines byte m k r a b (inl p) (inl q) = signature_determines m k r a b p.1 q.1
+      after_byte_determines byte m k r a b (inl p) (inr (inl q)) = let u = p.0 in let v = q.0 in absurd (omega (arith, u, v))
+      after_byte_determines byte m k r a b (inl p) (inr (inr q)) = let u = p.0 in let v = q.0 in absurd (omega (arith, u, v))
+      after_byte_determines byte m k r a b (inr (inl p)) (inl q) = let u = p.0 in let v = q.0 in absurd (omega (arith, u, v))
+      after_byte_determines byte m k r a b (inr (inl p)) (inr (inl q)) = fields_determine m k r a b p.1 q.1
+      after_byte_determines byte m k r a b (inr (inl p)) (inr (inr q)) = let u = p.0 in let v = q.0 in absurd (omega (arith, u, v))
+      after_byte_determines byte m k r a b (inr (inr p)) (inl q) = let u = p.0 in let v = q.0 in absurd (omega (arith, u, v))
+      after_byte_determines byte m k r a b (inr (inr p)) (inr (inl q)) = let u = p.0 in let v = q.0 in absurd (omega (arith, u, v))
+      after_byte_determines byte m k r a b (inr (inr p)) (inr (inr q)) = field_determines values value m k r a b p.1 q.1
 
       composite_determines : DeterminesRefusal CompositeFault
-      composite_determines = then_determines IsByte EndFault BehindFault byte_prefix_code end_determines behind_determines
+      composite_determines = then_determines IsByte EndFault FaultAfterByte byte_prefix_code end_determines after_byte_determines
 
       with_supertypes_determines : DeterminesRefusal WithSupertypesFault
       with_supertypes_determines =
           then_determines EncodesIndices IndicesFault (λ supertypes. CompositeFault) indices_code
           (length_determines (EncodesUnsigned 32) U32Fault numbers numbers small small) (λ supertypes. composite_determines)
 
-      sub_behind_determines : (byte : ℕ) → DeterminesRefusal (SubBehindFault byte)
-      sub_behind_determines byte m k r a b (inl p) (inl q) = with_supertypes_determines m k r a b p.1 q.1
-      sub_behind_determines byte m k r a b (inl p) (inr q) = absurd (q.0 p.0)
-      sub_behind_determines byte m k r a b (inr p) (inl q) = absurd (p.0 q.0)
-      sub_behind_determines byte m k r a b (inr p) (inr q) = behind_determines byte m k r a b p.1 q.1
+      sub_after_byte_determines : (byte : ℕ) → DeterminesRefusal (SubFaultAfterByte byte)
+      sub_after_byte_determines byte m k r a b (inl p) (inl q) = with_supertypes_determines m k r a b p.1 q.1
+      sub_after_byte_determines byte m k r a b (inl p) (inr q) = absurd (q.0 p.0)
+      sub_after_byte_determines byte m k r a b (inr p) (inl q) = absurd (p.0 q.0)
+      sub_after_byte_determines byte m k r a b (inr p) (inr q) = after_byte_determines byte m k r a b p.1 q.1
 
       pub sub_type_determines : DeterminesRefusal SubTypeFault
-      sub_type_determines = then_determines IsByte EndFault SubBehindFault byte_prefix_code end_determines sub_behind_determines
+      sub_type_determines = then_determines IsByte EndFault SubFaultAfterByte byte_prefix_code end_determines sub_after_byte_determines

@@ -125,18 +125,18 @@ value_ends : (m : Message) (r : Reader) (offset : ℕ) → ValTypeFault m r offs
 value_ends m r offset (inl f) empty more follow = let begins = f.2.1 in absurd (cc (begins, empty))
 value_ends m r offset (inr f) empty more follow = byte_ends m r offset f.1 empty more follow
 
-none_packed : (bytes more text behind : List ℕ) → (LedBy IsPackedByte bytes → ⊥) → (bytes ≡ [] → more ≡ []) → IsPacked text tt →
-    bytes ++ more ≡ text ++ behind → ⊥
-none_packed [] more text behind not none (byte, packed, is) whole = let nothing = none refl in cc (nothing, is, whole)
-none_packed (c ∷ bytes) more text behind not none (byte, packed, is) whole =
+none_packed : (bytes more text after : List ℕ) → (LedBy IsPackedByte bytes → ⊥) → (bytes ≡ [] → more ≡ []) → IsPacked text tt →
+    bytes ++ more ≡ text ++ after → ⊥
+none_packed [] more text after not none (byte, packed, is) whole = let nothing = none refl in cc (nothing, is, whole)
+none_packed (c ∷ bytes) more text after not none (byte, packed, is) whole =
     let same : c ≡ byte = cc (is, whole) in not (byte, packed, (bytes, ap (λ v. v ∷ bytes) same))
 
 pub storage_refused : (e : Error) (old new : Reader) → (LedBy IsPackedByte (rest old) → ⊥) → ValTypeFault e.message old e.offset →
     Reads EncodesValType (Err e) old new → Reads IsStorage (Err e) old new
 storage_refused e old new not fault (same, h) = (same, record { refuses = refuses; fault = h.fault; ahead = h.ahead })
   where
-    refuses : (more : List ℕ) → MayFollow e.message more → (text behind : List ℕ) (done : Unit {0}) → IsStorage text done →
-        rest old ++ more ≡ text ++ behind → ⊥
-    refuses more follow text behind done (inl p) whole = h.refuses more follow text behind p.0 p.1 whole
-    refuses more follow text behind done (inr p) whole =
-        none_packed (rest old) more text behind not (λ empty. value_ends e.message old e.offset fault empty more follow) p whole
+    refuses : (more : List ℕ) → MayFollow e.message more → (text after : List ℕ) (done : Unit {0}) → IsStorage text done →
+        rest old ++ more ≡ text ++ after → ⊥
+    refuses more follow text after done (inl p) whole = h.refuses more follow text after p.0 p.1 whole
+    refuses more follow text after done (inr p) whole =
+        none_packed (rest old) more text after not (λ empty. value_ends e.message old e.offset fault empty more follow) p whole

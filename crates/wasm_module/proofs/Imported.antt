@@ -5,7 +5,7 @@ use Rattle.wasm_below.specs.Number.{EncodesUnsigned}
 use Rattle.wasm_below.specs.Sequence.{PrefixCode}
 use Rattle.wasm_below.specs.Source.{IsByte, EndFault, U32Fault, U64Fault}
 use Rattle.wasm_below.specs.TypeEncoding.{EncodesRefType, EncodesValType, RefTypeFault, ValTypeFault}
-use Rattle.wasm_module.specs.Imports.{SomeOf, IsMost, MostFault, IsBounds, BoundsFault, IsLimits, LimitsFault, IsTable, IsGlobal, IsTag, IsExternTypeBehind, ExternTypeBehindFault, EncodesExternTypeBehind, EncodesExternType, ExternTypeFault, EncodesNamed, NamedFault, ImportParts, EncodesImport, ImportFault}
+use Rattle.wasm_module.specs.Imports.{SomeOf, IsMost, MostFault, IsBounds, BoundsFault, IsLimits, LimitsFault, IsTable, IsGlobal, IsTag, IsExternTypeAfterByte, ExternTypeFaultAfterByte, EncodesExternTypeAfterByte, EncodesExternType, ExternTypeFault, EncodesNamed, NamedFault, ImportParts, EncodesImport, ImportFault}
 use Rattle.wasm_module.specs.Names.{EncodesName, NameFault}
 use Rattle.wasm_module.proofs.Named.{name_code, name_determines}
 use Rattle.wasm_module.proofs.Parts.{then_determines, byte_prefix_code, end_determines}
@@ -33,7 +33,7 @@ module _ (numbers : (width : ℕ) → PrefixCode (EncodesUnsigned width)) (refer
   tag_code : PrefixCode IsTag
   tag_code = then_code IsByte (λ attribute. SomeOf (EncodesUnsigned 32)) byte_prefix_code (λ attribute. some_code (EncodesUnsigned 32) (numbers 32))
 
-  is_code : (byte : ℕ) → PrefixCode (IsExternTypeBehind byte)
+  is_code : (byte : ℕ) → PrefixCode (IsExternTypeAfterByte byte)
   is_code zero = some_code (EncodesUnsigned 32) (numbers 32)
   is_code (suc zero) = table_code
   is_code (suc (suc zero)) = limits_code
@@ -41,11 +41,11 @@ module _ (numbers : (width : ℕ) → PrefixCode (EncodesUnsigned width)) (refer
   is_code (suc (suc (suc (suc zero)))) = tag_code
   is_code (suc (suc (suc (suc (suc more))))) = λ a b x y m n p q e. (p ∙ sym q, refl)
 
-  extern_type_behind_code : (byte : ℕ) → PrefixCode (EncodesExternTypeBehind byte)
-  extern_type_behind_code byte a b x y m n p q e = ((is_code byte a b x y tt tt p.1 q.1 e).0, p.0 ∙ sym q.0)
+  extern_type_after_byte_code : (byte : ℕ) → PrefixCode (EncodesExternTypeAfterByte byte)
+  extern_type_after_byte_code byte a b x y m n p q e = ((is_code byte a b x y tt tt p.1 q.1 e).0, p.0 ∙ sym q.0)
 
   extern_type_code : PrefixCode EncodesExternType
-  extern_type_code = then_code IsByte EncodesExternTypeBehind byte_prefix_code extern_type_behind_code
+  extern_type_code = then_code IsByte EncodesExternTypeAfterByte byte_prefix_code extern_type_after_byte_code
 
   named_code : PrefixCode EncodesNamed
   named_code = both_code EncodesName EncodesExternType (λ (p : List ℕ × ℕ). p) (name_code (numbers 32)) extern_type_code (λ p. p) (λ p. refl)
@@ -66,16 +66,16 @@ module _ (numbers : (width : ℕ) → PrefixCode (EncodesUnsigned width)) (refer
     limits_determines : DeterminesRefusal LimitsFault
     limits_determines = then_determines IsByte EndFault BoundsFault byte_prefix_code end_determines bounds_determines
 
-    extern_type_behind_determines : (byte : ℕ) → DeterminesRefusal (ExternTypeBehindFault byte)
-    extern_type_behind_determines zero = small
-    extern_type_behind_determines (suc zero) = then_determines EncodesRefType RefTypeFault (λ ty. LimitsFault) references reference (λ ty. limits_determines)
-    extern_type_behind_determines (suc (suc zero)) = limits_determines
-    extern_type_behind_determines (suc (suc (suc zero))) = then_determines EncodesValType ValTypeFault (λ ty. EndFault) values value (λ ty. end_determines)
-    extern_type_behind_determines (suc (suc (suc (suc zero)))) = then_determines IsByte EndFault (λ attribute. U32Fault) byte_prefix_code end_determines (λ attribute. small)
-    extern_type_behind_determines (suc (suc (suc (suc (suc more))))) = λ m k r a b p q. absurd p
+    extern_type_after_byte_determines : (byte : ℕ) → DeterminesRefusal (ExternTypeFaultAfterByte byte)
+    extern_type_after_byte_determines zero = small
+    extern_type_after_byte_determines (suc zero) = then_determines EncodesRefType RefTypeFault (λ ty. LimitsFault) references reference (λ ty. limits_determines)
+    extern_type_after_byte_determines (suc (suc zero)) = limits_determines
+    extern_type_after_byte_determines (suc (suc (suc zero))) = then_determines EncodesValType ValTypeFault (λ ty. EndFault) values value (λ ty. end_determines)
+    extern_type_after_byte_determines (suc (suc (suc (suc zero)))) = then_determines IsByte EndFault (λ attribute. U32Fault) byte_prefix_code end_determines (λ attribute. small)
+    extern_type_after_byte_determines (suc (suc (suc (suc (suc more))))) = λ m k r a b p q. absurd p
 
     extern_type_determines : DeterminesRefusal ExternTypeFault
-    extern_type_determines = then_determines IsByte EndFault ExternTypeBehindFault byte_prefix_code end_determines extern_type_behind_determines
+    extern_type_determines = then_determines IsByte EndFault ExternTypeFaultAfterByte byte_prefix_code end_determines extern_type_after_byte_determines
 
     named_determines : DeterminesRefusal NamedFault
     named_determines = then_determines EncodesName NameFault (λ name. ExternTypeFault) (name_code (numbers 32)) (name_determines (numbers 32) small) (λ name. extern_type_determines)

@@ -34,29 +34,29 @@ ends_here _ fault = tt
 pub refused_now : {X : Type 0} (P : List ℕ → X → Type 0) (e : Error) (r : Reader) → IsRefusal P e r → NoPrefix P (rest r)
 refused_now P e r h = subst (NoPrefix P) (append-nil (rest r)) (h.refuses [] (ends_here e.message h.fault))
 
-pub first_fault : {X : Type 0} (P : List ℕ → X → Type 0) (First : Message → Reader → ℕ → Type 0) (Behind : X → Message → Reader → ℕ → Type 0) (e : Error)
-    (r : Reader) → IsRefusal P e r → First e.message r e.offset → ThenFault P First Behind e.message r e.offset
-first_fault P First Behind e r h fault = inl (refused_now P e r h, fault)
+pub first_fault : {X : Type 0} (P : List ℕ → X → Type 0) (First : Message → Reader → ℕ → Type 0) (After : X → Message → Reader → ℕ → Type 0) (e : Error)
+    (r : Reader) → IsRefusal P e r → First e.message r e.offset → ThenFault P First After e.message r e.offset
+first_fault P First After e r h fault = inl (refused_now P e r h, fault)
 
-pub second_fault : {X : Type 0} (P : List ℕ → X → Type 0) (First : Message → Reader → ℕ → Type 0) (Behind : X → Message → Reader → ℕ → Type 0) (e : Error)
-    (old mid : Reader) (x : X) → Reads P (Ok x) old mid → Behind x e.message mid e.offset → ThenFault P First Behind e.message old e.offset
-second_fault P First Behind e old mid x reads fault = inr (x, mid, reads, fault)
+pub second_fault : {X : Type 0} (P : List ℕ → X → Type 0) (First : Message → Reader → ℕ → Type 0) (After : X → Message → Reader → ℕ → Type 0) (e : Error)
+    (old mid : Reader) (x : X) → Reads P (Ok x) old mid → After x e.message mid e.offset → ThenFault P First After e.message old e.offset
+second_fault P First After e old mid x reads fault = inr (x, mid, reads, fault)
 
 -- The reader after a first part.
-same_behind : {X : Type 0} (P : List ℕ → X → Type 0) → PrefixCode P → (r s t : Reader) (x y : X) → Reads P (Ok x) r s → Reads P (Ok y) r t →
+same_after : {X : Type 0} (P : List ℕ → X → Type 0) → PrefixCode P → (r s t : Reader) (x y : X) → Reads P (Ok x) r s → Reads P (Ok y) r t →
     (x ≡ y) × (s ≡ t)
-same_behind P code r s t x y (a, p, h) (b, q, k) =
+same_after P code r s t x y (a, p, h) (b, q, k) =
     let o = code a b (rest s) (rest t) x y p q (sym h.parts ∙ k.parts) in
     (o.1, h.moved ∙ ap (λ z. at_position r (r.position + length z)) o.0 ∙ sym k.moved)
 
-pub then_determines : {X : Type 0} (P : List ℕ → X → Type 0) (First : Message → Reader → ℕ → Type 0) (Behind : X → Message → Reader → ℕ → Type 0) →
-    PrefixCode P → DeterminesRefusal First → ((x : X) → DeterminesRefusal (Behind x)) → DeterminesRefusal (ThenFault P First Behind)
-then_determines P First Behind code f g m k r a b (inl h) (inl q) = f m k r a b h.1 q.1
-then_determines P First Behind code f g m k r a b (inl h) (inr (x, new, (text, p, t), _)) = absurd (h.0 text (rest new) x p t.parts)
-then_determines P First Behind code f g m k r a b (inr (x, new, (text, p, t), _)) (inl q) = absurd (q.0 text (rest new) x p t.parts)
-then_determines P First Behind code f g m k r a b (inr (x, s, h, u)) (inr (y, t, q, v)) =
-    let o = same_behind P code r s t x y h q in
-    g x m k s a b u (subst (λ z. Behind z k s b) (sym o.0) (subst (λ z. Behind y k z b) (sym o.1) v))
+pub then_determines : {X : Type 0} (P : List ℕ → X → Type 0) (First : Message → Reader → ℕ → Type 0) (After : X → Message → Reader → ℕ → Type 0) →
+    PrefixCode P → DeterminesRefusal First → ((x : X) → DeterminesRefusal (After x)) → DeterminesRefusal (ThenFault P First After)
+then_determines P First After code f g m k r a b (inl h) (inl q) = f m k r a b h.1 q.1
+then_determines P First After code f g m k r a b (inl h) (inr (x, new, (text, p, t), _)) = absurd (h.0 text (rest new) x p t.parts)
+then_determines P First After code f g m k r a b (inr (x, new, (text, p, t), _)) (inl q) = absurd (q.0 text (rest new) x p t.parts)
+then_determines P First After code f g m k r a b (inr (x, s, h, u)) (inr (y, t, q, v)) =
+    let o = same_after P code r s t x y h q in
+    g x m k s a b u (subst (λ z. After z k s b) (sym o.0) (subst (λ z. After y k z b) (sym o.1) v))
 
 pub byte_prefix_code : PrefixCode IsByte
 byte_prefix_code a b x y m n p q e = let same : m ≡ n = cc (p.0, q.0, e) in (p.0 ∙ ap (λ z. z ∷ []) same ∙ sym q.0, same)

@@ -5,7 +5,7 @@ use Rattle.wasm_below.specs.bytes.error.Error.{Error}
 use Rattle.wasm_below.specs.Sequence.{Then, PrefixCode}
 use Rattle.wasm_below.specs.Source.{Reader, rest, end_of, at_position, IsRefusal, Reads}
 use Rattle.wasm_module.specs.Both.{Both}
-use Rattle.wasm_module.specs.Imports.{SomeOf, IsExternTypeBehind, EncodesExternTypeBehind}
+use Rattle.wasm_module.specs.Imports.{SomeOf, IsExternTypeAfterByte, EncodesExternTypeAfterByte}
 use Rattle.wasm_module.proofs.Parts.{takes_both, back}
 
 -- An encoding that is a prefix of the next bytes.
@@ -20,8 +20,8 @@ module _ {X Y : Type 0} (P : List ℕ → X → Type 0) (Q : X → List ℕ → 
   then_first e old new (same, h) = (
     same,
     record {
-      refuses = λ more follow text behind z b whole.
-          h.refuses more follow b.0 (b.1 ++ behind) b.2 b.4 (whole ∙ ap (λ t. t ++ behind) b.3 ∙ append_assoc b.0 b.1 behind);
+      refuses = λ more follow text after z b whole.
+          h.refuses more follow b.0 (b.1 ++ after) b.2 b.4 (whole ∙ ap (λ t. t ++ after) b.3 ∙ append_assoc b.0 b.1 after);
       fault = h.fault;
       ahead = h.ahead;
     },
@@ -36,11 +36,11 @@ module _ {X Y : Type 0} (P : List ℕ → X → Type 0) (Q : X → List ℕ → 
         let low = h.ahead.0 in
         let high = h.ahead.1 in
         record {
-          refuses = λ more follow text behind z b whole.
-              let both : a ++ (rest mid ++ more) ≡ b.0 ++ (b.1 ++ behind) =
-              sym (append_assoc a (rest mid) more) ∙ ap (λ r. r ++ more) (sym t.parts) ∙ whole ∙ ap (λ t. t ++ behind) b.3 ∙ append_assoc b.0 b.1 behind in
-              let o = code a b.0 (rest mid ++ more) (b.1 ++ behind) x b.2 p b.4 both in
-              h.refuses more follow b.1 behind z (subst (λ v. Q v b.1 z) (sym o.1) b.5) (first_text a b.0 (rest mid ++ more) (b.1 ++ behind) o.0 both);
+          refuses = λ more follow text after z b whole.
+              let both : a ++ (rest mid ++ more) ≡ b.0 ++ (b.1 ++ after) =
+              sym (append_assoc a (rest mid) more) ∙ ap (λ r. r ++ more) (sym t.parts) ∙ whole ∙ ap (λ t. t ++ after) b.3 ∙ append_assoc b.0 b.1 after in
+              let o = code a b.0 (rest mid ++ more) (b.1 ++ after) x b.2 p b.4 both in
+              h.refuses more follow b.1 after z (subst (λ v. Q v b.1 z) (sym o.1) b.5) (first_text a b.0 (rest mid ++ more) (b.1 ++ after) o.0 both);
           fault = h.fault;
           ahead = (omega (arith, low, start, position), omega (arith, high, end));
         }
@@ -51,11 +51,11 @@ module _ {X Y : Type 0} (P : List ℕ → X → Type 0) (Q : X → List ℕ → 
         (back old mid now new first.0 position first.2 second.0 at went, then_refused e old mid x first second.1)
 
     pub then_code : ((x : X) → PrefixCode (Q x)) → PrefixCode (Then P Q)
-    then_code behind a b x y m n p q e =
+    then_code after a b x y m n p q e =
         let whole : p.0 ++ (p.1 ++ x) ≡ q.0 ++ (q.1 ++ y) =
         sym (append_assoc p.0 p.1 x) ∙ ap (λ t. t ++ x) (sym p.3) ∙ e ∙ ap (λ t. t ++ y) q.3 ∙ append_assoc q.0 q.1 y in
         let first = code p.0 q.0 (p.1 ++ x) (q.1 ++ y) p.2 q.2 p.4 q.4 whole in
-        let second = behind p.2 p.1 q.1 x y m n p.5 (subst (λ v. Q v q.1 n) (sym first.1) q.5) (first_text p.0 q.0 (p.1 ++ x) (q.1 ++ y) first.0 whole) in
+        let second = after p.2 p.1 q.1 x y m n p.5 (subst (λ v. Q v q.1 n) (sym first.1) q.5) (first_text p.0 q.0 (p.1 ++ x) (q.1 ++ y) first.0 whole) in
         (p.3 ∙ ap (λ t. t ++ p.1) first.0 ∙ ap (λ t. q.0 ++ t) second.0 ∙ sym q.3, second.1)
 
 -- If reading a part fails, reading any value that contains the part fails too.
@@ -64,7 +64,7 @@ pub refused_as : {X Z : Type 0} (P : List ℕ → X → Type 0) (Q : List ℕ �
 refused_as P Q has e old new (same, h) = (
   same,
   record {
-    refuses = λ more follow text behind z b. h.refuses more follow text behind (has text z b).0 (has text z b).1;
+    refuses = λ more follow text after z b. h.refuses more follow text after (has text z b).0 (has text z b).1;
     fault = h.fault;
     ahead = h.ahead;
   },
@@ -79,21 +79,21 @@ module _ {X Y Z : Type 0} (P : List ℕ → X → Type 0) (Q : List ℕ → Y �
   abbrev Second : X → List ℕ → Z → Type 0
   Second x text z = (x ≡ (parts z).0) × Q text (parts z).1
 
-  abbrev one_behind : (text : List ℕ) (z : Z) → Whole text z → (same : Z) × Then P Second text same
-  one_behind text z b = (z, (b.0, b.1, (parts z).0, b.2, b.3, (refl, b.4)))
+  abbrev one_after : (text : List ℕ) (z : Z) → Whole text z → (same : Z) × Then P Second text same
+  one_after text z b = (z, (b.0, b.1, (parts z).0, b.2, b.3, (refl, b.4)))
 
   pub both_first : (e : Error) (old new : Reader) → Reads P (Err e) old new → Reads Whole (Err e) old new
-  both_first e old new h = refused_as (Then P Second) Whole one_behind e old new (then_first P Second e old new h)
+  both_first e old new h = refused_as (Then P Second) Whole one_after e old new (then_first P Second e old new h)
 
   pub both_second : PrefixCode P → (e : Error) (old mid now new : Reader) (x : X) (position : ℕ) → Reads P (Ok x) old mid → Reads Q (Err e) mid now →
       position ≡ old.position → new ≡ at_position now position → Reads Whole (Err e) old new
   both_second code e old mid now new x position first second at went =
-      refused_as (Then P Second) Whole one_behind e old new
+      refused_as (Then P Second) Whole one_after e old new
       (then_second P Second code e old mid now new x position first (refused_as Q (Second x) (λ text z b. ((parts z).1, b.1)) e mid now second) at went)
 
   pub both_code : PrefixCode P → PrefixCode Q → (make : X × Y → Z) → ((z : Z) → make (parts z) ≡ z) → PrefixCode Whole
   both_code first second make made a b x y m n p q e =
-      then_code P Second first (λ v. second_code v) a b x y m n (one_behind a m p).1 (one_behind b n q).1 e
+      then_code P Second first (λ v. second_code v) a b x y m n (one_after a m p).1 (one_after b n q).1 e
     where
       second_code : (v : X) → PrefixCode (Second v)
       second_code v a b x y m n p q e =
@@ -117,8 +117,8 @@ module _ {X : Type 0} (P : List ℕ → X → Type 0) where
   pub some_code : PrefixCode P → PrefixCode (SomeOf P)
   some_code code a b x y m n p q e = ((code a b x y p.0 q.0 p.1 q.1 e).0, refl)
 
-pub extern_type_behind_read : (byte : ℕ) (old new : Reader) → Reads (IsExternTypeBehind byte) (Ok tt) old new → Reads (EncodesExternTypeBehind byte) (Ok byte) old new
-extern_type_behind_read byte old new (a, p, t) = (a, (refl, p), t)
+pub extern_type_after_byte_read : (byte : ℕ) (old new : Reader) → Reads (IsExternTypeAfterByte byte) (Ok tt) old new → Reads (EncodesExternTypeAfterByte byte) (Ok byte) old new
+extern_type_after_byte_read byte old new (a, p, t) = (a, (refl, p), t)
 
-pub extern_type_behind_refused : (byte : ℕ) (e : Error) (old new : Reader) → Reads (IsExternTypeBehind byte) (Err e) old new → Reads (EncodesExternTypeBehind byte) (Err e) old new
-extern_type_behind_refused byte = refused_as (IsExternTypeBehind byte) (EncodesExternTypeBehind byte) (λ text z b. (tt, b.1))
+pub extern_type_after_byte_refused : (byte : ℕ) (e : Error) (old new : Reader) → Reads (IsExternTypeAfterByte byte) (Err e) old new → Reads (EncodesExternTypeAfterByte byte) (Err e) old new
+extern_type_after_byte_refused byte = refused_as (IsExternTypeAfterByte byte) (EncodesExternTypeAfterByte byte) (λ text z b. (tt, b.1))

@@ -74,31 +74,31 @@ TagFault = ThenFault IsByte EndFault (λ attribute. U32Fault)
 
 -- The bytes after the byte of a kind: none if the standard has no such kind.
 --   externtype ::= 0x00 x:typeidx | 0x01 tt:tabletype | 0x02 mt:memtype | 0x03 gt:globaltype | 0x04 jt:tagtype
-abbrev pub IsExternTypeBehind : ℕ → Skipped
-IsExternTypeBehind zero = SomeOf (EncodesUnsigned 32)
-IsExternTypeBehind (suc zero) = IsTable
-IsExternTypeBehind (suc (suc zero)) = IsLimits
-IsExternTypeBehind (suc (suc (suc zero))) = IsGlobal
-IsExternTypeBehind (suc (suc (suc (suc zero)))) = IsTag
-IsExternTypeBehind _ = IsNothing
+abbrev pub IsExternTypeAfterByte : ℕ → Skipped
+IsExternTypeAfterByte zero = SomeOf (EncodesUnsigned 32)
+IsExternTypeAfterByte (suc zero) = IsTable
+IsExternTypeAfterByte (suc (suc zero)) = IsLimits
+IsExternTypeAfterByte (suc (suc (suc zero))) = IsGlobal
+IsExternTypeAfterByte (suc (suc (suc (suc zero)))) = IsTag
+IsExternTypeAfterByte _ = IsNothing
 
-abbrev pub ExternTypeBehindFault : ℕ → SkipFault
-ExternTypeBehindFault zero = U32Fault
-ExternTypeBehindFault (suc zero) = TableFault
-ExternTypeBehindFault (suc (suc zero)) = LimitsFault
-ExternTypeBehindFault (suc (suc (suc zero))) = GlobalFault
-ExternTypeBehindFault (suc (suc (suc (suc zero)))) = TagFault
-ExternTypeBehindFault _ = λ m r offset. ⊥
+abbrev pub ExternTypeFaultAfterByte : ℕ → SkipFault
+ExternTypeFaultAfterByte zero = U32Fault
+ExternTypeFaultAfterByte (suc zero) = TableFault
+ExternTypeFaultAfterByte (suc (suc zero)) = LimitsFault
+ExternTypeFaultAfterByte (suc (suc (suc zero))) = GlobalFault
+ExternTypeFaultAfterByte (suc (suc (suc (suc zero)))) = TagFault
+ExternTypeFaultAfterByte _ = λ m r offset. ⊥
 
 -- The byte of a kind, which is kept, and the bytes after it.
-abbrev pub EncodesExternTypeBehind : ℕ → List ℕ → ℕ → Type 0
-EncodesExternTypeBehind byte text kind = (kind ≡ byte) × IsExternTypeBehind byte text tt
+abbrev pub EncodesExternTypeAfterByte : ℕ → List ℕ → ℕ → Type 0
+EncodesExternTypeAfterByte byte text kind = (kind ≡ byte) × IsExternTypeAfterByte byte text tt
 
 abbrev pub EncodesExternType : List ℕ → ℕ → Type 0
-EncodesExternType = Then IsByte EncodesExternTypeBehind
+EncodesExternType = Then IsByte EncodesExternTypeAfterByte
 
 abbrev pub ExternTypeFault : SkipFault
-ExternTypeFault = ThenFault IsByte EndFault ExternTypeBehindFault
+ExternTypeFault = ThenFault IsByte EndFault ExternTypeFaultAfterByte
 
 -- An import: the module's name, the import's name, and the byte of its kind.
 pub record ImportParts : Type 0 where

@@ -2,7 +2,7 @@
 -- WebAssembly Core Specification 3.0, Binary Format: Conventions, Lists; Types, Composite Types, Recursive Types.
 use Rattle.std.specs.Prelude.{◌≡◌, ◌≢◌, ℕ, zero, suc, ◌⊎◌, List, [], ◌∷◌}
 use Rattle.wasm_below.specs.bytes.message.Message.{Message}
-use Rattle.wasm_below.specs.Fault.{ThenFault, FaultBehind, ManyFault}
+use Rattle.wasm_below.specs.Fault.{ThenFault, FaultAfter, ManyFault}
 use Rattle.wasm_below.specs.Number.{EncodesUnsigned}
 use Rattle.wasm_below.specs.Sequence.{Then}
 use Rattle.wasm_below.specs.Source.{Reader, IsByte, EndFault, U32Fault}
@@ -77,21 +77,21 @@ IsOther byte = (byte ≢ 0x60) × (byte ≢ 0x5f) × (byte ≢ 0x5e)
 
 -- The bytes after the first byte of a type: none if that byte is none of the three.
 --   comptype ::= 0x5E ft:fieldtype ⇒ array | 0x5F ft*:list(fieldtype) ⇒ struct | 0x60 t1*:resulttype t2*:resulttype ⇒ func
-abbrev pub EncodesBehind : ℕ → List ℕ → CompositeType → Type 0
-EncodesBehind byte text (composite.Function parameters results) = (byte ≡ 0x60) × EncodesSignature text (parameters, results)
-EncodesBehind byte text (composite.Struct fields) = (byte ≡ 0x5f) × EncodesFields text fields
-EncodesBehind byte text composite.Array = (byte ≡ 0x5e) × IsField text tt
-EncodesBehind byte text (composite.Other kind) = IsOther byte × (kind ≡ byte) × IsNothing text tt
+abbrev pub EncodesAfterByte : ℕ → List ℕ → CompositeType → Type 0
+EncodesAfterByte byte text (composite.Function parameters results) = (byte ≡ 0x60) × EncodesSignature text (parameters, results)
+EncodesAfterByte byte text (composite.Struct fields) = (byte ≡ 0x5f) × EncodesFields text fields
+EncodesAfterByte byte text composite.Array = (byte ≡ 0x5e) × IsField text tt
+EncodesAfterByte byte text (composite.Other kind) = IsOther byte × (kind ≡ byte) × IsNothing text tt
 
-abbrev pub BehindFault : ℕ → SkipFault
-BehindFault byte m r offset = ((byte ≡ 0x60) × SignatureFault m r offset) ⊎ (((byte ≡ 0x5f) × FieldsFault m r offset) ⊎ ((byte ≡ 0x5e) × FieldFault m r offset))
+abbrev pub FaultAfterByte : ℕ → SkipFault
+FaultAfterByte byte m r offset = ((byte ≡ 0x60) × SignatureFault m r offset) ⊎ (((byte ≡ 0x5f) × FieldsFault m r offset) ⊎ ((byte ≡ 0x5e) × FieldFault m r offset))
 
 -- A composite type: its first byte, and the bytes after it.
 abbrev pub EncodesComposite : List ℕ → CompositeType → Type 0
-EncodesComposite = Then IsByte EncodesBehind
+EncodesComposite = Then IsByte EncodesAfterByte
 
 abbrev pub CompositeFault : SkipFault
-CompositeFault = ThenFault IsByte EndFault BehindFault
+CompositeFault = ThenFault IsByte EndFault FaultAfterByte
 
 -- The byte starts a type with supertypes: 0x4f a final type, 0x50 one that is not final.
 abbrev pub NamesSupertypes : ℕ → Type 0
@@ -112,19 +112,19 @@ WithSupertypesFault = ThenFault EncodesIndices IndicesFault (λ supertypes. Comp
 
 -- The bytes after the first byte of a sub type.
 --   subtype ::= 0x4F x*:list(typeidx) ct:comptype | 0x50 x*:list(typeidx) ct:comptype | ct:comptype
-abbrev pub EncodesSubBehind : ℕ → List ℕ → CompositeType → Type 0
-EncodesSubBehind byte text ty = (NamesSupertypes byte × EncodesWithSupertypes text ty) ⊎ ((¬ NamesSupertypes byte) × EncodesBehind byte text ty)
+abbrev pub EncodesSubAfterByte : ℕ → List ℕ → CompositeType → Type 0
+EncodesSubAfterByte byte text ty = (NamesSupertypes byte × EncodesWithSupertypes text ty) ⊎ ((¬ NamesSupertypes byte) × EncodesAfterByte byte text ty)
 
-abbrev pub SubBehindFault : ℕ → SkipFault
-SubBehindFault byte m r offset = (NamesSupertypes byte × WithSupertypesFault m r offset) ⊎ ((¬ NamesSupertypes byte) × BehindFault byte m r offset)
+abbrev pub SubFaultAfterByte : ℕ → SkipFault
+SubFaultAfterByte byte m r offset = (NamesSupertypes byte × WithSupertypesFault m r offset) ⊎ ((¬ NamesSupertypes byte) × FaultAfterByte byte m r offset)
 
 -- A sub type. Its composite type is kept.
 abbrev pub EncodesSubType : List ℕ → CompositeType → Type 0
-EncodesSubType = Then IsByte EncodesSubBehind
+EncodesSubType = Then IsByte EncodesSubAfterByte
 
 -- The error of a sub type: the error of its first part that can't be read.
 abbrev pub SubTypeFault : SkipFault
-SubTypeFault = ThenFault IsByte EndFault SubBehindFault
+SubTypeFault = ThenFault IsByte EndFault SubFaultAfterByte
 
 -- The start of a recursive type that is written as a list: its byte, and the number of sub types that follow.
 --   rectype ::= 0x4E st*:list(subtype) | st:subtype
@@ -133,4 +133,4 @@ EncodesRecTypeLength = Then IsByte (λ byte text n. (byte ≡ 0x4e) × EncodesUn
 
 -- The error of this start: the error of the number after the byte.
 abbrev pub RecTypeLengthFault : SkipFault
-RecTypeLengthFault = FaultBehind IsByte (λ byte. U32Fault)
+RecTypeLengthFault = FaultAfter IsByte (λ byte. U32Fault)

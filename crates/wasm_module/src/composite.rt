@@ -4,7 +4,7 @@ ghost use Rattle.wasm_below.specs.Fault.{ManyFault};
 ghost use Rattle.wasm_below.specs.Number.{EncodesUnsigned};
 ghost use Rattle.wasm_below.specs.Source.{Reads, BeginsWith, U32Fault, rest};
 ghost use Rattle.wasm_below.specs.TypeEncoding.{EncodesValType, ValTypeFault};
-ghost use Rattle.wasm_module.specs.Types.{IsMany, EncodesValueTypes, ValueTypesFault, EncodesSignature, SignatureFault, EncodesBehind, BehindFault, EncodesComposite, CompositeFault, EncodesIndices, IndicesFault, EncodesWithSupertypes, WithSupertypesFault, EncodesSubBehind, SubBehindFault, EncodesSubType, SubTypeFault, EncodesRecTypeLength, RecTypeLengthFault};
+ghost use Rattle.wasm_module.specs.Types.{IsMany, EncodesValueTypes, ValueTypesFault, EncodesSignature, SignatureFault, EncodesAfterByte, FaultAfterByte, EncodesComposite, CompositeFault, EncodesIndices, IndicesFault, EncodesWithSupertypes, WithSupertypesFault, EncodesSubAfterByte, SubFaultAfterByte, EncodesSubType, SubTypeFault, EncodesRecTypeLength, RecTypeLengthFault};
 
 use crate::field::{count_fields, skip_field};
 use crate::module_laws::types;
@@ -155,9 +155,9 @@ pub enum CompositeType {
 }
 
 /// Reads the bytes after this first byte.
-fn read_behind(reader: &mut BinaryReader<'_>, kind: u8) -> Result<CompositeType>
-    ensures reads { Reads (EncodesBehind kind) result reader.old reader.new }
-    ensures fault { IfErr result (λ e. BehindFault kind e.message reader.old e.offset) }
+fn read_after_byte(reader: &mut BinaryReader<'_>, kind: u8) -> Result<CompositeType>
+    ensures reads { Reads (EncodesAfterByte kind) result reader.old reader.new }
+    ensures fault { IfErr result (λ e. FaultAfterByte kind e.message reader.old e.offset) }
 {
     match kind {
         FUNCTION => match read_signature(reader) {
@@ -189,7 +189,7 @@ fn read_composite(reader: &mut BinaryReader<'_>) -> Result<CompositeType>
         Ok(kind) => kind,
         Err(e) => return Err(e),
     };
-    match read_behind(reader, kind) {
+    match read_after_byte(reader, kind) {
         Ok(ty) => Ok(ty),
         Err(e) => {
             reader.rewind(start);
@@ -219,13 +219,13 @@ fn read_with_supertypes(reader: &mut BinaryReader<'_>) -> Result<CompositeType>
 }
 
 /// Reads the bytes after this first byte of a sub type.
-fn read_sub_behind(reader: &mut BinaryReader<'_>, kind: u8) -> Result<CompositeType>
-    ensures reads { Reads (EncodesSubBehind kind) result reader.old reader.new }
-    ensures fault { IfErr result (λ e. SubBehindFault kind e.message reader.old e.offset) }
+fn read_sub_after_byte(reader: &mut BinaryReader<'_>, kind: u8) -> Result<CompositeType>
+    ensures reads { Reads (EncodesSubAfterByte kind) result reader.old reader.new }
+    ensures fault { IfErr result (λ e. SubFaultAfterByte kind e.message reader.old e.offset) }
 {
     match kind {
         FINAL | OPEN => read_with_supertypes(reader),
-        _ => read_behind(reader, kind),
+        _ => read_after_byte(reader, kind),
     }
 }
 
@@ -243,7 +243,7 @@ impl CompositeType {
             Ok(kind) => kind,
             Err(e) => return Err(e),
         };
-        match read_sub_behind(reader, kind) {
+        match read_sub_after_byte(reader, kind) {
             Ok(ty) => Ok(ty),
             Err(e) => {
                 reader.rewind(start);

@@ -5,7 +5,7 @@ ghost use Rattle.wasm_below.specs.Fault.{HasFault, DeterminesRefusal};
 ghost use Rattle.wasm_below.specs.FromReader.{ReadsValue};
 ghost use Rattle.wasm_below.specs.Sequence.{PrefixCode};
 ghost use Rattle.wasm_below.specs.Source.{Reads};
-ghost use Rattle.wasm_module.specs.Imports.{IsExternTypeBehind, ExternTypeBehindFault, EncodesExternType, ExternTypeFault, EncodesNamed, NamedFault, EncodesImport, ImportFault};
+ghost use Rattle.wasm_module.specs.Imports.{IsExternTypeAfterByte, ExternTypeFaultAfterByte, EncodesExternType, ExternTypeFault, EncodesNamed, NamedFault, EncodesImport, ImportFault};
 
 use crate::module_laws::imports;
 use crate::name::Name;
@@ -16,9 +16,9 @@ use wasm_below::byte_laws::unsigned_numbers;
 use wasm_below::{BinaryReader, FromReader, MemoryUse, Never, Result, UsesMemory};
 
 /// Skips the bytes after the byte of a kind.
-fn skip_extern_type_behind(reader: &mut BinaryReader<'_>, kind: u8) -> Result<()>
-    ensures reads { Reads (IsExternTypeBehind kind) result reader.old reader.new }
-    ensures fault { IfErr result (λ e. ExternTypeBehindFault kind e.message reader.old e.offset) }
+fn skip_extern_type_after_byte(reader: &mut BinaryReader<'_>, kind: u8) -> Result<()>
+    ensures reads { Reads (IsExternTypeAfterByte kind) result reader.old reader.new }
+    ensures fault { IfErr result (λ e. ExternTypeFaultAfterByte kind e.message reader.old e.offset) }
 {
     match kind {
         0 => match reader.read_var_u32() {
@@ -43,7 +43,7 @@ fn read_extern_type(reader: &mut BinaryReader<'_>) -> Result<u8>
         Ok(kind) => kind,
         Err(e) => return Err(e),
     };
-    match skip_extern_type_behind(reader, kind) {
+    match skip_extern_type_after_byte(reader, kind) {
         Ok(()) => Ok(kind),
         Err(e) => {
             reader.rewind(start);

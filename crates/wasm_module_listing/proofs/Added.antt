@@ -4,14 +4,14 @@ use Rattle.wasm_disassembly.specs.operators.below.bytes.error.Error.{Error}
 use Rattle.wasm_disassembly.specs.operators.below.bytes.features.WasmFeatures.{WasmFeatures}
 use Rattle.wasm_disassembly.specs.operators.below.Source.{Reader}
 use Rattle.wasm_functions.specs.ModuleFunctions.{ModuleFunctions}
-use Rattle.wasm_module_listing.specs.Listing.{Refusals, Told}
+use Rattle.wasm_module_listing.specs.Listing.{Refusals, Reported}
 use Rattle.wasm_module_listing.specs.ModuleCensus.{IsAdded, AreAdded, Adds, no_counts}
-use Rattle.wasm_module_listing.proofs.Bodies.{told_both}
+use Rattle.wasm_module_listing.proofs.Bodies.{reported_both}
 
-added_more : (features : WasmFeatures) (t : ModuleFunctions) (only : Option ℕ) (place : ℕ) (bs : List Reader) (b : Reader) (told one : Refusals)
-    (before mid after : List ℕ) (at : ℕ) → at ≡ place + length bs → AreAdded features t only place bs told before mid →
-    IsAdded features t only at b one mid after → AreAdded features t only place (bs ++ b ∷ []) (told ++ one) before after
-added_more features t only place [] b told one before mid after at is (all, none) added =
+added_more : (features : WasmFeatures) (t : ModuleFunctions) (only : Option ℕ) (place : ℕ) (bs : List Reader) (b : Reader) (reported one : Refusals)
+    (before mid after : List ℕ) (at : ℕ) → at ≡ place + length bs → AreAdded features t only place bs reported before mid →
+    IsAdded features t only at b one mid after → AreAdded features t only place (bs ++ b ∷ []) (reported ++ one) before after
+added_more features t only place [] b reported one before mid after at is (all, none) added =
     let here : at ≡ place = is ∙ omega arith in (
       one,
       [],
@@ -20,25 +20,25 @@ added_more features t only place [] b told one before mid after at is (all, none
       subst (λ counts. IsAdded features t only place b one counts after) none (subst (λ n. IsAdded features t only n b one mid after) here added),
       (refl, refl),
     )
-added_more features t only place (c ∷ cs) b told one before mid after at is (first, others, between, all, added, behind) last =
+added_more features t only place (c ∷ cs) b reported one before mid after at is (first, others, between, all, added, later) last =
     let next : at ≡ place + 1 + length cs = is ∙ omega arith in (
       first,
       others ++ one,
       between,
       ap (λ z. z ++ one) all ∙ append_assoc first others one,
       added,
-      added_more features t only (place + 1) cs b others one between mid after at next behind last,
+      added_more features t only (place + 1) cs b others one between mid after at next later last,
     )
 
 -- No function was counted.
-pub adds_none : {S : Type 0} (tells : S → ℕ → Error → S → Type 0) (features : WasmFeatures) (t : ModuleFunctions) (only : Option ℕ) (s : S) →
-    Adds tells features t only [] [] s s no_counts
-adds_none tells features t only s = record { added = (refl, refl); told_of = refl }
+pub adds_none : {S : Type 0} (reports : S → ℕ → Error → S → Type 0) (features : WasmFeatures) (t : ModuleFunctions) (only : Option ℕ) (s : S) →
+    Adds reports features t only [] [] s s no_counts
+adds_none reports features t only s = record { added = (refl, refl); reported_all = refl }
 
 -- One more function was counted.
-pub adds_more : {S : Type 0} (tells : S → ℕ → Error → S → Type 0) (features : WasmFeatures) (t : ModuleFunctions) (only : Option ℕ) (bs : List Reader) (b : Reader)
-    (told one : Refusals) (at : ℕ) (before mid after : S) (counts more : List ℕ) → at ≡ length bs →
-    Adds tells features t only bs told before mid counts → IsAdded features t only at b one counts more → Told tells one mid after →
-    Adds tells features t only (bs ++ b ∷ []) (told ++ one) before after more
-adds_more tells features t only bs b told one at before mid after counts more is a added tells_one =
-    record { added = added_more features t only 0 bs b told one no_counts counts more at (is ∙ sym (omega arith)) a.added added; told_of = told_both tells told one before mid after a.told_of tells_one }
+pub adds_more : {S : Type 0} (reports : S → ℕ → Error → S → Type 0) (features : WasmFeatures) (t : ModuleFunctions) (only : Option ℕ) (bs : List Reader) (b : Reader)
+    (reported one : Refusals) (at : ℕ) (before mid after : S) (counts more : List ℕ) → at ≡ length bs →
+    Adds reports features t only bs reported before mid counts → IsAdded features t only at b one counts more → Reported reports one mid after →
+    Adds reports features t only (bs ++ b ∷ []) (reported ++ one) before after more
+adds_more reports features t only bs b reported one at before mid after counts more is a added reports_one =
+    record { added = added_more features t only 0 bs b reported one no_counts counts more at (is ∙ sym (omega arith)) a.added added; reported_all = reported_both reports reported one before mid after a.reported_all reports_one }

@@ -24,7 +24,7 @@ item_read item body old new is steps =
 
 -- The property of a requested function.
 pub asked_only : (A B : Type 0) (asked given : Bool) → asked ≡ given → asked ≡ true → WhereAsked given A B → A
-asked_only A B asked given same is wanted = subst (λ b. WhereAsked b A B) (sym same ∙ is) wanted
+asked_only A B asked given same is requested = subst (λ b. WhereAsked b A B) (sym same ∙ is) requested
 
 -- If writing or allocation failed, something may be written.
 pub halts_later : (f : Fault) → IsHalt f → IsLater f

@@ -5,19 +5,19 @@ use Rattle.std.specs.Io.KnownBytes.{Appends, Keeps}
 use Rattle.wasm_disassembly.specs.operators.below.bytes.error.Error.{Error}
 use Rattle.wasm_disassembly.specs.operators.below.FromReader.{ReadsValue, EncodesReader}
 use Rattle.wasm_disassembly.specs.operators.below.Source.{Reader, offset_of, end_of}
-use Rattle.wasm_module_listing.specs.Listing.{BodiesStand, Refusals, Told, are_none}
+use Rattle.wasm_module_listing.specs.Listing.{BodiesOccur, Refusals, Reported, are_none}
 
 -- One more body.
-pub body_more : (r : Reader) (bs : List Reader) (mid new b : Reader) → BodiesStand r bs mid →
-    ReadsValue (EncodesReader mid.features) false (Ok b) mid new → end_of b ≡ offset_of new → BodiesStand r (bs ++ b ∷ []) new
+pub body_more : (r : Reader) (bs : List Reader) (mid new b : Reader) → BodiesOccur r bs mid →
+    ReadsValue (EncodesReader mid.features) false (Ok b) mid new → end_of b ≡ offset_of new → BodiesOccur r (bs ++ b ∷ []) new
 body_more r [] mid new b same reads placed = (new, subst (λ z. ReadsValue (EncodesReader z.features) false (Ok b) z new) same reads, placed, refl)
-body_more r (c ∷ cs) mid new b (next, first, stands, others) reads placed = (next, first, stands, body_more next cs mid new b others reads placed)
+body_more r (c ∷ cs) mid new b (next, first, occurs, others) reads placed = (next, first, occurs, body_more next cs mid new b others reads placed)
 
 -- Reports, and more of them.
-pub told_both : {S : Type 0} (tells : S → ℕ → Error → S → Type 0) (a b : Refusals) (old mid new : S) → Told tells a old mid → Told tells b mid new →
-    Told tells (a ++ b) old new
-told_both tells [] b old mid new same more = subst (λ s. Told tells b s new) same more
-told_both tells (r ∷ a) b old mid new (next, one, others) more = (next, one, told_both tells a b next mid new others more)
+pub reported_both : {S : Type 0} (reports : S → ℕ → Error → S → Type 0) (a b : Refusals) (old mid new : S) → Reported reports a old mid → Reported reports b mid new →
+    Reported reports (a ++ b) old new
+reported_both reports [] b old mid new same more = subst (λ s. Reported reports b s new) same more
+reported_both reports (r ∷ a) b old mid new (next, one, others) more = (next, one, reported_both reports a b next mid new others more)
 
 pub none_both : (a b : Refusals) → (are_none a && are_none b) ≡ are_none (a ++ b)
 none_both [] b = refl

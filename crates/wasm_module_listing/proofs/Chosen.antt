@@ -24,12 +24,12 @@ not_on_true true P is = let h : false ≡ true = is in absurd cc
 not_on_true false P is = tt
 
 -- If nothing is counted, nothing is written.
-pub tabulates_none : {S : Type 0} (tells : S → ℕ → Error → S → Type 0) (features : WasmFeatures) (only : Option ℕ) (bytes : List ℕ) (f : Fault)
-    (before after : S) (old : Option (List ℕ)) → CountsModule tells features only bytes (Err f) before after →
-    TabulatesModule tells features only bytes (Err f) before after old old
-tabulates_none tells features only bytes (fault.Code e) before after old counts = (counts, refl)
-tabulates_none tells features only bytes (fault.Module f) before after old (refuses, same) = (refuses, same, refl)
-tabulates_none tells features only bytes (fault.NoFunction i) before after old (refuses, same) = (refuses, same, refl)
-tabulates_none tells features only bytes fault.Reading before after old (refuses, same) = (refuses, same, refl)
-tabulates_none tells features only bytes fault.Writing before after old counts = tt
-tabulates_none tells features only bytes fault.Memory before after old counts = tt
+pub tabulates_none : {S : Type 0} (reports : S → ℕ → Error → S → Type 0) (features : WasmFeatures) (only : Option ℕ) (bytes : List ℕ) (f : Fault)
+    (before after : S) (old : Option (List ℕ)) → CountsModule reports features only bytes (Err f) before after →
+    TabulatesModule reports features only bytes (Err f) before after old old
+tabulates_none reports features only bytes (fault.Code e) before after old counts = (counts, refl)
+tabulates_none reports features only bytes (fault.Module f) before after old (refuses, same) = (refuses, same, refl)
+tabulates_none reports features only bytes (fault.NoFunction i) before after old (refuses, same) = (refuses, same, refl)
+tabulates_none reports features only bytes fault.Reading before after old (refuses, same) = (refuses, same, refl)
+tabulates_none reports features only bytes fault.Writing before after old counts = tt
+tabulates_none reports features only bytes fault.Memory before after old counts = tt

@@ -9,7 +9,7 @@ use Rattle.wasm_disassembly.specs.operators.below.Number.{EncodesUnsigned}
 use Rattle.wasm_disassembly.specs.operators.below.Refusal.{IsReadFault}
 use Rattle.wasm_disassembly.specs.operators.below.Sequence.{PrefixCode}
 use Rattle.wasm_disassembly.specs.operators.below.Source.{Reader, rest, offset_of, end_of, at_position, MayFollow, IsRefusal, Reads}
-use Rattle.wasm_module_listing.specs.Listing.{BodiesStand, IsCode, StopsCode, RefusesCode}
+use Rattle.wasm_module_listing.specs.Listing.{BodiesOccur, IsCode, StopsCode, RefusesCode}
 
 -- Nothing follows bytes at their end.
 may_end : (m : Message) → (m ≡ message.OutOfMemory → ⊥) → MayFollow m []
@@ -64,8 +64,8 @@ module _ (numbers : PrefixCode (EncodesUnsigned 32)) where
       sym (append_assoc n body (rest mid)) ∙ ap (λ z. z ++ rest mid) (sym q) ∙ sym takes.parts ∙ takes'.parts ∙ ap (λ z. z ++ rest next) q' ∙
       append_assoc n' body' (rest next) in
       let size_is = numbers n n' (body ++ rest mid) (body' ++ rest next) size size' number number' whole in
-      let behind = same_texts n n' (body ++ rest mid) (body' ++ rest next) (ap length size_is.0) whole in
-      let contents = same_texts body body' (rest mid) (rest next) (long ∙ size_is.1 ∙ sym long') behind.1 in
+      let after = same_texts n n' (body ++ rest mid) (body' ++ rest next) (ap length size_is.0) whole in
+      let contents = same_texts body body' (rest mid) (rest next) (long ∙ size_is.1 ∙ sym long') after.1 in
       let texts : text ≡ text' = q ∙ ap (λ z. z ++ body) size_is.0 ∙ ap (λ z. n' ++ z) contents.0 ∙ sym q' in
       let moved : mid ≡ next = takes.moved ∙ ap (λ (z : List ℕ). at_position r (r.position + length z)) texts ∙ sym takes'.moved in
       let same_buffer : b.buffer ≡ c.buffer = buffer ∙ contents.0 ∙ sym buffer' in
@@ -75,44 +75,44 @@ module _ (numbers : PrefixCode (EncodesUnsigned 32)) where
       (same_reader b c (f ∙ sym f') starts same_buffer (start ∙ sym start'), moved)
 
   -- The same number of bodies of the same bytes are the same.
-  same_bodies : (r : Reader) (bs cs : List Reader) (mid end : Reader) → BodiesStand r bs mid → BodiesStand r cs end → length bs ≡ length cs →
+  same_bodies : (r : Reader) (bs cs : List Reader) (mid end : Reader) → BodiesOccur r bs mid → BodiesOccur r cs end → length bs ≡ length cs →
       (bs ≡ cs) × (mid ≡ end)
   same_bodies r [] [] mid end a b l = (refl, a ∙ sym b)
   same_bodies r [] (c ∷ cs) mid end a b l = absurd (omega (arith, l))
   same_bodies r (b ∷ bs) [] mid end a c l = absurd (omega (arith, l))
   same_bodies r (b ∷ bs) (c ∷ cs) mid end (n, reads, placed, others) (n', reads', placed', others') l =
       let first = one_body r n n' b c reads reads' placed placed' in
-      let more = same_bodies n bs cs mid end others (subst (λ z. BodiesStand z cs end) (sym first.1) others') (omega (arith, l)) in
+      let more = same_bodies n bs cs mid end others (subst (λ z. BodiesOccur z cs end) (sym first.1) others') (omega (arith, l)) in
       (ap (λ z. z ∷ bs) first.0 ∙ ap (λ zs. c ∷ zs) more.0, more.1)
 
   -- After fewer bodies, one more body follows.
-  one_more : (r : Reader) (bs cs : List Reader) (mid end : Reader) → BodiesStand r bs mid → BodiesStand r cs end → length bs < length cs →
+  one_more : (r : Reader) (bs cs : List Reader) (mid end : Reader) → BodiesOccur r bs mid → BodiesOccur r cs end → length bs < length cs →
       (c : Reader) × (next : Reader) × ReadsValue (EncodesReader mid.features) false (Ok c) mid next
   one_more r bs [] mid end a b l = absurd (omega (arith, l))
   one_more r [] (c ∷ cs) mid end a (next, reads, placed, others) l =
       (c, next, subst (λ z. ReadsValue (EncodesReader z.features) false (Ok c) z next) (sym a) reads)
   one_more r (b ∷ bs) (c ∷ cs) mid end (n, reads, placed, others) (n', reads', placed', others') l =
       let first = one_body r n n' b c reads reads' placed placed' in
-      one_more n bs cs mid end others (subst (λ z. BodiesStand z cs end) (sym first.1) others') (omega (arith, l))
+      one_more n bs cs mid end others (subst (λ z. BodiesOccur z cs end) (sym first.1) others') (omega (arith, l))
 
   -- A code section is at most one list of bodies.
   pub one_code : (contents : Reader) (first second : List Reader) → IsCode contents first → IsCode contents second → first ≡ second
   one_code contents bs cs a b =
       let same = one_number contents a.first b.first (length bs) (length cs) a.count b.count in
-      (same_bodies a.first bs cs a.end b.end a.stand (subst (λ z. BodiesStand z cs b.end) (sym same.1) b.stand) same.0).0
+      (same_bodies a.first bs cs a.end b.end a.occur (subst (λ z. BodiesOccur z cs b.end) (sym same.1) b.occur) same.0).0
 
   stops_not : (contents : Reader) (all before : List Reader) (e : Error) → IsCode contents all → StopsCode e contents before → ⊥
   stops_not contents all before e h s =
       let same = one_number contents s.first h.first (length before + s.remaining) (length all) s.count h.count in
-      let stand = subst (λ z. BodiesStand z all h.end) (sym same.1) h.stand in
+      let occur = subst (λ z. BodiesOccur z all h.end) (sym same.1) h.occur in
       elim s.stops [
         | inl (more, refused, fault) ↦
             let fewer : length before < length all = let e = same.0 in omega (arith, more, e) in
-            let (c, next, reads) = one_more s.first before all s.end h.end s.stand stand fewer in
+            let (c, next, reads) = one_more s.first before all s.end h.end s.occur occur fewer in
             not_refused (EncodesReader s.end.features) e s.end next c refused reads
         | inr (none, (left, message, offset)) ↦
             let as_many : length before ≡ length all = let e = same.0 in omega (arith, none, e) in
-            let ends = (same_bodies s.first before all s.end h.end s.stand stand as_many).1 in
+            let ends = (same_bodies s.first before all s.end h.end s.occur occur as_many).1 in
             left (ap rest ends ∙ h.all)
       ]
 

@@ -3,7 +3,7 @@ use Rattle.std.proofs.Common.{◌≡◌, ◌&&◌, ℕ, ◌+◌, ◌-◌, ◌^�
 use Rattle.wasm_disassembly.specs.operators.below.bytes.features.WasmFeatures.{WasmFeatures}
 use Rattle.wasm_disassembly.specs.operators.below.Source.{Reader, reader_of}
 use Rattle.wasm_functions.specs.Sections.{IsSection}
-use Rattle.wasm_functions.specs.ModuleFunctions.{ModuleFunctions, TellsFunctions, IsOwn, index_of}
+use Rattle.wasm_functions.specs.ModuleFunctions.{ModuleFunctions, DescribesFunctions, IsOwn, index_of}
 use Rattle.wasm_module_listing.specs.declared.fault.Fault.{Fault}
 use Rattle.wasm_module_listing.specs.declared.fault.Fault.TheVariants as fault
 use Rattle.wasm_module_listing.specs.Listing.{is_asked, WhereAsked, AreAsked, HasAsked, IsModuleOf, OpensModule, RefusesModule, IsThere, IsOutside}
@@ -44,7 +44,7 @@ abbrev OneSection : Type 0
 OneSection = (whole : Reader) → (id : ℕ) → (a b : Option Reader) → IsSection whole id a → IsSection whole id b → a ≡ b
 
 abbrev SameFunctions : Type 0
-SameFunctions = (whole : Reader) → (t u : ModuleFunctions) → TellsFunctions whole t → TellsFunctions whole u → (t.imported ≡ u.imported) × (t.types ≡ u.types)
+SameFunctions = (whole : Reader) → (t u : ModuleFunctions) → DescribesFunctions whole t → DescribesFunctions whole u → (t.imported ≡ u.imported) × (t.types ≡ u.types)
 
 -- If each requested function of a module has a body with the property, the functions at which it was opened have it.
 pub asked_there : OneSection → SameFunctions → (Is : Reader → Type 0) (features : WasmFeatures) (only : Option ℕ) (bytes : List ℕ) (t : ModuleFunctions)
@@ -52,15 +52,15 @@ pub asked_there : OneSection → SameFunctions → (Is : Reader → Type 0) (fea
 asked_there one_section same_functions Is features only bytes t code o h =
     let whole = reader_of features 0 bytes in
     let found = one_section whole 10 h.code code h.opens.is_code o.is_code in
-    let same = same_functions whole h.functions t h.opens.is_told o.is_told in
+    let same = same_functions whole h.functions t h.opens.described o.described in
     subst (λ c. HasAsked Is t only c) found (same_found Is h.functions t only h.code same.0 h.bodies)
 
 -- Then the only fault is an allocation failure.
 pub refused_outside : SameFunctions → (Is : Reader → Type 0) (features : WasmFeatures) (only : Option ℕ) (bytes : List ℕ) (f : Fault) →
     RefusesModule features only bytes f → IsModuleOf Is features only bytes → IsOutside f
-refused_outside same_functions Is features only bytes (fault.Module f) refuses h = refuses.1 h.functions h.opens.is_told
+refused_outside same_functions Is features only bytes (fault.Module f) refuses h = refuses.1 h.functions h.opens.described
 refused_outside same_functions Is features only bytes (fault.NoFunction index) (is, lacks) h =
-    let same = same_functions (reader_of features 0 bytes) h.functions lacks.functions h.opens.is_told lacks.is_told in
+    let same = same_functions (reader_of features 0 bytes) h.functions lacks.functions h.opens.described lacks.described in
     let own : IsOwn h.functions index = subst (λ o. IsThere h.functions o) is h.opens.is_there in
     absurd (lacks.is_not (same_own h.functions lacks.functions index same.0 same.1 own))
 refused_outside same_functions Is features only bytes (fault.Code e) refuses h = absurd refuses

@@ -12,55 +12,55 @@ use Rattle.wasm_module_listing.specs.Listing.{OpensModule, RefusesModule, ListsC
 use Rattle.wasm_module_listing.specs.ModuleCensus.{CountsCode, CountsModule}
 use Rattle.wasm_module_listing.proofs.Bodies.{keeps_same}
 
-pub lists_module : {S : Type 0} (tells : S → ℕ → Error → S → Type 0) (features : WasmFeatures) (only : Option ℕ) (file bytes name : List ℕ) (t : ModuleFunctions)
+pub lists_module : {S : Type 0} (reports : S → ℕ → Error → S → Type 0) (features : WasmFeatures) (only : Option ℕ) (file bytes name : List ℕ) (t : ModuleFunctions)
     (contents : Reader) (result : Result Bool Fault) (before after : S) (old titled new : Option (List ℕ)) → OpensModule features only bytes t (Some contents) →
     NamesModule (reader_of features 0 bytes) name → Appends old titled (title_of file name) →
-    ListsCode tells t only contents result before after titled new → IfErr result (λ f. IsLater f) →
-    ListsModule tells features only file bytes result before after old new
-lists_module tells features only file bytes name t contents (Ok whole) before after old titled new opens named title lists later =
+    ListsCode reports t only contents result before after titled new → IfErr result (λ f. IsLater f) →
+    ListsModule reports features only file bytes result before after old new
+lists_module reports features only file bytes name t contents (Ok whole) before after old titled new opens named title lists later =
     record { functions = t; code = Some contents; opens = opens; name = name; is_name = named; titled = titled; title = title; lists = lists }
-lists_module tells features only file bytes name t contents (Err (fault.Code e)) before after old titled new opens named title lists later =
+lists_module reports features only file bytes name t contents (Err (fault.Code e)) before after old titled new opens named title lists later =
     record { functions = t; code = Some contents; opens = opens; name = name; is_name = named; titled = titled; title = title; lists = lists }
-lists_module tells features only file bytes name t contents (Err (fault.Module f)) before after old titled new opens named title lists later = absurd later
-lists_module tells features only file bytes name t contents (Err (fault.NoFunction i)) before after old titled new opens named title lists later = absurd later
-lists_module tells features only file bytes name t contents (Err fault.Reading) before after old titled new opens named title lists later = absurd later
-lists_module tells features only file bytes name t contents (Err fault.Writing) before after old titled new opens named title lists later = tt
-lists_module tells features only file bytes name t contents (Err fault.Memory) before after old titled new opens named title lists later = tt
+lists_module reports features only file bytes name t contents (Err (fault.Module f)) before after old titled new opens named title lists later = absurd later
+lists_module reports features only file bytes name t contents (Err (fault.NoFunction i)) before after old titled new opens named title lists later = absurd later
+lists_module reports features only file bytes name t contents (Err fault.Reading) before after old titled new opens named title lists later = absurd later
+lists_module reports features only file bytes name t contents (Err fault.Writing) before after old titled new opens named title lists later = tt
+lists_module reports features only file bytes name t contents (Err fault.Memory) before after old titled new opens named title lists later = tt
 
-pub lists_none : {S : Type 0} (tells : S → ℕ → Error → S → Type 0) (features : WasmFeatures) (only : Option ℕ) (file bytes name : List ℕ) (t : ModuleFunctions) (s : S)
+pub lists_none : {S : Type 0} (reports : S → ℕ → Error → S → Type 0) (features : WasmFeatures) (only : Option ℕ) (file bytes name : List ℕ) (t : ModuleFunctions) (s : S)
     (old new : Option (List ℕ)) → OpensModule features only bytes t None → NamesModule (reader_of features 0 bytes) name →
-    Appends old new (title_of file name) → ListsModule tells features only file bytes (Ok true) s s old new
-lists_none tells features only file bytes name t s old new opens named title =
+    Appends old new (title_of file name) → ListsModule reports features only file bytes (Ok true) s s old new
+lists_none reports features only file bytes name t s old new opens named title =
     record { functions = t; code = None; opens = opens; name = name; is_name = named; titled = new; title = title; lists = (refl, refl, keeps_same new) }
 
-pub counts_module : {S : Type 0} (tells : S → ℕ → Error → S → Type 0) (features : WasmFeatures) (only : Option ℕ) (bytes : List ℕ) (t : ModuleFunctions)
+pub counts_module : {S : Type 0} (reports : S → ℕ → Error → S → Type 0) (features : WasmFeatures) (only : Option ℕ) (bytes : List ℕ) (t : ModuleFunctions)
     (contents : Reader) (result : Result ModuleCounts Fault) (before after : S) → OpensModule features only bytes t (Some contents) →
-    CountsCode tells features t only contents result before after → IfErr result (λ f. IsLater f) → CountsModule tells features only bytes result before after
-counts_module tells features only bytes t contents (Ok found) before after opens counts later =
+    CountsCode reports features t only contents result before after → IfErr result (λ f. IsLater f) → CountsModule reports features only bytes result before after
+counts_module reports features only bytes t contents (Ok found) before after opens counts later =
     record { functions = t; code = Some contents; opens = opens; counts = counts }
-counts_module tells features only bytes t contents (Err (fault.Code e)) before after opens counts later =
+counts_module reports features only bytes t contents (Err (fault.Code e)) before after opens counts later =
     record { functions = t; code = Some contents; opens = opens; counts = counts }
-counts_module tells features only bytes t contents (Err (fault.Module f)) before after opens counts later = absurd later
-counts_module tells features only bytes t contents (Err (fault.NoFunction i)) before after opens counts later = absurd later
-counts_module tells features only bytes t contents (Err fault.Reading) before after opens counts later = absurd later
-counts_module tells features only bytes t contents (Err fault.Writing) before after opens counts later = tt
-counts_module tells features only bytes t contents (Err fault.Memory) before after opens counts later = tt
+counts_module reports features only bytes t contents (Err (fault.Module f)) before after opens counts later = absurd later
+counts_module reports features only bytes t contents (Err (fault.NoFunction i)) before after opens counts later = absurd later
+counts_module reports features only bytes t contents (Err fault.Reading) before after opens counts later = absurd later
+counts_module reports features only bytes t contents (Err fault.Writing) before after opens counts later = tt
+counts_module reports features only bytes t contents (Err fault.Memory) before after opens counts later = tt
 
 -- If a module is in error, nothing is written, and nothing is counted.
-pub lists_refused : {S : Type 0} (tells : S → ℕ → Error → S → Type 0) (features : WasmFeatures) (only : Option ℕ) (file bytes : List ℕ) (f : Fault) (s : S)
-    (written : Option (List ℕ)) → RefusesModule features only bytes f → ListsModule tells features only file bytes (Err f) s s written written
-lists_refused tells features only file bytes (fault.Module f) s written refuses = (refuses, refl)
-lists_refused tells features only file bytes (fault.NoFunction i) s written refuses = (refuses, refl)
-lists_refused tells features only file bytes (fault.Code e) s written refuses = absurd refuses
-lists_refused tells features only file bytes fault.Reading s written refuses = absurd refuses
-lists_refused tells features only file bytes fault.Writing s written refuses = tt
-lists_refused tells features only file bytes fault.Memory s written refuses = tt
+pub lists_refused : {S : Type 0} (reports : S → ℕ → Error → S → Type 0) (features : WasmFeatures) (only : Option ℕ) (file bytes : List ℕ) (f : Fault) (s : S)
+    (written : Option (List ℕ)) → RefusesModule features only bytes f → ListsModule reports features only file bytes (Err f) s s written written
+lists_refused reports features only file bytes (fault.Module f) s written refuses = (refuses, refl)
+lists_refused reports features only file bytes (fault.NoFunction i) s written refuses = (refuses, refl)
+lists_refused reports features only file bytes (fault.Code e) s written refuses = absurd refuses
+lists_refused reports features only file bytes fault.Reading s written refuses = absurd refuses
+lists_refused reports features only file bytes fault.Writing s written refuses = tt
+lists_refused reports features only file bytes fault.Memory s written refuses = tt
 
-pub counts_refused : {S : Type 0} (tells : S → ℕ → Error → S → Type 0) (features : WasmFeatures) (only : Option ℕ) (bytes : List ℕ) (f : Fault) (s : S) →
-    RefusesModule features only bytes f → CountsModule tells features only bytes (Err f) s s
-counts_refused tells features only bytes (fault.Module f) s refuses = (refuses, refl)
-counts_refused tells features only bytes (fault.NoFunction i) s refuses = (refuses, refl)
-counts_refused tells features only bytes (fault.Code e) s refuses = absurd refuses
-counts_refused tells features only bytes fault.Reading s refuses = absurd refuses
-counts_refused tells features only bytes fault.Writing s refuses = tt
-counts_refused tells features only bytes fault.Memory s refuses = tt
+pub counts_refused : {S : Type 0} (reports : S → ℕ → Error → S → Type 0) (features : WasmFeatures) (only : Option ℕ) (bytes : List ℕ) (f : Fault) (s : S) →
+    RefusesModule features only bytes f → CountsModule reports features only bytes (Err f) s s
+counts_refused reports features only bytes (fault.Module f) s refuses = (refuses, refl)
+counts_refused reports features only bytes (fault.NoFunction i) s refuses = (refuses, refl)
+counts_refused reports features only bytes (fault.Code e) s refuses = absurd refuses
+counts_refused reports features only bytes fault.Reading s refuses = absurd refuses
+counts_refused reports features only bytes fault.Writing s refuses = tt
+counts_refused reports features only bytes fault.Memory s refuses = tt

@@ -4,13 +4,13 @@ use Rattle.std.specs.Io.KnownBytes.{Appends}
 use Rattle.wasm_disassembly.specs.operators.below.bytes.error.Error.{Error}
 use Rattle.wasm_disassembly.specs.operators.below.Source.{Reader}
 use Rattle.wasm_functions.specs.ModuleFunctions.{ModuleFunctions}
-use Rattle.wasm_module_listing.specs.Listing.{Refusals, Told, IsWritten, AreWritten, Writes}
-use Rattle.wasm_module_listing.proofs.Bodies.{told_both, appends_both, appends_none}
+use Rattle.wasm_module_listing.specs.Listing.{Refusals, Reported, IsWritten, AreWritten, Writes}
+use Rattle.wasm_module_listing.proofs.Bodies.{reported_both, appends_both, appends_none}
 
-written_more : (t : ModuleFunctions) (only : Option ℕ) (place : ℕ) (bs : List Reader) (b : Reader) (told one : Refusals) (text own : List ℕ) (at : ℕ) →
-    at ≡ place + length bs → AreWritten t only place bs told text → IsWritten t only at b one own →
-    AreWritten t only place (bs ++ b ∷ []) (told ++ one) (text ++ own)
-written_more t only place [] b told one text own at is (all, none) written =
+written_more : (t : ModuleFunctions) (only : Option ℕ) (place : ℕ) (bs : List Reader) (b : Reader) (reported one : Refusals) (text own : List ℕ) (at : ℕ) →
+    at ≡ place + length bs → AreWritten t only place bs reported text → IsWritten t only at b one own →
+    AreWritten t only place (bs ++ b ∷ []) (reported ++ one) (text ++ own)
+written_more t only place [] b reported one text own at is (all, none) written =
     let here : at ≡ place = is ∙ omega arith in (
       one,
       [],
@@ -21,7 +21,7 @@ written_more t only place [] b told one text own at is (all, none) written =
       subst (λ n. IsWritten t only n b one own) here written,
       (refl, refl),
     )
-written_more t only place (c ∷ cs) b told one text own at is (first, others, front, more, all, parts, written, behind) last =
+written_more t only place (c ∷ cs) b reported one text own at is (first, others, front, more, all, parts, written, after) last =
     let next : at ≡ place + 1 + length cs = is ∙ omega arith in (
       first,
       others ++ one,
@@ -30,18 +30,18 @@ written_more t only place (c ∷ cs) b told one text own at is (first, others, f
       ap (λ z. z ++ one) all ∙ append_assoc first others one,
       ap (λ z. z ++ own) parts ∙ append_assoc front more own,
       written,
-      written_more t only (place + 1) cs b others one more own at next behind last,
+      written_more t only (place + 1) cs b others one more own at next after last,
     )
 
 -- No function was written.
-pub writes_none : {S : Type 0} (tells : S → ℕ → Error → S → Type 0) (t : ModuleFunctions) (only : Option ℕ) (s : S) (old : Option (List ℕ)) →
-    Writes tells t only [] [] s s old old
-writes_none tells t only s old = record { text = []; written = (refl, refl); appends = appends_none old; told_of = refl }
+pub writes_none : {S : Type 0} (reports : S → ℕ → Error → S → Type 0) (t : ModuleFunctions) (only : Option ℕ) (s : S) (old : Option (List ℕ)) →
+    Writes reports t only [] [] s s old old
+writes_none reports t only s old = record { text = []; written = (refl, refl); appends = appends_none old; reported_all = refl }
 
 -- One more function was written.
-pub writes_more : {S : Type 0} (tells : S → ℕ → Error → S → Type 0) (t : ModuleFunctions) (only : Option ℕ) (bs : List Reader) (b : Reader) (told one : Refusals)
+pub writes_more : {S : Type 0} (reports : S → ℕ → Error → S → Type 0) (t : ModuleFunctions) (only : Option ℕ) (bs : List Reader) (b : Reader) (reported one : Refusals)
     (own : List ℕ) (at : ℕ) (before mid after : S) (old between new : Option (List ℕ)) → at ≡ length bs →
-    Writes tells t only bs told before mid old between → IsWritten t only at b one own → Told tells one mid after → Appends between new own →
-    Writes tells t only (bs ++ b ∷ []) (told ++ one) before after old new
-writes_more tells t only bs b told one own at before mid after old between new is w written tells_one appends =
-    record { text = w.text ++ own; written = written_more t only 0 bs b told one w.text own at (is ∙ sym (omega arith)) w.written written; appends = appends_both old between new w.text own w.appends appends; told_of = told_both tells told one before mid after w.told_of tells_one }
+    Writes reports t only bs reported before mid old between → IsWritten t only at b one own → Reported reports one mid after → Appends between new own →
+    Writes reports t only (bs ++ b ∷ []) (reported ++ one) before after old new
+writes_more reports t only bs b reported one own at before mid after old between new is w written reports_one appends =
+    record { text = w.text ++ own; written = written_more t only 0 bs b reported one w.text own at (is ∙ sym (omega arith)) w.written written; appends = appends_both old between new w.text own w.appends appends; reported_all = reported_both reports reported one before mid after w.reported_all reports_one }

@@ -15,23 +15,23 @@ use Rattle.wasm_disassembly.specs.Disassembly.{Heading, IsText}
 use Rattle.wasm_disassembly.specs.LocalLines.{locals_in}
 use Rattle.wasm_functions.specs.Refusals.{ModuleFunctionsFault}
 use Rattle.wasm_functions.specs.Sections.{IsSection}
-use Rattle.wasm_functions.specs.ModuleFunctions.{ModuleFunctions, TellsFunctions, IsOwn, index_of, name_at, parameters_at, NamesModule}
+use Rattle.wasm_functions.specs.ModuleFunctions.{ModuleFunctions, DescribesFunctions, IsOwn, index_of, name_at, parameters_at, NamesModule}
 use Rattle.wasm_functions.specs.declared.fault.ModuleFault.TheVariants as whole_fault
 use Rattle.wasm_module_listing.specs.declared.fault.Fault.{Fault}
 use Rattle.wasm_module_listing.specs.declared.fault.Fault.TheVariants as fault
 
 -- Between the two readers, the bytes encode these bodies, each with its length before it, one after another.
 -- Their offsets are those of the section.
-abbrev pub BodiesStand : Reader → List Reader → Reader → Type 0
-BodiesStand r [] end = end ≡ r
-BodiesStand r (b ∷ bs) end = (mid : Reader) × ReadsValue (EncodesReader r.features) false (Ok b) r mid × (end_of b ≡ offset_of mid) × BodiesStand mid bs end
+abbrev pub BodiesOccur : Reader → List Reader → Reader → Type 0
+BodiesOccur r [] end = end ≡ r
+BodiesOccur r (b ∷ bs) end = (mid : Reader) × ReadsValue (EncodesReader r.features) false (Ok b) r mid × (end_of b ≡ offset_of mid) × BodiesOccur mid bs end
 
 -- The contents of a code section: the number of bodies, followed by the bodies, up to the end.
 pub record IsCode (contents : Reader) (bodies : List Reader) : Type 0 where
   pub first : Reader
   pub count : Reads (EncodesUnsigned 32) (Ok (length bodies)) contents first
   pub end : Reader
-  pub stand : BodiesStand first bodies end
+  pub occur : BodiesOccur first bodies end
   pub all : rest end ≡ []
 
 -- A code section is in error after these bodies: the next body that it declares can't be read, or data is left after the last.
@@ -40,7 +40,7 @@ pub record StopsCode (e : Error) (contents : Reader) (bodies : List Reader) : Ty
   pub remaining : ℕ
   pub count : Reads (EncodesUnsigned 32) (Ok (length bodies + remaining)) contents first
   pub end : Reader
-  pub stand : BodiesStand first bodies end
+  pub occur : BodiesOccur first bodies end
   pub stops : StopsSection (EncodesReader end.features) ReaderFault false e (record { remaining = remaining; reader = end; refused = false })
 
 -- A code section is in error: its number of bodies, and none is read; or it is in error after some of them.
@@ -66,9 +66,9 @@ are_none [] = true
 are_none (r ∷ rs) = false
 
 -- These errors were reported, one after another.
-abbrev pub Told : {S : Type 0} → (S → ℕ → Error → S → Type 0) → Refusals → S → S → Type 0
-Told tells [] old new = new ≡ old
-Told {S} tells (r ∷ rs) old new = (mid : S) × tells old r.0 r.1 mid × Told tells rs mid new
+abbrev pub Reported : {S : Type 0} → (S → ℕ → Error → S → Type 0) → Refusals → S → S → Type 0
+Reported reports [] old new = new ≡ old
+Reported {S} reports (r ∷ rs) old new = (mid : S) × reports old r.0 r.1 mid × Reported reports rs mid new
 
 -- The heading of the text of the defined function at a place.
 abbrev pub heading_at : ModuleFunctions → ℕ → Heading
@@ -81,45 +81,45 @@ refusals_of index (Err e) = (index, e) ∷ []
 
 -- The text of the function at a place: of the body that the bytes encode, or of the part before the error, which is reported.
 abbrev pub ListsFunction : ModuleFunctions → ℕ → Reader → Refusals → List ℕ → Type 0
-ListsFunction t place body told text =
-    (answer : Result (Unit {0}) Error) × IsText (heading_at t place) answer body text × (told ≡ refusals_of (index_of t place) answer)
+ListsFunction t place body reported text =
+    (outcome : Result (Unit {0}) Error) × IsText (heading_at t place) outcome body text × (reported ≡ refusals_of (index_of t place) outcome)
 
 -- The output for the function at a place: its text, or nothing if it is not requested.
 abbrev pub IsWritten : ModuleFunctions → Option ℕ → ℕ → Reader → Refusals → List ℕ → Type 0
-IsWritten t only place body told text =
-    WhereAsked (is_asked only (index_of t place)) (ListsFunction t place body told text) ((told ≡ []) × (text ≡ []))
+IsWritten t only place body reported text =
+    WhereAsked (is_asked only (index_of t place)) (ListsFunction t place body reported text) ((reported ≡ []) × (text ≡ []))
 
 -- The output and the reports for these functions, from a place on, one after another.
 abbrev pub AreWritten : ModuleFunctions → Option ℕ → ℕ → List Reader → Refusals → List ℕ → Type 0
-AreWritten t only place [] told text = (told ≡ []) × (text ≡ [])
-AreWritten t only place (b ∷ bs) told text =
-    (one others : Refusals) × (own more : List ℕ) × (told ≡ one ++ others) × (text ≡ own ++ more) × IsWritten t only place b one own ×
+AreWritten t only place [] reported text = (reported ≡ []) × (text ≡ [])
+AreWritten t only place (b ∷ bs) reported text =
+    (one others : Refusals) × (own more : List ℕ) × (reported ≡ one ++ others) × (text ≡ own ++ more) × IsWritten t only place b one own ×
     AreWritten t only (place + 1) bs others more
 
 -- The first functions of a module, with these bodies, were written and their errors reported.
-pub record Writes {S : Type 0} (tells : S → ℕ → Error → S → Type 0) (t : ModuleFunctions) (only : Option ℕ) (bodies : List Reader) (told : Refusals)
+pub record Writes {S : Type 0} (reports : S → ℕ → Error → S → Type 0) (t : ModuleFunctions) (only : Option ℕ) (bodies : List Reader) (reported : Refusals)
     (before after : S) (old new : Option (List ℕ)) : Type 0 where
   pub text : List ℕ
-  pub written : AreWritten t only 0 bodies told text
+  pub written : AreWritten t only 0 bodies reported text
   pub appends : Appends old new text
-  pub told_of : Told tells told before after
+  pub reported_all : Reported reports reported before after
 
 -- The functions of a code section are written, and the result is whether none has an error.
 -- Or the section is in error, after the functions before the error. About the other faults nothing is said here.
 abbrev pub ListsCode : {S : Type 0} → (S → ℕ → Error → S → Type 0) → ModuleFunctions → Option ℕ → Reader → Result Bool Fault → S → S → Option (List ℕ) →
     Option (List ℕ) → Type 0
-ListsCode tells t only contents (Ok whole) before after old new =
-    (bodies : List Reader) × IsCode contents bodies × (told : Refusals) × Writes tells t only bodies told before after old new × (whole ≡ are_none told)
-ListsCode tells t only contents (Err (fault.Code e)) before after old new =
-    (bodies : List Reader) × RefusesCode e contents bodies × (told : Refusals) × Writes tells t only bodies told before after old new
-ListsCode tells t only contents (Err _) before after old new = Unit {0}
+ListsCode reports t only contents (Ok whole) before after old new =
+    (bodies : List Reader) × IsCode contents bodies × (reported : Refusals) × Writes reports t only bodies reported before after old new × (whole ≡ are_none reported)
+ListsCode reports t only contents (Err (fault.Code e)) before after old new =
+    (bodies : List Reader) × RefusesCode e contents bodies × (reported : Refusals) × Writes reports t only bodies reported before after old new
+ListsCode reports t only contents (Err _) before after old new = Unit {0}
 
 -- The same for a module with a code section or without.
 abbrev pub ListsFound : {S : Type 0} → (S → ℕ → Error → S → Type 0) → ModuleFunctions → Option ℕ → Option Reader → Result Bool Fault → S → S → Option (List ℕ) →
     Option (List ℕ) → Type 0
-ListsFound tells t only (Some contents) result before after old new = ListsCode tells t only contents result before after old new
-ListsFound tells t only None (Ok whole) before after old new = (whole ≡ true) × (after ≡ before) × Keeps old new
-ListsFound tells t only None (Err f) before after old new = Unit {0}
+ListsFound reports t only (Some contents) result before after old new = ListsCode reports t only contents result before after old new
+ListsFound reports t only None (Ok whole) before after old new = (whole ≡ true) × (after ≡ before) × Keeps old new
+ListsFound reports t only None (Err f) before after old new = Unit {0}
 
 -- The title: the name of the file, and the name of the module, if it has one.
 abbrev pub name_line : List ℕ → List ℕ
@@ -139,26 +139,26 @@ IsThere t (Some index) = IsOwn t index
 
 -- The bytes are a module with these functions and this code section, if it has one. All functions are requested, or one that the module defines.
 pub record OpensModule (features : WasmFeatures) (only : Option ℕ) (bytes : List ℕ) (functions : ModuleFunctions) (code : Option Reader) : Type 0 where
-  pub is_told : TellsFunctions (reader_of features 0 bytes) functions
+  pub described : DescribesFunctions (reader_of features 0 bytes) functions
   pub is_there : IsThere functions only
   pub is_code : IsSection (reader_of features 0 bytes) 10 code
 
 -- The bytes are a module that defines no function with this index.
 pub record LacksFunction (features : WasmFeatures) (bytes : List ℕ) (index : ℕ) : Type 0 where
   pub functions : ModuleFunctions
-  pub is_told : TellsFunctions (reader_of features 0 bytes) functions
+  pub described : DescribesFunctions (reader_of features 0 bytes) functions
   pub is_not : IsOwn functions index → ⊥
 
 -- Nothing is written. The functions of the bytes are not known, and this is their fault, or allocation failed;
 -- or the module does not define the one function that is requested.
 abbrev pub RefusesModule : WasmFeatures → Option ℕ → List ℕ → Fault → Type 0
 RefusesModule features only bytes (fault.Module f) =
-    ModuleFunctionsFault f (reader_of features 0 bytes) × ((functions : ModuleFunctions) → TellsFunctions (reader_of features 0 bytes) functions → f ≡ whole_fault.Memory)
+    ModuleFunctionsFault f (reader_of features 0 bytes) × ((functions : ModuleFunctions) → DescribesFunctions (reader_of features 0 bytes) functions → f ≡ whole_fault.Memory)
 RefusesModule features only bytes (fault.NoFunction index) = (only ≡ Some index) × LacksFunction features bytes index
 RefusesModule features only bytes _ = ⊥
 
 -- A module is written: a title with its name, followed by the functions of its code section.
-pub record WritesModule {S : Type 0} (tells : S → ℕ → Error → S → Type 0) (features : WasmFeatures) (only : Option ℕ) (file bytes : List ℕ)
+pub record WritesModule {S : Type 0} (reports : S → ℕ → Error → S → Type 0) (features : WasmFeatures) (only : Option ℕ) (file bytes : List ℕ)
     (result : Result Bool Fault) (before after : S) (old new : Option (List ℕ)) : Type 0 where
   pub functions : ModuleFunctions
   pub code : Option Reader
@@ -167,18 +167,18 @@ pub record WritesModule {S : Type 0} (tells : S → ℕ → Error → S → Type
   pub is_name : NamesModule (reader_of features 0 bytes) name
   pub titled : Option (List ℕ)
   pub title : Appends old titled (title_of file name)
-  pub lists : ListsFound tells functions only code result before after titled new
+  pub lists : ListsFound reports functions only code result before after titled new
 
 -- The disassembly of a module: it is written, or its code section is in error after the functions that were written, or nothing is written.
 -- If writing failed, or allocation after the start, nothing is said here.
 abbrev pub ListsModule : {S : Type 0} → (S → ℕ → Error → S → Type 0) → WasmFeatures → Option ℕ → List ℕ → List ℕ → Result Bool Fault → S → S →
     Option (List ℕ) → Option (List ℕ) → Type 0
-ListsModule tells features only file bytes (Ok whole) before after old new = WritesModule tells features only file bytes (Ok whole) before after old new
-ListsModule tells features only file bytes (Err (fault.Code e)) before after old new =
-    WritesModule tells features only file bytes (Err (fault.Code e)) before after old new
-ListsModule tells features only file bytes (Err fault.Writing) before after old new = Unit {0}
-ListsModule tells features only file bytes (Err fault.Memory) before after old new = Unit {0}
-ListsModule tells features only file bytes (Err f) before after old new = RefusesModule features only bytes f × (after ≡ before)
+ListsModule reports features only file bytes (Ok whole) before after old new = WritesModule reports features only file bytes (Ok whole) before after old new
+ListsModule reports features only file bytes (Err (fault.Code e)) before after old new =
+    WritesModule reports features only file bytes (Err (fault.Code e)) before after old new
+ListsModule reports features only file bytes (Err fault.Writing) before after old new = Unit {0}
+ListsModule reports features only file bytes (Err fault.Memory) before after old new = Unit {0}
+ListsModule reports features only file bytes (Err f) before after old new = RefusesModule features only bytes f × (after ≡ before)
 
 -- The bytes are the body of a function, with no more locals than the limit.
 abbrev pub IsFunction : Reader → Type 0

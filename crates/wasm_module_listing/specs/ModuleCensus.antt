@@ -14,7 +14,7 @@ use Rattle.wasm_module_listing.specs.CountTable.{Row, IsTable, table_text}
 use Rattle.wasm_module_listing.specs.declared.counts.ModuleCounts.{ModuleCounts}
 use Rattle.wasm_module_listing.specs.declared.fault.Fault.{Fault}
 use Rattle.wasm_module_listing.specs.declared.fault.Fault.TheVariants as fault
-use Rattle.wasm_module_listing.specs.Listing.{Refusals, Told, are_none, is_asked, WhereAsked, IsCode, RefusesCode, OpensModule, RefusesModule, IsOutside}
+use Rattle.wasm_module_listing.specs.Listing.{Refusals, Reported, are_none, is_asked, WhereAsked, IsCode, RefusesCode, OpensModule, RefusesModule, IsOutside}
 
 -- The sums of counts, each at most the greatest u64.
 abbrev pub add_counts : List ℕ → List ℕ → List ℕ
@@ -27,65 +27,65 @@ moved offset e = record { message = e.message; offset = min (offset + e.offset) 
 
 -- The effect of a body on the counts: its counts are added, or its error is reported and nothing is added.
 abbrev pub AddsBody : WasmFeatures → ℕ → Reader → Refusals → List ℕ → List ℕ → Type 0
-AddsBody features index body told before after =
-    ((added : List ℕ) × Counts (input_of features (rest body)) (Ok added) × (after ≡ add_counts before added) × (told ≡ [])) ⊎
-    ((e : Error) × Counts (input_of features (rest body)) (Err (dump.Refused e)) × (after ≡ before) × (told ≡ (index, moved (offset_of body) e) ∷ []))
+AddsBody features index body reported before after =
+    ((added : List ℕ) × Counts (input_of features (rest body)) (Ok added) × (after ≡ add_counts before added) × (reported ≡ [])) ⊎
+    ((e : Error) × Counts (input_of features (rest body)) (Err (dump.Refused e)) × (after ≡ before) × (reported ≡ (index, moved (offset_of body) e) ∷ []))
 
 -- The effect of the function at a place on the counts: nothing if it is not requested.
 abbrev pub IsAdded : WasmFeatures → ModuleFunctions → Option ℕ → ℕ → Reader → Refusals → List ℕ → List ℕ → Type 0
-IsAdded features t only place body told before after =
-    WhereAsked (is_asked only (index_of t place)) (AddsBody features (index_of t place) body told before after) ((told ≡ []) × (after ≡ before))
+IsAdded features t only place body reported before after =
+    WhereAsked (is_asked only (index_of t place)) (AddsBody features (index_of t place) body reported before after) ((reported ≡ []) × (after ≡ before))
 
 -- The effect of these functions on the counts, from a place on, one after another, and the reports.
 abbrev pub AreAdded : WasmFeatures → ModuleFunctions → Option ℕ → ℕ → List Reader → Refusals → List ℕ → List ℕ → Type 0
-AreAdded features t only place [] told before after = (told ≡ []) × (after ≡ before)
-AreAdded features t only place (b ∷ bs) told before after =
-    (one others : Refusals) × (mid : List ℕ) × (told ≡ one ++ others) × IsAdded features t only place b one before mid ×
+AreAdded features t only place [] reported before after = (reported ≡ []) × (after ≡ before)
+AreAdded features t only place (b ∷ bs) reported before after =
+    (one others : Refusals) × (mid : List ℕ) × (reported ≡ one ++ others) × IsAdded features t only place b one before mid ×
     AreAdded features t only (place + 1) bs others mid after
 
 abbrev pub no_counts : List ℕ
 no_counts = replicate 19 0
 
 -- The first functions of a module, with these bodies, were counted and their errors reported.
-pub record Adds {S : Type 0} (tells : S → ℕ → Error → S → Type 0) (features : WasmFeatures) (t : ModuleFunctions) (only : Option ℕ) (bodies : List Reader)
-    (told : Refusals) (before after : S) (counts : List ℕ) : Type 0 where
-  pub added : AreAdded features t only 0 bodies told no_counts counts
-  pub told_of : Told tells told before after
+pub record Adds {S : Type 0} (reports : S → ℕ → Error → S → Type 0) (features : WasmFeatures) (t : ModuleFunctions) (only : Option ℕ) (bodies : List Reader)
+    (reported : Refusals) (before after : S) (counts : List ℕ) : Type 0 where
+  pub added : AreAdded features t only 0 bodies reported no_counts counts
+  pub reported_all : Reported reports reported before after
 
 -- The functions of a code section are counted, and the result is whether none has an error.
 -- Or the section is in error, after the functions before the error. About the other faults nothing is said here.
 abbrev pub CountsCode : {S : Type 0} → (S → ℕ → Error → S → Type 0) → WasmFeatures → ModuleFunctions → Option ℕ → Reader → Result ModuleCounts Fault → S → S → Type 0
-CountsCode tells features t only contents (Ok found) before after =
-    (bodies : List Reader) × IsCode contents bodies × (told : Refusals) × Adds tells features t only bodies told before after found.counts ×
-    (found.whole ≡ are_none told)
-CountsCode tells features t only contents (Err (fault.Code e)) before after =
-    (bodies : List Reader) × RefusesCode e contents bodies × (told : Refusals) × (counts : List ℕ) ×
-    Adds tells features t only bodies told before after counts
-CountsCode tells features t only contents (Err _) before after = Unit {0}
+CountsCode reports features t only contents (Ok found) before after =
+    (bodies : List Reader) × IsCode contents bodies × (reported : Refusals) × Adds reports features t only bodies reported before after found.counts ×
+    (found.whole ≡ are_none reported)
+CountsCode reports features t only contents (Err (fault.Code e)) before after =
+    (bodies : List Reader) × RefusesCode e contents bodies × (reported : Refusals) × (counts : List ℕ) ×
+    Adds reports features t only bodies reported before after counts
+CountsCode reports features t only contents (Err _) before after = Unit {0}
 
 -- The same for a module with a code section or without.
 abbrev pub CountsFound : {S : Type 0} → (S → ℕ → Error → S → Type 0) → WasmFeatures → ModuleFunctions → Option ℕ → Option Reader → Result ModuleCounts Fault → S → S →
     Type 0
-CountsFound tells features t only (Some contents) result before after = CountsCode tells features t only contents result before after
-CountsFound tells features t only None (Ok found) before after = (found.counts ≡ no_counts) × (found.whole ≡ true) × (after ≡ before)
-CountsFound tells features t only None (Err f) before after = Unit {0}
+CountsFound reports features t only (Some contents) result before after = CountsCode reports features t only contents result before after
+CountsFound reports features t only None (Ok found) before after = (found.counts ≡ no_counts) × (found.whole ≡ true) × (after ≡ before)
+CountsFound reports features t only None (Err f) before after = Unit {0}
 
 -- The operators of a module are counted.
-pub record CountsOf {S : Type 0} (tells : S → ℕ → Error → S → Type 0) (features : WasmFeatures) (only : Option ℕ) (bytes : List ℕ)
+pub record CountsOf {S : Type 0} (reports : S → ℕ → Error → S → Type 0) (features : WasmFeatures) (only : Option ℕ) (bytes : List ℕ)
     (result : Result ModuleCounts Fault) (before after : S) : Type 0 where
   pub functions : ModuleFunctions
   pub code : Option Reader
   pub opens : OpensModule features only bytes functions code
-  pub counts : CountsFound tells features functions only code result before after
+  pub counts : CountsFound reports features functions only code result before after
 
 -- The operator counts of a module: it is counted, or its code section is in error after the functions that were counted, or nothing is counted.
 -- If reporting failed, or allocation after the start, nothing is said here.
 abbrev pub CountsModule : {S : Type 0} → (S → ℕ → Error → S → Type 0) → WasmFeatures → Option ℕ → List ℕ → Result ModuleCounts Fault → S → S → Type 0
-CountsModule tells features only bytes (Ok found) before after = CountsOf tells features only bytes (Ok found) before after
-CountsModule tells features only bytes (Err (fault.Code e)) before after = CountsOf tells features only bytes (Err (fault.Code e)) before after
-CountsModule tells features only bytes (Err fault.Writing) before after = Unit {0}
-CountsModule tells features only bytes (Err fault.Memory) before after = Unit {0}
-CountsModule tells features only bytes (Err f) before after = RefusesModule features only bytes f × (after ≡ before)
+CountsModule reports features only bytes (Ok found) before after = CountsOf reports features only bytes (Ok found) before after
+CountsModule reports features only bytes (Err (fault.Code e)) before after = CountsOf reports features only bytes (Err (fault.Code e)) before after
+CountsModule reports features only bytes (Err fault.Writing) before after = Unit {0}
+CountsModule reports features only bytes (Err fault.Memory) before after = Unit {0}
+CountsModule reports features only bytes (Err f) before after = RefusesModule features only bytes f × (after ≡ before)
 
 -- The bytes are a body whose operators can be counted.
 abbrev pub IsCounted : WasmFeatures → Reader → Type 0
@@ -99,10 +99,10 @@ CountsAll (Err f) = IsOutside f
 -- The operator counts of a module as a table, which is written if the module is counted.
 abbrev pub TabulatesModule : {S : Type 0} → (S → ℕ → Error → S → Type 0) → WasmFeatures → Option ℕ → List ℕ → Result Bool Fault → S → S → Option (List ℕ) →
     Option (List ℕ) → Type 0
-TabulatesModule tells features only bytes (Ok whole) before after old new =
-    (found : ModuleCounts) × CountsOf tells features only bytes (Ok found) before after × (whole ≡ found.whole) × (rows : List Row) × IsTable found.counts rows ×
+TabulatesModule reports features only bytes (Ok whole) before after old new =
+    (found : ModuleCounts) × CountsOf reports features only bytes (Ok found) before after × (whole ≡ found.whole) × (rows : List Row) × IsTable found.counts rows ×
     Appends old new (table_text rows)
-TabulatesModule tells features only bytes (Err (fault.Code e)) before after old new = CountsOf tells features only bytes (Err (fault.Code e)) before after × (new ≡ old)
-TabulatesModule tells features only bytes (Err fault.Writing) before after old new = Unit {0}
-TabulatesModule tells features only bytes (Err fault.Memory) before after old new = Unit {0}
-TabulatesModule tells features only bytes (Err f) before after old new = RefusesModule features only bytes f × (after ≡ before) × (new ≡ old)
+TabulatesModule reports features only bytes (Err (fault.Code e)) before after old new = CountsOf reports features only bytes (Err (fault.Code e)) before after × (new ≡ old)
+TabulatesModule reports features only bytes (Err fault.Writing) before after old new = Unit {0}
+TabulatesModule reports features only bytes (Err fault.Memory) before after old new = Unit {0}
+TabulatesModule reports features only bytes (Err f) before after old new = RefusesModule features only bytes f × (after ≡ before) × (new ≡ old)

@@ -9,9 +9,9 @@ use wasm_disassembly::operators::Error;
 pub trait Complaints {
     // The relation between the states before and after the error of the function with an index is
     // reported.
-    ghost tells: { Self → ℕ → Error → Self → Type 0 };
+    ghost reports: { Self → ℕ → Error → Self → Type 0 };
 
     /// Reports the error of the function with this index.
     fn complain(&mut self, index: u32, error: Error) -> io::Result<()>
-        ensures { IfOk result (λ done. Self.tells self.old index error self.new) };
+        ensures { IfOk result (λ done. Self.reports self.old index error self.new) };
 }

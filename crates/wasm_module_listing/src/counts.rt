@@ -2,7 +2,7 @@
 ghost use Rattle.std.specs.Prelude.{◌≡◌, true, List, IfOk, IfErr};
 ghost use Rattle.wasm_disassembly.specs.operators.below.Source.{Reader, offset_of};
 ghost use Rattle.wasm_functions.specs.ModuleFunctions.{index_of};
-ghost use Rattle.wasm_module_listing.specs.Listing.{is_asked, are_none, Refusals, Told, WhereAsked, IsCode, AreAsked, IsHalt, IsLater};
+ghost use Rattle.wasm_module_listing.specs.Listing.{is_asked, are_none, Refusals, Reported, WhereAsked, IsCode, AreAsked, IsHalt, IsLater};
 ghost use Rattle.wasm_module_listing.specs.ModuleCensus.{add_counts, no_counts, IsAdded, CountsCode, IsCounted, CountsAll, moved};
 
 use crate::code_laws;
@@ -69,9 +69,9 @@ fn count_asked<C: Complaints>(
     counts: &mut [u64; 19],
     complaints: &mut C,
 ) -> Result<bool, Fault>
-    ensures adds { IfOk result (λ whole. (told : Refusals)
-        × IsAdded features functions.now only place body.now told counts.old counts.new
-        × Told C.tells told complaints.old complaints.new × (whole ≡ are_none told)) }
+    ensures adds { IfOk result (λ whole. (reported : Refusals)
+        × IsAdded features functions.now only place body.now reported counts.old counts.new
+        × Reported C.reports reported complaints.old complaints.new × (whole ≡ are_none reported)) }
     ensures whole { IfOk result (λ whole. WhereAsked (is_asked only (index_of functions.now place)) (IsCounted features body.now) (Unit {0})
         → whole ≡ true) }
     ensures halts { IfErr result (λ fault. IsHalt fault) }
@@ -106,7 +106,7 @@ pub fn count_code<C: Complaints>(
     only: Option<u32>,
     complaints: &mut C,
 ) -> Result<ModuleCounts, Fault>
-    ensures counts { CountsCode C.tells features functions.now only code.entry result complaints.old complaints.new }
+    ensures counts { CountsCode C.reports features functions.now only code.entry result complaints.old complaints.new }
     ensures whole { (bodies : List Reader) → IsCode code.entry bodies
         → AreAsked (IsCounted features) functions.now only 0 bodies → CountsAll result }
     ensures later { IfErr result (λ fault. IsLater fault) }

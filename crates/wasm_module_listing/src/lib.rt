@@ -22,7 +22,7 @@ pub use complaints::Complaints;
 pub use counts::ModuleCounts;
 pub use fault::Fault;
 pub use module::{count_module, list_module};
-pub use request::{Wanted, run};
+pub use request::{ModuleRequest, run};
 pub use table::write_table;
 pub use wasm_disassembly::operators;
 pub use wasm_functions as functions;

@@ -4,7 +4,7 @@ ghost use Rattle.std.specs.Io.KnownBytes.{Appends, Keeps};
 ghost use Rattle.wasm_disassembly.specs.Disassembly.{IsText};
 ghost use Rattle.wasm_disassembly.specs.operators.below.Source.{Reader};
 ghost use Rattle.wasm_functions.specs.ModuleFunctions.{index_of};
-ghost use Rattle.wasm_module_listing.specs.Listing.{is_asked, are_none, heading_at, Refusals, Told, WhereAsked, IsWritten};
+ghost use Rattle.wasm_module_listing.specs.Listing.{is_asked, are_none, heading_at, Refusals, Reported, WhereAsked, IsWritten};
 ghost use Rattle.wasm_module_listing.specs.Listing.{IsCode, ListsCode, IsFunction, AreAsked, Succeeds, IsHalt, IsLater};
 
 use crate::code_laws;
@@ -25,9 +25,9 @@ fn list_function<W: Write>(
     body: &FunctionBody<'_>,
     writer: &mut W,
 ) -> Result<Result<(), Error>, Fault>
-    ensures lists { IfOk result (λ answer. (text : List ℕ) × Appends (W.contents writer.old) (W.contents writer.new) text
-        × IsText (heading_at functions.now place) answer body.now text) }
-    ensures whole { IfOk result (λ answer. IsFunction body.now → IsOk answer) }
+    ensures lists { IfOk result (λ outcome. (text : List ℕ) × Appends (W.contents writer.old) (W.contents writer.new) text
+        × IsText (heading_at functions.now place) outcome body.now text) }
+    ensures whole { IfOk result (λ outcome. IsFunction body.now → IsOk outcome) }
     ensures halts { IfErr result (λ fault. IsHalt fault) }
 {
     let index = functions.index(place);
@@ -49,7 +49,7 @@ fn complain<W: Write, C: Complaints>(
     error: Error,
 ) -> Result<(), Fault>
     ensures keeps { IfOk result (λ done. Keeps (W.contents writer.old) (W.contents writer.new)) }
-    ensures tells { IfOk result (λ done. C.tells complaints.old index error complaints.new) }
+    ensures reports { IfOk result (λ done. C.reports complaints.old index error complaints.new) }
     ensures halts { IfErr result (λ fault. IsHalt fault) }
 {
     if writer.flush().is_err() {
@@ -82,10 +82,10 @@ fn list_asked<W: Write, C: Complaints>(
     writer: &mut W,
     complaints: &mut C,
 ) -> Result<bool, Fault>
-    ensures lists { IfOk result (λ whole. (told : Refusals) × (text : List ℕ)
+    ensures lists { IfOk result (λ whole. (reported : Refusals) × (text : List ℕ)
         × Appends (W.contents writer.old) (W.contents writer.new) text
-        × IsWritten functions.now only place body.now told text
-        × Told C.tells told complaints.old complaints.new × (whole ≡ are_none told)) }
+        × IsWritten functions.now only place body.now reported text
+        × Reported C.reports reported complaints.old complaints.new × (whole ≡ are_none reported)) }
     ensures whole { IfOk result (λ whole. WhereAsked (is_asked only (index_of functions.now place)) (IsFunction body.now) (Unit {0})
         → whole ≡ true) }
     ensures halts { IfErr result (λ fault. IsHalt fault) }
@@ -94,11 +94,11 @@ fn list_asked<W: Write, C: Complaints>(
     if !is_asked(only, index) {
         return Ok(true);
     }
-    let answer = match list_function(alloc, functions, place, body, writer) {
-        Ok(answer) => answer,
+    let outcome = match list_function(alloc, functions, place, body, writer) {
+        Ok(outcome) => outcome,
         Err(fault) => return Err(fault),
     };
-    match answer {
+    match outcome {
         Ok(()) => Ok(true),
         Err(e) => match complain(writer, complaints, index, e) {
             Ok(()) => Ok(false),
@@ -121,7 +121,7 @@ pub fn list_code<W: Write, C: Complaints>(
     writer: &mut W,
     complaints: &mut C,
 ) -> Result<bool, Fault>
-    ensures lists { ListsCode C.tells functions.now only code.entry result complaints.old complaints.new
+    ensures lists { ListsCode C.reports functions.now only code.entry result complaints.old complaints.new
         (W.contents writer.old) (W.contents writer.new) }
     ensures whole { (bodies : List Reader) → IsCode code.entry bodies → AreAsked IsFunction functions.now only 0 bodies
         → Succeeds result }

@@ -72,7 +72,7 @@ pub fn list_module<W: Write, C: Complaints>(
     writer: &mut W,
     complaints: &mut C,
 ) -> Result<bool, Fault>
-    ensures lists { ListsModule C.tells features only file.now bytes.now result complaints.old complaints.new
+    ensures lists { ListsModule C.reports features only file.now bytes.now result complaints.old complaints.new
         (W.contents writer.old) (W.contents writer.new) }
     // If each requested function has a body within the limit of locals, the result is `Ok(true)`,
     // unless writing or allocation fails.
@@ -106,7 +106,7 @@ pub fn count_module<C: Complaints>(
     bytes: &[u8],
     complaints: &mut C,
 ) -> Result<ModuleCounts, Fault>
-    ensures counts { CountsModule C.tells features only bytes.now result complaints.old complaints.new }
+    ensures counts { CountsModule C.reports features only bytes.now result complaints.old complaints.new }
     // If each requested function has a body, the counts are complete, unless reporting or
     // allocation fails.
     ensures whole { IsModuleOf (IsCounted features) features only bytes.now → CountsAll result }

@@ -14,7 +14,7 @@ use wasm_disassembly::operators::WasmFeatures;
 
 /// The request for a module.
 #[derive(Clone, Copy, Debug, PartialEq, Eq)]
-pub struct Wanted {
+pub struct ModuleRequest {
     /// Whether the operator counts are requested in place of the functions.
     pub census: bool,
     /// The index of the only function that is requested, if there is one.
@@ -29,38 +29,44 @@ pub struct Wanted {
 /// Fails as `list_module` and `count_module` do. On `Module` and `NoFunction` nothing is written.
 pub fn run<W: Write, C: Complaints>(
     alloc: Global,
-    wanted: Wanted,
+    requested: ModuleRequest,
     file: &str,
     bytes: &[u8],
     writer: &mut W,
     complaints: &mut C,
 ) -> Result<bool, Fault>
-    ensures tabulates { OnTrue wanted.census
-        (TabulatesModule C.tells wanted.features wanted.function bytes.now result complaints.old complaints.new
+    ensures tabulates { OnTrue requested.census
+        (TabulatesModule C.reports requested.features requested.function bytes.now result complaints.old complaints.new
         (W.contents writer.old) (W.contents writer.new)) }
-    ensures lists { OnFalse wanted.census
-        (ListsModule C.tells wanted.features wanted.function file.now bytes.now result complaints.old complaints.new
+    ensures lists { OnFalse requested.census
+        (ListsModule C.reports requested.features requested.function file.now bytes.now result complaints.old complaints.new
         (W.contents writer.old) (W.contents writer.new)) }
     // If each requested function has a body (in a listing, within the limit of locals), the result
     // is `Ok(true)`, unless writing or allocation fails.
-    ensures counted { OnTrue wanted.census
-        (IsModuleOf (IsCounted wanted.features) wanted.features wanted.function bytes.now → Succeeds result) }
-    ensures listed { OnFalse wanted.census
-        (IsModuleOf IsFunction wanted.features wanted.function bytes.now → Succeeds result) }
+    ensures counted { OnTrue requested.census
+        (IsModuleOf (IsCounted requested.features) requested.features requested.function bytes.now → Succeeds result) }
+    ensures listed { OnFalse requested.census
+        (IsModuleOf IsFunction requested.features requested.function bytes.now → Succeeds result) }
     ensures nothing { IfErr result (λ fault. WritesNothing fault → writer.new ≡ writer.old) }
 {
-    if !wanted.census {
+    if !requested.census {
         return list_module(
             alloc,
-            wanted.features,
-            wanted.function,
+            requested.features,
+            requested.function,
             file,
             bytes,
             writer,
             complaints,
         );
     }
-    let found = match count_module(alloc, wanted.features, wanted.function, bytes, complaints) {
+    let found = match count_module(
+        alloc,
+        requested.features,
+        requested.function,
+        bytes,
+        complaints,
+    ) {
         Ok(found) => found,
         Err(fault) => return Err(fault),
     };

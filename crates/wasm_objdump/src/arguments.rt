@@ -1,13 +1,13 @@
 //! The arguments of the program.
 
 use wasm_module_listing::operators::WasmFeatures;
-use wasm_module_listing::{Wanted, features_of};
+use wasm_module_listing::{ModuleRequest, features_of};
 
 /// The options that the arguments give.
 #[derive(Debug, Drop)]
 pub struct Options {
     /// The part of the module that is requested.
-    pub wanted: Wanted,
+    pub requested: ModuleRequest,
     /// The path of the module, unless it is read from standard input.
     pub file: Option<String>,
 }
@@ -35,14 +35,14 @@ fn read_word(options: Options, next: Next, word: String) -> Option<(Options, Nex
     match next {
         Next::Function => match word.as_str().parse::<u32>() {
             Ok(index) => {
-                read.wanted.function = Some(index);
+                read.requested.function = Some(index);
                 Some((read, Next::Any))
             }
             Err(_) => None,
         },
         Next::Features => match features_of(Some(word.as_str())) {
             Some(features) => {
-                read.wanted.features = features;
+                read.requested.features = features;
                 Some((read, Next::Any))
             }
             None => None,
@@ -55,7 +55,7 @@ fn read_word(options: Options, next: Next, word: String) -> Option<(Options, Nex
 fn read_option(options: Options, word: String) -> Option<(Options, Next)> {
     let mut read = options;
     if word.as_str() == "--census" {
-        read.wanted.census = true;
+        read.requested.census = true;
         return Some((read, Next::Any));
     }
     if word.as_str() == "--function" {
@@ -74,7 +74,7 @@ fn read_option(options: Options, word: String) -> Option<(Options, Next)> {
 /// Reads the arguments after the program's name.
 pub fn read_words(words: Vec<String>) -> Words {
     let mut read = Options {
-        wanted: Wanted {
+        requested: ModuleRequest {
             census: false,
             function: None,
             features: features_of(None).unwrap_or(WasmFeatures::none()),
@@ -87,9 +87,9 @@ pub fn read_words(words: Vec<String>) -> Words {
             return Words::Help;
         }
         match read_word(read, next, word) {
-            Some((options, behind)) => {
+            Some((options, after)) => {
                 read = options;
-                next = behind;
+                next = after;
             }
             None => return Words::Bad,
         }

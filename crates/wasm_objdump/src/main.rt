@@ -66,9 +66,9 @@ fn write_module(rt: &HostRuntime, options: &Options) -> Result<bool, Fault> {
     let Ok(mut writer) = BufWriter::with_capacity(rt.alloc(), WRITTEN, io::writer(rt)) else {
         return Err(Fault::Memory);
     };
-    let answer = run(
+    let outcome = run(
         rt.alloc(),
-        options.wanted,
+        options.requested,
         file,
         bytes.as_slice(),
         &mut writer,
@@ -77,7 +77,7 @@ fn write_module(rt: &HostRuntime, options: &Options) -> Result<bool, Fault> {
     if writer.flush().is_err() {
         return Err(Fault::Writing);
     }
-    answer
+    outcome
 }
 
 /// Reports a fault on standard error, and returns the program's exit status.
@@ -90,7 +90,7 @@ fn complain(rt: &HostRuntime, file: &Option<String>, fault: Fault) -> ExitCode {
 }
 
 /// Runs the program with these arguments, and returns its exit status.
-fn answer(rt: &HostRuntime, words: Words) -> ExitCode {
+fn outcome(rt: &HostRuntime, words: Words) -> ExitCode {
     match words {
         Words::Options(options) => match write_module(rt, &options) {
             Ok(true) => ExitCode::SUCCESS,
@@ -110,8 +110,8 @@ fn answer(rt: &HostRuntime, words: Words) -> ExitCode {
 
 fn main(rt: HostRuntime) -> ExitCode {
     match words_of(&rt) {
-        Ok(Some(words)) => answer(&rt, read_words(words)),
-        Ok(None) => answer(&rt, Words::Bad),
+        Ok(Some(words)) => outcome(&rt, read_words(words)),
+        Ok(None) => outcome(&rt, Words::Bad),
         Err(fault) => complain(&rt, &None, fault),
     }
 }

@@ -20,7 +20,7 @@ impl<'a> Printed<'a> {
 
 impl<'a> Complaints for Printed<'a> {
     // Printing on standard error is not specified.
-    ghost tells = { λ s index error t. ⊤ };
+    ghost reports = { λ s index error t. ⊤ };
 
     fn complain(&mut self, index: u32, error: Error) -> io::Result<()> {
         let offset = error.offset();

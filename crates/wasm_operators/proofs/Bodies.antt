@@ -9,17 +9,17 @@ use Rattle.wasm_operators_readers.specs.opcodes.Allowed.{EncodesAllowed}
 use Rattle.wasm_operators_readers.specs.opcodes.OperatorFaults.{OperatorFault}
 use Rattle.wasm_operators_readers.specs.Expression.{Placed, IsAny, EncodesExpression}
 use Rattle.wasm_operators_readers.specs.Reading.{Allocating, State, StopsRun, Anywhere}
-use Rattle.wasm_operators_readers.specs.Headline.{ReadsTree, ReadsBeginning}
+use Rattle.wasm_operators_readers.specs.MainTheorem.{ReadsTree, ReadsBeginning}
 use Rattle.wasm_operators.specs.Locals.{Declaration, EncodesLocals, RefusesLocals, IsPastLocals}
-use Rattle.wasm_operators.specs.Body.{source_behind, EncodesBody, OpensBody, NoExpression, StopsBody}
+use Rattle.wasm_operators.specs.Body.{source_after, EncodesBody, OpensBody, NoExpression, StopsBody}
 use Rattle.wasm_operators.proofs.LocalsLemmas.{locals_prefix_code}
 
 abbrev source : WasmFeatures → ℕ → List ℕ → Source
 source features offset bytes = record { features = features; offset = offset; bytes = bytes }
 
 -- The rest after bytes that were read.
-source_of-behind : (old new : Reader) (text : List ℕ) → Takes old new text → source_of new ≡ source_behind (source_of old) text (rest new)
-source_of-behind old new text t =
+source_of-after : (old new : Reader) (text : List ℕ) → Takes old new text → source_of new ≡ source_after (source_of old) text (rest new)
+source_of-after old new text t =
     let features : new.features ≡ old.features = ap (λ (r : Reader). r.features) t.moved in
     let offset : offset_of new ≡ offset_of old + length text = ap offset_of t.moved ∙ omega arith in
     ap (λ f. source f (offset_of new) (rest new)) features ∙ ap (λ o. source old.features o (rest new)) offset
@@ -33,7 +33,7 @@ past_body body r declarations placed (text, encodes, takes) h =
       expression = rest r;
       parts = takes.parts;
       encodes_locals = encodes;
-      encodes_expression = subst (λ s. EncodesExpression s placed) (source_of-behind body r text takes) h;
+      encodes_expression = subst (λ s. EncodesExpression s placed) (source_of-after body r text takes) h;
     }
 
 -- The expression of a body follows its locals.
@@ -43,9 +43,9 @@ past_expression body r declarations others placed (text, encodes, takes) h =
     let whole : h.locals ++ h.expression ≡ text ++ rest r = sym h.parts ∙ takes.parts in
     let same = locals_prefix_code h.locals text h.expression (rest r) others declarations h.encodes_locals encodes whole in
     let left : h.expression ≡ rest r = same_rest h.locals text h.expression (rest r) same.0 whole in
-    let moved : source_behind (source_of body) h.locals h.expression ≡ source_of r =
-    ap (λ t. source_behind (source_of body) t h.expression) same.0 ∙ ap (source_behind (source_of body) text) left ∙
-    sym (source_of-behind body r text takes) in
+    let moved : source_after (source_of body) h.locals h.expression ≡ source_of r =
+    ap (λ t. source_after (source_of body) t h.expression) same.0 ∙ ap (source_after (source_of body) text) left ∙
+    sym (source_of-after body r text takes) in
     (same.1, subst (λ s. EncodesExpression s placed) moved h.encodes_expression)
 
 pub body_tree : (body : Reader) (opened new : State) (placed : Placed) → OpensBody (Ok opened) body → ReadsTree [] opened new placed →
@@ -67,7 +67,7 @@ body_beginning Allocates e body opened new placed opens h =
       opened = opened;
       opens = opens;
       stopped = new;
-      reads = record { at = h.at; text = h.text; takes = h.takes; laid = h.laid; stood = h.stood; stops = anywhere Allocates e new h.stops };
+      reads = record { at = h.at; text = h.text; takes = h.takes; laid = h.laid; read_so_far = h.read_so_far; stops = anywhere Allocates e new h.stops };
     }
 
 -- If the locals are in error, there is no body.
@@ -76,9 +76,9 @@ pub no_body : (e : Error) (body : Reader) (declarations : List Declaration) (pla
 no_body e body declarations placed h encodes =
     refused_now EncodesLocals e body h.refusal encodes.locals encodes.expression declarations encodes.encodes_locals encodes.parts
 
-pub expression_behind : (body : Reader) (opened : State) (declarations : List Declaration) (placed : Placed) → OpensBody (Ok opened) body →
+pub expression_after_locals : (body : Reader) (opened : State) (declarations : List Declaration) (placed : Placed) → OpensBody (Ok opened) body →
     EncodesBody (source_of body) declarations placed → EncodesExpression (source_of opened.reader) placed
-expression_behind body opened declarations placed opens h = (past_expression body opened.reader opens.0.0 declarations placed opens.0.1 h).1
+expression_after_locals body opened declarations placed opens h = (past_expression body opened.reader opens.0.0 declarations placed opens.0.1 h).1
 
 -- If the locals are in error, nothing of the body is read.
 pub refused_stops : (e : Error) (body : Reader) → RefusesLocals e body → StopsBody e body []

@@ -42,7 +42,7 @@ some_is : {X : Type 0} {x y : X} → Some x ≡ Some y → x ≡ y
 some_is e = cc e
 
 end_encodes : (f : WasmFeatures) → EncodesOperator f operator.End (0x0b ∷ [])
-end_encodes f = record { head = 0x0b ∷ []; behind = []; parts = refl; code = refl; immediates = refl; enabled = tt }
+end_encodes f = record { head = 0x0b ∷ []; after = []; parts = refl; code = refl; immediates = refl; enabled = tt }
 
 -- At the end of the skipped operators, no operator except an `end` may follow.
 Ended : Message → Reader → List FrameKind → ℕ → Type 0

@@ -14,7 +14,7 @@ use Rattle.wasm_operators_readers.proofs.of_below.TakesLemmas.{same_rest}
 use Rattle.wasm_operators_readers.proofs.of_imm.DeterminedControlRefusals.{many_determines}
 use Rattle.wasm_operators_readers.specs.Expression.{Placed, EncodesExpression}
 use Rattle.wasm_operators_readers.proofs.LayoutLemmas.{one_whole}
-use Rattle.wasm_operators.specs.Body.{source_behind, EncodesBody}
+use Rattle.wasm_operators.specs.Body.{source_after, EncodesBody}
 use Rattle.wasm_operators.specs.Locals.{Declaration, EncodesDeclaration, DeclarationFault, LocalsFault, NumberedFault, NextFault}
 use Rattle.wasm_operators.proofs.LocalsLemmas.{declaration_prefix_code, locals_prefix_code}
 
@@ -62,8 +62,8 @@ one_body_of s declarations others first second p q =
     let whole : p.locals ++ p.expression ≡ q.locals ++ q.expression = sym p.parts ∙ q.parts in
     let same = locals_prefix_code p.locals q.locals p.expression q.expression declarations others p.encodes_locals q.encodes_locals whole in
     let left = same_rest p.locals q.locals p.expression q.expression same.0 whole in
-    let moved : source_behind s q.locals q.expression ≡ source_behind s p.locals p.expression =
-    ap (λ t. source_behind s t q.expression) (sym same.0) ∙ ap (source_behind s p.locals) (sym left) in
-    let h : EncodesExpression (source_behind s p.locals p.expression) second = subst (λ z. EncodesExpression z second) moved q.encodes_expression in
+    let moved : source_after s q.locals q.expression ≡ source_after s p.locals p.expression =
+    ap (λ t. source_after s t q.expression) (sym same.0) ∙ ap (source_after s p.locals) (sym left) in
+    let h : EncodesExpression (source_after s p.locals p.expression) second = subst (λ z. EncodesExpression z second) moved q.encodes_expression in
     let g = p.encodes_expression in
     (same.1, (one_whole [] s.features (s.offset + length p.locals) first second p.expression p.expression [] [] g.0 h.0 g.1 h.1 refl).0)

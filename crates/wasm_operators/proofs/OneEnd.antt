@@ -129,4 +129,4 @@ stays_open ops frames h e none = let o = open_along ops [] frames h e in cc (non
 -- ---- the byte of `end`
 
 pub end_byte : (f : WasmFeatures) (text : List ℕ) → EncodesOperator f operator.End text → text ≡ 0x0b ∷ []
-end_byte f text s = s.parts ∙ ap (λ head. head ++ s.behind) s.code ∙ ap (λ (behind : List ℕ). 0x0b ∷ behind) s.immediates
+end_byte f text s = s.parts ∙ ap (λ head. head ++ s.after) s.code ∙ ap (λ (after : List ℕ). 0x0b ∷ after) s.immediates

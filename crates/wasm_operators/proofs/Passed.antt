@@ -37,7 +37,7 @@ parts_of s t placed r more text left e = sym (append_assoc r.text (rest t.reader
 
 -- If no operator may follow those that were read, no constant expression is encoded.
 pub none_follows : (s t : State) (placed : Placed) (more : List ℕ) → IsFresh s → TakesOperators s t placed → HasNoEnd (operators placed) →
-    ((text behind : List ℕ) (op : Operator) → EncodesOperator t.reader.features op text → rest t.reader ++ more ≡ text ++ behind →
+    ((text after : List ℕ) (op : Operator) → EncodesOperator t.reader.features op text → rest t.reader ++ more ≡ text ++ after →
     frames_after t.frames (role_of op) ≡ None) → NoPrefix (EncodesConstantReader s.reader.features) (rest s.reader ++ more)
 none_follows s t placed more fresh r no_end stuck text left x encodes eq =
     let f = s.reader.features in
@@ -57,8 +57,8 @@ none_follows s t placed more fresh r no_end stuck text left x encodes eq =
 -- ---- after the first `end`
 
 -- The frames after it are those around the innermost.
-pub behind_end : (t u : State) → TakesOperator EncodesAllowed operator.End t u → u.frames ≡ without_innermost t.frames
-behind_end t u k =
+pub after_end : (t u : State) → TakesOperator EncodesAllowed operator.End t u → u.frames ≡ without_innermost t.frames
+after_end t u k =
     go (sym k.frames ∙ steps_ends t.frames (role_of operator.End) refl (IsSome_of (frames_after t.frames (role_of operator.End)) u.frames k.frames))
   where
     go : Some u.frames ≡ Some (without_innermost t.frames) → u.frames ≡ without_innermost t.frames
@@ -71,8 +71,8 @@ end_text t u k = end_byte t.reader.features k.text (sound t.reader.features k.ki
 pub begins_end : (t u : State) → TakesOperator EncodesAllowed operator.End t u → BeginsWith 0x0b (rest t.reader)
 begins_end t u k = (rest u.reader, k.takes.parts ∙ ap (λ z. z ++ rest u.reader) (end_text t u k))
 
-pub offset_behind : (t u : State) → TakesOperator EncodesAllowed operator.End t u → offset_of u.reader ≡ offset_of t.reader + 1
-offset_behind t u k =
+pub offset_after_end : (t u : State) → TakesOperator EncodesAllowed operator.End t u → offset_of u.reader ≡ offset_of t.reader + 1
+offset_after_end t u k =
     let at : offset_of u.reader ≡ offset_of t.reader + length k.text = ap offset_of k.takes.moved ∙ omega arith in
     let one : length k.text ≡ 1 = ap length (end_text t u k) in
     omega (arith, at, one)
@@ -115,7 +115,7 @@ inside_fault s t u placed offset fresh r no_end k stays at = (
   t.reader,
   t.frames,
   passes s t placed fresh r no_end,
-  inr (begins_end t u k, λ none. stays (behind_end t u k ∙ none), refl, at ∙ offset_behind t u k),
+  inr (begins_end t u k, λ none. stays (after_end t u k ∙ none), refl, at ∙ offset_after_end t u k),
 )
 
 -- ---- offsets
@@ -132,10 +132,10 @@ before old new text t =
     (omega (arith, at), ap end_of t.moved)
 
 -- The offset after the first `end` is at or after the start of the expression.
-pub ahead_behind : (s t u : State) (placed : Placed) → TakesOperators s t placed → TakesOperator EncodesAllowed operator.End t u → IsAhead s.reader (offset_of u.reader)
-ahead_behind s t u placed r k =
+pub ahead_after : (s t u : State) (placed : Placed) → TakesOperators s t placed → TakesOperator EncodesAllowed operator.End t u → IsAhead s.reader (offset_of u.reader)
+ahead_after s t u placed r k =
     let b = begins_end t u k in
     let inside = within_data t.reader 0x0b b.0 b.1 in
     let from = before s.reader t.reader r.text r.takes in
-    let at = offset_behind t u k in
+    let at = offset_after_end t u k in
     (omega (arith, from.0, at), omega (arith, from.1, at, inside))

@@ -10,7 +10,7 @@ use Rattle.wasm_operators_readers.specs.opcodes.Allowed.{EncodesAllowed}
 use Rattle.wasm_operators_readers.proofs.DecoderPremises.{sound}
 use Rattle.wasm_operators_readers.specs.Expression.{Placed, operators, LaidOut, AreWalk}
 use Rattle.wasm_operators_readers.specs.Reading.{State, IsFresh, TakesOperators, TakesOperator}
-use Rattle.wasm_operators_readers.proofs.Runs.{ran_push, fresh_before, stood_on}
+use Rattle.wasm_operators_readers.proofs.Runs.{ran_push, fresh_before, read_further}
 use Rattle.wasm_operators.specs.Constant.{HasNoEnd, EncodesConstantReader}
 use Rattle.wasm_operators.specs.Passing.{PassesEnd}
 use Rattle.wasm_operators.proofs.OneEnd.{passed_end}
@@ -31,7 +31,7 @@ end_passed s t u placed op r no_end k is =
 
 -- The walk of an expression was read, if no frame is open after it.
 walk_passed : (s t : State) (placed : Placed) → IsFresh s → TakesOperators s t placed → t.frames ≡ [] → AreWalk (operators placed)
-walk_passed s t placed fresh r closed = subst (OpenPath (roles_of (operators placed))) closed (stood_on [] s t placed (fresh_before s fresh) r).path
+walk_passed s t placed fresh r closed = subst (OpenPath (roles_of (operators placed))) closed (read_further [] s t placed (fresh_before s fresh) r).path
 
 take_first : (xs ys : List ℕ) (n : ℕ) → n ≡ length xs → take n (xs ++ ys) ≡ xs
 take_first xs ys n e = ap (λ k. take k (xs ++ ys)) e ∙ take-append_seam xs ys
@@ -52,11 +52,11 @@ constant_there s t c bytes fresh (placed, r, once) closed cut is =
     (r.text, subst (EncodesConstantReader f r.text) same ((refl, refl, refl, refl), (placed, (laid, walk_passed s t placed fresh r closed), once)), r.takes)
 
 -- The same, for readers of bytes.
-pub constant_read : (old : Reader) (s t : State) (behind c : Reader) (bytes : List ℕ) → s.reader ≡ old → IsFresh s → PassesEnd s t → t.frames ≡ [] →
-    behind ≡ t.reader → bytes ≡ take (behind.position - old.position) (rest old) → c ≡ reader_of old.features (offset_of old) bytes →
-    (text : List ℕ) × EncodesConstantReader old.features text c × Takes old behind text
-constant_read old s t behind c bytes same fresh passed closed went cut is =
-    let size : behind.position - old.position ≡ t.reader.position - s.reader.position =
+pub constant_read : (old : Reader) (s t : State) (after c : Reader) (bytes : List ℕ) → s.reader ≡ old → IsFresh s → PassesEnd s t → t.frames ≡ [] →
+    after ≡ t.reader → bytes ≡ take (after.position - old.position) (rest old) → c ≡ reader_of old.features (offset_of old) bytes →
+    (text : List ℕ) × EncodesConstantReader old.features text c × Takes old after text
+constant_read old s t after c bytes same fresh passed closed went cut is =
+    let size : after.position - old.position ≡ t.reader.position - s.reader.position =
     ap (λ (r : Reader). r.position - old.position) went ∙ ap (λ (r : Reader). t.reader.position - r.position) (sym same) in
     let bytes_there : bytes ≡ take (t.reader.position - s.reader.position) (rest s.reader) =
     cut ∙ ap (λ n. take n (rest old)) size ∙ ap (λ r. take (t.reader.position - s.reader.position) (rest r)) (sym same) in
@@ -65,5 +65,5 @@ constant_read old s t behind c bytes same fresh passed closed went cut is =
     let there = constant_there s t c bytes fresh passed closed bytes_there reader_there in (
       there.0,
       subst (λ (r : Reader). EncodesConstantReader r.features there.0 c) same there.1,
-      subst (λ r. Takes r behind there.0) same (subst (λ r. Takes s.reader r there.0) (sym went) there.2),
+      subst (λ r. Takes r after there.0) same (subst (λ r. Takes s.reader r there.0) (sym went) there.2),
     )

@@ -24,20 +24,20 @@ use Rattle.wasm_operators_readers.proofs.Runs.{ran_unchanged}
 use Rattle.wasm_operators.specs.Constant.{HasNoEnd, EncodesConstantReader}
 use Rattle.wasm_operators.specs.ConstantFaults.{ConstantFault, ConstantMayAllocate}
 use Rattle.wasm_operators.proofs.OneEnd.{stays_open}
-use Rattle.wasm_operators.proofs.Passed.{from_block, passes, none_follows, none_inside, inside_fault, within_data, before, ahead_behind}
+use Rattle.wasm_operators.proofs.Passed.{from_block, passes, none_follows, none_inside, inside_fault, within_data, before, ahead_after}
 
 -- The reason why one operator was not read.
 abbrev pub Stops : Error → State → Type 0
 Stops e t = StopsRead EncodesAllowed OperatorFault (NextMayAllocate EncodesAllowed) e t
 
 -- No operator may follow.
-stuck : (e : Error) (t : State) (more : List ℕ) → Stops e t → MayFollow e.message more → (text behind : List ℕ) (op : Operator) →
-    EncodesOperator t.reader.features op text → rest t.reader ++ more ≡ text ++ behind → frames_after t.frames (role_of op) ≡ None
-stuck e t more (inl none) follow text behind op encodes eq = ap (λ frames. frames_after frames (role_of op)) none.0
-stuck e t more (inr (inl there)) follow text behind op encodes eq =
-    refused_none EncodesAllowed OperatorFault e t there more follow text behind op
+stuck : (e : Error) (t : State) (more : List ℕ) → Stops e t → MayFollow e.message more → (text after : List ℕ) (op : Operator) →
+    EncodesOperator t.reader.features op text → rest t.reader ++ more ≡ text ++ after → frames_after t.frames (role_of op) ≡ None
+stuck e t more (inl none) follow text after op encodes eq = ap (λ frames. frames_after frames (role_of op)) none.0
+stuck e t more (inr (inl there)) follow text after op encodes eq =
+    refused_none EncodesAllowed OperatorFault e t there more follow text after op
     (λ allows. takes_all t.reader.features there.kind text op encodes allows tt) eq
-stuck e t more (inr (inr memory)) follow text behind op encodes eq = absurd (subst (λ m. MayFollow m more) memory.0 follow)
+stuck e t more (inr (inr memory)) follow text after op encodes eq = absurd (subst (λ m. MayFollow m more) memory.0 follow)
 
 -- If the next operator may allocate, a byte is left.
 some_byte : (t : State) → NextMayAllocate EncodesAllowed t → (byte : ℕ) × BeginsWith byte (rest t.reader)
@@ -107,7 +107,7 @@ pub refused_inside : (d : Error) (s t u : State) (placed : Placed) → IsFresh s
 refused_inside d s t u placed fresh r no_end k stays is at =
     record {
       refuses = λ more follow. none_inside s t u placed more fresh r no_end k stays;
-      ahead = subst (IsAhead s.reader) (sym at) (ahead_behind s t u placed r k);
+      ahead = subst (IsAhead s.reader) (sym at) (ahead_after s t u placed r k);
       memory = λ m. absurd (cc (sym is ∙ m));
     }
 

@@ -12,7 +12,7 @@ use Rattle.wasm_operators_readers.proofs.of_below.Steps.{number_prefix_code, uns
 use Rattle.wasm_operators_readers.proofs.of_below.TakesLemmas.{takes_none, takes_then, back}
 use Rattle.wasm_operators_readers.specs.imm.Lists.{EncodesEach}
 use Rattle.wasm_operators_readers.proofs.of_imm.ListRefusals.{as_refused, refused_by}
-use Rattle.wasm_operators.specs.Locals.{Declaration, EncodesDeclaration, EncodesNext, max_locals, Locals, ReadsDeclaration, LocalsLeft, StepsLocals, all_left, StepsAlong, HasStepped, IsPastLocals, IsAnswerPastLocals}
+use Rattle.wasm_operators.specs.Locals.{Declaration, EncodesDeclaration, EncodesNext, max_locals, Locals, ReadsDeclaration, LocalsLeft, StepsLocals, all_left, StepsAlong, HasStepped, IsPastLocals, IsResultPastLocals}
 use Rattle.wasm_operators.proofs.LocalsLemmas.{type_refused, locals_read, one_past}
 
 abbrev pub locals_of : Reader → ℕ → ℕ → Locals
@@ -32,8 +32,8 @@ numbered text d (a, b, e, p, q) = (a, b, e, p)
 no_number : (e : Error) (old : Reader) → IsRefusal (EncodesUnsigned 32) e old → IsRefusal EncodesDeclaration e old
 no_number e old h =
     record {
-      refuses = λ more follow text behind d (a, b, eb, p, q) eq.
-          h.refuses more follow a (b ++ behind) d.0 p (eq ∙ ap (λ z. z ++ behind) eb ∙ append_assoc a b behind);
+      refuses = λ more follow text after d (a, b, eb, p, q) eq.
+          h.refuses more follow a (b ++ after) d.0 p (eq ∙ ap (λ z. z ++ after) eb ∙ append_assoc a b after);
       fault = h.fault;
       ahead = h.ahead;
     }
@@ -63,10 +63,10 @@ too_many_next e r mid new count total number position (text, p, t) many is at sa
     length-append text (rest mid) in
     let offset : e.offset ≡ offset_of r + length text = at ∙ ap offset_of t.moved ∙ omega arith in
     let refused : IsRefused (EncodesNext total) false e r = record {
-      refuses = λ more follow text2 behind d ((a, b, eb, q, ty), fits) eq.
-          let whole : text ++ (rest mid ++ more) ≡ a ++ (b ++ behind) = sym (append_assoc text (rest mid) more) ∙ ap (λ z. z ++ more) (sym t.parts) ∙ eq ∙
-          ap (λ z. z ++ behind) eb ∙ append_assoc a b behind in
-          let one : number ≡ d.0 = (number_prefix_code 32 text a (rest mid ++ more) (b ++ behind) number d.0 p q whole).1 in
+      refuses = λ more follow text2 after d ((a, b, eb, q, ty), fits) eq.
+          let whole : text ++ (rest mid ++ more) ≡ a ++ (b ++ after) = sym (append_assoc text (rest mid) more) ∙ ap (λ z. z ++ more) (sym t.parts) ∙ eq ∙
+          ap (λ z. z ++ after) eb ∙ append_assoc a b after in
+          let one : number ≡ d.0 = (number_prefix_code 32 text a (rest mid ++ more) (b ++ after) number d.0 p q whole).1 in
           omega (arith, one, fits, many);
       ahead = (omega (arith, offset), omega (arith, offset, left, some));
       memory = λ m. absurd (cc (is, m));
@@ -111,9 +111,9 @@ stepped_past body declarations items (unread, (first, p, t, none), steps) end =
     locals_read body unread.reader items.locals.reader unread.count h.text declarations (first, p, t) (all, h.encodes) h.takes
 
 -- Skipping the locals returns the reader after them.
-pub answer_past : (r body : Reader) (declarations : List Declaration) → IsPastLocals declarations body r → IsAnswerPastLocals r body
-answer_past r body declarations past (Ok s) (others, h) = ap Ok (one_past r s body declarations others past h).0
-answer_past r body declarations (text, encodes, takes) (Err e) h =
+pub result_past : (r body : Reader) (declarations : List Declaration) → IsPastLocals declarations body r → IsResultPastLocals r body
+result_past r body declarations past (Ok s) (others, h) = ap Ok (one_past r s body declarations others past h).0
+result_past r body declarations (text, encodes, takes) (Err e) h =
     absurd (refused_now _ e body h.refusal text (rest r) declarations encodes takes.parts)
 
 -- One more step.

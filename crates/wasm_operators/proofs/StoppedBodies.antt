@@ -20,7 +20,7 @@ use Rattle.wasm_operators_readers.proofs.DecoderPremises.{takes_all, keeps_all}
 use Rattle.wasm_operators_readers.proofs.of_decoder.DeterminedOperatorRefusals.{operator_determines}
 use Rattle.wasm_operators.specs.Body.{EncodesBody, OpensBody, NoExpression, StopsBody}
 use Rattle.wasm_operators.specs.Locals.{Declaration, EncodesLocals, RefusesLocals}
-use Rattle.wasm_operators.proofs.Bodies.{no_body, expression_behind}
+use Rattle.wasm_operators.proofs.Bodies.{no_body, expression_after_locals}
 use Rattle.wasm_operators.proofs.LocalsLemmas.{one_past}
 use Rattle.wasm_operators.proofs.Determined.{locals_determine}
 
@@ -45,10 +45,10 @@ stops_roomless e s (inr (some, inr (inl there))) =
 stops_roomless e s (inr (some, inr (inr memory))) = inr (some, inr (inr memory))
 
 -- The reads after the locals.
-ran_behind : (e : Error) (body : Reader) (placed : Placed) (h : NoExpression e body placed) → TakesOperators (roomless h.opened) (roomless h.stopped) placed
-ran_behind e body placed h =
+ran_after : (e : Error) (body : Reader) (placed : Placed) (h : NoExpression e body placed) → TakesOperators (roomless h.opened) (roomless h.stopped) placed
+ran_after e body placed h =
     let along = ap (λ (frames : List FrameKind). frames_along frames (roles_of (operators placed))) h.opens.1 ∙
-    run_path h.stopped.frames (roles_of (operators placed)) h.reads.stood.path in
+    run_path h.stopped.frames (roles_of (operators placed)) h.reads.read_so_far.path in
     record {
       text = h.reads.text;
       takes = h.reads.takes;
@@ -69,8 +69,8 @@ pub stopped_none : (e : Error) (body : Reader) (placed whole : Placed) (declarat
 stopped_none e body placed whole declarations other (inl h) encodes = no_body e body declarations whole h.refused encodes
 stopped_none e body placed whole declarations other (inr h) encodes =
     other (run_only Everything IsAny EncodesAllowed OperatorFault Anywhere keeps_all [] e (roomless h.opened) (roomless h.stopped) placed whole
-    (fresh_before (roomless h.opened) h.opens.1) (ran_behind e body placed h) tt (stops_roomless e h.stopped h.reads.stops)
-    (expression_behind body h.opened declarations whole h.opens encodes) tt)
+    (fresh_before (roomless h.opened) h.opens.1) (ran_after e body placed h) tt (stops_roomless e h.stopped h.reads.stops)
+    (expression_after_locals body h.opened declarations whole h.opens encodes) tt)
 
 -- Which operators were read, and which error it is.
 pub stopped_same : (d e : Error) (body : Reader)
@@ -85,7 +85,7 @@ stopped_same d e body first second other others (inr p) (inr q) =
     let reader : q.opened.reader ≡ p.opened.reader = (one_past p.opened.reader q.opened.reader body p.opens.0.0 q.opens.0.0 p.opens.0.1 q.opens.0.1).0 in
     let frames : q.opened.frames ≡ p.opened.frames = q.opens.1 ∙ sym p.opens.1 in
     let same = run_determined {X = Unit {0}} {Y = Unit {0}} EncodesAllowed OperatorFault Anywhere Everything takes_all operator_determines (Err d) (Err e)
-    (roomless p.opened) (roomless p.stopped) (roomless q.opened) (roomless q.stopped) first second reader frames (ran_behind d body first p)
-    (ran_behind e body second q) (λ before after at is. tt) (λ before after at is. tt) (stops_roomless d p.stopped p.reads.stops)
+    (roomless p.opened) (roomless p.stopped) (roomless q.opened) (roomless q.stopped) first second reader frames (ran_after d body first p)
+    (ran_after e body second q) (λ before after at is. tt) (λ before after at is. tt) (stops_roomless d p.stopped p.reads.stops)
     (stops_roomless e q.stopped q.reads.stops) other others in
     (same.0, same.3.0, same.3.1)

@@ -8,12 +8,12 @@ use Rattle.wasm_operators_readers.specs.opcodes.Allowed.{EncodesAllowed}
 use Rattle.wasm_operators_readers.specs.opcodes.OperatorFaults.{OperatorFault}
 use Rattle.wasm_operators_readers.specs.Expression.{Placed, OfPlaced, IsAny, EncodesExpression}
 use Rattle.wasm_operators_readers.specs.Reading.{State, IsFresh, Anywhere}
-use Rattle.wasm_operators_readers.specs.Headline.{ReadsBeginning}
+use Rattle.wasm_operators_readers.specs.MainTheorem.{ReadsBeginning}
 use Rattle.wasm_operators.specs.Locals.{Declaration, EncodesLocals, RefusesLocals, ReadsPastLocals}
 
 -- The rest of a source after these bytes of a prefix.
-abbrev pub source_behind : Source → List ℕ → List ℕ → Source
-source_behind s text more = record { features = s.features; offset = s.offset + length text; bytes = more }
+abbrev pub source_after : Source → List ℕ → List ℕ → Source
+source_after s text more = record { features = s.features; offset = s.offset + length text; bytes = more }
 
 -- The bytes encode a body: the declarations of its locals, and an expression with these operators.
 --   func ::= loc**:list(locals) e:expr ⇒ concat(loc**) e
@@ -22,7 +22,7 @@ pub record EncodesBody (s : Source) (declarations : List Declaration) (placed : 
   pub expression : List ℕ
   pub parts : s.bytes ≡ locals ++ expression
   pub encodes_locals : EncodesLocals locals declarations
-  pub encodes_expression : EncodesExpression (source_behind s locals expression) placed
+  pub encodes_expression : EncodesExpression (source_after s locals expression) placed
 
 -- The new reader of a body's operators, after its locals. No operator was read before.
 abbrev pub OpensBody : Result State Error → Reader → Type 0
@@ -46,7 +46,7 @@ pub record NoExpression (e : Error) (body : Reader) (placed : Placed) : Type 0 w
 abbrev pub StopsBody : Error → Reader → Placed → Type 0
 StopsBody e body placed = NoLocals e body placed ⊎ NoExpression e body placed
 
--- Reading or visiting a body to its end, unless allocation fails. `Happened` is the effect on the list of operators.
+-- Reading or visiting a body to its end, unless allocation fails. `Effect` is the effect on the list of operators.
 abbrev pub ReadsBody : {X : Type 0} → OfPlaced → Result X Error → Reader → Type 0
-ReadsBody Happened (Ok x) body = (declarations : List Declaration) × (placed : Placed) × Happened placed × EncodesBody (source_of body) declarations placed
-ReadsBody Happened (Err e) body = e.message ≢ message.OutOfMemory → (placed : Placed) × Happened placed × StopsBody e body placed
+ReadsBody Effect (Ok x) body = (declarations : List Declaration) × (placed : Placed) × Effect placed × EncodesBody (source_of body) declarations placed
+ReadsBody Effect (Err e) body = e.message ≢ message.OutOfMemory → (placed : Placed) × Effect placed × StopsBody e body placed

@@ -38,8 +38,8 @@ EndsInside m r frames offset =
 -- After operators other than `end`, no operator is encoded, or an `end` that is inside another construct.
 abbrev pub ConstantFault : Message → Reader → ℕ → Type 0
 ConstantFault m r offset =
-    (behind : Reader) × (frames : List FrameKind) × PassesOperators r behind frames × (IsNoOperator m behind frames offset ⊎ EndsInside m behind frames offset)
+    (after : Reader) × (frames : List FrameKind) × PassesOperators r after frames × (IsNoOperator m after frames offset ⊎ EndsInside m after frames offset)
 
 -- After operators other than `end`, the next operator may allocate: it opens a frame for which no capacity is left, or it owns a list.
 abbrev pub ConstantMayAllocate : Reader → Type 0
-ConstantMayAllocate r = (behind : State) × PassesOperators r behind.reader behind.frames × NextMayAllocate EncodesAllowed behind
+ConstantMayAllocate r = (after : State) × PassesOperators r after.reader after.frames × NextMayAllocate EncodesAllowed after

@@ -5,7 +5,7 @@ pub use Rattle.wasm_operators_readers.specs.Visiting
 pub use Rattle.wasm_operators_readers.specs.Stack
 pub use Rattle.wasm_operators_readers.specs.Step
 pub use Rattle.wasm_operators_readers.specs.Reading
-pub use Rattle.wasm_operators_readers.specs.Headline
+pub use Rattle.wasm_operators_readers.specs.MainTheorem
 pub use Rattle.wasm_operators_readers.specs.Next
 pub use Rattle.wasm_operators_readers.specs.Iterating
 pub use Rattle.wasm_operators_readers.specs.Laws

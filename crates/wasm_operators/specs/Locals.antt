@@ -110,5 +110,5 @@ abbrev pub HasStepped : List Declaration → Reader → LocalsLeft → Type 0
 HasStepped declarations body items = (unread : Locals) × OpensLocals (Ok unread) body × StepsAlong declarations (all_left unread) items
 
 -- The result of skipping the locals of a body is this reader.
-abbrev pub IsAnswerPastLocals : Reader → Reader → Type 0
-IsAnswerPastLocals r body = (answer : Result Reader Error) → ReadsPastLocals answer body → answer ≡ Ok r
+abbrev pub IsResultPastLocals : Reader → Reader → Type 0
+IsResultPastLocals r body = (outcome : Result Reader Error) → ReadsPastLocals outcome body → outcome ≡ Ok r

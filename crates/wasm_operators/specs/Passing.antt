@@ -12,7 +12,7 @@ use Rattle.wasm_operators.specs.Constant.{EndsOnce}
 
 -- An operator was read, and the result is whether it is `end`; or an error was returned.
 abbrev pub PassesOne : Result Bool Error → State → State → Type 0
-PassesOne (Ok answer) old new = (op : Operator) × TakesOperator EncodesAllowed op old new × (IsTrue answer ↔ (op ≡ operator.End))
+PassesOne (Ok outcome) old new = (op : Operator) × TakesOperator EncodesAllowed op old new × (IsTrue outcome ↔ (op ≡ operator.End))
 PassesOne (Err e) old new = IsUnchanged old new × StopsRead EncodesAllowed OperatorFault (NextMayAllocate EncodesAllowed) e new
 
 -- The operators up to the first `end` were read.

@@ -24,8 +24,8 @@ abbrev pub items_of : Section → SectionItems
 items_of s = record { remaining = s.count; reader = s.reader; refused = false }
 
 -- The same iterator after it returned an error.
-abbrev pub behind_error : SectionItems → SectionItems
-behind_error s = record { remaining = s.remaining; reader = s.reader; refused = true }
+abbrev pub after_error : SectionItems → SectionItems
+after_error s = record { remaining = s.remaining; reader = s.reader; refused = true }
 
 -- No item follows: an error was returned, or no item and no data is left.
 abbrev pub IsDone : SectionItems → Type 0
@@ -50,4 +50,4 @@ StepsSection Encodes Fault Placed takes_memory (Some (Ok x)) old new =
     (old.refused ≡ false) × (new.refused ≡ false) × (old.remaining ≡ new.remaining + 1) ×
     ReadsValue Encodes takes_memory (Ok x) old.reader new.reader × Placed old.reader x new.reader
 StepsSection Encodes Fault Placed takes_memory (Some (Err e)) old new =
-    (old.refused ≡ false) × (new ≡ behind_error old) × StopsSection Encodes Fault takes_memory e old
+    (old.refused ≡ false) × (new ≡ after_error old) × StopsSection Encodes Fault takes_memory e old

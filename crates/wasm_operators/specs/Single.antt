@@ -10,7 +10,7 @@ use Rattle.wasm_operators_readers.specs.Reading.{EndsExpression}
 
 -- The result of reading an operator from here, with this frame as the innermost, if one is open. The position of the reader after it is not fixed.
 abbrev pub PeeksOperator : Option FrameKind → Result Operator Error → Reader → Type 0
-PeeksOperator frame result r = (behind : Reader) × DecodesOperatorIn frame result r behind
+PeeksOperator frame result r = (after : Reader) × DecodesOperatorIn frame result r after
 
 -- The end of an expression, with this frame as the innermost, if one is open: `Ok` if and only if none is open and no data is left.
 -- Otherwise the error is at the position.

@@ -11,7 +11,7 @@ ghost use Rattle.wasm_operators_readers.specs.below.Source.{Source, Reader, sour
 ghost use Rattle.wasm_operators_readers.specs.opcodes.Allowed.{EncodesAllowed};
 ghost use Rattle.wasm_operators_readers.specs.opcodes.OperatorFaults.{OperatorFault};
 ghost use Rattle.wasm_operators_readers.specs.Expression.{Placed, IsAny, EncodesExpression};
-ghost use Rattle.wasm_operators_readers.specs.Headline.{ReadsTree, ReadsBeginning};
+ghost use Rattle.wasm_operators_readers.specs.MainTheorem.{ReadsTree, ReadsBeginning};
 ghost use Rattle.wasm_operators_readers.specs.Next.{NextMayAllocate};
 ghost use Rattle.wasm_operators_readers.specs.Reading.{State, Anywhere};
 ghost use Rattle.wasm_operators.specs.Body.{EncodesBody, OpensBody, StopsBody};

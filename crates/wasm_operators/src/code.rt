@@ -5,7 +5,7 @@ ghost use Rattle.wasm_operators_readers.specs.below.Fault.{HasFault, DeterminesR
 ghost use Rattle.wasm_operators_readers.specs.below.FromReader.{ReadsValue, EncodesReader, ReaderFault, SameReader};
 ghost use Rattle.wasm_operators_readers.specs.below.Sequence.{PrefixCodeUpTo};
 ghost use Rattle.wasm_operators_readers.specs.below.Source.{Reads, rest, offset_of, end_of};
-ghost use Rattle.wasm_operators_readers.specs.Headline.{StoodBefore};
+ghost use Rattle.wasm_operators_readers.specs.MainTheorem.{ReadSoFar};
 ghost use Rattle.wasm_operators.specs.Body.{OpensBody};
 ghost use Rattle.wasm_operators.specs.Locals.{OpensLocals, ReadsPastLocals};
 
@@ -126,7 +126,7 @@ impl<'a> FunctionBody<'a> {
     /// ```
     pub fn get_operators_reader(&self, alloc: Global) -> Result<OperatorsReader<'a>>
         ensures opens { OpensBody result self.now }
-        ensures stood { IfOk result (λ operators. StoodBefore [] operators) }
+        ensures read_so_far { IfOk result (λ operators. ReadSoFar [] operators) }
     {
         match self.get_binary_reader_for_operators() {
             Ok(reader) => Ok(OperatorsReader::new(alloc, reader)),

@@ -6,7 +6,7 @@ ghost use Rattle.wasm_operators_readers.specs.below.Sequence.{PrefixCodeUpTo};
 ghost use Rattle.wasm_operators_readers.specs.below.Fault.{DeterminesRefusal, HasFault};
 ghost use Rattle.wasm_operators_readers.specs.below.Source.{offset_of};
 ghost use Rattle.wasm_operators_readers.specs.Reading.{IsFresh};
-ghost use Rattle.wasm_operators_readers.specs.Headline.{StoodBefore};
+ghost use Rattle.wasm_operators_readers.specs.MainTheorem.{ReadSoFar};
 ghost use Rattle.wasm_operators.specs.Constant.{EncodesConstantReader};
 ghost use Rattle.wasm_operators.specs.ConstantFaults.{ConstantFault, ConstantMayAllocate};
 
@@ -66,11 +66,11 @@ impl<'a> ConstExpr<'a> {
         let mut operators = OperatorsReader::new(alloc, reader.clone());
         match pass_constant(&mut operators) {
             Ok(()) => {
-                let behind = operators.get_binary_reader();
-                let size = behind.current_position() - reader.current_position();
+                let after = operators.get_binary_reader();
+                let size = after.current_position() - reader.current_position();
                 let text = &reader.remaining_buffer()[..size];
                 let constant = reader.part(text, reader.original_position());
-                *reader = behind;
+                *reader = after;
                 Ok(ConstExpr { reader: constant })
             }
             Err(e) => Err(e),
@@ -88,7 +88,7 @@ impl<'a> ConstExpr<'a> {
     pub fn get_operators_reader(&self, alloc: Global) -> OperatorsReader<'a>
         ensures reader { result.reader ≡ self.now }
         ensures fresh { IsFresh result }
-        ensures stood { StoodBefore [] result }
+        ensures read_so_far { ReadSoFar [] result }
     {
         OperatorsReader::new(alloc, self.reader.clone())
     }

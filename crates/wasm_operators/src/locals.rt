@@ -3,9 +3,9 @@ ghost use Rattle.std.specs.Prelude.{◌≡◌, List, [], IfSome, Some};
 ghost use Rattle.std.specs.Iterator.{at_most, UpTo};
 ghost use Rattle.std.specs.Iterator.SizeHint.{IsWithinCount};
 ghost use Rattle.wasm_operators_readers.specs.below.Source.{Reader, offset_of};
-ghost use Rattle.wasm_operators.specs.Locals.{Declaration, IsPastLocals, IsAnswerPastLocals, OpensLocals, ReadsDeclaration, StepsLocals, HasStepped, all_left};
+ghost use Rattle.wasm_operators.specs.Locals.{Declaration, IsPastLocals, IsResultPastLocals, OpensLocals, ReadsDeclaration, StepsLocals, HasStepped, all_left};
 ghost use Rattle.wasm_operators_readers.specs.Reading.{IsFresh};
-ghost use Rattle.wasm_operators_readers.specs.Headline.{StoodBefore};
+ghost use Rattle.wasm_operators_readers.specs.MainTheorem.{ReadSoFar};
 
 use std::alloc::Global;
 use std::marker::Model;
@@ -180,10 +180,10 @@ impl<'a> LocalsIterator<'a> {
     pub fn into_binary_reader_for_operators(self) -> BinaryReader<'a>
         requires { self.left ≡ 0 }
         ensures reader { result ≡ self.entry.locals.reader }
-        ensures behind { (body : Reader) (declarations : List Declaration) → HasStepped declarations body self.entry
+        ensures after { (body : Reader) (declarations : List Declaration) → HasStepped declarations body self.entry
             → IsPastLocals declarations body result }
-        ensures answer { (body : Reader) (declarations : List Declaration) → HasStepped declarations body self.entry
-            → IsAnswerPastLocals result body }
+        ensures outcome { (body : Reader) (declarations : List Declaration) → HasStepped declarations body self.entry
+            → IsResultPastLocals result body }
     {
         self.locals.get_binary_reader()
     }
@@ -193,8 +193,8 @@ impl<'a> LocalsIterator<'a> {
     pub fn into_operators_reader(self, alloc: Global) -> OperatorsReader<'a>
         ensures reader { result.reader ≡ self.entry.locals.reader }
         ensures fresh { IsFresh result }
-        ensures stood { StoodBefore [] result }
-        ensures behind { (body : Reader) (declarations : List Declaration) → self.entry.left ≡ 0
+        ensures read_so_far { ReadSoFar [] result }
+        ensures after { (body : Reader) (declarations : List Declaration) → self.entry.left ≡ 0
             → HasStepped declarations body self.entry → IsPastLocals declarations body result.reader }
     {
         OperatorsReader::new(alloc, self.locals.get_binary_reader())

@@ -5,7 +5,7 @@ ghost use Rattle.wasm_operators.specs.Single.{PeeksOperator, FinishesExpression}
 
 use std::alloc::Global;
 use wasm_operators_readers::below::{BinaryReader, Error, Message, Result};
-use wasm_operators_readers::decoder as decode;
+use wasm_operators_readers::decoder;
 use wasm_operators_readers::instr::{FrameStack, Operator};
 use wasm_operators_readers::visitors::{VisitOperator, VisitSimdOperator};
 
@@ -37,7 +37,7 @@ impl<'a> ReadOperators<'a> for BinaryReader<'a> {
     #[inline(always)]
     fn peek_operator<S: FrameStack>(&self, alloc: Global, stack: &S) -> Result<Operator<'a>> {
         let mut ahead = self.clone();
-        decode::read_operator(alloc, &mut ahead, stack.current_frame())
+        decoder::read_operator(alloc, &mut ahead, stack.current_frame())
     }
 
     fn finish_expression<S: FrameStack>(&self, stack: &S) -> Result<()> {
@@ -73,7 +73,7 @@ impl<'a, V: VisitOperator<'a> + FrameStack> ReadVisits<'a, V> for BinaryReader<'
     #[inline(always)]
     fn visit_operator(&mut self, alloc: Global, v: &mut V) -> Result<V::Output> {
         let frame = v.current_frame();
-        decode::visit_operator(v, alloc, self, frame)
+        decoder::visit_operator(v, alloc, self, frame)
     }
 }
 
@@ -94,6 +94,6 @@ impl<'a, V: VisitOperator<'a> + VisitSimdOperator + FrameStack> ReadSimdVisits<'
     #[inline(always)]
     fn visit_operator_simd(&mut self, alloc: Global, v: &mut V) -> Result<V::Output> {
         let frame = v.current_frame();
-        decode::visit_operator_simd(v, alloc, self, frame)
+        decoder::visit_operator_simd(v, alloc, self, frame)
     }
 }

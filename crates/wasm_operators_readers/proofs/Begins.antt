@@ -13,7 +13,7 @@ use Rattle.wasm_decode.specs.grammar.declared.frame_kind.FrameKind.{FrameKind}
 use Rattle.wasm_decode.specs.grammar.Frames.{innermost}
 use Rattle.wasm_decode.proofs.of_grammar.Innermost.{empty_of_innermost}
 use Rattle.wasm_decode.specs.opcodes.Allowed.{EncodesAllowed, EncodesScalar}
-use Rattle.wasm_decode.specs.opcodes.Decoding.{RefusesOperator, StandsBehind}
+use Rattle.wasm_decode.specs.opcodes.Decoding.{RefusesOperator, IsAfterCode}
 use Rattle.wasm_decode.specs.opcodes.OperatorFaults.{OperatorFault, ScalarOperatorFault}
 use Rattle.wasm_operators_readers.specs.declared.step.FrameStep.{FrameStep}
 use Rattle.wasm_operators_readers.specs.Stack.{OpenFrames, HasRoom, GrowsByDoubling, frame_memory}
@@ -29,8 +29,8 @@ use Rattle.wasm_operators_readers.proofs.Taken.{refused_unchanged, room_refused,
 -- ---- the opcode
 
 -- After reading a byte, the reader is directly after this opcode.
-stands : (old mid : Reader) (code start : ℕ) → Reads IsByte (Ok code) old mid → start ≡ old.position → (at_position mid start ≡ old) × StandsBehind start None code mid
-stands old mid code start r same =
+occurs : (old mid : Reader) (code start : ℕ) → Reads IsByte (Ok code) old mid → start ≡ old.position → (at_position mid start ≡ old) × IsAfterCode start None code mid
+occurs old mid code start r same =
     let f = first_byte_read old mid code r in
     let position : mid.position ≡ old.position + 1 = ap (λ (z : Reader). z.position) f.2.moved in
     let back : at_position mid start ≡ old = ap (at_position mid) same ∙ rewound old mid (code ∷ []) f.2 in (
@@ -78,10 +78,10 @@ pub begun : (old mid : Reader) (s t : OpenFrames) (kind : FrameKind) (code start
     start ≡ old.position → f ≡ step_at code → t.frames ≡ s.frames → s.room ≤ t.room → GrowsByDoubling 1 s t → (Opens f → HasRoom t) →
     BeginsOperator (state_of old s) (state_of mid t) kind start code f
 begun old mid s t kind code start f open_frame reads same step frames room memory opens =
-    let h = stands old mid code start reads same in
+    let h = occurs old mid code start reads same in
     record {
       open_frame = open_frame;
-      behind = h.1;
+      after = h.1;
       back = h.0;
       step = step;
       frames = frames;
@@ -93,7 +93,7 @@ begun old mid s t kind code start f open_frame reads same step frames room memor
 -- The reader goes back to the opcode.
 pub back_to : (old mid : Reader) (code start : ℕ) → Reads IsByte (Ok code) old mid → start ≡ old.position → (start ≤ mid.position) × (at_position mid start ≡ old) × BeginsWith code (rest old)
 back_to old mid code start reads same =
-    let h = stands old mid code start reads same in
+    let h = occurs old mid code start reads same in
     let f = first_byte_read old mid code reads in
     (h.1.begun, h.0, (rest mid, f.2.parts))
 

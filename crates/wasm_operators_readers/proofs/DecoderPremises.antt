@@ -10,7 +10,7 @@ use Rattle.wasm_operators_readers.specs.Expression.{IsAny}
 use Rattle.wasm_operators_readers.specs.Visiting.{IsScalar}
 use Rattle.wasm_operators_readers.proofs.Premises.{IsSound, Everything, IsNoVector, Keeps, TakesAll, TakesNoVector, IsReading, RefusesVectors}
 use Rattle.wasm_operators_readers.proofs.Scalar.{each_scalar}
-use Rattle.wasm_operators_readers.proofs.Messages.{operator_told, scalar_told}
+use Rattle.wasm_operators_readers.proofs.Messages.{operator_read_fault, scalar_read_fault}
 
 pub sound : IsSound EncodesAllowed
 sound f kind text op h = h.0
@@ -31,16 +31,16 @@ pub no_vector : TakesNoVector EncodesScalar
 no_vector f kind text op h = h.1
 
 pub is_reading : IsReading OperatorFault
-is_reading f kind m r offset h = operator_told f kind m r offset h
+is_reading f kind m r offset h = operator_read_fault f kind m r offset h
 
 pub scalar_is_reading : IsReading ScalarOperatorFault
-scalar_is_reading f kind m r offset h = scalar_told f kind m r offset h
+scalar_is_reading f kind m r offset h = scalar_read_fault f kind m r offset h
 
 pub refuses_vectors : RefusesVectors ScalarOperatorFault
 refuses_vectors f kind m r offset (inl h) begins = h.1
 refuses_vectors f kind m r offset (inr h) begins = absurd (h.0 begins)
 
-pub refused_alike : (f : WasmFeatures) (kind : FrameKind) (m : Message) (r : Reader) (offset : ℕ) → ScalarOperatorFault f kind m r offset →
+pub refused_same : (f : WasmFeatures) (kind : FrameKind) (m : Message) (r : Reader) (offset : ℕ) → ScalarOperatorFault f kind m r offset →
     (BeginsWith 0xfd (rest r) → ⊥) → OperatorFault f kind m r offset
-refused_alike f kind m r offset (inl h) other = absurd (other h.0)
-refused_alike f kind m r offset (inr h) other = h.1
+refused_same f kind m r offset (inl h) other = absurd (other h.0)
+refused_same f kind m r offset (inr h) other = h.1

@@ -23,11 +23,11 @@ use Rattle.wasm_decode.specs.instr.Roles.{role_of, roles_of}
 use Rattle.wasm_operators_readers.specs.Expression.{Placed, OfPlaced, operators, LaidOut, IsLongestOf}
 use Rattle.wasm_operators_readers.specs.Flat.{IsFlatOf}
 use Rattle.wasm_operators_readers.specs.Reading.{Taking, Refusing, Allocating, State, TakesOperators, StopsRun, EndsRun, ReadsOperator}
-use Rattle.wasm_operators_readers.specs.Headline.{StoodBefore, BeginningAt, ReadsBeginning, IsNotOutOfMemory, ClosesFrom, IsCut, CutFault, IsCompletedByEnds}
+use Rattle.wasm_operators_readers.specs.MainTheorem.{ReadSoFar, BeginningAt, ReadsBeginning, IsNotOutOfMemory, ClosesFrom, IsCut, CutFault, IsCompletedByEnds}
 use Rattle.wasm_operators_readers.proofs.LayoutLemmas.{roles_of-append, operators-append, roles_of-ends, laid_append, laid_goes_on, laid_no_longer, laid_same, one_longest, GoesOn, next_allowed, goes_allowed}
 use Rattle.wasm_operators_readers.proofs.OneRead.{refused_none, refused_not_taken, one_refusal, closed_read, read_closed}
 use Rattle.wasm_operators_readers.proofs.Premises.{AreEach, Keeps, TakesEach, IsReading, IsDetermined}
-use Rattle.wasm_operators_readers.proofs.Runs.{features_stay, stood_on, IsStuckFor, stuck, run_flat, no_refusal}
+use Rattle.wasm_operators_readers.proofs.Runs.{features_stay, read_further, IsStuckFor, stuck, run_flat, no_refusal}
 
 some_is : {X : Type 0} {x y : X} → Some x ≡ Some y → x ≡ y
 some_is e = cc e
@@ -78,7 +78,7 @@ flat_run Sort Kept Encodes Fault Allocates keeps result old new placed flat r ke
     )
 
 -- If more bytes would complete the rest of an expression, the bytes that are left begin with an operator that the frames allow.
-record NextStands (Sort : Operator → Type 0) (s : State) (left : List ℕ) : Type 0 where
+record NextOccurs (Sort : Operator → Type 0) (s : State) (left : List ℕ) : Type 0 where
   op : Operator
   sort : Sort op
   text : List ℕ
@@ -88,7 +88,7 @@ record NextStands (Sort : Operator → Type 0) (s : State) (left : List ℕ) : T
   allowed : frames_after s.frames (role_of op) ≡ None → ⊥
 
 cut_stops : (Sort : Operator → Type 0) (Encodes : Taking) (Fault : Refusing) (Allocates : Allocating) → TakesEach Sort Encodes → (m : Message) (e : Error)
-    (s : State) (more : List ℕ) → e.message ≡ m → StopsRun Encodes Fault Allocates e s → NextStands Sort s (rest s.reader ++ more) →
+    (s : State) (more : List ℕ) → e.message ≡ m → StopsRun Encodes Fault Allocates e s → NextOccurs Sort s (rest s.reader ++ more) →
     CutFault m (rest s.reader)
 cut_stops Sort Encodes Fault Allocates takes m e s more is (inl left) next = subst (λ m. CutFault m (rest s.reader)) (sym left.2 ∙ is) left.0
 cut_stops Sort Encodes Fault Allocates takes m e s more is (inr (some, inl none)) next =
@@ -112,7 +112,7 @@ right_none (x ∷ xs) ys e = absurd (cc e)
 
 -- Data that is cut off fails at its end, within an operator or between two.
 pub run_cut : (Sort : Operator → Type 0) (Kept : OfPlaced) (Encodes : Taking) (Fault : Refusing) (Allocates : Allocating) → Keeps Sort Kept Encodes → (e : Error)
-    (before : List Operator) (old new : State) (placed : Placed) → StoodBefore before old → TakesOperators old new placed → StopsRun Encodes Fault Allocates e new →
+    (before : List Operator) (old new : State) (placed : Placed) → ReadSoFar before old → TakesOperators old new placed → StopsRun Encodes Fault Allocates e new →
     IsCut Kept before (source_of old.reader) → CutFault e.message (rest new.reader)
 run_cut Sort Kept Encodes Fault Allocates keeps e before old new placed h r stops cut =
     cut_stops Sort Encodes Fault Allocates keeps.takes e.message e new cut.more refl stops next
@@ -120,7 +120,7 @@ run_cut Sort Kept Encodes Fault Allocates keeps e before old new placed h r stop
     whole : rest old.reader ++ cut.more ≡ r.text ++ (rest new.reader ++ cut.more)
     whole = ap (λ z. z ++ cut.more) r.takes.parts ∙ append_assoc r.text (rest new.reader) cut.more
 
-    goes : GoesOn old.reader.features placed cut.whole (rest new.reader ++ cut.more) → NextStands Sort new (rest new.reader ++ cut.more)
+    goes : GoesOn old.reader.features placed cut.whole (rest new.reader ++ cut.more) → NextOccurs Sort new (rest new.reader ++ cut.more)
     goes g =
         record {
           op = g.next.0;
@@ -129,7 +129,7 @@ run_cut Sort Kept Encodes Fault Allocates keeps e before old new placed h r stop
           after = g.more;
           encodes = subst (λ f. EncodesOperator f g.next.0 g.text) (sym (features_stay old.reader new.reader r.text r.takes)) g.encodes;
           bytes = g.bytes;
-          allowed = goes_allowed before old.reader.features placed cut.whole (rest new.reader ++ cut.more) new.frames (stood_on before old new placed h r).path
+          allowed = goes_allowed before old.reader.features placed cut.whole (rest new.reader ++ cut.more) new.frames (read_further before old new placed h r).path
               ([], cut.encodes.1.0, append-nil (roles_of (before ++ operators cut.whole)) ∙ cut.encodes.1.1) g;
         }
 
@@ -142,7 +142,7 @@ run_cut Sort Kept Encodes Fault Allocates keeps e before old new placed h r stop
         cut.encodes.0 r.laid e (omega arith) in
         cut.some (right_none (rest new.reader) cut.more (sym same.2))
 
-    next : NextStands Sort new (rest new.reader ++ cut.more)
+    next : NextOccurs Sort new (rest new.reader ++ cut.more)
     next = elim (cases_lt (length placed) (length cut.whole)) [
       | inl lt ↦ goes (laid_goes_on old.reader.features (offset_of old.reader) placed cut.whole r.text (rest old.reader ++ cut.more)
           (rest new.reader ++ cut.more) [] r.laid cut.encodes.0 (sym whole ∙ sym (append-nil (rest old.reader ++ cut.more))) lt)
@@ -162,7 +162,7 @@ ends_laid f offset (suc n) = (
   0x0b ∷ [],
   replicate n 0x0b,
   refl,
-  record { head = 0x0b ∷ []; behind = []; parts = refl; code = refl; immediates = refl; enabled = tt },
+  record { head = 0x0b ∷ []; after = []; parts = refl; code = refl; immediates = refl; enabled = tt },
   ends_laid f (offset + 1) n,
 )
 
@@ -172,7 +172,7 @@ ends_operators offset zero = refl
 ends_operators offset (suc n) = ap (λ (ops : List Operator). operator.End ∷ ops) (ends_operators (offset + 1) n)
 
 -- If all data was read, one byte 0x0b for each open frame completes the rest of an expression.
-pub run_completed : (before : List Operator) (old new : State) (placed : Placed) → StoodBefore before old → TakesOperators old new placed → rest new.reader ≡ [] →
+pub run_completed : (before : List Operator) (old new : State) (placed : Placed) → ReadSoFar before old → TakesOperators old new placed → rest new.reader ≡ [] →
     IsCompletedByEnds before (source_of old.reader) (length new.frames)
 run_completed before old new placed h r all =
     let n = length new.frames in
@@ -180,9 +180,9 @@ run_completed before old new placed h r all =
     let text : r.text ≡ rest old.reader = sym (r.takes.parts ∙ ap (λ x. r.text ++ x) all ∙ append-nil r.text) in
     let laid = laid_append old.reader.features (offset_of old.reader) placed (ends_placed o n) r.text (replicate n 0x0b) r.laid
     (ends_laid old.reader.features o n) in
-    let stood = stood_on before old new placed h r in
+    let read_so_far = read_further before old new placed h r in
     let walk : IsWalk (roles_of (before ++ operators placed) ++ replicate n ends) = ends_complete (roles_of (before ++ operators placed)) new.frames
-    (run_path new.frames (roles_of (before ++ operators placed)) stood.path) in
+    (run_path new.frames (roles_of (before ++ operators placed)) read_so_far.path) in
     let split : before ++ operators (placed ++ ends_placed o n) ≡ (before ++ operators placed) ++ replicate n operator.End =
     ap (λ z. before ++ z) (operators-append placed (ends_placed o n) ∙ ap (λ z. operators placed ++ z) (ends_operators o n)) ∙
     sym (append_assoc before (operators placed) (replicate n operator.End)) in
@@ -196,15 +196,15 @@ run_completed before old new placed h r all =
     )
 
 -- Two results that are the same, unless allocation failed.
-abbrev pub SameAnswer : {X Y : Type 0} → Result X Error → Result Y Error → Type 0
-SameAnswer (Ok x) (Ok y) = Unit {0}
-SameAnswer (Err d) (Err e) = (d.message ≡ e.message) × (d.offset ≡ e.offset)
-SameAnswer _ _ = ⊥
+abbrev pub SameResult : {X Y : Type 0} → Result X Error → Result Y Error → Type 0
+SameResult (Ok x) (Ok y) = Unit {0}
+SameResult (Err d) (Err e) = (d.message ≡ e.message) × (d.offset ≡ e.offset)
+SameResult _ _ = ⊥
 
 -- A read that failed fails again with the same message and offset, unless allocation fails.
 pub refused_again : (Encodes : Taking) (Fault : Refusing) (Allocates : Allocating) → IsDetermined Fault → (d : Error) (result : Result Operator Error)
     (old mid new : State) → ReadsOperator Encodes Fault Allocates (Err d) old mid → (d.message ≡ message.OutOfMemory → ⊥) →
-    ReadsOperator Encodes Fault Allocates result mid new → IsNotOutOfMemory result → SameAnswer {X = Operator} (Err d) result
+    ReadsOperator Encodes Fault Allocates result mid new → IsNotOutOfMemory result → SameResult {X = Operator} (Err d) result
 refused_again Encodes Fault Allocates determined d (Ok op) old mid new (same, stops) other takes memory =
     refused_not_taken Encodes Fault Allocates d mid mid new op refl refl stops other takes
 refused_again Encodes Fault Allocates determined d (Err e) old mid new (same, stops) other (again, others) memory =
@@ -221,7 +221,7 @@ same_stops Encodes Fault Allocates determined d e s t reader frames (inr a) (inr
 
 same_ends : {X Y : Type 0} (Encodes : Taking) (Fault : Refusing) (Allocates : Allocating) → IsDetermined Fault → (first : Result X Error) (second : Result Y Error)
     (s t : State) → t.reader ≡ s.reader → t.frames ≡ s.frames → EndsRun Encodes Fault Allocates first s → EndsRun Encodes Fault Allocates second t →
-    IsNotOutOfMemory first → IsNotOutOfMemory second → SameAnswer first second
+    IsNotOutOfMemory first → IsNotOutOfMemory second → SameResult first second
 same_ends Encodes Fault Allocates determined (Ok x) (Ok y) s t reader frames a b other others = tt
 same_ends Encodes Fault Allocates determined (Ok x) (Err e) s t reader frames a b other others =
     no_refusal Encodes Fault Allocates e t b (frames ∙ a.0) (ap rest reader ∙ a.1)
@@ -261,7 +261,7 @@ pub run_determined : {X Y : Type 0} (Encodes : Taking) (Fault : Refusing) (Alloc
     IsDetermined Fault → (first : Result X Error) (second : Result Y Error) (old new other end : State) (placed others : Placed) → other.reader ≡ old.reader →
     other.frames ≡ old.frames → TakesOperators old new placed → TakesOperators other end others → AreEach Kept placed → AreEach Kept others →
     EndsRun Encodes Fault Allocates first new → EndsRun Encodes Fault Allocates second end → IsNotOutOfMemory first → IsNotOutOfMemory second →
-    (placed ≡ others) × (end.reader ≡ new.reader) × (end.frames ≡ new.frames) × SameAnswer first second
+    (placed ≡ others) × (end.reader ≡ new.reader) × (end.frames ≡ new.frames) × SameResult first second
 run_determined Encodes Fault Allocates Kept takes determined first second old new other end placed others reader frames r q each_placed each_others a b memory
     other_memory =
     let r1 = ran_over old new placed r in
@@ -276,28 +276,28 @@ run_determined Encodes Fault Allocates Kept takes determined first second old ne
     (same.0, readers, stacks, same_ends Encodes Fault Allocates determined first second new end readers stacks a b memory other_memory)
 
 -- The error determines whether no frame is open, and whether one is open at the end of the data.
-pub tells_closed : (Encodes : Taking) (Fault : Refusing) (Allocates : Allocating) → IsReading Fault → (e : Error) (s : State) → StopsRun Encodes Fault Allocates e s →
+pub reports_closed : (Encodes : Taking) (Fault : Refusing) (Allocates : Allocating) → IsReading Fault → (e : Error) (s : State) → StopsRun Encodes Fault Allocates e s →
     (e.message ≡ message.OutOfMemory → ⊥) → (e.message ≡ message.OperatorsRemaining) ↔ (s.frames ≡ [])
-tells_closed Encodes Fault Allocates reading e s (inl left) other = (λ is. absurd (cc (is, left.2)), λ closed. absurd (left.1 closed))
-tells_closed Encodes Fault Allocates reading e s (inr (some, stops)) other =
+reports_closed Encodes Fault Allocates reading e s (inl left) other = (λ is. absurd (cc (is, left.2)), λ closed. absurd (left.1 closed))
+reports_closed Encodes Fault Allocates reading e s (inr (some, stops)) other =
     (closed_read Encodes Fault Allocates reading e s stops, read_closed Encodes Fault Allocates e s stops other)
 
-pub tells_left : (Encodes : Taking) (Fault : Refusing) (Allocates : Allocating) → IsReading Fault → (e : Error) (s : State) → StopsRun Encodes Fault Allocates e s →
+pub reports_left : (Encodes : Taking) (Fault : Refusing) (Allocates : Allocating) → IsReading Fault → (e : Error) (s : State) → StopsRun Encodes Fault Allocates e s →
     (e.message ≡ message.FramesRemain) ↔ ((rest s.reader ≡ []) × (s.frames ≡ [] → ⊥))
-tells_left Encodes Fault Allocates reading e s (inl left) = (λ is. (left.0, left.1), λ h. left.2)
-tells_left Encodes Fault Allocates reading e s (inr (some, inl none)) = (λ is. absurd (cc (is, none.1)), λ h. absurd (some h.0))
-tells_left Encodes Fault Allocates reading e s (inr (some, inr (inl there))) = (
+reports_left Encodes Fault Allocates reading e s (inl left) = (λ is. (left.0, left.1), λ h. left.2)
+reports_left Encodes Fault Allocates reading e s (inr (some, inl none)) = (λ is. absurd (cc (is, none.1)), λ h. absurd (some h.0))
+reports_left Encodes Fault Allocates reading e s (inr (some, inr (inl there))) = (
   λ is. absurd (subst IsReadFault is (reading s.reader.features there.kind e.message s.reader e.offset there.fault)),
   λ h. absurd (some h.0),
 )
-tells_left Encodes Fault Allocates reading e s (inr (some, inr (inr memory))) = (λ is. absurd (cc (is, memory.0)), λ h. absurd (some h.0))
+reports_left Encodes Fault Allocates reading e s (inr (some, inr (inr memory))) = (λ is. absurd (cc (is, memory.0)), λ h. absurd (some h.0))
 
 -- If frames are open at the end of the data, one byte 0x0b for each of them completes it.
 pub run_left : (Encodes : Taking) (Fault : Refusing) (Allocates : Allocating) → IsReading Fault → (e : Error) (before : List Operator) (old new : State)
-    (placed : Placed) → StoodBefore before old → TakesOperators old new placed → StopsRun Encodes Fault Allocates e new → e.message ≡ message.FramesRemain →
+    (placed : Placed) → ReadSoFar before old → TakesOperators old new placed → StopsRun Encodes Fault Allocates e new → e.message ≡ message.FramesRemain →
     IsCompletedByEnds before (source_of old.reader) (length new.frames)
 run_left Encodes Fault Allocates reading e before old new placed h r stops is =
-    run_completed before old new placed h r ((tells_left Encodes Fault Allocates reading e new stops).0 is).0
+    run_completed before old new placed h r ((reports_left Encodes Fault Allocates reading e new stops).0 is).0
 
 longest_at : (Kept : OfPlaced) (m : Message) (before : List Operator) (r : Reader) (placed : Placed) → BeginningAt Kept m before r placed →
     (m ≡ message.OutOfMemory → ⊥) → IsLongestOf Kept before (source_of r) placed
@@ -317,7 +317,7 @@ beginnings_same Kept Encodes Fault Allocates determined before d e old new end p
     let readers : end.reader ≡ new.reader = b.takes.moved ∙ ap (λ z. at_position old.reader (old.reader.position + length z)) (sym layout.1) ∙
     sym a.takes.moved in
     let path : OpenPath (roles_of (before ++ operators placed)) end.frames =
-    subst (λ (ps : Placed). OpenPath (roles_of (before ++ operators ps)) end.frames) (sym same) b.stood.path in
-    let stacks : end.frames ≡ new.frames = same_frames end.frames new.frames (roles_of (before ++ operators placed)) path a.stood.path in
+    subst (λ (ps : Placed). OpenPath (roles_of (before ++ operators ps)) end.frames) (sym same) b.read_so_far.path in
+    let stacks : end.frames ≡ new.frames = same_frames end.frames new.frames (roles_of (before ++ operators placed)) path a.read_so_far.path in
     let both = same_stops Encodes Fault Allocates determined d e new end readers stacks a.stops b.stops other_d other_e in
     (same, readers, stacks, both.0, both.1)

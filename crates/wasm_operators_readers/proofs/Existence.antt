@@ -6,9 +6,9 @@ use Rattle.wasm_decode.specs.below.bytes.features.WasmFeatures.{WasmFeatures}
 use Rattle.wasm_decode.specs.below.Source.{Source, source_of}
 use Rattle.wasm_decode.specs.grammar.declared.frame_kind.FrameKind.{FrameKind}
 use Rattle.wasm_decode.specs.instr.declared.operator.Operator.{Operator}
-use Rattle.wasm_operators_readers.specs.Expression.{Placed, OfPlaced, LaidOut, Begins, IsBeginningBehind, IsLongestOf}
+use Rattle.wasm_operators_readers.specs.Expression.{Placed, OfPlaced, LaidOut, Begins, IsPrefixAfter, IsLongestOf}
 use Rattle.wasm_operators_readers.specs.Flat.{IsAllowedFrom, IsFlatOf}
-use Rattle.wasm_operators_readers.specs.Headline.{StoodBefore}
+use Rattle.wasm_operators_readers.specs.MainTheorem.{ReadSoFar}
 use Rattle.wasm_operators_readers.specs.Reading.{State}
 use Rattle.wasm_operators_readers.proofs.LayoutLemmas.{path_begins}
 use Rattle.wasm_operators_readers.proofs.Ranges.{laid_length}
@@ -33,19 +33,19 @@ short f offset placed bytes beginning more parts laid =
     omega (arith, few, whole)
 
 -- A longest list exists after the operators that a reader has read.
-pub longest_is_some : (Kept : OfPlaced) → Kept [] → (before : List Operator) (s : State) → StoodBefore before s →
+pub longest_is_some : (Kept : OfPlaced) → Kept [] → (before : List Operator) (s : State) → ReadSoFar before s →
     ((placed : Placed) → IsLongestOf Kept before (source_of s.reader) placed → ⊥) → ⊥
-longest_is_some Kept kept before s stood none =
+longest_is_some Kept kept before s read_so_far none =
     let source = source_of s.reader in
-    let begins = path_begins source.features before s.frames stood.path stood.encodes in
-    let first : IsBeginningBehind before source [] = record {
+    let begins = path_begins source.features before s.frames read_so_far.path read_so_far.encodes in
+    let first : IsPrefixAfter before source [] = record {
       beginning = [];
       more = source.bytes;
       parts = refl;
       laid = refl;
       begins = subst (Begins source.features) (sym (append-nil before)) begins;
     } in
-    no_longest (λ x. IsBeginningBehind before source x × Kept x) [] (first, kept)
+    no_longest (λ x. IsPrefixAfter before source x × Kept x) [] (first, kept)
     (λ x h long. none x (record { beginning = h.0; kept = h.1; longest = λ y b k. long y (b, k) })) (length source.bytes)
     (λ x h. short source.features source.offset x source.bytes h.0.beginning h.0.more h.0.parts h.0.laid)
 

@@ -11,13 +11,13 @@ use Rattle.wasm_decode.proofs.of_grammar.Runs.{some_of, IsSome_of, path_run, pat
 use Rattle.wasm_decode.proofs.of_grammar.Steps.{path_start}
 use Rattle.wasm_decode.specs.instr.declared.operator.Operator.{Operator}
 use Rattle.wasm_decode.specs.instr.Roles.{roles_of}
-use Rattle.wasm_operators_readers.specs.Expression.{Placed, OfPlaced, IsAny, operators, AreEncoded, IsBeginningBehind, IsLongestOf, IsLongestBeginning}
+use Rattle.wasm_operators_readers.specs.Expression.{Placed, OfPlaced, IsAny, operators, AreEncoded, IsPrefixAfter, IsLongestOf, IsLongestBeginning}
 use Rattle.wasm_operators_readers.specs.Flat.{IsAllowedFrom, IsFlatOf, IsFlatBeginning}
 use Rattle.wasm_operators_readers.proofs.LayoutLemmas.{roles_of-append, laid_encoded, both_encoded, path_begins, begins_walk}
 
 -- After operators that have encodings and an open path to the frames, a list that these frames allow begins an expression.
 pub allowed_begins : (before : List Operator) (frames : List FrameKind) (s : Source) (placed : Placed) → AreEncoded s.features before →
-    OpenPath (roles_of before) frames → IsAllowedFrom frames s placed → IsBeginningBehind before s placed
+    OpenPath (roles_of before) frames → IsAllowedFrom frames s placed → IsPrefixAfter before s placed
 allowed_begins before frames s placed encodes path h =
     let along = some_of (frames_along frames (roles_of (operators placed))) h.allowed in
     let on = path_run (roles_of (operators placed)) frames (roles_of before) along.0 path along.1 in
@@ -33,7 +33,7 @@ allowed_begins before frames s placed encodes path h =
 
 -- A list that begins an expression is allowed by the frames.
 pub begins_allowed : (before : List Operator) (frames : List FrameKind) (s : Source) (placed : Placed) → OpenPath (roles_of before) frames →
-    IsBeginningBehind before s placed → IsAllowedFrom frames s placed
+    IsPrefixAfter before s placed → IsAllowedFrom frames s placed
 begins_allowed before frames s placed path h =
     let walk = subst BeginsWalk (roles_of-append before (operators placed)) (begins_walk s.features (before ++ operators placed) h.begins) in
     let on = path_runs_on frames (roles_of before) (roles_of (operators placed)) path walk in

@@ -11,24 +11,24 @@ use Rattle.wasm_decode.specs.grammar.declared.frame_kind.FrameKind.{FrameKind}
 use Rattle.wasm_decode.specs.grammar.Frames.{Allows}
 use Rattle.wasm_decode.specs.instr.Immediate.{Kind}
 use Rattle.wasm_decode.specs.opcodes.declared.guard.Guard.{Guard}
-use Rattle.wasm_decode.specs.opcodes.Entry.{Entry, unknown, prefixes, free, guarded, role_behind, instruction_behind, frame_behind}
+use Rattle.wasm_decode.specs.opcodes.Entry.{Entry, unknown, prefixes, free, guarded, guarded_role, guarded_instruction, needed_frame}
 use Rattle.wasm_decode.specs.opcodes.Entries.{entry_at}
 use Rattle.wasm_decode.specs.opcodes.OperatorFaults.{LacksFeature, EntryFault, OperatorFault}
 use Rattle.wasm_operators_readers.specs.Guarded.{BeginsGuarded}
-use Rattle.wasm_operators_readers.proofs.Messages.{end_told, subopcode_told, free_told, kinds_told}
+use Rattle.wasm_operators_readers.proofs.Messages.{end_unguarded, subopcode_unguarded, free_unguarded, kinds_unguarded}
 
 -- What a caller learns from a missing feature, and from a wrong frame.
 abbrev pub Lacking : WasmFeatures → InstructionName → Reader → ℕ → Type 0
-Lacking f name r offset = (g : Guard) × BeginsGuarded g r × LacksFeature f g × (name ≡ instruction_behind g) × (offset ≡ offset_of r)
+Lacking f name r offset = (g : Guard) × BeginsGuarded g r × LacksFeature f g × (name ≡ guarded_instruction g) × (offset ≡ offset_of r)
 
 abbrev pub Misplaced : WasmFeatures → FrameKind → InstructionName → FrameName → Reader → ℕ → Type 0
-Misplaced f k name wanted r offset =
-    (g : Guard) × BeginsGuarded g r × (¬ LacksFeature f g) × (¬ Allows k (role_behind g)) × (name ≡ instruction_behind g) × (wanted ≡ frame_behind g) ×
+Misplaced f k name needed r offset =
+    (g : Guard) × BeginsGuarded g r × (¬ LacksFeature f g) × (¬ Allows k (guarded_role g)) × (name ≡ guarded_instruction g) × (needed ≡ needed_frame g) ×
     (offset ≡ offset_of r + 1)
 
 -- The offset after the opcode.
-behind_code : (r new : Reader) (code : ℕ) → Reads IsByte (Ok code) r new → offset_of new ≡ offset_of r + 1
-behind_code r new code reads =
+after_code : (r new : Reader) (code : ℕ) → Reads IsByte (Ok code) r new → offset_of new ≡ offset_of r + 1
+after_code r new code reads =
     let t = (first_byte_read r new code reads).2 in
     ap offset_of t.moved ∙ omega arith
 
@@ -39,49 +39,49 @@ begins r new code g ks reads is =
 
 lacking_entry : (f : WasmFeatures) (k : FrameKind) (name : InstructionName) (r new : Reader) (offset code : ℕ) (e : Entry) → entry_at None code ≡ e →
     Reads IsByte (Ok code) r new → EntryFault f k (offset_of r) code e (message.FeatureRequired name) new offset → Lacking f name r offset
-lacking_entry f k name r new offset code prefixes is reads h = absurd (subopcode_told f (offset_of r) code (message.FeatureRequired name) new offset h)
-lacking_entry f k name r new offset code unknown is reads h = absurd (free_told f (offset_of r) None code unknown (message.FeatureRequired name) new offset h)
+lacking_entry f k name r new offset code prefixes is reads h = absurd (subopcode_unguarded f (offset_of r) code (message.FeatureRequired name) new offset h)
+lacking_entry f k name r new offset code unknown is reads h = absurd (free_unguarded f (offset_of r) None code unknown (message.FeatureRequired name) new offset h)
 lacking_entry f k name r new offset code (free ks) is reads h =
-    absurd (free_told f (offset_of r) None code (free ks) (message.FeatureRequired name) new offset h)
+    absurd (free_unguarded f (offset_of r) None code (free ks) (message.FeatureRequired name) new offset h)
 lacking_entry f k name r new offset code (guarded g ks) is reads (inl (lacks, e, at)) = (g, begins r new code g ks reads is, lacks, cc e, at)
 lacking_entry f k name r new offset code (guarded g ks) is reads (inr (_, inl (_, e, _))) = absurd (cc e)
 lacking_entry f k name r new offset code (guarded g ks) is reads (inr (_, inr (_, h))) =
-    absurd (kinds_told f (offset_of r) ks (message.FeatureRequired name) new offset h)
+    absurd (kinds_unguarded f (offset_of r) ks (message.FeatureRequired name) new offset h)
 
 pub lacking_only : (f : WasmFeatures) (k : FrameKind) (name : InstructionName) (r : Reader) (offset : ℕ) →
     OperatorFault f k (message.FeatureRequired name) r offset → Lacking f name r offset
-lacking_only f k name r offset (inl h) = absurd (end_told (message.FeatureRequired name) r offset h.1)
+lacking_only f k name r offset (inl h) = absurd (end_unguarded (message.FeatureRequired name) r offset h.1)
 lacking_only f k name r offset (inr (code, new, reads, h)) = lacking_entry f k name r new offset code (entry_at None code) refl reads h
 
-misplaced_entry : (f : WasmFeatures) (k : FrameKind) (name : InstructionName) (wanted : FrameName) (r new : Reader) (offset code : ℕ) (e : Entry) →
-    entry_at None code ≡ e → Reads IsByte (Ok code) r new → EntryFault f k (offset_of r) code e (message.WrongFrame name wanted) new offset →
-    Misplaced f k name wanted r offset
-misplaced_entry f k name wanted r new offset code prefixes is reads h =
-    absurd (subopcode_told f (offset_of r) code (message.WrongFrame name wanted) new offset h)
-misplaced_entry f k name wanted r new offset code unknown is reads h =
-    absurd (free_told f (offset_of r) None code unknown (message.WrongFrame name wanted) new offset h)
-misplaced_entry f k name wanted r new offset code (free ks) is reads h =
-    absurd (free_told f (offset_of r) None code (free ks) (message.WrongFrame name wanted) new offset h)
-misplaced_entry f k name wanted r new offset code (guarded g ks) is reads (inl (_, e, _)) = absurd (cc e)
-misplaced_entry f k name wanted r new offset code (guarded g ks) is reads (inr (has, inl (bars, e, at))) =
-    (g, begins r new code g ks reads is, has, bars, cc e, cc e, at ∙ behind_code r new code reads)
-misplaced_entry f k name wanted r new offset code (guarded g ks) is reads (inr (_, inr (_, h))) =
-    absurd (kinds_told f (offset_of r) ks (message.WrongFrame name wanted) new offset h)
+misplaced_entry : (f : WasmFeatures) (k : FrameKind) (name : InstructionName) (needed : FrameName) (r new : Reader) (offset code : ℕ) (e : Entry) →
+    entry_at None code ≡ e → Reads IsByte (Ok code) r new → EntryFault f k (offset_of r) code e (message.WrongFrame name needed) new offset →
+    Misplaced f k name needed r offset
+misplaced_entry f k name needed r new offset code prefixes is reads h =
+    absurd (subopcode_unguarded f (offset_of r) code (message.WrongFrame name needed) new offset h)
+misplaced_entry f k name needed r new offset code unknown is reads h =
+    absurd (free_unguarded f (offset_of r) None code unknown (message.WrongFrame name needed) new offset h)
+misplaced_entry f k name needed r new offset code (free ks) is reads h =
+    absurd (free_unguarded f (offset_of r) None code (free ks) (message.WrongFrame name needed) new offset h)
+misplaced_entry f k name needed r new offset code (guarded g ks) is reads (inl (_, e, _)) = absurd (cc e)
+misplaced_entry f k name needed r new offset code (guarded g ks) is reads (inr (has, inl (bars, e, at))) =
+    (g, begins r new code g ks reads is, has, bars, cc e, cc e, at ∙ after_code r new code reads)
+misplaced_entry f k name needed r new offset code (guarded g ks) is reads (inr (_, inr (_, h))) =
+    absurd (kinds_unguarded f (offset_of r) ks (message.WrongFrame name needed) new offset h)
 
-pub misplaced_only : (f : WasmFeatures) (k : FrameKind) (name : InstructionName) (wanted : FrameName) (r : Reader) (offset : ℕ) →
-    OperatorFault f k (message.WrongFrame name wanted) r offset → Misplaced f k name wanted r offset
-misplaced_only f k name wanted r offset (inl h) = absurd (end_told (message.WrongFrame name wanted) r offset h.1)
-misplaced_only f k name wanted r offset (inr (code, new, reads, h)) = misplaced_entry f k name wanted r new offset code (entry_at None code) refl reads h
+pub misplaced_only : (f : WasmFeatures) (k : FrameKind) (name : InstructionName) (needed : FrameName) (r : Reader) (offset : ℕ) →
+    OperatorFault f k (message.WrongFrame name needed) r offset → Misplaced f k name needed r offset
+misplaced_only f k name needed r offset (inl h) = absurd (end_unguarded (message.WrongFrame name needed) r offset h.1)
+misplaced_only f k name needed r offset (inr (code, new, reads, h)) = misplaced_entry f k name needed r new offset code (entry_at None code) refl reads h
 
 -- The opcode of a guarded operator is read.
 code_read : (r : Reader) (code : ℕ) → code < 256 → BeginsWith code (rest r) → Reads IsByte (Ok code) r (at_position r (r.position + 1))
 code_read r code small first = (code ∷ [], (refl, small), advanced r (at_position r (r.position + 1)) code first refl)
 
 pub lacking_comes : (f : WasmFeatures) (k : FrameKind) (g : Guard) (r : Reader) → BeginsGuarded g r → LacksFeature f g →
-    OperatorFault f k (message.FeatureRequired (instruction_behind g)) r (offset_of r)
+    OperatorFault f k (message.FeatureRequired (guarded_instruction g)) r (offset_of r)
 lacking_comes f k g r (code, ks, small, first, is) lacks =
     let new = at_position r (r.position + 1) in
-    let m = message.FeatureRequired (instruction_behind g) in
+    let m = message.FeatureRequired (guarded_instruction g) in
     inr (
       code,
       new,
@@ -89,13 +89,13 @@ lacking_comes f k g r (code, ks, small, first, is) lacks =
       subst (λ e. EntryFault f k (offset_of r) code e m new (offset_of r)) (sym is) (inl (lacks, refl, refl)),
     )
 
-pub misplaced_comes : (f : WasmFeatures) (k : FrameKind) (g : Guard) (r : Reader) → BeginsGuarded g r → (¬ LacksFeature f g) → (¬ Allows k (role_behind g)) →
-    OperatorFault f k (message.WrongFrame (instruction_behind g) (frame_behind g)) r (offset_of r + 1)
+pub misplaced_comes : (f : WasmFeatures) (k : FrameKind) (g : Guard) (r : Reader) → BeginsGuarded g r → (¬ LacksFeature f g) → (¬ Allows k (guarded_role g)) →
+    OperatorFault f k (message.WrongFrame (guarded_instruction g) (needed_frame g)) r (offset_of r + 1)
 misplaced_comes f k g r (code, ks, small, first, is) has bars =
     let new = at_position r (r.position + 1) in
-    let m = message.WrongFrame (instruction_behind g) (frame_behind g) in
+    let m = message.WrongFrame (guarded_instruction g) (needed_frame g) in
     let reads = code_read r code small first in
-    let at : offset_of r + 1 ≡ offset_of new = sym (behind_code r new code reads) in
+    let at : offset_of r + 1 ≡ offset_of new = sym (after_code r new code reads) in
     inr (
       code,
       new,

@@ -38,7 +38,7 @@ both_encoded f (x ∷ xs) ys p q = (p.0, both_encoded f xs ys p.1 q)
 
 ends_encoded : (f : WasmFeatures) (n : ℕ) → AreEncoded f (replicate n operator.End)
 ends_encoded f zero = tt
-ends_encoded f (suc n) = ((0x0b ∷ [], record { head = 0x0b ∷ []; behind = []; parts = refl; code = refl; immediates = refl; enabled = tt }), ends_encoded f n)
+ends_encoded f (suc n) = ((0x0b ∷ [], record { head = 0x0b ∷ []; after = []; parts = refl; code = refl; immediates = refl; enabled = tt }), ends_encoded f n)
 
 pub roles_of-ends : (n : ℕ) → roles_of (replicate n operator.End) ≡ replicate n ends
 roles_of-ends zero = refl
@@ -57,13 +57,13 @@ pub begins_walk : (f : WasmFeatures) (ops : List Operator) → Begins f ops → 
 begins_walk f ops (more, (tree, e), encodes) = (roles_of more, tree, sym (roles_of-append ops more) ∙ e)
 
 -- What follows ps in a longer list.
-pub record GoesOn (f : WasmFeatures) (ps qs : Placed) (behind : List ℕ) : Type 0 where
+pub record GoesOn (f : WasmFeatures) (ps qs : Placed) (after : List ℕ) : Type 0 where
   pub next : Operator × ℕ
   pub others : Placed
   pub text : List ℕ
   pub more : List ℕ
   pub parts : qs ≡ ps ++ next ∷ others
-  pub bytes : behind ≡ text ++ more
+  pub bytes : after ≡ text ++ more
   pub encodes : EncodesOperator f next.0 text
 
 pub same_place : (p q : Operator × ℕ) → p.0 ≡ q.0 → p.1 ≡ q.1 → p ≡ q
@@ -101,7 +101,7 @@ opcode_some (Some prefix) code head h = let n : length head ≡ length (prefix �
 pub encoded_some : (f : WasmFeatures) (op : Operator) (text : List ℕ) → EncodesOperator f op text → 1 ≤ length text
 encoded_some f op text s =
     let c = opcode_some (prefix_of op) (opcode_of op) s.head s.code in
-    let n : length text ≡ length s.head + length s.behind = ap length s.parts ∙ length-append s.head s.behind in
+    let n : length text ≡ length s.head + length s.after = ap length s.parts ∙ length-append s.head s.after in
     omega (arith, c, n)
 
 none_some : (text more : List ℕ) → [] ≡ text ++ more → 1 ≤ length text → ⊥
@@ -171,10 +171,10 @@ one_longest Kept before s first second p q =
     (sym p.beginning.parts ∙ q.beginning.parts) (omega arith)).0
 
 -- An operator that follows a list, in a longer list that the frames allow, is allowed there.
-pub next_allowed : (f : WasmFeatures) (frames there end : List FrameKind) (placed others : Placed) (behind : List ℕ) →
+pub next_allowed : (f : WasmFeatures) (frames there end : List FrameKind) (placed others : Placed) (after : List ℕ) →
     frames_along frames (roles_of (operators placed)) ≡ Some there → frames_along frames (roles_of (operators others)) ≡ Some end →
-    (g : GoesOn f placed others behind) → frames_after there (role_of g.next.0) ≡ None → ⊥
-next_allowed f frames there end placed others behind e d g none =
+    (g : GoesOn f placed others after) → frames_after there (role_of g.next.0) ≡ None → ⊥
+next_allowed f frames there end placed others after e d g none =
     let next = role_of g.next.0 ∷ roles_of (operators g.others) in
     let roles : roles_of (operators others) ≡ roles_of (operators placed) ++ next = ap (λ z. roles_of (operators z)) g.parts ∙
     ap roles_of (operators-append placed (g.next ∷ g.others)) ∙ roles_of-append (operators placed) (g.next.0 ∷ operators g.others) in
@@ -184,10 +184,10 @@ next_allowed f frames there end placed others behind e d g none =
     cc (none, b.1)
 
 -- An operator that follows the list, in a list that begins an expression, is allowed there.
-pub goes_allowed : (before : List Operator) (f : WasmFeatures) (ps qs : Placed) (behind : List ℕ) (frames : List FrameKind) →
-    OpenPath (roles_of (before ++ operators ps)) frames → BeginsWalk (roles_of (before ++ operators qs)) → (g : GoesOn f ps qs behind) →
+pub goes_allowed : (before : List Operator) (f : WasmFeatures) (ps qs : Placed) (after : List ℕ) (frames : List FrameKind) →
+    OpenPath (roles_of (before ++ operators ps)) frames → BeginsWalk (roles_of (before ++ operators qs)) → (g : GoesOn f ps qs after) →
     frames_after frames (role_of g.next.0) ≡ None → ⊥
-goes_allowed before f ps qs behind frames path begins g none =
+goes_allowed before f ps qs after frames path begins g none =
     let next = role_of g.next.0 ∷ roles_of (operators g.others) in
     let split : before ++ operators qs ≡ (before ++ operators ps) ++ g.next.0 ∷ operators g.others = ap (λ z. before ++ operators z) g.parts ∙
     ap (λ z. before ++ z) (operators-append ps (g.next ∷ g.others)) ∙ sym (append_assoc before (operators ps) (g.next.0 ∷ operators g.others)) in

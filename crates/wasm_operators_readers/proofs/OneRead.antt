@@ -55,14 +55,14 @@ needs_more Encodes Fault Allocates Others more e s (inr (inl there)) = inr (inl 
 needs_more Encodes Fault Allocates Others more e s (inr (inr memory)) = inr (inr (memory.0, memory.1, more s memory.2))
 
 -- An error about the bytes, with these bytes after them, means that no operator which would be read is encoded there.
-pub refused_none : (Encodes : Taking) (Fault : Refusing) (e : Error) (s : State) (h : IsRefusedThere Encodes Fault e s) (behind : List ℕ) →
-    MayFollow e.message behind → (text more : List ℕ) (op : Operator) → (Allows h.kind (role_of op) → Encodes s.reader.features h.kind text op) →
-    rest s.reader ++ behind ≡ text ++ more → frames_after s.frames (role_of op) ≡ None
-refused_none Encodes Fault e s h behind follow text more op taken eb = go (replacement h.kind (role_of op)) refl
+pub refused_none : (Encodes : Taking) (Fault : Refusing) (e : Error) (s : State) (h : IsRefusedThere Encodes Fault e s) (after : List ℕ) →
+    MayFollow e.message after → (text more : List ℕ) (op : Operator) → (Allows h.kind (role_of op) → Encodes s.reader.features h.kind text op) →
+    rest s.reader ++ after ≡ text ++ more → frames_after s.frames (role_of op) ≡ None
+refused_none Encodes Fault e s h after follow text more op taken eb = go (replacement h.kind (role_of op)) refl
   where
     go : (next : Option (List FrameKind)) → replacement h.kind (role_of op) ≡ next → frames_after s.frames (role_of op) ≡ None
     go None none = may_not_step s.frames h.kind (role_of op) h.open_frame none
-    go (Some next) some = absurd (h.refuses behind follow text more op (taken (IsSome_of (replacement h.kind (role_of op)) next some)) eb)
+    go (Some next) some = absurd (h.refuses after follow text more op (taken (IsSome_of (replacement h.kind (role_of op)) next some)) eb)
 
 -- A step extends the open path.
 pub path_on : (before : List Operator) (op : Operator) (frames next : List FrameKind) → OpenPath (roles_of before) frames →

@@ -31,12 +31,12 @@ block_some [] ty h = let p = block_prefix_code [] (0x40 ∷ []) (0x40 ∷ []) []
 block_some (b ∷ text) ty h = omega arith
 
 -- An opcode and at least one byte after it.
-two_bytes : (code : ℕ) (text head behind first more : List ℕ) → text ≡ head ++ behind → head ≡ code ∷ [] → behind ≡ first ++ more →
+two_bytes : (code : ℕ) (text head after first more : List ℕ) → text ≡ head ++ after → head ≡ code ∷ [] → after ≡ first ++ more →
     1 ≤ length first → 2 * 1 ≤ length text
-two_bytes code text head behind first more e h b some =
-    let n : length text ≡ length head + length behind = ap length e ∙ length-append head behind in
+two_bytes code text head after first more e h b some =
+    let n : length text ≡ length head + length after = ap length e ∙ length-append head after in
     let m : length head ≡ 1 = ap length h in
-    let k : length behind ≡ length first + length more = ap length b ∙ length-append first more in
+    let k : length after ≡ length first + length more = ap length b ∙ length-append first more in
     omega (arith, n, m, k, some)
 
 none_opened : (n : ℕ) → 2 * 0 ≤ n
@@ -45,18 +45,18 @@ none_opened n = omega arith
 -- The number of frames that an operator opens, doubled, is at most the number of its bytes.
 pub twice_opened : (f : WasmFeatures) (op : Operator) (text : List ℕ) → EncodesOperator f op text → 2 * opened_by op ≤ length text
 twice_opened f (operator.Block ty) text s =
-    two_bytes 0x02 text s.head s.behind s.immediates.0 s.immediates.1 s.parts s.code s.immediates.2 (block_some s.immediates.0 ty s.immediates.3)
+    two_bytes 0x02 text s.head s.after s.immediates.0 s.immediates.1 s.parts s.code s.immediates.2 (block_some s.immediates.0 ty s.immediates.3)
 twice_opened f (operator.Loop ty) text s =
-    two_bytes 0x03 text s.head s.behind s.immediates.0 s.immediates.1 s.parts s.code s.immediates.2 (block_some s.immediates.0 ty s.immediates.3)
+    two_bytes 0x03 text s.head s.after s.immediates.0 s.immediates.1 s.parts s.code s.immediates.2 (block_some s.immediates.0 ty s.immediates.3)
 twice_opened f (operator.If ty) text s =
-    two_bytes 0x04 text s.head s.behind s.immediates.0 s.immediates.1 s.parts s.code s.immediates.2 (block_some s.immediates.0 ty s.immediates.3)
+    two_bytes 0x04 text s.head s.after s.immediates.0 s.immediates.1 s.parts s.code s.immediates.2 (block_some s.immediates.0 ty s.immediates.3)
 twice_opened f (operator.Try ty) text s =
-    two_bytes 0x06 text s.head s.behind s.immediates.0 s.immediates.1 s.parts s.code s.immediates.2 (block_some s.immediates.0 ty s.immediates.3)
+    two_bytes 0x06 text s.head s.after s.immediates.0 s.immediates.1 s.parts s.code s.immediates.2 (block_some s.immediates.0 ty s.immediates.3)
 twice_opened f (operator.TryTable t) text s =
     let table = s.immediates.3 in
     let some : 1 ≤ length table.0 = block_some table.0 t.ty table.3 in
     let n : length s.immediates.0 ≡ length table.0 + length table.1 = ap length table.2 ∙ length-append table.0 table.1 in
-    two_bytes 0x1f text s.head s.behind s.immediates.0 s.immediates.1 s.parts s.code s.immediates.2 (omega (arith, n, some))
+    two_bytes 0x1f text s.head s.after s.immediates.0 s.immediates.1 s.parts s.code s.immediates.2 (omega (arith, n, some))
 twice_opened f _ text s = none_opened (length text)
 
 pub twice_opened_along : (f : WasmFeatures) (offset : ℕ) (ps : Placed) (text : List ℕ) → LaidOut f offset ps text → 2 * opened_along ps ≤ length text
@@ -129,7 +129,7 @@ pub begins_encoding : (f : WasmFeatures) (op : Operator) (text : List ℕ) → E
     (opcode_of op)) text
 begins_encoding f op text s =
     let h = first_of_opcode (prefix_of op) (opcode_of op) s.head s.code in
-    (h.0 ++ s.behind, s.parts ∙ ap (λ x. x ++ s.behind) h.1)
+    (h.0 ++ s.after, s.parts ∙ ap (λ x. x ++ s.after) h.1)
 
 abbrev leads_frame : ℕ → Bool
 leads_frame byte = eqb byte 0x02 || (eqb byte 0x03 || (eqb byte 0x04 || (eqb byte 0x06 || eqb byte 0x1f)))

@@ -24,12 +24,12 @@ laid_parts f offset [] second bytes l =
 laid_parts f offset (p ∷ ps) second bytes (at, text, more, parts, encodes, others) =
     let rest = laid_parts f (offset + length text) ps second more others in
     let sum : length (text ++ rest.0) ≡ length text + length rest.0 = length-append text rest.0 in
-    let behind : offset + length text + length rest.0 ≡ offset + length (text ++ rest.0) = omega (arith, sum) in (
+    let after : offset + length text + length rest.0 ≡ offset + length (text ++ rest.0) = omega (arith, sum) in (
       text ++ rest.0,
       rest.1,
       parts ∙ ap (λ t. text ++ t) rest.2 ∙ sym (append_assoc text rest.0 rest.1),
       (at, text, rest.0, refl, encodes, rest.3),
-      subst (λ o. LaidOut f o second rest.1) behind rest.4,
+      subst (λ o. LaidOut f o second rest.1) after rest.4,
     )
 
 next_end : (f : WasmFeatures) (offset : ℕ) (after : Placed) (p q : Operator × ℕ) (bytes : List ℕ) → LaidOut f offset (p ∷ q ∷ after) bytes → EndsAt f p q.1

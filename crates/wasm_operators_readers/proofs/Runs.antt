@@ -19,12 +19,12 @@ use Rattle.wasm_decode.proofs.of_grammar.Steps.{path_start}
 use Rattle.wasm_decode.specs.instr.declared.operator.Operator.{Operator}
 use Rattle.wasm_decode.specs.instr.Encoding.{EncodesOperator}
 use Rattle.wasm_decode.specs.instr.Roles.{role_of, roles_of}
-use Rattle.wasm_operators_readers.specs.Expression.{Placed, OfPlaced, operators, LaidOut, AreEncoded, EncodesRest, IsBeginningBehind, IsLongestOf}
+use Rattle.wasm_operators_readers.specs.Expression.{Placed, OfPlaced, operators, LaidOut, AreEncoded, EncodesRest, IsPrefixAfter, IsLongestOf}
 use Rattle.wasm_operators_readers.specs.Flat.{IsAllowedFrom, IsFlatOf}
 use Rattle.wasm_operators_readers.specs.Openings.{opened_along}
 use Rattle.wasm_operators_readers.specs.Reading.{Taking, Refusing, Allocating, State, StopsRead, IsFresh, GrowsLittle, IsUnchanged, TakesOperator, TakesOperators, StopsRun, FramesLeft, Finishes, StopsFinish, EndsRun}
 use Rattle.wasm_operators_readers.specs.Stack.{frame_memory}
-use Rattle.wasm_operators_readers.specs.Headline.{StoodBefore, ReadsTree, BeginningAt, ReadsBeginning, IsWithinDepth, IsNotOutOfMemory}
+use Rattle.wasm_operators_readers.specs.MainTheorem.{ReadSoFar, ReadsTree, BeginningAt, ReadsBeginning, IsWithinDepth, IsNotOutOfMemory}
 use Rattle.wasm_operators_readers.proofs.FlatLemmas.{allowed_begins, flat_longest}
 use Rattle.wasm_operators_readers.proofs.LayoutLemmas.{roles_of-append, operators-append, laid_append, laid_encoded, both_encoded, encoded_some, path_begins, not_empty, laid_goes_on, laid_no_longer, laid_same, one_longest, GoesOn, next_allowed}
 use Rattle.wasm_operators_readers.proofs.OneRead.{may_end, refused_none, is_memory, path_on, read_depth}
@@ -105,13 +105,13 @@ pub run_stops : (Encodes : Taking) (Fault : Refusing) (Allocates : Allocating) (
 run_stops Encodes Fault Allocates e mid new left same stops = inr (λ none. left (ap rest (sym same.0) ∙ none), stops)
 
 -- No operator was read before a new reader.
-pub fresh_before : (s : State) → IsFresh s → StoodBefore [] s
+pub fresh_before : (s : State) → IsFresh s → ReadSoFar [] s
 fresh_before s fresh = record { encodes = tt; path = subst (OpenPath []) (sym fresh) path_start }
 
 -- The operators before the reader, after more were read.
-pub stood_on : (before : List Operator) (old new : State) (placed : Placed) → StoodBefore before old → TakesOperators old new placed →
-    StoodBefore (before ++ operators placed) new
-stood_on before old new placed h r =
+pub read_further : (before : List Operator) (old new : State) (placed : Placed) → ReadSoFar before old → TakesOperators old new placed →
+    ReadSoFar (before ++ operators placed) new
+read_further before old new placed h r =
     let path : OpenPath (roles_of before ++ roles_of (operators placed)) new.frames =
     path_run (roles_of (operators placed)) old.frames (roles_of before) new.frames h.path r.frames in
     record {
@@ -122,9 +122,9 @@ stood_on before old new placed h r =
     }
 
 -- After a read, the operators before the reader are one more.
-pub stood_push : (Encodes : Taking) → IsSound Encodes → (before : List Operator) (op : Operator) (old new : State) → TakesOperator Encodes op old new →
-    StoodBefore before old → StoodBefore (before ++ op ∷ []) new
-stood_push Encodes sound before op old new t h =
+pub read_one_more : (Encodes : Taking) → IsSound Encodes → (before : List Operator) (op : Operator) (old new : State) → TakesOperator Encodes op old new →
+    ReadSoFar before old → ReadSoFar (before ++ op ∷ []) new
+read_one_more Encodes sound before op old new t h =
     let one : AreEncoded old.reader.features (op ∷ []) = ((t.text, sound old.reader.features t.kind t.text op t.encodes), tt) in
     record {
       encodes = subst (λ f. AreEncoded f (before ++ op ∷ [])) (sym (features_stay old.reader new.reader t.text t.takes))
@@ -133,8 +133,8 @@ stood_push Encodes sound before op old new t h =
     }
 
 -- If nothing changed, the operators before the reader are the same.
-pub stood_still : (before : List Operator) (old new : State) → IsUnchanged old new → StoodBefore before old → StoodBefore before new
-stood_still before old new same h =
+pub read_no_further : (before : List Operator) (old new : State) → IsUnchanged old new → ReadSoFar before old → ReadSoFar before new
+read_no_further before old new same h =
     record {
       encodes = subst (λ (r : Reader). AreEncoded r.features before) (sym same.0) h.encodes;
       path = subst (OpenPath (roles_of before)) (sym same.1) h.path;
@@ -167,12 +167,12 @@ run_depth old new placed r =
 all_taken : (old new : State) (placed : Placed) (r : TakesOperators old new placed) → rest new.reader ≡ [] → r.text ≡ rest old.reader
 all_taken old new placed r all = sym (r.takes.parts ∙ ap (λ x. r.text ++ x) all ∙ append-nil r.text)
 
-pub run_tree : (before : List Operator) (old new : State) (placed : Placed) → StoodBefore before old → TakesOperators old new placed → new.frames ≡ [] →
+pub run_tree : (before : List Operator) (old new : State) (placed : Placed) → ReadSoFar before old → TakesOperators old new placed → new.frames ≡ [] →
     rest new.reader ≡ [] → ReadsTree before old new placed
 run_tree before old new placed h r closed all =
     let whole = all_taken old new placed r all in
     let walked : IsWalk (roles_of (before ++ operators placed)) =
-    subst (OpenPath (roles_of (before ++ operators placed))) closed (stood_on before old new placed h r).path in
+    subst (OpenPath (roles_of (before ++ operators placed))) closed (read_further before old new placed h r).path in
     record {
       encodes = (subst (LaidOut old.reader.features (offset_of old.reader) placed) whole r.laid, walked);
       tree = walked.0;
@@ -237,8 +237,8 @@ run_flat Sort Kept each old new placed r kept none = record { beginning = ran_al
           | inr le ↦ le
         ]
 
-pub beginning_of_run : (before : List Operator) (old new : State) (placed : Placed) → StoodBefore before old → TakesOperators old new placed →
-    IsBeginningBehind before (source_of old.reader) placed
+pub beginning_of_run : (before : List Operator) (old new : State) (placed : Placed) → ReadSoFar before old → TakesOperators old new placed →
+    IsPrefixAfter before (source_of old.reader) placed
 beginning_of_run before old new placed h r =
     allowed_begins before old.frames (source_of old.reader) placed h.encodes h.path (ran_allowed old new placed r)
 
@@ -261,14 +261,14 @@ encoded_longest Kept before s whole encodes (laid, walked) kept =
     }
 
 -- If the run read that list, all data was read and no frame is open.
-pub whole_run : (before : List Operator) (old new : State) (placed whole : Placed) → StoodBefore before old → TakesOperators old new placed →
+pub whole_run : (before : List Operator) (old new : State) (placed whole : Placed) → ReadSoFar before old → TakesOperators old new placed →
     EncodesRest before (source_of old.reader) whole → placed ≡ whole → (new.frames ≡ []) × (rest new.reader ≡ [])
 whole_run before old new placed whole h r (laid, walked) same =
     let f = old.reader.features in
     let o = offset_of old.reader in
     let both : r.text ++ rest new.reader ≡ rest old.reader ++ [] = sym r.takes.parts ∙ sym (append-nil (rest old.reader)) in
     let walked_too : IsWalk (roles_of (before ++ operators placed)) = subst (λ ps. IsWalk (roles_of (before ++ operators ps))) (sym same) walked in (
-      same_frames new.frames [] (roles_of (before ++ operators placed)) (stood_on before old new placed h r).path walked_too,
+      same_frames new.frames [] (roles_of (before ++ operators placed)) (read_further before old new placed h r).path walked_too,
       (laid_same f o placed whole r.text (rest old.reader) (rest new.reader) [] r.laid laid both (ap length same)).2,
     )
 
@@ -280,18 +280,18 @@ no_refusal Encodes Fault Allocates e s (inr (left, stops)) closed all = left all
 
 module _ (Sort : Operator → Type 0) (Kept : OfPlaced) (Encodes : Taking) (Fault : Refusing) (Allocates : Allocating) (keeps : Keeps Sort Kept Encodes) where
   -- The run read the longest list with the property, unless allocation failed.
-  pub run_longest : (before : List Operator) (e : Error) (old new : State) (placed : Placed) → StoodBefore before old → TakesOperators old new placed → Kept placed →
+  pub run_longest : (before : List Operator) (e : Error) (old new : State) (placed : Placed) → ReadSoFar before old → TakesOperators old new placed → Kept placed →
       StopsRun Encodes Fault Allocates e new → (e.message ≡ message.OutOfMemory → ⊥) → IsLongestOf Kept before (source_of old.reader) placed
   run_longest before e old new placed h r kept stops other =
       flat_longest Kept before old.frames (source_of old.reader) placed h.encodes h.path
       (run_flat Sort Kept keeps.each old new placed r kept (stuck_run Encodes Fault Allocates Sort keeps.takes e new stops other))
 
-  beginning_at : (m : Message) (before : List Operator) (old new : State) (placed : Placed) → StoodBefore before old → TakesOperators old new placed →
+  beginning_at : (m : Message) (before : List Operator) (old new : State) (placed : Placed) → ReadSoFar before old → TakesOperators old new placed →
       ((m ≡ message.OutOfMemory → ⊥) → IsLongestOf Kept before (source_of old.reader) placed) → BeginningAt Kept m before old.reader placed
   beginning_at message.OutOfMemory before old new placed h r longest = beginning_of_run before old new placed h r
   beginning_at _ before old new placed h r longest = longest (λ is. absurd (cc is))
 
-  pub run_beginning : (before : List Operator) (e : Error) (old new : State) (placed : Placed) → StoodBefore before old → TakesOperators old new placed →
+  pub run_beginning : (before : List Operator) (e : Error) (old new : State) (placed : Placed) → ReadSoFar before old → TakesOperators old new placed →
       Kept placed → StopsRun Encodes Fault Allocates e new → ReadsBeginning Kept Encodes Fault Allocates before e old new placed
   run_beginning before e old new placed h r kept stops =
       record {
@@ -299,12 +299,12 @@ module _ (Sort : Operator → Type 0) (Kept : OfPlaced) (Encodes : Taking) (Faul
         text = r.text;
         takes = r.takes;
         laid = r.laid;
-        stood = stood_on before old new placed h r;
+        read_so_far = read_further before old new placed h r;
         stops = stops;
       }
 
   -- If the bytes encode the rest of an expression with the property, only allocation can fail.
-  pub run_only : (before : List Operator) (e : Error) (old new : State) (placed whole : Placed) → StoodBefore before old → TakesOperators old new placed →
+  pub run_only : (before : List Operator) (e : Error) (old new : State) (placed whole : Placed) → ReadSoFar before old → TakesOperators old new placed →
       Kept placed → StopsRun Encodes Fault Allocates e new → EncodesRest before (source_of old.reader) whole → Kept whole → e.message ≡ message.OutOfMemory
   run_only before e old new placed whole h r kept stops encodes too =
       elim (is_memory e.message) [

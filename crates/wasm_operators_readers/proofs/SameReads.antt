@@ -9,7 +9,7 @@ use Rattle.wasm_decode.specs.instr.declared.operator.Operator.{Operator}
 use Rattle.wasm_decode.specs.instr.Encoding.{EncodesOperator}
 use Rattle.wasm_decode.specs.instr.Roles.{role_of}
 use Rattle.wasm_decode.proofs.of_instr.OperatorPrefixCode.{operator_prefix_code}
-use Rattle.wasm_operators_readers.specs.Reading.{Taking, Refusing, State, StandAlike, TakesOperator}
+use Rattle.wasm_operators_readers.specs.Reading.{Taking, Refusing, State, SameReaderAndFrames, TakesOperator}
 use Rattle.wasm_operators_readers.specs.Next.{NextMayAllocate, StopsNext}
 use Rattle.wasm_operators_readers.proofs.OneRead.{is_memory, refused_not_taken, one_refusal}
 use Rattle.wasm_operators_readers.proofs.Premises.{IsSound, IsDetermined}
@@ -18,41 +18,41 @@ some_is : {X : Type 0} {x y : X} → Some x ≡ Some y → x ≡ y
 some_is e = cc e
 
 -- They read the same operator, to the same place and frames.
-pub taken_same : (Encodes : Taking) → IsSound Encodes → (op other : Operator) (old new start end : State) → StandAlike old start →
-    TakesOperator Encodes op old new → TakesOperator Encodes other start end → (op ≡ other) × StandAlike new end
-taken_same Encodes sound op other old new start end alike a b =
-    let features : start.reader.features ≡ old.reader.features = ap (λ (r : Reader). r.features) alike.0 in
+pub taken_same : (Encodes : Taking) → IsSound Encodes → (op other : Operator) (old new start end : State) → SameReaderAndFrames old start →
+    TakesOperator Encodes op old new → TakesOperator Encodes other start end → (op ≡ other) × SameReaderAndFrames new end
+taken_same Encodes sound op other old new start end agree a b =
+    let features : start.reader.features ≡ old.reader.features = ap (λ (r : Reader). r.features) agree.0 in
     let first : EncodesOperator old.reader.features op a.text = sound old.reader.features a.kind a.text op a.encodes in
     let second : EncodesOperator old.reader.features other b.text =
     subst (λ f. EncodesOperator f other b.text) features (sound start.reader.features b.kind b.text other b.encodes) in
-    let whole : a.text ++ rest new.reader ≡ b.text ++ rest end.reader = sym a.takes.parts ∙ ap rest (sym alike.0) ∙ b.takes.parts in
+    let whole : a.text ++ rest new.reader ≡ b.text ++ rest end.reader = sym a.takes.parts ∙ ap rest (sym agree.0) ∙ b.takes.parts in
     let same = operator_prefix_code old.reader.features op other a.text b.text (rest new.reader) (rest end.reader) first second whole in
     let there : at_position start.reader (start.reader.position + length b.text) ≡ at_position old.reader (old.reader.position + length b.text) =
-    ap (λ (r : Reader). at_position r (r.position + length b.text)) alike.0 in
+    ap (λ (r : Reader). at_position r (r.position + length b.text)) agree.0 in
     let long : at_position old.reader (old.reader.position + length b.text) ≡ at_position old.reader (old.reader.position + length a.text) =
     ap (λ (t : List ℕ). at_position old.reader (old.reader.position + length t)) (sym same.1) in
     let reader : end.reader ≡ new.reader = b.takes.moved ∙ there ∙ long ∙ sym a.takes.moved in
     let step : frames_after start.frames (role_of other) ≡ frames_after old.frames (role_of op) =
-    ap (λ (frames : List FrameKind). frames_after frames (role_of other)) alike.1 ∙ ap (λ o. frames_after old.frames (role_of o)) (sym same.0) in
+    ap (λ (frames : List FrameKind). frames_after frames (role_of other)) agree.1 ∙ ap (λ o. frames_after old.frames (role_of o)) (sym same.0) in
     let frames : end.frames ≡ new.frames = some_is (sym b.frames ∙ step ∙ a.frames) in
     (same.0, (reader, frames))
 
 -- They fail identically, unless allocation fails, and nothing changes.
-pub stopped_same : (Encodes : Taking) (Fault : Refusing) → IsDetermined Fault → (d e : Error) (old new start end : State) → StandAlike old start →
+pub stopped_same : (Encodes : Taking) (Fault : Refusing) → IsDetermined Fault → (d e : Error) (old new start end : State) → SameReaderAndFrames old start →
     StopsNext Encodes Fault d old new → (d.message ≡ message.OutOfMemory → ⊥) → StopsNext Encodes Fault e start end → (e.message ≡ message.OutOfMemory → ⊥) →
-    (d.message ≡ e.message) × (d.offset ≡ e.offset) × StandAlike new end
-stopped_same Encodes Fault determined d e old new start end alike a other b others =
-    let reader : end.reader ≡ new.reader = b.0.0 ∙ alike.0 ∙ sym a.0.0 in
-    let frames : end.frames ≡ new.frames = b.0.1 ∙ alike.1 ∙ sym a.0.1 in
+    (d.message ≡ e.message) × (d.offset ≡ e.offset) × SameReaderAndFrames new end
+stopped_same Encodes Fault determined d e old new start end agree a other b others =
+    let reader : end.reader ≡ new.reader = b.0.0 ∙ agree.0 ∙ sym a.0.0 in
+    let frames : end.frames ≡ new.frames = b.0.1 ∙ agree.1 ∙ sym a.0.1 in
     let same = one_refusal Encodes Fault (NextMayAllocate Encodes) determined d e new end reader frames a.1 b.1 other others in
     (same.0, same.1, (reader, frames))
 
 -- If one reads an operator, the other can fail with `OutOfMemory` only.
-pub taken_or_memory : (Encodes : Taking) (Fault : Refusing) (e : Error) (op : Operator) (old new start end : State) → StandAlike old start →
+pub taken_or_memory : (Encodes : Taking) (Fault : Refusing) (e : Error) (op : Operator) (old new start end : State) → SameReaderAndFrames old start →
     TakesOperator Encodes op old new → StopsNext Encodes Fault e start end → e.message ≡ message.OutOfMemory
-taken_or_memory Encodes Fault e op old new start end alike takes stops =
+taken_or_memory Encodes Fault e op old new start end agree takes stops =
     elim (is_memory e.message) [
       | inl is ↦ is
-      | inr other ↦ absurd (refused_not_taken Encodes Fault (NextMayAllocate Encodes) e end old new op (sym alike.0 ∙ sym stops.0.0) (sym alike.1 ∙ sym stops.0.1)
+      | inr other ↦ absurd (refused_not_taken Encodes Fault (NextMayAllocate Encodes) e end old new op (sym agree.0 ∙ sym stops.0.0) (sym agree.1 ∙ sym stops.0.1)
           stops.1 other takes)
     ]

@@ -17,16 +17,16 @@ use Rattle.wasm_decode.specs.instr.Encoding.{EncodesOperator}
 use Rattle.wasm_decode.specs.instr.Kinds.{IsVector}
 use Rattle.wasm_decode.specs.instr.Roles.{role_of, roles_of}
 use Rattle.wasm_decode.specs.instr.Row.{prefix_of, opcode_of}
-use Rattle.wasm_operators_readers.specs.Expression.{Placed, OfPlaced, operators, LaidOut, AreEncoded, IsBeginningBehind, IsLongestOf, IsLongestBehind, IsBeginningOf}
+use Rattle.wasm_operators_readers.specs.Expression.{Placed, OfPlaced, operators, LaidOut, AreEncoded, IsPrefixAfter, IsLongestOf, IsLongestAfter, IsBeginningOf}
 use Rattle.wasm_operators_readers.specs.Flat.{IsAllowedFrom, IsFlatOf, IsFlatFrom}
 use Rattle.wasm_operators_readers.specs.Reading.{Taking, Refusing, Allocating, State, TakesOperators, StopsRun, RunsToEnd}
-use Rattle.wasm_operators_readers.specs.Headline.{StoodBefore, ClosesFrom}
+use Rattle.wasm_operators_readers.specs.MainTheorem.{ReadSoFar, ClosesFrom}
 use Rattle.wasm_operators_readers.specs.Visiting.{is_vector, scalar_beginning, IsScalar}
 use Rattle.wasm_operators_readers.proofs.LayoutLemmas.{roles_of-append, operators-append, begins_walk, not_empty, laid_beginning, laid_goes_on, laid_no_longer, laid_same, one_longest, GoesOn, goes_allowed}
 use Rattle.wasm_operators_readers.proofs.OneRead.{is_memory}
 use Rattle.wasm_operators_readers.proofs.OpeningLemmas.{first_byte, begins_encoding}
 use Rattle.wasm_operators_readers.proofs.Premises.{AreEach, IsNoVector, Keeps, RefusesVectors}
-use Rattle.wasm_operators_readers.proofs.Runs.{features_stay, stood_on, beginning_of_run, IsStuckFor, stuck_run}
+use Rattle.wasm_operators_readers.proofs.Runs.{features_stay, read_further, beginning_of_run, IsStuckFor, stuck_run}
 use Rattle.wasm_operators_readers.proofs.VisitLemmas.{no_vector_of, vector_of, scalar_begins, scalar_longest, scalar_none}
 
 -- A scalar list has no SIMD operator.
@@ -38,23 +38,23 @@ either true = inl refl
 either false = inr refl
 
 -- If only SIMD operators may follow a run, an operator that follows it is a SIMD operator.
-next_vector : (before : List Operator) (old new : State) (placed longest : Placed) → StoodBefore before old → (r : TakesOperators old new placed) →
-    IsLongestBehind before (source_of old.reader) longest → IsStuckFor IsNoVector new →
+next_vector : (before : List Operator) (old new : State) (placed longest : Placed) → ReadSoFar before old → (r : TakesOperators old new placed) →
+    IsLongestAfter before (source_of old.reader) longest → IsStuckFor IsNoVector new →
     (g : GoesOn old.reader.features placed longest (rest new.reader)) → is_vector g.next.0 ≡ true
 next_vector before old new placed longest h r l none g =
     elim (either (is_vector g.next.0)) [
       | inl is ↦ is
       | inr not ↦ (
           let encodes = subst (λ f. EncodesOperator f g.next.0 g.text) (sym (features_stay old.reader new.reader r.text r.takes)) g.encodes in
-          absurd (goes_allowed before old.reader.features placed longest (rest new.reader) new.frames (stood_on before old new placed h r).path
+          absurd (goes_allowed before old.reader.features placed longest (rest new.reader) new.frames (read_further before old new placed h r).path
           (begins_walk old.reader.features (before ++ operators longest) l.beginning.begins) g
           (none g.text g.more g.next.0 encodes (no_vector_of g.next.0 not) g.bytes))
           )
     ]
 
 -- The run and the longest list are the same, or the list goes on.
-run_and_longest : (before : List Operator) (old new : State) (placed longest : Placed) → StoodBefore before old → (r : TakesOperators old new placed) →
-    IsLongestBehind before (source_of old.reader) longest →
+run_and_longest : (before : List Operator) (old new : State) (placed longest : Placed) → ReadSoFar before old → (r : TakesOperators old new placed) →
+    IsLongestAfter before (source_of old.reader) longest →
     (placed ≡ longest) ⊎ GoesOn old.reader.features placed longest (rest new.reader)
 run_and_longest before old new placed longest h r l =
     let both = sym r.takes.parts ∙ l.beginning.parts in
@@ -72,8 +72,8 @@ vector_byte _ is = absurd is
 
 -- If a SIMD operator ends the run, the error says so.
 pub scalar_vector : (Encodes : Taking) (Fault : Refusing) (Allocates : Allocating) → Keeps IsNoVector IsScalar Encodes → RefusesVectors Fault →
-    (before : List Operator) (e : Error) (old new : State) (placed longest : Placed) → StoodBefore before old → TakesOperators old new placed → IsScalar placed → StopsRun Encodes Fault Allocates e new →
-    IsLongestBehind before (source_of old.reader) longest → (IsScalar longest → ⊥) → (e.message ≡ message.UnexpectedSimd) ⊎ (e.message ≡ message.OutOfMemory)
+    (before : List Operator) (e : Error) (old new : State) (placed longest : Placed) → ReadSoFar before old → TakesOperators old new placed → IsScalar placed → StopsRun Encodes Fault Allocates e new →
+    IsLongestAfter before (source_of old.reader) longest → (IsScalar longest → ⊥) → (e.message ≡ message.UnexpectedSimd) ⊎ (e.message ≡ message.OutOfMemory)
 scalar_vector Encodes Fault Allocates keeps refuses before e old new placed longest h r scalar stops l vectors =
     elim (is_memory e.message) [
       | inl is ↦ inr is
@@ -97,21 +97,21 @@ scalar_vector Encodes Fault Allocates keeps refuses before e old new placed long
         stopped : StopsRun Encodes Fault Allocates e new → e.message ≡ message.UnexpectedSimd
         stopped (inl left) = absurd (not_empty old.reader.features g.next.0 g.text g.more g.encodes (sym left.0 ∙ g.bytes))
         stopped (inr (some, inl none)) =
-            absurd (goes_allowed before old.reader.features placed longest (rest new.reader) new.frames (stood_on before old new placed h r).path
+            absurd (goes_allowed before old.reader.features placed longest (rest new.reader) new.frames (read_further before old new placed h r).path
             (begins_walk old.reader.features (before ++ operators longest) l.beginning.begins) g
             (ap (λ frames. frames_after frames (role_of g.next.0)) none.0))
         stopped (inr (some, inr (inl there))) = refuses new.reader.features there.kind e.message new.reader e.offset there.fault (led g other)
         stopped (inr (some, inr (inr memory))) = absurd (other memory.0)
 
 -- The same for any result.
-pub scalar_refused : {X : Type 0} (Happened : OfPlaced) (Encodes : Taking) (Fault : Refusing) (Allocates : Allocating) →
-    ((placed : Placed) → Happened placed → IsScalar placed) → Keeps IsNoVector IsScalar Encodes → RefusesVectors Fault → (r : Result X Error)
-    (before : List Operator) (old new : State) → RunsToEnd Happened Encodes Fault Allocates r old new → StoodBefore before old → (longest : Placed) →
-    IsLongestBehind before (source_of old.reader) longest → (IsScalar longest → ⊥) →
+pub scalar_refused : {X : Type 0} (Effect : OfPlaced) (Encodes : Taking) (Fault : Refusing) (Allocates : Allocating) →
+    ((placed : Placed) → Effect placed → IsScalar placed) → Keeps IsNoVector IsScalar Encodes → RefusesVectors Fault → (r : Result X Error)
+    (before : List Operator) (old new : State) → RunsToEnd Effect Encodes Fault Allocates r old new → ReadSoFar before old → (longest : Placed) →
+    IsLongestAfter before (source_of old.reader) longest → (IsScalar longest → ⊥) →
     IfErr r (λ e. (e.message ≡ message.UnexpectedSimd) ⊎ (e.message ≡ message.OutOfMemory))
-scalar_refused Happened Encodes Fault Allocates kept keeps refuses (Ok x) before old new run h longest l vectors = tt
-scalar_refused Happened Encodes Fault Allocates kept keeps refuses (Err e) before old new (placed, happened, ran, stops) h longest l vectors =
-    scalar_vector Encodes Fault Allocates keeps refuses before e old new placed longest h ran (kept placed happened) stops l vectors
+scalar_refused Effect Encodes Fault Allocates kept keeps refuses (Ok x) before old new run h longest l vectors = tt
+scalar_refused Effect Encodes Fault Allocates kept keeps refuses (Err e) before old new (placed, effect, ran, stops) h longest l vectors =
+    scalar_vector Encodes Fault Allocates keeps refuses before e old new placed longest h ran (kept placed effect) stops l vectors
 
 -- ---- the longest list without SIMD operators, from the longest list
 
@@ -128,7 +128,7 @@ laid_first f offset (p ∷ ps) qs bytes (at, text, more, parts, encodes, l) =
     )
 
 -- The first of two lists begins an expression if their join does.
-begins_first : (before : List Operator) (s : Source) (ps qs : Placed) → IsBeginningBehind before s (ps ++ qs) → IsBeginningBehind before s ps
+begins_first : (before : List Operator) (s : Source) (ps qs : Placed) → IsPrefixAfter before s (ps ++ qs) → IsPrefixAfter before s ps
 begins_first before s ps qs h =
     let a = laid_first s.features s.offset ps qs h.beginning h.laid in
     let split : (before ++ operators (ps ++ qs)) ++ h.begins.0 ≡ (before ++ operators ps) ++ (operators qs ++ h.begins.0) =
@@ -178,19 +178,19 @@ scalar_is_scalar (p ∷ ps) = go (is_vector p.0) refl (scalar_is_scalar ps)
     go false is h = ap (λ c. cond c [] (p ∷ scalar_beginning (scalar_beginning ps))) is ∙ ap (λ (z : Placed). p ∷ z) h
 
 -- The scalar prefix of the longest list is the longest list without SIMD operators.
-scalar_longest_of : (before : List Operator) (s : Source) (longest : Placed) → IsLongestBehind before s longest →
+scalar_longest_of : (before : List Operator) (s : Source) (longest : Placed) → IsLongestAfter before s longest →
     IsLongestOf IsScalar before s (scalar_beginning longest)
 scalar_longest_of before s longest l =
     let part = scalar_begins longest in
     record {
-      beginning = begins_first before s (scalar_beginning longest) part.0 (subst (IsBeginningBehind before s) part.1 l.beginning);
+      beginning = begins_first before s (scalar_beginning longest) part.0 (subst (IsPrefixAfter before s) part.1 l.beginning);
       kept = scalar_is_scalar longest;
       longest = λ others other scalar. begins_length others (scalar_beginning longest) (scalar_longest longest others
           (laid_beginning s.features s.offset others longest other.beginning l.beginning.beginning other.more l.beginning.more other.laid l.beginning.laid
           (sym other.parts ∙ l.beginning.parts) (l.longest others other tt)) scalar);
     }
 
-pub scalar_exactly : (before : List Operator) (s : Source) (longest placed : Placed) → IsLongestBehind before s longest →
+pub scalar_exactly : (before : List Operator) (s : Source) (longest placed : Placed) → IsLongestAfter before s longest →
     IsLongestOf IsScalar before s placed ↔ (placed ≡ scalar_beginning longest)
 scalar_exactly before s longest placed l = (
   λ h. one_longest IsScalar before s placed (scalar_beginning longest) h (scalar_longest_of before s longest l),
@@ -198,7 +198,7 @@ scalar_exactly before s longest placed l = (
 )
 
 -- Each list without SIMD operators that begins an expression is a prefix of it.
-pub scalar_part : (before : List Operator) (s : Source) (longest placed : Placed) → IsLongestBehind before s longest → IsBeginningBehind before s placed →
+pub scalar_part : (before : List Operator) (s : Source) (longest placed : Placed) → IsLongestAfter before s longest → IsPrefixAfter before s placed →
     IsScalar placed → IsBeginningOf placed (scalar_beginning longest)
 scalar_part before s longest placed l h scalar =
     scalar_longest longest placed (laid_beginning s.features s.offset placed longest h.beginning l.beginning.beginning h.more l.beginning.more h.laid

@@ -21,7 +21,7 @@ use Rattle.wasm_operators_readers.proofs.OpeningLemmas.{first_byte, begins_encod
 use Rattle.wasm_operators_readers.specs.declared.step.FrameStep.{FrameStep}
 use Rattle.wasm_operators_readers.specs.declared.step.FrameStep.TheVariants as step
 use Rattle.wasm_operators_readers.specs.Step.{step_of, role_of_step, step_at, Opens}
-use Rattle.wasm_operators_readers.proofs.Roles.{stepped_alike}
+use Rattle.wasm_operators_readers.proofs.Roles.{stepped_same}
 use Rattle.wasm_operators_readers.specs.Reading.{Taking, State, GrowsLittle, TakesOperator}
 
 numeric_stays : (op : NumericOperator) → step_at (numeric_opcode op) ≡ step.Stays
@@ -119,14 +119,14 @@ opened_by_step ends h = absurd h
 pub step_allowed : (frames : List FrameKind) (kind : FrameKind) (op : Operator) (s : FrameStep) → innermost frames ≡ Some kind → Allows kind (role_of op) →
     s ≡ step_of (role_of op) → IsSome (frames_after frames (role_of_step s))
 step_allowed frames kind op s open_frame allows is =
-    subst IsSome (stepped_alike frames (role_of op) ∙ ap (λ (s : FrameStep). frames_after frames (role_of_step s)) (sym is))
+    subst IsSome (stepped_same frames (role_of op) ∙ ap (λ (s : FrameStep). frames_after frames (role_of_step s)) (sym is))
     (may_step frames kind (role_of op) open_frame allows)
 
 -- The frames after the step are the frames after the operator.
 pub step_frames : (frames next : List FrameKind) (op : Operator) (s : FrameStep) → s ≡ step_of (role_of op) →
     frames_after frames (role_of_step s) ≡ Some next → frames_after frames (role_of op) ≡ Some next
 step_frames frames next op s is e =
-    stepped_alike frames (role_of op) ∙ ap (λ (s : FrameStep). frames_after frames (role_of_step s)) (sym is) ∙ e
+    stepped_same frames (role_of op) ∙ ap (λ (s : FrameStep). frames_after frames (role_of_step s)) (sym is) ∙ e
 
 opens_or_not : (s : FrameStep) (P : Type 0) → (Opens s → P) → ((Opens s → ⊥) → P) → P
 opens_or_not step.OpensBlock P first none = first tt

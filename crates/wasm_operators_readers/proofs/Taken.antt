@@ -10,7 +10,7 @@ use Rattle.wasm_decode.specs.grammar.Frames.{Allows, frames_after, innermost}
 use Rattle.wasm_decode.specs.instr.declared.operator.Operator.{Operator}
 use Rattle.wasm_decode.specs.instr.Encoding.{EncodesOpcode}
 use Rattle.wasm_decode.specs.instr.Roles.{role_of}
-use Rattle.wasm_decode.specs.opcodes.Decoding.{RefusesOperator, StandsBehind}
+use Rattle.wasm_decode.specs.opcodes.Decoding.{RefusesOperator, IsAfterCode}
 use Rattle.wasm_decode.specs.opcodes.Refused.{MayAllocate}
 use Rattle.wasm_operators_readers.specs.declared.step.FrameStep.{FrameStep}
 use Rattle.wasm_operators_readers.specs.Step.{step_of, role_of_step, step_at, Opens}
@@ -24,7 +24,7 @@ use Rattle.wasm_operators_readers.specs.Next.{NextMayAllocate, BeginsOperator}
 
 -- The step of the opcode is the step of the operator.
 step_is : (Encodes : Taking) → IsSound Encodes → (f : WasmFeatures) (kind : FrameKind) (op : Operator) (text : List ℕ) (code start : ℕ) (mid new : Reader) →
-    StandsBehind start None code mid → Encodes f kind text op → Takes (at_position mid start) new text → step_at code ≡ step_of (role_of op)
+    IsAfterCode start None code mid → Encodes f kind text op → Takes (at_position mid start) new text → step_at code ≡ step_of (role_of op)
 step_is Encodes sound f kind op text code start mid new b encodes takes = go b.opcode
   where
     go : Reads (λ text c. EncodesOpcode None c text) (Ok code) (at_position mid start) mid → step_at code ≡ step_of (role_of op)
@@ -38,7 +38,7 @@ pub begun_allows : (Encodes : Taking) → IsSound Encodes → ((f : WasmFeatures
     Encodes mid.reader.features kind text op → Takes (at_position mid.reader start) new text → IsSome (frames_after mid.frames (role_of_step s))
 begun_allows Encodes sound allowed old mid kind code start s op text new b encodes takes =
     step_allowed mid.frames kind op s (ap innermost b.frames ∙ b.open_frame) (allowed mid.reader.features kind text op encodes)
-    (b.step ∙ step_is Encodes sound mid.reader.features kind op text code start mid.reader new b.behind encodes takes)
+    (b.step ∙ step_is Encodes sound mid.reader.features kind op text code start mid.reader new b.after encodes takes)
 
 -- An operator was decoded, and the stack made its step.
 pub begun_took : (Encodes : Taking) → IsSound Encodes → (old mid new : State) (kind : FrameKind) (code start : ℕ) (s : FrameStep) (op : Operator) (text : List ℕ) →
@@ -46,7 +46,7 @@ pub begun_took : (Encodes : Taking) → IsSound Encodes → (old mid new : State
     frames_after mid.frames (role_of_step s) ≡ Some new.frames → mid.room ≤ new.room + 1 → ((Opens s → ⊥) → mid.room ≤ new.room) →
     frame_memory new.frames new.room ≡ frame_memory mid.frames mid.room → TakesOperator Encodes op old new
 begun_took Encodes sound old mid new kind code start s op text b encodes takes frames used other same =
-    let is = b.step ∙ step_is Encodes sound mid.reader.features kind op text code start mid.reader new.reader b.behind encodes takes in
+    let is = b.step ∙ step_is Encodes sound mid.reader.features kind op text code start mid.reader new.reader b.after encodes takes in
     let kept = b.room in
     let here : Encodes old.reader.features kind text op = subst (λ (f : WasmFeatures). Encodes f kind text op) (ap (λ (r : Reader). r.features) b.back) encodes in
     let taken : Takes old.reader new.reader text = subst (λ (r : Reader). Takes r new.reader text) b.back takes in

@@ -31,10 +31,10 @@ pub visited_start : {V A : Type 0} (visits : V → Operator → A → V → Type
 visited_start visits before = ([], (refl, refl))
 
 -- One more visit.
-pub visited_push : {V A : Type 0} (visits : V → Operator → A → V → Type 0) (ps : Placed) (op : Operator) (at : ℕ) (answer : A) (before between after : V) →
-    Visited visits before between ps → visits between op answer after → Visited visits before after (ps ++ (op, at) ∷ [])
-visited_push visits ps op at answer before between after run visit =
-    visited_append visits ps ((op, at) ∷ []) before between after run (answer ∷ [], (answer, [], after, refl, visit, (refl, refl)))
+pub visited_push : {V A : Type 0} (visits : V → Operator → A → V → Type 0) (ps : Placed) (op : Operator) (at : ℕ) (outcome : A) (before between after : V) →
+    Visited visits before between ps → visits between op outcome after → Visited visits before after (ps ++ (op, at) ∷ [])
+visited_push visits ps op at outcome before between after run visit =
+    visited_append visits ps ((op, at) ∷ []) before between after run (outcome ∷ [], (outcome, [], after, refl, visit, (refl, refl)))
 
 scalar_first : (b : Bool) (p : Operator × ℕ) (xs ps : Placed) → cond b [] (p ∷ xs) ≡ p ∷ ps → (b ≡ false) × (xs ≡ ps)
 scalar_first true p xs ps e = absurd (cc e)

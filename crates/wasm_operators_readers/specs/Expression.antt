@@ -55,7 +55,7 @@ abbrev pub EncodesExpression : Source → Placed → Type 0
 EncodesExpression s placed = EncodesRest [] s placed
 
 -- A prefix of the bytes encodes these operators, and the operators before followed by these begin an expression.
-pub record IsBeginningBehind (before : List Operator) (s : Source) (placed : Placed) : Type 0 where
+pub record IsPrefixAfter (before : List Operator) (s : Source) (placed : Placed) : Type 0 where
   pub beginning : List ℕ
   pub more : List ℕ
   pub parts : s.bytes ≡ beginning ++ more
@@ -64,17 +64,17 @@ pub record IsBeginningBehind (before : List Operator) (s : Source) (placed : Pla
 
 -- The longest list with the property `Kept` that a prefix of the bytes encodes and that begins an expression after the operators before.
 pub record IsLongestOf (Kept : OfPlaced) (before : List Operator) (s : Source) (placed : Placed) : Type 0 where
-  pub beginning : IsBeginningBehind before s placed
+  pub beginning : IsPrefixAfter before s placed
   pub kept : Kept placed
-  pub longest : (others : Placed) → IsBeginningBehind before s others → Kept others → length others ≤ length placed
+  pub longest : (others : Placed) → IsPrefixAfter before s others → Kept others → length others ≤ length placed
 
 -- The longest list that a prefix of the bytes encodes and that, after the operators before, begins an expression.
-abbrev pub IsLongestBehind : List Operator → Source → Placed → Type 0
-IsLongestBehind before s placed = IsLongestOf IsAny before s placed
+abbrev pub IsLongestAfter : List Operator → Source → Placed → Type 0
+IsLongestAfter before s placed = IsLongestOf IsAny before s placed
 
 -- The longest list that a prefix of the bytes encodes and that begins an expression.
 abbrev pub IsLongestBeginning : Source → Placed → Type 0
-IsLongestBeginning s placed = IsLongestBehind [] s placed
+IsLongestBeginning s placed = IsLongestAfter [] s placed
 
 -- The first list is a prefix of the second.
 abbrev pub IsBeginningOf : {X : Type 0} → List X → List X → Type 0

@@ -5,7 +5,7 @@ use Rattle.wasm_decode.specs.below.bytes.features.WasmFeatures.{WasmFeatures}
 use Rattle.wasm_decode.specs.instr.declared.operator.Operator.{Operator}
 use Rattle.wasm_decode.specs.opcodes.Allowed.{EncodesAllowed}
 use Rattle.wasm_operators_readers.specs.Expression.{Placed, operators, LaidOut, AreEncoded, IsBeginningOf}
-use Rattle.wasm_operators_readers.specs.Headline.{IsWithinDepth}
+use Rattle.wasm_operators_readers.specs.MainTheorem.{IsWithinDepth}
 use Rattle.wasm_operators_readers.specs.Reading.{State, GrowsLittle, IsUnchanged, TakesOperator, TakesOperators}
 
 -- ---- lists of encoded operators

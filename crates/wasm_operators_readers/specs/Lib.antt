@@ -7,7 +7,7 @@ pub mod Collecting
 pub mod Step
 pub mod Stack
 pub mod Reading
-pub mod Headline
+pub mod MainTheorem
 pub mod Next
 pub mod Guarded
 pub mod Laws

@@ -6,7 +6,7 @@ use Rattle.wasm_decode.specs.grammar.Frames.{innermost}
 use Rattle.wasm_decode.specs.instr.declared.operator.Operator.{Operator}
 use Rattle.wasm_decode.specs.below.Source.{Reader, at_position}
 use Rattle.wasm_decode.specs.opcodes.Allowed.{EncodesAllowed, EncodesScalar}
-use Rattle.wasm_decode.specs.opcodes.Decoding.{StandsBehind}
+use Rattle.wasm_decode.specs.opcodes.Decoding.{IsAfterCode}
 use Rattle.wasm_decode.specs.opcodes.OperatorFaults.{OperatorFault, ScalarOperatorFault}
 use Rattle.wasm_decode.specs.opcodes.Refused.{MayAllocate}
 use Rattle.wasm_operators_readers.specs.declared.step.FrameStep.{FrameStep}
@@ -45,7 +45,7 @@ StopsNext Encodes Fault e old new = IsUnchanged old new × StopsRead Encodes Fau
 -- The opcode of the next operator was read from the position `start`, and there is capacity for its step. Nothing else changed.
 pub record BeginsOperator (old new : State) (kind : FrameKind) (start code : ℕ) (s : FrameStep) : Type 0 where
   pub open_frame : innermost old.frames ≡ Some kind
-  pub behind : StandsBehind start None code new.reader
+  pub after : IsAfterCode start None code new.reader
   pub back : at_position new.reader start ≡ old.reader
   pub step : s ≡ step_at code
   pub frames : new.frames ≡ old.frames

@@ -49,8 +49,8 @@ abbrev pub IsUnchanged : State → State → Type 0
 IsUnchanged old new = (new.reader ≡ old.reader) × (new.frames ≡ old.frames) × (old.room ≤ new.room) × GrowsLittle 0 old new
 
 -- Two readers are at one place of the same bytes, with the same frames. Their capacities may differ.
-abbrev pub StandAlike : State → State → Type 0
-StandAlike first second = (second.reader ≡ first.reader) × (second.frames ≡ first.frames)
+abbrev pub SameReaderAndFrames : State → State → Type 0
+SameReaderAndFrames first second = (second.reader ≡ first.reader) × (second.frames ≡ first.frames)
 
 -- A prefix of the rest, which was read, encodes this operator, and the innermost frame allows it. An operator that opens a frame uses at most one of the
 -- capacity.
@@ -145,5 +145,5 @@ Adds out_old out_new placed = out_new ≡ out_old ++ placed
 
 -- Reading or visiting to the end: which operators were read, the effect on them, and why reading ended.
 abbrev pub RunsToEnd : {X : Type 0} → OfPlaced → Taking → Refusing → Allocating → Result X Error → State → State → Type 0
-RunsToEnd Happened Encodes Fault Allocates result old new =
-    (placed : Placed) × Happened placed × TakesOperators old new placed × EndsRun Encodes Fault Allocates result new
+RunsToEnd Effect Encodes Fault Allocates result old new =
+    (placed : Placed) × Effect placed × TakesOperators old new placed × EndsRun Encodes Fault Allocates result new

@@ -22,8 +22,8 @@ IsLittleMemory before frames more now = now ≤ max before (2 * frames + more)
 
 -- With this many more frames wanted, the memory is within a bound: not larger than before, or with space for two for each open or wanted frame, and eight.
 abbrev pub GrowsByDoubling : ℕ → OpenFrames → OpenFrames → Type 0
-GrowsByDoubling wanted old new =
-    IsLittleMemory (frame_memory old.frames old.room) (length old.frames + wanted) 8 (frame_memory new.frames new.room)
+GrowsByDoubling needed old new =
+    IsLittleMemory (frame_memory old.frames old.room) (length old.frames + needed) 8 (frame_memory new.frames new.room)
 
 -- The memory has space for the same number of frames.
 abbrev pub IsSameMemory : OpenFrames → OpenFrames → Type 0

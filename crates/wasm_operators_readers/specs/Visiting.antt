@@ -7,13 +7,13 @@ use Rattle.wasm_operators_readers.specs.Expression.{Placed}
 
 -- A visitor's run along a list: one visit for each operator, in order, with its result.
 abbrev pub VisitRun : {V A : Type 0} → (V → Operator → A → V → Type 0) → V → Placed → List A → V → Type 0
-VisitRun visits before [] answers after = (answers ≡ []) × (after ≡ before)
-VisitRun {V} {A} visits before (p ∷ ps) answers after =
-    (first : A) × (others : List A) × (between : V) × (answers ≡ first ∷ others) × visits before p.0 first between × VisitRun visits between ps others after
+VisitRun visits before [] outcomes after = (outcomes ≡ []) × (after ≡ before)
+VisitRun {V} {A} visits before (p ∷ ps) outcomes after =
+    (first : A) × (others : List A) × (between : V) × (outcomes ≡ first ∷ others) × visits before p.0 first between × VisitRun visits between ps others after
 
 -- A visitor's run along a list, with any results.
 abbrev pub Visited : {V A : Type 0} → (V → Operator → A → V → Type 0) → V → V → Placed → Type 0
-Visited {V} {A} visits before after placed = (answers : List A) × VisitRun visits before placed answers after
+Visited {V} {A} visits before after placed = (outcomes : List A) × VisitRun visits before placed outcomes after
 
 -- Whether the operator is a SIMD operator.
 abbrev pub is_vector : Operator → Bool

@@ -8,7 +8,7 @@ ghost use Rattle.wasm_operators_readers.specs.Stack.{HasRoom, IsSameMemory};
 ghost use Rattle.wasm_operators_readers.specs.Step.{Opens, role_of_step, step_at};
 ghost use Rattle.wasm_operators_readers.specs.Next.{BeginsOperator, StopsNext, state_of};
 
-use crate::step::leaves_frames;
+use crate::step::keeps_frames;
 use crate::{ControlStack, FrameStep};
 use wasm_decode::below::{BinaryReader, Message, Result};
 use wasm_decode::grammar::FrameKind;
@@ -46,7 +46,7 @@ pub fn begin(reader: &mut BinaryReader<'_>, control: &mut ControlStack) -> Resul
     let start = reader.current_position();
     match reader.read_u8() {
         Ok(code) => {
-            if leaves_frames(code) {
+            if keeps_frames(code) {
                 return Ok(OperatorStart { frame, start, code });
             }
             match control.make_room(FrameStep::at(code)) {
@@ -63,7 +63,7 @@ pub fn begin(reader: &mut BinaryReader<'_>, control: &mut ControlStack) -> Resul
 /// The step is found again from the opcode, which is a constant where the operator is decoded. A
 /// stored step would need a branch to distinguish it.
 #[inline(always)]
-pub fn advance(control: &mut ControlStack, code: u8)
+pub fn make_step(control: &mut ControlStack, code: u8)
     requires allowed { IsSome (frames_after control.old.frames (role_of_step (step_at code))) }
     requires room { Opens (step_at code) → HasRoom control.old }
     ensures frames { frames_after control.old.frames (role_of_step (step_at code)) ≡ Some control.new.frames }
@@ -71,8 +71,8 @@ pub fn advance(control: &mut ControlStack, code: u8)
     ensures other { (Opens (step_at code) → ⊥) → control.old.room ≤ control.new.room }
     ensures memory { IsSameMemory control.old control.new }
 {
-    if leaves_frames(code) {
+    if keeps_frames(code) {
         return;
     }
-    control.advance(FrameStep::at(code));
+    control.apply_step(FrameStep::at(code));
 }

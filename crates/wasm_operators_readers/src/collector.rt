@@ -22,7 +22,7 @@ impl<T: HoldOperator + Drop> Visitor for Collector<T> {
     type Output = ();
 
     // If the list has capacity, a visit appends one item, which is made of the operator.
-    ghost visits = { λ before op answer after. vec_len before.items < vec_capacity before.items
+    ghost visits = { λ before op outcome after. vec_len before.items < vec_capacity before.items
         → CollectsOne T.holds before.offset before.items.items op after.items.items };
 
     #[inline(always)]

@@ -6,7 +6,7 @@ ghost use Rattle.wasm_decode.specs.below.Source.{Reader, rest, offset_of, Begins
 ghost use Rattle.wasm_decode.specs.grammar.Frames.{Allows};
 ghost use Rattle.wasm_decode.specs.opcodes.Allowed.{EncodesAllowed, EncodesScalar};
 ghost use Rattle.wasm_decode.specs.opcodes.declared.guard.Guard.{Guard};
-ghost use Rattle.wasm_decode.specs.opcodes.Entry.{role_behind, instruction_behind, frame_behind};
+ghost use Rattle.wasm_decode.specs.opcodes.Entry.{guarded_role, guarded_instruction, needed_frame};
 ghost use Rattle.wasm_decode.specs.opcodes.OperatorFaults.{LacksFeature, OperatorFault, ScalarOperatorFault};
 ghost use Rattle.wasm_operators_readers.specs.Guarded.{BeginsGuarded};
 ghost use Rattle.wasm_operators_readers.specs.Next.{NextMayAllocate};
@@ -37,21 +37,21 @@ pub fn vector_refusals(features: WasmFeatures, frame: FrameKind)
 pub fn features_required(features: WasmFeatures, frame: FrameKind)
     ensures only { (name : InstructionName) (r : Reader) (offset : ℕ)
         → OperatorFault features frame (Message.FeatureRequired name) r offset
-        → (g : Guard) × BeginsGuarded g r × LacksFeature features g × (name ≡ instruction_behind g) × (offset ≡ offset_of r) }
+        → (g : Guard) × BeginsGuarded g r × LacksFeature features g × (name ≡ guarded_instruction g) × (offset ≡ offset_of r) }
     ensures comes { (g : Guard) (r : Reader) → BeginsGuarded g r → LacksFeature features g
-        → OperatorFault features frame (Message.FeatureRequired (instruction_behind g)) r (offset_of r) }
+        → OperatorFault features frame (Message.FeatureRequired (guarded_instruction g)) r (offset_of r) }
 {}
 
 /// States that `WrongFrame` is returned for `else`, `catch`, `catch_all` and `delegate` only. It is
 /// returned if and only if the feature is enabled and the innermost frame does not allow the
 /// operator. Its offset is one byte after the opcode.
 pub fn wrong_frames(features: WasmFeatures, frame: FrameKind)
-    ensures only { (name : InstructionName) (wanted : FrameName) (r : Reader) (offset : ℕ)
-        → OperatorFault features frame (Message.WrongFrame name wanted) r offset
-        → (g : Guard) × BeginsGuarded g r × (¬ LacksFeature features g) × (¬ Allows frame (role_behind g))
-        × (name ≡ instruction_behind g) × (wanted ≡ frame_behind g) × (offset ≡ offset_of r + 1) }
-    ensures comes { (g : Guard) (r : Reader) → BeginsGuarded g r → ¬ LacksFeature features g → ¬ Allows frame (role_behind g)
-        → OperatorFault features frame (Message.WrongFrame (instruction_behind g) (frame_behind g)) r (offset_of r + 1) }
+    ensures only { (name : InstructionName) (needed : FrameName) (r : Reader) (offset : ℕ)
+        → OperatorFault features frame (Message.WrongFrame name needed) r offset
+        → (g : Guard) × BeginsGuarded g r × (¬ LacksFeature features g) × (¬ Allows frame (guarded_role g))
+        × (name ≡ guarded_instruction g) × (needed ≡ needed_frame g) × (offset ≡ offset_of r + 1) }
+    ensures comes { (g : Guard) (r : Reader) → BeginsGuarded g r → ¬ LacksFeature features g → ¬ Allows frame (guarded_role g)
+        → OperatorFault features frame (Message.WrongFrame (guarded_instruction g) (needed_frame g)) r (offset_of r + 1) }
 {}
 
 /// States that, when reading or visiting to the end fails, the message says whether a frame is

@@ -7,7 +7,7 @@ ghost use Rattle.wasm_operators_readers.specs.Next.{NextMayAllocate};
 ghost use Rattle.wasm_operators_readers.specs.Expression.{IsAny};
 ghost use Rattle.wasm_operators_readers.specs.Visiting.{Visited, VisitedScalar, IsScalar};
 ghost use Rattle.wasm_operators_readers.specs.Reading.{RunsToEnd, Adds, Anywhere};
-ghost use Rattle.wasm_operators_readers.specs.Headline.{StoodBefore, ReadsRest, ReadsFlat, IsWithinDepth};
+ghost use Rattle.wasm_operators_readers.specs.MainTheorem.{ReadSoFar, ReadsRest, ReadsFlat, IsWithinDepth};
 ghost use Rattle.wasm_operators_readers.specs.Collecting.{Collects};
 
 use crate::collector::Collector;
@@ -30,10 +30,10 @@ impl<'a> OperatorsReader<'a> {
     {
         let items = replace(out, Vec::new(*out.allocator()));
         let mut list = Collector { items, offset: 0 };
-        let answer = self.collect_to_end(&mut list);
+        let outcome = self.collect_to_end(&mut list);
         let Collector { items, .. } = list;
         *out = items;
-        answer
+        outcome
     }
 
     /// Reads all operators to the end of the data or to an error, and finishes. Appends them to
@@ -43,12 +43,12 @@ impl<'a> OperatorsReader<'a> {
     /// The reader is then after the operators that were added, and the call can be repeated.
     ///
     /// The clause `rest` is for a reader that has already read operators; `before` lists them. For
-    /// a new reader this list is empty (`OperatorsReader::new`, clause `stood`).
+    /// a new reader this list is empty (`OperatorsReader::new`, clause `read_so_far`).
     ///
     /// # Examples
     ///
     /// If the bytes encode an expression, the call appends its walk, unless allocation fails. A
-    /// caller proves this with `read_all.ensures.rest [] (new.ensures.stood)`, fields `tree` and
+    /// caller proves this with `read_all.ensures.rest [] (new.ensures.read_so_far)`, fields `tree` and
     /// `only`.
     ///
     /// ```
@@ -58,7 +58,7 @@ impl<'a> OperatorsReader<'a> {
     pub fn read_all(&mut self, out: &mut Vec<(Operator<'a>, u64)>) -> Result<()>
         // On `Ok`, the added operators are the walk of the one tree that the bytes encode;
         // otherwise they are the longest prefix of one.
-        ensures rest { (before : List Operator) → StoodBefore before self.old
+        ensures rest { (before : List Operator) → ReadSoFar before self.old
             → ReadsRest (Adds out.old.items out.new.items) IsAny EncodesAllowed OperatorFault Anywhere
             before result self.old self.new }
         // After any earlier reads: which operators were added, where the reader is, and why reading
@@ -98,7 +98,7 @@ impl<'a> OperatorsReader<'a> {
         V::Output: Copy,
         // On `Ok`, the visitor ran along the walk of the one tree that the bytes encode; otherwise
         // along the longest prefix of one.
-        ensures rest { (before : List Operator) → StoodBefore before self.old
+        ensures rest { (before : List Operator) → ReadSoFar before self.old
             → ReadsRest (Visited V.visits v.old v.new) IsAny EncodesAllowed OperatorFault
             (NextMayAllocate EncodesAllowed)
             before result self.old self.new }
@@ -128,7 +128,7 @@ impl<'a> OperatorsReader<'a> {
         // no SIMD operator.
         // Otherwise it ran along the longest prefix of one without SIMD operators. The error for a
         // SIMD operator after it is `UnexpectedSimd`.
-        ensures rest { (before : List Operator) → StoodBefore before self.old
+        ensures rest { (before : List Operator) → ReadSoFar before self.old
             → ReadsRest (VisitedScalar V.visits v.old v.new) IsScalar EncodesScalar ScalarOperatorFault
             (NextMayAllocate EncodesScalar) before result self.old self.new }
         // After any earlier reads: which operators were visited, none of them a SIMD operator,

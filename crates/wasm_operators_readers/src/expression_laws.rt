@@ -6,10 +6,10 @@ ghost use Rattle.wasm_decode.specs.grammar.declared.frame_kind.FrameKind.{FrameK
 ghost use Rattle.wasm_decode.specs.instr.declared.operator.Operator.{Operator};
 ghost use Rattle.wasm_decode.specs.instr.Encoding.{EncodesOperator};
 ghost use Rattle.wasm_decode.specs.instr.Kinds.{IsVector};
-ghost use Rattle.wasm_operators_readers.specs.Expression.{Placed, LaidOut, EndsAt, AreEncoded, EncodesRest, EncodesExpression, IsBeginningOf, IsBeginningBehind, IsLongestOf, IsLongestBehind, IsLongestBeginning};
+ghost use Rattle.wasm_operators_readers.specs.Expression.{Placed, LaidOut, EndsAt, AreEncoded, EncodesRest, EncodesExpression, IsBeginningOf, IsPrefixAfter, IsLongestOf, IsLongestAfter, IsLongestBeginning};
 ghost use Rattle.wasm_operators_readers.specs.Flat.{IsFlatOf, IsFlatFrom, IsFlatBeginning};
 ghost use Rattle.wasm_operators_readers.specs.Laws.{IsNoLonger, HasEncodings, LaysOutBoth, BeginsLonger};
-ghost use Rattle.wasm_operators_readers.specs.Headline.{StoodBefore, ClosesFrom};
+ghost use Rattle.wasm_operators_readers.specs.MainTheorem.{ReadSoFar, ClosesFrom};
 ghost use Rattle.wasm_operators_readers.specs.Openings.{opened_by, LeadsFrame};
 ghost use Rattle.wasm_operators_readers.specs.Reading.{State};
 ghost use Rattle.wasm_operators_readers.specs.Visiting.{scalar_beginning, IsScalar};
@@ -71,9 +71,9 @@ pub fn one_longest_beginning()
 /// without SIMD operators; also by frames alone. The law says that there can't be none; `read_all`
 /// finds the list.
 pub fn longest_exists()
-    ensures any { (before : List Operator) (s : State) → StoodBefore before s
-        → ¬ ((placed : Placed) → ¬ IsLongestBehind before (source_of s.reader) placed) }
-    ensures scalar { (before : List Operator) (s : State) → StoodBefore before s
+    ensures any { (before : List Operator) (s : State) → ReadSoFar before s
+        → ¬ ((placed : Placed) → ¬ IsLongestAfter before (source_of s.reader) placed) }
+    ensures scalar { (before : List Operator) (s : State) → ReadSoFar before s
         → ¬ ((placed : Placed) → ¬ IsLongestOf IsScalar before (source_of s.reader) placed) }
     ensures flat { (frames : List FrameKind) (s : Source) → ¬ ((placed : Placed) → ¬ IsFlatFrom frames s placed) }
     ensures scalar_flat { (frames : List FrameKind) (s : Source)
@@ -84,7 +84,7 @@ pub fn longest_exists()
 /// after the operators before it.
 pub fn whole_is_longest()
     ensures { (before : List Operator) (s : Source) (whole : Placed)
-        → AreEncoded s.features before → EncodesRest before s whole → IsLongestBehind before s whole }
+        → AreEncoded s.features before → EncodesRest before s whole → IsLongestAfter before s whole }
 {}
 
 /// States that the longest list which begins an expression is the longest that the frames allow.
@@ -108,10 +108,10 @@ pub fn scalar_beginnings()
 /// All of the bytes encode the scalar prefix and it closes every frame, if and only if the longest
 /// list is scalar and does so.
 pub fn scalar_longest()
-    ensures exactly { (before : List Operator) (s : Source) (longest placed : Placed) → IsLongestBehind before s longest
+    ensures exactly { (before : List Operator) (s : Source) (longest placed : Placed) → IsLongestAfter before s longest
         → IsLongestOf IsScalar before s placed ↔ (placed ≡ scalar_beginning longest) }
-    ensures part { (before : List Operator) (s : Source) (longest placed : Placed) → IsLongestBehind before s longest
-        → IsBeginningBehind before s placed → IsScalar placed → IsBeginningOf placed (scalar_beginning longest) }
+    ensures part { (before : List Operator) (s : Source) (longest placed : Placed) → IsLongestAfter before s longest
+        → IsPrefixAfter before s placed → IsScalar placed → IsBeginningOf placed (scalar_beginning longest) }
     ensures flat { (frames : List FrameKind) (s : Source) (flat : Placed) → IsFlatFrom frames s flat
         → IsFlatOf IsScalar frames s (scalar_beginning flat) }
     ensures closes { (frames : List FrameKind) (s : Source) (flat : Placed) → IsFlatFrom frames s flat

@@ -6,8 +6,8 @@ ghost use Rattle.wasm_decode.specs.opcodes.Allowed.{EncodesAllowed, EncodesScala
 ghost use Rattle.wasm_decode.specs.opcodes.OperatorFaults.{OperatorFault, ScalarOperatorFault};
 ghost use Rattle.wasm_operators_readers.specs.Next.{NextMayAllocate, StopsNext};
 ghost use Rattle.wasm_operators_readers.specs.Expression.{Placed, IsAny};
-ghost use Rattle.wasm_operators_readers.specs.Reading.{State, StandAlike, TakesOperator, Anywhere};
-ghost use Rattle.wasm_operators_readers.specs.Headline.{ReadsBeginning};
+ghost use Rattle.wasm_operators_readers.specs.Reading.{State, SameReaderAndFrames, TakesOperator, Anywhere};
+ghost use Rattle.wasm_operators_readers.specs.MainTheorem.{ReadsBeginning};
 ghost use Rattle.wasm_operators_readers.specs.Visiting.{IsScalar};
 
 use wasm_decode::below::Message;
@@ -40,25 +40,25 @@ pub fn not_taken()
 /// result, unless allocation fails. They read the same operator or return the same message and
 /// offset, and are at one place again.
 /// If one reads an operator, the other can fail with `OutOfMemory` only.
-pub fn same_answer()
-    ensures taken { (op other : Operator) (old new start end : State) → StandAlike old start
+pub fn same_result()
+    ensures taken { (op other : Operator) (old new start end : State) → SameReaderAndFrames old start
         → TakesOperator EncodesAllowed op old new → TakesOperator EncodesAllowed other start end
-        → (op ≡ other) × StandAlike new end }
-    ensures refused { (d e : Error) (old new start end : State) → StandAlike old start
+        → (op ≡ other) × SameReaderAndFrames new end }
+    ensures refused { (d e : Error) (old new start end : State) → SameReaderAndFrames old start
         → StopsNext EncodesAllowed OperatorFault d old new → d.message ≢ Message.OutOfMemory
         → StopsNext EncodesAllowed OperatorFault e start end → e.message ≢ Message.OutOfMemory
-        → (d.message ≡ e.message) × (d.offset ≡ e.offset) × StandAlike new end }
-    ensures never_both { (e : Error) (op : Operator) (old new start end : State) → StandAlike old start
+        → (d.message ≡ e.message) × (d.offset ≡ e.offset) × SameReaderAndFrames new end }
+    ensures never_both { (e : Error) (op : Operator) (old new start end : State) → SameReaderAndFrames old start
         → TakesOperator EncodesAllowed op old new → StopsNext EncodesAllowed OperatorFault e start end
         → e.message ≡ Message.OutOfMemory }
-    ensures scalar_taken { (op other : Operator) (old new start end : State) → StandAlike old start
+    ensures scalar_taken { (op other : Operator) (old new start end : State) → SameReaderAndFrames old start
         → TakesOperator EncodesScalar op old new → TakesOperator EncodesScalar other start end
-        → (op ≡ other) × StandAlike new end }
-    ensures scalar_refused { (d e : Error) (old new start end : State) → StandAlike old start
+        → (op ≡ other) × SameReaderAndFrames new end }
+    ensures scalar_refused { (d e : Error) (old new start end : State) → SameReaderAndFrames old start
         → StopsNext EncodesScalar ScalarOperatorFault d old new → d.message ≢ Message.OutOfMemory
         → StopsNext EncodesScalar ScalarOperatorFault e start end → e.message ≢ Message.OutOfMemory
-        → (d.message ≡ e.message) × (d.offset ≡ e.offset) × StandAlike new end }
-    ensures scalar_never_both { (e : Error) (op : Operator) (old new start end : State) → StandAlike old start
+        → (d.message ≡ e.message) × (d.offset ≡ e.offset) × SameReaderAndFrames new end }
+    ensures scalar_never_both { (e : Error) (op : Operator) (old new start end : State) → SameReaderAndFrames old start
         → TakesOperator EncodesScalar op old new → StopsNext EncodesScalar ScalarOperatorFault e start end
         → e.message ≡ Message.OutOfMemory }
 {}
@@ -66,7 +66,7 @@ pub fn same_answer()
 /// States that when reading or visiting to the end fails, the whole result is determined, unless
 /// allocation fails: the operators, the reader's place, the open frames, the message and the
 /// offset.
-pub fn one_answer()
+pub fn one_result()
     ensures reads { (before : List Operator) (d e : Error) (old new end : State) (placed others : Placed)
         → ReadsBeginning IsAny EncodesAllowed OperatorFault Anywhere before d old new placed
         → d.message ≢ Message.OutOfMemory

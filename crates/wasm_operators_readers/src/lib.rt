@@ -5,7 +5,7 @@
 //! as after the last operator that was read.
 //!
 //! `specs/` defines what an expression is (`Expression`), what one read does (`Next`) and what
-//! several do (`Reading`). `Headline` says what that means for the grammar of expressions.
+//! several do (`Reading`). `MainTheorem` says what that means for the grammar of expressions.
 #![tactic(auto)]
 
 mod allocations;

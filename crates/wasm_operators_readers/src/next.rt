@@ -12,13 +12,13 @@ ghost use Rattle.wasm_operators_readers.specs.Reading.{Anywhere, Finishes, RunsT
 ghost use Rattle.wasm_operators_readers.specs.Visiting.{Visited, VisitedScalar};
 
 use crate::ControlStack;
-use crate::begin::{advance, begin};
+use crate::begin::{begin, make_step};
 use crate::collector::Collector;
-use crate::step::leaves_frames;
+use crate::step::keeps_frames;
 use std::alloc::Global;
 use wasm_decode::below::{BinaryReader, Error, Message, Result};
 use wasm_decode::visitors::{HoldTable, VisitOperator, VisitSimdOperator};
-use wasm_decode::{visit_behind, visit_behind_simd, visit_below_0x20};
+use wasm_decode::{visit_after_opcode, visit_after_opcode_simd, visit_below_0x20};
 
 /// Visits the next operator, which may be a SIMD operator.
 #[inline(always)]
@@ -35,13 +35,13 @@ where
 {
     match begin(reader, control) {
         Ok(at) => {
-            if leaves_frames(at.code) {
-                return visit_behind_simd(v, alloc, reader, at.start, at.frame, at.code);
+            if keeps_frames(at.code) {
+                return visit_after_opcode_simd(v, alloc, reader, at.start, at.frame, at.code);
             }
             match visit_below_0x20(v, alloc, reader, at.start, at.frame, at.code) {
-                Ok(answer) => {
-                    advance(control, at.code);
-                    Ok(answer)
+                Ok(outcome) => {
+                    make_step(control, at.code);
+                    Ok(outcome)
                 }
                 Err(e) => Err(e),
             }
@@ -63,13 +63,13 @@ pub fn visit_next<'a, V: VisitOperator<'a>>(
 {
     match begin(reader, control) {
         Ok(at) => {
-            if leaves_frames(at.code) {
-                return visit_behind(v, alloc, reader, at.start, at.frame, at.code);
+            if keeps_frames(at.code) {
+                return visit_after_opcode(v, alloc, reader, at.start, at.frame, at.code);
             }
             match visit_below_0x20(v, alloc, reader, at.start, at.frame, at.code) {
-                Ok(answer) => {
-                    advance(control, at.code);
-                    Ok(answer)
+                Ok(outcome) => {
+                    make_step(control, at.code);
+                    Ok(outcome)
                 }
                 Err(e) => Err(e),
             }

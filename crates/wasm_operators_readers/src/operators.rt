@@ -3,13 +3,13 @@ ghost use Rattle.std.specs.Prelude.{◌≡◌, ◌↔◌, ◌≤◌, ◌∷◌, 
 ghost use Rattle.wasm_decode.specs.below.Source.{rest, offset_of};
 ghost use Rattle.wasm_operators_readers.specs.Reading.{Finishes, IsFresh};
 ghost use Rattle.wasm_operators_readers.specs.Stack.{frame_memory};
-ghost use Rattle.wasm_operators_readers.specs.Headline.{StoodBefore};
+ghost use Rattle.wasm_operators_readers.specs.MainTheorem.{ReadSoFar};
 ghost use Rattle.wasm_operators_readers.specs.Next.{ReadsNext, VisitsNext, VisitsNextScalar};
 
 mod stack;
 mod to_end;
 
-use crate::begin::{advance, begin};
+use crate::begin::{begin, make_step};
 use crate::next::{finish, visit_next, visit_next_simd};
 use crate::{ControlStack, OperatorsReaderAllocations};
 use std::alloc::Global;
@@ -17,7 +17,7 @@ use std::marker::Model;
 use wasm_decode::below::{BinaryReader, Result};
 use wasm_decode::grammar::FrameKind;
 use wasm_decode::instr::Operator;
-use wasm_decode::read_behind;
+use wasm_decode::read_after_opcode;
 use wasm_decode::visitors::{VisitOperator, VisitSimdOperator};
 
 /// A reader of the operators of an expression, with the kinds of the open frames.
@@ -51,7 +51,7 @@ impl<'a> OperatorsReader<'a> {
     pub fn new(alloc: Global, reader: BinaryReader<'a>) -> OperatorsReader<'a>
         ensures reader { result.reader ≡ reader.entry }
         ensures fresh { IsFresh result }
-        ensures stood { StoodBefore [] result }
+        ensures read_so_far { ReadSoFar [] result }
     {
         OperatorsReader::new_with_allocs(alloc, reader, OperatorsReaderAllocations::new(alloc))
     }
@@ -65,7 +65,7 @@ impl<'a> OperatorsReader<'a> {
     ) -> OperatorsReader<'a>
         ensures reader { result.reader ≡ reader.entry }
         ensures fresh { IsFresh result }
-        ensures stood { StoodBefore [] result }
+        ensures read_so_far { ReadSoFar [] result }
         ensures room { result.room ≡ allocs }
     {
         OperatorsReader {
@@ -137,9 +137,9 @@ impl<'a> OperatorsReader<'a> {
     {
         match begin(&mut self.reader, &mut self.control) {
             Ok(at) => {
-                match read_behind(self.alloc, &mut self.reader, at.start, at.frame, at.code) {
+                match read_after_opcode(self.alloc, &mut self.reader, at.start, at.frame, at.code) {
                     Ok(operator) => {
-                        advance(&mut self.control, at.code);
+                        make_step(&mut self.control, at.code);
                         Ok(operator)
                     }
                     Err(e) => Err(e),

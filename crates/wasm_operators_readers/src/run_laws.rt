@@ -9,13 +9,13 @@ ghost use Rattle.wasm_operators_readers.specs.Expression.{Placed, IsAny, Encodes
 ghost use Rattle.wasm_operators_readers.specs.Next.{NextMayAllocate};
 ghost use Rattle.wasm_operators_readers.specs.Reading.{State, IsFresh, IsUnchanged, TakesOperator, TakesOperators, Finishes, FramesLeft, StopsRead, StopsRun, Anywhere};
 ghost use Rattle.wasm_operators_readers.specs.Laws.{TakesNone, TakesOneMore, TakesNoMore, TakesBoth, TakesBytes, AddsFewFrames, MemoryAddsUp};
-ghost use Rattle.wasm_operators_readers.specs.Headline.{StoodBefore, ReadsTree, ReadsBeginning, IsWithinDepth};
+ghost use Rattle.wasm_operators_readers.specs.MainTheorem.{ReadSoFar, ReadsTree, ReadsBeginning, IsWithinDepth};
 
 use wasm_decode::below::Message;
 
 /// States that no operator was read before a new reader.
 pub fn fresh_readers()
-    ensures { (s : State) → IsFresh s → StoodBefore [] s }
+    ensures { (s : State) → IsFresh s → ReadSoFar [] s }
 {}
 
 /// States which operators were read before the reader: after a successful read, those before it and
@@ -24,11 +24,11 @@ pub fn fresh_readers()
 /// too.
 pub fn one_operator()
     ensures any { (before : List Operator) (op : Operator) (old new : State)
-        → TakesOperator EncodesAllowed op old new → StoodBefore before old → StoodBefore (before ++ op ∷ []) new }
+        → TakesOperator EncodesAllowed op old new → ReadSoFar before old → ReadSoFar (before ++ op ∷ []) new }
     ensures scalar { (before : List Operator) (op : Operator) (old new : State)
-        → TakesOperator EncodesScalar op old new → StoodBefore before old → StoodBefore (before ++ op ∷ []) new }
+        → TakesOperator EncodesScalar op old new → ReadSoFar before old → ReadSoFar (before ++ op ∷ []) new }
     ensures refused { (before : List Operator) (old new : State)
-        → IsUnchanged old new → StoodBefore before old → StoodBefore before new }
+        → IsUnchanged old new → ReadSoFar before old → ReadSoFar before new }
 {}
 
 /// States that the number of frames that one operator added, doubled, is at most the number of
@@ -63,13 +63,13 @@ pub fn single_reads()
 /// If the bytes encode the rest of an expression, only allocation can fail. At the end of the data,
 /// `finish` fails for open frames and for nothing else.
 pub fn read_to_the_end()
-    ensures tree { (before : List Operator) (old new : State) (placed : Placed) → StoodBefore before old
+    ensures tree { (before : List Operator) (old new : State) (placed : Placed) → ReadSoFar before old
         → TakesOperators old new placed → new.frames ≡ [] → rest new.reader ≡ [] → ReadsTree before old new placed }
-    ensures beginning { (before : List Operator) (e : Error) (old new : State) (placed : Placed) → StoodBefore before old
+    ensures beginning { (before : List Operator) (e : Error) (old new : State) (placed : Placed) → ReadSoFar before old
         → TakesOperators old new placed → StopsRun EncodesAllowed OperatorFault Anywhere e new
         → ReadsBeginning IsAny EncodesAllowed OperatorFault Anywhere before e old new placed }
     ensures only { (before : List Operator) (e : Error) (old new : State) (placed whole : Placed)
-        → StoodBefore before old → TakesOperators old new placed → StopsRun EncodesAllowed OperatorFault Anywhere e new
+        → ReadSoFar before old → TakesOperators old new placed → StopsRun EncodesAllowed OperatorFault Anywhere e new
         → EncodesRest before (source_of old.reader) whole → e.message ≡ Message.OutOfMemory }
     // The same for a read that fails.
     ensures refused { (e : Error) (s : State)

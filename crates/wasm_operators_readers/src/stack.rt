@@ -218,7 +218,7 @@ impl ControlStack {
     /// Changes the frames as an operator of this step does, which the innermost frame allows. A
     /// step that opens a frame needs capacity and uses at most one of it; other steps use none.
     #[inline(always)]
-    pub fn advance(&mut self, step: FrameStep)
+    pub fn apply_step(&mut self, step: FrameStep)
         requires allowed { IsSome (frames_after self.old.frames (role_of_step step)) }
         requires room { Opens step → HasRoom self.old }
         ensures frames { frames_after self.old.frames (role_of_step step) ≡ Some self.new.frames }

@@ -79,7 +79,7 @@ impl FrameStep {
 
 /// Returns whether the opcode is 0x20 or more. No operator with such an opcode changes the frames.
 #[inline(always)]
-pub fn leaves_frames(opcode: u8) -> bool
+pub fn keeps_frames(opcode: u8) -> bool
     ensures { IsTrue result ↔ (0x20 ≤ opcode) }
 {
     opcode >= 0x20

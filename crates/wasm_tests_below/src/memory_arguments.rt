@@ -20,7 +20,7 @@ const TAILS: [[u8; 6]; 4] = [
 /// How many answers of each sort there were: at 0 what was read, then by the number of the refusal.
 #[derive(Drop)]
 struct Counts {
-    answers: [u64; 26],
+    outcomes: [u64; 26],
     offsets: u64,
     differ: u64,
 }
@@ -33,9 +33,9 @@ pub fn print_memory_arguments<R: Print>(rt: &R, extent: Extent) -> io::Result<()
             "{kind:?}: {} differ, offsets {}",
             counts.differ, counts.offsets
         )?;
-        for (number, answers) in counts.answers.iter().enumerate() {
-            if *answers != 0 {
-                println!(rt; "  {number}: {answers}")?;
+        for (number, outcomes) in counts.outcomes.iter().enumerate() {
+            if *outcomes != 0 {
+                println!(rt; "  {number}: {outcomes}")?;
             }
         }
     }
@@ -46,7 +46,7 @@ pub fn print_memory_arguments<R: Print>(rt: &R, extent: Extent) -> io::Result<()
 /// extent is short, only with all features and with none.
 fn count(kind: MemArgKind, extent: Extent) -> Counts {
     let mut counts = Counts {
-        answers: [0; 26],
+        outcomes: [0; 26],
         offsets: 0,
         differ: 0,
     };
@@ -93,7 +93,7 @@ fn try_one(
     let slow = slow::memory_argument(bytes, features, kind, 2);
     match read {
         Ok(argument) => {
-            counts.answers[0] = counts.answers[0].saturating_add(1);
+            counts.outcomes[0] = counts.outcomes[0].saturating_add(1);
             counts.offsets = counts.offsets.saturating_add(taken as u64);
             if slow != Some((argument, taken)) {
                 counts.differ = counts.differ.saturating_add(1);
@@ -102,7 +102,7 @@ fn try_one(
         Err(e) => {
             let number = usize::from(e.message.number());
             if number < 26 {
-                counts.answers[number] = counts.answers[number].saturating_add(1);
+                counts.outcomes[number] = counts.outcomes[number].saturating_add(1);
             }
             counts.offsets = counts.offsets.saturating_add(e.offset % 1024);
             if slow.is_some() || taken != 0 {

@@ -98,7 +98,7 @@ pub fn slow_fault(bytes: &[u8], bits: u32, word: NumberName) -> Error {
 }
 
 /// What the reader answers, and how many bytes it takes. A sign is seen in the number's bits.
-fn answer(bytes: &[u8], kind: Kind) -> (Result<u64, Error>, usize) {
+fn outcome(bytes: &[u8], kind: Kind) -> (Result<u64, Error>, usize) {
     let mut reader = BinaryReader::new(bytes, 0);
     let value = match (kind.bits, kind.signed) {
         (32, false) => reader.read_var_u32().map(u64::from),
@@ -111,7 +111,7 @@ fn answer(bytes: &[u8], kind: Kind) -> (Result<u64, Error>, usize) {
 }
 
 /// What the definition says.
-fn wanted(bytes: &[u8], kind: Kind) -> (Result<u64, Error>, usize) {
+fn expected(bytes: &[u8], kind: Kind) -> (Result<u64, Error>, usize) {
     let found = if kind.signed {
         slow_signed(bytes, kind.bits).map(|(n, length)| (n.cast_unsigned(), length))
     } else {
@@ -125,8 +125,8 @@ fn wanted(bytes: &[u8], kind: Kind) -> (Result<u64, Error>, usize) {
 
 /// Compares one string.
 fn compare(tally: &mut Tally, bytes: &[u8], kind: Kind) {
-    let got = answer(bytes, kind);
-    tally.count(got.0.is_ok(), got == wanted(bytes, kind));
+    let got = outcome(bytes, kind);
+    tally.count(got.0.is_ok(), got == expected(bytes, kind));
 }
 
 /// Compares one string for all five readers.
@@ -174,8 +174,8 @@ pub fn boundaries() -> Tally {
     let mut tally = Tally::new();
     for power in [0u32, 6, 7, 13, 14, 20, 21, 27, 28, 31, 32, 33, 62, 63] {
         let boundary = 1i64.wrapping_shl(power);
-        for beside in [-1i64, 0, 1] {
-            let value = boundary.wrapping_add(beside);
+        for delta in [-1i64, 0, 1] {
+            let value = boundary.wrapping_add(delta);
             for length in 1..12usize {
                 compare_all(&mut tally, &encodes(value, length)[..length]);
                 compare_all(&mut tally, &encodes(value.wrapping_neg(), length)[..length]);

@@ -35,8 +35,8 @@ fn slow_heap_type(bytes: &[u8]) -> Option<(HeapType, usize)> {
     if let Some(found) = slow_short(bytes) {
         return Some(found);
     }
-    if let [0x62, behind @ ..] = bytes {
-        let (index, length) = slow_unsigned(behind, 32)?;
+    if let [0x62, after @ ..] = bytes {
+        let (index, length) = slow_unsigned(after, 32)?;
         let index = u32::try_from(index).ok()?;
         return if index < 1048576 {
             Some((HeapType::Exact(index), length.checked_add(1)?))
@@ -59,8 +59,8 @@ fn slow_ref_type(bytes: &[u8]) -> Option<(RefType, usize)> {
         return Some((RefType::new(true, heap_type)?, length));
     }
     match bytes {
-        [code @ (0x63 | 0x64), behind @ ..] => {
-            let (heap_type, length) = slow_heap_type(behind)?;
+        [code @ (0x63 | 0x64), after @ ..] => {
+            let (heap_type, length) = slow_heap_type(after)?;
             let ty = RefType::new(*code == 0x63, heap_type)?;
             Some((ty, length.checked_add(1)?))
         }

@@ -29,7 +29,7 @@ impl Visitor for Under {
     type Output = Visited;
 
     // Whatever the operator.
-    ghost visits = { λ before op answer after. Unit {0} };
+    ghost visits = { λ before op outcome after. Unit {0} };
 
     fn visit_any(&mut self, op: Operator<'static>) -> Visited {
         Some(op)

@@ -2,8 +2,8 @@
 //! cases differ.
 #![tactic(auto)]
 
-mod answers;
 mod lists;
+mod outcomes;
 mod reading;
 mod replay;
 mod row;

@@ -1,7 +1,7 @@
 //! Compares the results of each call with those of wasmparser.
 
-use crate::answers::{write_end, write_lines, write_text};
 use crate::lists::{write_catches, write_clauses, write_targets, write_types};
+use crate::outcomes::{write_end, write_lines, write_text};
 use crate::reading::{Found, Source, by_batches, step_by_step, whole};
 use crate::row::{Body, List, body_of, list_of};
 use crate::tally::Tally;

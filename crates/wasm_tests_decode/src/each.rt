@@ -2,8 +2,8 @@
 
 use crate::half;
 use crate::runs::{
-    Told, is_refused_again, run_both, run_boxed, run_factory, run_lent, run_plain, run_read,
-    run_simd, write_answer, write_refusal,
+    Reported, is_refused_again, run_both, run_boxed, run_factory, run_lent, run_plain, run_read,
+    run_simd, write_outcome, write_refusal,
 };
 use crate::task::Task;
 use crate::teller::Teller;
@@ -47,17 +47,17 @@ impl Texts {
 }
 
 /// Writes the result of a visit, and the position of the reader after it.
-fn write_visit(texts: &mut Texts, told: (Told, usize)) -> Written {
-    write_told(texts, told.0)?;
-    let position = told.1;
+fn write_visit(texts: &mut Texts, reported: (Reported, usize)) -> Written {
+    write_reported(texts, reported.0)?;
+    let position = reported.1;
     write!(texts.line, "; at {position}")
 }
 
 /// Writes what was visited, and by which call of the visitor.
-fn write_told(texts: &mut Texts, answer: Told) -> Written {
+fn write_reported(texts: &mut Texts, outcome: Reported) -> Written {
     let Texts { line, teller, .. } = texts;
     let visited = &teller.text;
-    match answer {
+    match outcome {
         Ok(call) => {
             let call = call?;
             write!(line, "{visited} by {call:?}")
@@ -72,24 +72,24 @@ fn write_told(texts: &mut Texts, answer: Told) -> Written {
 /// Writes the result of the reading call, whether each other call has the same result, and the
 /// errors on cut data.
 pub fn write_each(alloc: Global, texts: &mut Texts, task: Task, bytes: &[u8]) -> Written {
-    let (answer, end) = run_read(alloc, task, bytes);
-    write_answer(&mut texts.read, &answer)?;
+    let (outcome, end) = run_read(alloc, task, bytes);
+    write_outcome(&mut texts.read, &outcome)?;
     write!(texts.line, "{}; at {end}; factory ", texts.read)?;
     compare_factory(alloc, texts, task, bytes, end)?;
     texts.line.push_str("; visit ")?;
-    let told = run_simd(alloc, &mut texts.teller, task, bytes);
+    let reported = run_simd(alloc, &mut texts.teller, task, bytes);
     texts.other.clear();
     texts.other.push_str(texts.teller.text.as_str())?;
-    compare_visit(texts, told, end)?;
+    compare_visit(texts, reported, end)?;
     texts.line.push_str("; others")?;
-    compare_ways(alloc, texts, task, bytes, told)?;
+    compare_ways(alloc, texts, task, bytes, reported)?;
     if task.frame.is_some() {
-        compare_halves(texts, task, bytes, told)?;
+        compare_halves(texts, task, bytes, reported)?;
     }
     texts.line.push_str("; plain ")?;
-    let told = run_plain(alloc, &mut texts.teller, task, bytes);
-    compare_visit(texts, told, end)?;
-    if answer.is_err() {
+    let reported = run_plain(alloc, &mut texts.teller, task, bytes);
+    compare_visit(texts, reported, end)?;
+    if outcome.is_err() {
         texts.line.push_str("; again ")?;
         let is_same = is_refused_again(alloc, &mut texts.teller, task, bytes);
         texts
@@ -120,9 +120,9 @@ fn compare_factory(
     bytes: &[u8],
     end: usize,
 ) -> Written {
-    let (answer, position) = run_factory(alloc, task, bytes);
+    let (outcome, position) = run_factory(alloc, task, bytes);
     texts.other.clear();
-    write_answer(&mut texts.other, &answer)?;
+    write_outcome(&mut texts.other, &outcome)?;
     if texts.other == texts.read && position == end {
         texts.line.push_str("the same")
     } else {
@@ -132,11 +132,11 @@ fn compare_factory(
 
 /// Writes whether a visit is of the operator that the reading call returned, and by which call of
 /// the visitor.
-fn compare_visit(texts: &mut Texts, told: (Told, usize), end: usize) -> Written {
-    let is_same = texts.teller.text == texts.read && told.1 == end;
-    match told.0 {
+fn compare_visit(texts: &mut Texts, reported: (Reported, usize), end: usize) -> Written {
+    let is_same = texts.teller.text == texts.read && reported.1 == end;
+    match reported.0 {
         Ok(Ok(call)) if is_same => write!(texts.line, "by {call:?}")?,
-        _ => write_visit(texts, told)?,
+        _ => write_visit(texts, reported)?,
     }
     texts.teller.text.clear();
     Ok(())
@@ -149,7 +149,7 @@ fn compare_ways(
     texts: &mut Texts,
     task: Task,
     bytes: &[u8],
-    direct: (Told, usize),
+    direct: (Reported, usize),
 ) -> Written {
     let Texts {
         line,
@@ -158,18 +158,23 @@ fn compare_ways(
         boxed,
         ..
     } = texts;
-    let told = run_lent(alloc, teller, task, bytes);
-    write_way(line, direct, told, other, &mut teller.text)?;
-    let told = run_boxed(alloc, boxed, task, bytes);
-    write_way(line, direct, told, other, &mut boxed.text)?;
-    let told = run_both(alloc, boxed, task, bytes);
-    write_way(line, direct, told, other, &mut boxed.text)
+    let reported = run_lent(alloc, teller, task, bytes);
+    write_way(line, direct, reported, other, &mut teller.text)?;
+    let reported = run_boxed(alloc, boxed, task, bytes);
+    write_way(line, direct, reported, other, &mut boxed.text)?;
+    let reported = run_both(alloc, boxed, task, bytes);
+    write_way(line, direct, reported, other, &mut boxed.text)
 }
 
 /// Writes whether `decode_simd_low` or `decode_simd_high` alone visits the same SIMD operator:
 /// directly, through a reference, in a `Box`, and through a reference to the `Box`. For any other
 /// operator, writes nothing.
-fn compare_halves(texts: &mut Texts, task: Task, bytes: &[u8], direct: (Told, usize)) -> Written {
+fn compare_halves(
+    texts: &mut Texts,
+    task: Task,
+    bytes: &[u8],
+    direct: (Reported, usize),
+) -> Written {
     let Texts {
         line,
         other,
@@ -177,22 +182,22 @@ fn compare_halves(texts: &mut Texts, task: Task, bytes: &[u8], direct: (Told, us
         boxed,
         ..
     } = texts;
-    let told = half::run_own(teller, task, bytes);
-    if told.is_none() {
+    let reported = half::run_own(teller, task, bytes);
+    if reported.is_none() {
         return Ok(());
     }
     line.push_str("; half")?;
-    write_half(line, direct, told, other, &mut teller.text)?;
-    let told = half::run_lent(teller, task, bytes);
-    write_half(line, direct, told, other, &mut teller.text)?;
-    let told = half::run_boxed(boxed, task, bytes);
-    write_half(line, direct, told, other, &mut boxed.text)?;
-    let told = half::run_both(boxed, task, bytes);
-    write_half(line, direct, told, other, &mut boxed.text)
+    write_half(line, direct, reported, other, &mut teller.text)?;
+    let reported = half::run_lent(teller, task, bytes);
+    write_half(line, direct, reported, other, &mut teller.text)?;
+    let reported = half::run_boxed(boxed, task, bytes);
+    write_half(line, direct, reported, other, &mut boxed.text)?;
+    let reported = half::run_both(boxed, task, bytes);
+    write_half(line, direct, reported, other, &mut boxed.text)
 }
 
 /// Returns whether two visits have the same result, and leave the reader at the same position.
-fn is_same_visit(a: (Told, usize), b: (Told, usize)) -> bool {
+fn is_same_visit(a: (Reported, usize), b: (Reported, usize)) -> bool {
     let is_same = match (a.0, b.0) {
         (Ok(Ok(call)), Ok(Ok(other))) => call == other,
         (Err(e), Err(other)) => e == other,
@@ -205,15 +210,15 @@ fn is_same_visit(a: (Told, usize), b: (Told, usize)) -> bool {
 /// position of the reader. Clears the text of the visit.
 fn write_way(
     line: &mut String,
-    direct: (Told, usize),
-    told: (Told, usize),
+    direct: (Reported, usize),
+    reported: (Reported, usize),
     other: &String,
     text: &mut String,
 ) -> Written {
-    if is_same_visit(direct, told) && *text == *other {
+    if is_same_visit(direct, reported) && *text == *other {
         line.push_str(" same")?;
     } else {
-        let position = told.1;
+        let position = reported.1;
         write!(line, " ({text} at {position})")?;
     }
     text.clear();
@@ -223,35 +228,35 @@ fn write_way(
 /// Writes the same of a visit by the call of one half, if it was made.
 fn write_half(
     line: &mut String,
-    direct: (Told, usize),
-    told: Option<(Told, usize)>,
+    direct: (Reported, usize),
+    reported: Option<(Reported, usize)>,
     other: &String,
     text: &mut String,
 ) -> Written {
-    let Some(told) = told else {
+    let Some(reported) = reported else {
         return Ok(());
     };
-    write_way(line, direct, told, other, text)
+    write_way(line, direct, reported, other, text)
 }
 
 /// Writes the offset of `EndOfData` on cut data; or more, if the result is anything else.
 fn write_cut(alloc: Global, texts: &mut Texts, task: Task, bytes: &[u8]) -> Written {
-    let (answer, position) = run_read(alloc, task, bytes);
-    let told = run_simd(alloc, &mut texts.teller, task, bytes);
-    match (&answer, &told.0) {
+    let (outcome, position) = run_read(alloc, task, bytes);
+    let reported = run_simd(alloc, &mut texts.teller, task, bytes);
+    match (&outcome, &reported.0) {
         (Err(e), Err(of_visit)) if *e == *of_visit && e.message().number() == 1 => {
             let offset = e.offset();
             write!(texts.line, " {offset}")?;
         }
         _ => {
             texts.line.push_str(" (")?;
-            write_answer(&mut texts.line, &answer)?;
+            write_outcome(&mut texts.line, &outcome)?;
             texts.line.push_str(") (")?;
-            write_visit(texts, told)?;
+            write_visit(texts, reported)?;
             texts.line.push_str(")")?;
         }
     }
-    if position != task.before || told.1 != task.before || !texts.teller.text.is_empty() {
+    if position != task.before || reported.1 != task.before || !texts.teller.text.is_empty() {
         texts.line.push_str(" and something changed")?;
     }
     texts.teller.text.clear();

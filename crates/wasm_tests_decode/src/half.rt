@@ -1,9 +1,9 @@
 //! A SIMD operator, visited by the visitor's call for its half of the subopcodes: below 0x80, or
 //! from 0x80 on. A visit from bytes makes that call only for operators with immediates.
 ghost use Rattle.std.specs.Prelude.{◌≡◌, Some, IfSome};
-ghost use Rattle.wasm_decode.specs.opcodes.Decoding.{StandsBehind};
+ghost use Rattle.wasm_decode.specs.opcodes.Decoding.{IsAfterCode};
 
-use crate::runs::{Told, reader_at};
+use crate::runs::{Reported, reader_at};
 use crate::task::Task;
 use crate::teller::Teller;
 use wasm_decode::below::{BinaryReader, Result};
@@ -19,18 +19,18 @@ fn run_half<V: VisitSimdOperator>(
     let mut reader = reader_at(task, bytes);
     let start = reader.current_position();
     let code = read_vector_subopcode(&mut reader, start)?;
-    let answer = if code < 0x80 {
+    let outcome = if code < 0x80 {
         v.decode_simd_low(&mut reader, start, code)
     } else {
         v.decode_simd_high(&mut reader, start, code)
     };
-    Some((answer, reader.current_position()))
+    Some((outcome, reader.current_position()))
 }
 
 /// Reads the byte 0xfd and a subopcode. Returns the subopcode, or `None` if one of them is missing.
 fn read_vector_subopcode(reader: &mut BinaryReader<'_>, start: usize) -> Option<u32>
     requires { start ≡ reader.old.position }
-    ensures { IfSome result (λ code. StandsBehind start (Some 0xfd) code reader.new) }
+    ensures { IfSome result (λ code. IsAfterCode start (Some 0xfd) code reader.new) }
 {
     match reader.read_u8() {
         Ok(0xfd) => match reader.read_var_u32() {
@@ -42,23 +42,23 @@ fn read_vector_subopcode(reader: &mut BinaryReader<'_>, start: usize) -> Option<
 }
 
 /// Visits with the visitor itself.
-pub fn run_own(teller: &mut Teller, task: Task, bytes: &[u8]) -> Option<(Told, usize)> {
+pub fn run_own(teller: &mut Teller, task: Task, bytes: &[u8]) -> Option<(Reported, usize)> {
     run_half(teller, task, bytes)
 }
 
 /// Visits through a reference to the visitor.
-pub fn run_lent(teller: &mut Teller, task: Task, bytes: &[u8]) -> Option<(Told, usize)> {
+pub fn run_lent(teller: &mut Teller, task: Task, bytes: &[u8]) -> Option<(Reported, usize)> {
     let mut lent = teller;
     run_half(&mut lent, task, bytes)
 }
 
 /// Visits with a visitor in a `Box`.
-pub fn run_boxed(boxed: &mut Box<Teller>, task: Task, bytes: &[u8]) -> Option<(Told, usize)> {
+pub fn run_boxed(boxed: &mut Box<Teller>, task: Task, bytes: &[u8]) -> Option<(Reported, usize)> {
     run_half(boxed, task, bytes)
 }
 
 /// Visits through a reference to the `Box`.
-pub fn run_both(boxed: &mut Box<Teller>, task: Task, bytes: &[u8]) -> Option<(Told, usize)> {
+pub fn run_both(boxed: &mut Box<Teller>, task: Task, bytes: &[u8]) -> Option<(Reported, usize)> {
     let mut lent = boxed;
     run_half(&mut lent, task, bytes)
 }

@@ -20,8 +20,8 @@ pub fn reader_at<'a>(task: Task, bytes: &'a [u8]) -> BinaryReader<'a> {
 /// Reads an operator. Returns the result, and the position of the reader after it.
 pub fn run_read<'a>(alloc: Global, task: Task, bytes: &'a [u8]) -> (Result<Operator<'a>>, usize) {
     let mut reader = reader_at(task, bytes);
-    let answer = read_operator(alloc, &mut reader, task.frame);
-    (answer, reader.current_position())
+    let outcome = read_operator(alloc, &mut reader, task.frame);
+    (outcome, reader.current_position())
 }
 
 /// Visits with the factory. Returns the result, and the position of the reader after it.
@@ -31,33 +31,38 @@ pub fn run_factory<'a>(
     bytes: &'a [u8],
 ) -> (Result<Operator<'a>>, usize) {
     let mut reader = reader_at(task, bytes);
-    let answer = visit_operator_simd(&mut OperatorFactory::new(), alloc, &mut reader, task.frame);
-    (answer, reader.current_position())
+    let outcome = visit_operator_simd(&mut OperatorFactory::new(), alloc, &mut reader, task.frame);
+    (outcome, reader.current_position())
 }
 
 /// The result of a visit that writes.
-pub type Told = Result<std::result::Result<Call, AllocError>>;
+pub type Reported = Result<std::result::Result<Call, AllocError>>;
 
 /// Visits with `visit_operator_simd`. Returns the result, and the position of the reader after it.
-pub fn run_simd(alloc: Global, teller: &mut Teller, task: Task, bytes: &[u8]) -> (Told, usize) {
+pub fn run_simd(alloc: Global, teller: &mut Teller, task: Task, bytes: &[u8]) -> (Reported, usize) {
     let mut reader = reader_at(task, bytes);
-    let answer = visit_operator_simd(teller, alloc, &mut reader, task.frame);
-    (answer, reader.current_position())
+    let outcome = visit_operator_simd(teller, alloc, &mut reader, task.frame);
+    (outcome, reader.current_position())
 }
 
 /// Visits with `visit_operator`. Returns the result, and the position of the reader after it.
-pub fn run_plain(alloc: Global, teller: &mut Teller, task: Task, bytes: &[u8]) -> (Told, usize) {
+pub fn run_plain(
+    alloc: Global,
+    teller: &mut Teller,
+    task: Task,
+    bytes: &[u8],
+) -> (Reported, usize) {
     let mut reader = reader_at(task, bytes);
-    let answer = visit_operator(teller, alloc, &mut reader, task.frame);
-    (answer, reader.current_position())
+    let outcome = visit_operator(teller, alloc, &mut reader, task.frame);
+    (outcome, reader.current_position())
 }
 
 /// Visits as [`run_simd`] does, through a reference to the visitor.
-pub fn run_lent(alloc: Global, teller: &mut Teller, task: Task, bytes: &[u8]) -> (Told, usize) {
+pub fn run_lent(alloc: Global, teller: &mut Teller, task: Task, bytes: &[u8]) -> (Reported, usize) {
     let mut reader = reader_at(task, bytes);
     let mut lent = teller;
-    let answer = visit_operator_simd(&mut lent, alloc, &mut reader, task.frame);
-    (answer, reader.current_position())
+    let outcome = visit_operator_simd(&mut lent, alloc, &mut reader, task.frame);
+    (outcome, reader.current_position())
 }
 
 /// Visits as [`run_simd`] does, with a visitor in a `Box`.
@@ -66,18 +71,23 @@ pub fn run_boxed(
     boxed: &mut Box<Teller>,
     task: Task,
     bytes: &[u8],
-) -> (Told, usize) {
+) -> (Reported, usize) {
     let mut reader = reader_at(task, bytes);
-    let answer = visit_operator_simd(boxed, alloc, &mut reader, task.frame);
-    (answer, reader.current_position())
+    let outcome = visit_operator_simd(boxed, alloc, &mut reader, task.frame);
+    (outcome, reader.current_position())
 }
 
 /// Visits as [`run_simd`] does, through a reference to the `Box`.
-pub fn run_both(alloc: Global, boxed: &mut Box<Teller>, task: Task, bytes: &[u8]) -> (Told, usize) {
+pub fn run_both(
+    alloc: Global,
+    boxed: &mut Box<Teller>,
+    task: Task,
+    bytes: &[u8],
+) -> (Reported, usize) {
     let mut reader = reader_at(task, bytes);
     let mut lent = boxed;
-    let answer = visit_operator_simd(&mut lent, alloc, &mut reader, task.frame);
-    (answer, reader.current_position())
+    let outcome = visit_operator_simd(&mut lent, alloc, &mut reader, task.frame);
+    (outcome, reader.current_position())
 }
 
 /// Returns whether each call that fails has the same error if the same reader repeats it.
@@ -105,8 +115,8 @@ pub fn write_refusal(out: &mut String, e: Error) -> Written {
 }
 
 /// Writes the operator that was read, or the error.
-pub fn write_answer(out: &mut String, answer: &Result<Operator<'_>>) -> Written {
-    match answer {
+pub fn write_outcome(out: &mut String, outcome: &Result<Operator<'_>>) -> Written {
+    match outcome {
         Ok(op) => write_operator(out, op),
         Err(e) => write_refusal(out, *e),
     }

@@ -37,7 +37,7 @@ impl Visitor for Teller {
     type Output = std::result::Result<Call, AllocError>;
 
     // Holds for every operator.
-    ghost visits = { λ before op answer after. Unit {0} };
+    ghost visits = { λ before op outcome after. Unit {0} };
 
     fn visit_any(&mut self, op: Operator<'static>) -> Self::Output {
         write_operator(&mut self.text, &op)?;

@@ -2,18 +2,18 @@
 use Rattle.std.specs.Prelude.{ℕ, ◌==◌, if◌then◌else◌, Option, Some, None}
 use Rattle.wasm_visit.specs.grammar.declared.frame_kind.FrameKind.TheVariants as frame
 use Rattle.wasm_visit.specs.imm.control.block_type.BlockType.TheVariants as block
-use Rattle.wasm_visit.specs.instr.Answers.{Answers}
+use Rattle.wasm_visit.specs.instr.ModuleFacts.{ModuleFacts}
 use Rattle.wasm_tests_lists.specs.declared.uniform.Uniform.{Uniform}
 
 -- One result at an index, and another function's result elsewhere.
 abbrev pub at_index : {X : Type 0} → ℕ → X → (ℕ → Option X) → ℕ → Option X
-at_index index answer others i = if i == index then Some answer else others i
+at_index index outcome others i = if i == index then Some outcome else others i
 
 abbrev pub nowhere : {X : Type 0} → ℕ → Option X
 nowhere i = None
 
-abbrev pub answers_of_module : Answers
-answers_of_module = record {
+abbrev pub facts_of_module : ModuleFacts
+facts_of_module = record {
   func_type_arity = at_index 0 (2, 1) (at_index 4 (1, 1) nowhere);
   struct_type_fields = at_index 1 3 nowhere;
   cont_type_func = at_index 2 0 (at_index 3 4 nowhere);
@@ -25,8 +25,8 @@ answers_of_module = record {
 }
 
 -- The results of a module whose queries have the same result at all indices.
-abbrev pub answers_of_uniform : Uniform → Answers
-answers_of_uniform m = record {
+abbrev pub facts_of_uniform : Uniform → ModuleFacts
+facts_of_uniform m = record {
   func_type_arity = λ _. m.function;
   struct_type_fields = λ _. m.fields;
   cont_type_func = λ _. m.continuation;

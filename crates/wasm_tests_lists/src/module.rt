@@ -11,9 +11,9 @@ use wasm_visit::instr::{FrameKind, ModuleArity};
 pub struct Module;
 
 impl ModuleArity for Module {
-    ghost use Rattle.wasm_tests_lists.specs.Module.{answers_of_module};
+    ghost use Rattle.wasm_tests_lists.specs.Module.{facts_of_module};
 
-    ghost answers = { λ _. answers_of_module };
+    ghost facts = { λ _. facts_of_module };
 
     fn func_type_arity(&self, type_index: u32) -> Option<(u32, u32)> {
         match type_index {

@@ -32,9 +32,9 @@ impl Uniform {
 }
 
 impl ModuleArity for Uniform {
-    ghost use Rattle.wasm_tests_lists.specs.Module.{answers_of_uniform};
+    ghost use Rattle.wasm_tests_lists.specs.Module.{facts_of_uniform};
 
-    ghost answers = { answers_of_uniform };
+    ghost facts = { facts_of_uniform };
 
     fn func_type_arity(&self, _type_index: u32) -> Option<(u32, u32)> {
         self.function

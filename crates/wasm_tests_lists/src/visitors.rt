@@ -6,7 +6,7 @@ mod interp;
 mod large;
 mod made;
 mod printer;
-mod tells;
+mod reports;
 
 use crate::visitors::counter::Counter;
 use crate::visitors::hand_over::{hand_over, table};
@@ -14,7 +14,7 @@ use crate::visitors::interp::{Interp, Module};
 use crate::visitors::large::Large;
 use crate::visitors::made::made;
 use crate::visitors::printer::Printer;
-use crate::visitors::tells::Tells;
+use crate::visitors::reports::Reports;
 use std::alloc::Global;
 use std::io::{self, Print};
 use wasm_visit::below::ValType;
@@ -25,7 +25,7 @@ use wasm_visit::{
 
 /// Prints the results of all visitors.
 pub fn print_visitors<R: Print>(rt: &R, alloc: Global) -> io::Result<()> {
-    print_tells(rt, alloc)?;
+    print_reports(rt, alloc)?;
     print_counter(rt, alloc)?;
     print_printer(rt, alloc)?;
     print_interp(rt, alloc)?;
@@ -38,17 +38,17 @@ pub fn print_visitors<R: Print>(rt: &R, alloc: Global) -> io::Result<()> {
         bytes[0],
         bytes[4095]
     )?;
-    let (answer, counter) = visit_list(alloc);
-    println!(rt; "an operator with a list: {answer}, {counter:?}")
+    let (outcome, counter) = visit_list(alloc);
+    println!(rt; "an operator with a list: {outcome}, {counter:?}")
 }
 
 /// Prints the results of a visitor without fields.
-fn print_tells<R: Print>(rt: &R, alloc: Global) -> io::Result<()> {
-    println!(rt; "unit: {:?}", hand_over(&mut Tells, table()))?;
-    let mut tells = Tells;
-    let mut lent = &mut tells;
+fn print_reports<R: Print>(rt: &R, alloc: Global) -> io::Result<()> {
+    println!(rt; "unit: {:?}", hand_over(&mut Reports, table()))?;
+    let mut reports = Reports;
+    let mut lent = &mut reports;
     println!(rt; "unit, by reference: {:?}", hand_over(&mut lent, table()))?;
-    let mut boxed = Box::new(alloc, Tells)?;
+    let mut boxed = Box::new(alloc, Reports)?;
     println!(rt; "unit, in a box: {:?}", hand_over(&mut boxed, table()))?;
     let mut lent = &mut boxed;
     println!(rt; "unit, both: {:?}", hand_over(&mut lent, table()))
@@ -78,20 +78,23 @@ fn print_printer<R: Print>(rt: &R, alloc: Global) -> io::Result<()> {
         out: &mut out,
         others: 0,
     };
-    let answers = hand_over(&mut printer, table());
-    println!(rt; "reference: {answers:?}, {} others", printer.others)?;
+    let outcomes = hand_over(&mut printer, table());
+    println!(rt; "reference: {outcomes:?}, {} others", printer.others)?;
     let mut lent = &mut printer;
-    let answers = hand_over(&mut lent, table());
+    let outcomes = hand_over(&mut lent, table());
     println!(rt;
-        "reference, by reference: {answers:?}, {} others",
+        "reference, by reference: {outcomes:?}, {} others",
         printer.others
     )?;
     let mut boxed = Box::new(alloc, printer)?;
-    let answers = hand_over(&mut boxed, table());
-    println!(rt; "reference, in a box: {answers:?}, {} others", boxed.others)?;
+    let outcomes = hand_over(&mut boxed, table());
+    println!(rt;
+        "reference, in a box: {outcomes:?}, {} others",
+        boxed.others
+    )?;
     let mut lent = &mut boxed;
-    let answers = hand_over(&mut lent, table());
-    println!(rt; "reference, both: {answers:?}, {} others", boxed.others)?;
+    let outcomes = hand_over(&mut lent, table());
+    println!(rt; "reference, both: {outcomes:?}, {} others", boxed.others)?;
     drop(boxed);
     print!(rt; "{out}")
 }
@@ -107,23 +110,23 @@ fn print_interp<R: Print>(rt: &R, alloc: Global) -> io::Result<()> {
         known: Vec::new(alloc),
         unknown: 0,
     };
-    let answers = hand_over(&mut interp, table());
-    println!(rt; "parameter: {answers:?}, {:?}", interp.known)?;
+    let outcomes = hand_over(&mut interp, table());
+    println!(rt; "parameter: {outcomes:?}, {:?}", interp.known)?;
     let mut lent = &mut interp;
-    let answers = hand_over(&mut lent, table());
-    println!(rt; "parameter, by reference: {answers:?}, {:?}", interp.known)?;
+    let outcomes = hand_over(&mut lent, table());
+    println!(rt; "parameter, by reference: {outcomes:?}, {:?}", interp.known)?;
     let mut boxed = Box::new(alloc, interp)?;
-    let answers = hand_over(&mut boxed, table());
-    println!(rt; "parameter, in a box: {answers:?}, {:?}", boxed.known)?;
+    let outcomes = hand_over(&mut boxed, table());
+    println!(rt; "parameter, in a box: {outcomes:?}, {:?}", boxed.known)?;
     let mut lent = &mut boxed;
-    let answers = hand_over(&mut lent, table());
-    println!(rt; "parameter, both: {answers:?}, {} unknown", boxed.unknown)
+    let outcomes = hand_over(&mut lent, table());
+    println!(rt; "parameter, both: {outcomes:?}, {} unknown", boxed.unknown)
 }
 
 /// Prints the results of the factory.
 fn print_factory<R: Print>(rt: &R) -> io::Result<()> {
-    let answers = hand_over(&mut OperatorFactory::new(), table());
-    println!(rt; "factory: {answers:?}")
+    let outcomes = hand_over(&mut OperatorFactory::new(), table());
+    println!(rt; "factory: {outcomes:?}")
 }
 
 /// Visits copies of an operator that owns a list of two types, by each of the two calls, and

@@ -1,35 +1,35 @@
 //! The iterators.
 
-use crate::told::{Listed, Told};
+use crate::reported::{Listed, Reported};
 use std::alloc::Global;
 use wasm_operators::{BinaryReader, OperatorsReader, OperatorsReaderAllocations};
 
 /// Takes the items of `OperatorsIterator`, once more if allocation failed.
-pub fn items<'a>(alloc: Global, reader: &BinaryReader<'a>, list: Listed<'_, 'a>) -> Told {
-    let told = items_once(alloc, reader, list);
-    if told.lacked_memory() {
+pub fn items<'a>(alloc: Global, reader: &BinaryReader<'a>, list: Listed<'_, 'a>) -> Reported {
+    let reported = items_once(alloc, reader, list);
+    if reported.lacked_memory() {
         return items_once(alloc, reader, list);
     }
-    told
+    reported
 }
 
-fn items_once<'a>(alloc: Global, reader: &BinaryReader<'a>, list: Listed<'_, 'a>) -> Told {
+fn items_once<'a>(alloc: Global, reader: &BinaryReader<'a>, list: Listed<'_, 'a>) -> Reported {
     let mut items = OperatorsReader::new(alloc, reader.clone()).into_iter();
-    let mut told = Told::new();
+    let mut reported = Reported::new();
     let count = list.len() as u64;
     for _ in 0..=count {
         match items.next() {
-            Some(Ok(op)) => told.give(list, &op),
+            Some(Ok(op)) => reported.give(list, &op),
             Some(Err(e)) => {
-                told.refusal = Some(e);
+                reported.refusal = Some(e);
                 break;
             }
             None => break,
         }
     }
-    told.check(items.next().is_none());
-    told.check(items.next().is_none());
-    told
+    reported.check(items.next().is_none());
+    reported.check(items.next().is_none());
+    reported
 }
 
 /// Takes the items of `OperatorsIteratorWithOffsets`, once more if allocation failed. Also returns
@@ -38,32 +38,32 @@ pub fn items_with_offsets<'a>(
     alloc: Global,
     reader: &BinaryReader<'a>,
     list: Listed<'_, 'a>,
-) -> (Told, OperatorsReaderAllocations) {
-    let (told, allocations) = offsets_once(alloc, reader, list);
-    if told.lacked_memory() {
+) -> (Reported, OperatorsReaderAllocations) {
+    let (reported, allocations) = offsets_once(alloc, reader, list);
+    if reported.lacked_memory() {
         return offsets_once(alloc, reader, list);
     }
-    (told, allocations)
+    (reported, allocations)
 }
 
 fn offsets_once<'a>(
     alloc: Global,
     reader: &BinaryReader<'a>,
     list: Listed<'_, 'a>,
-) -> (Told, OperatorsReaderAllocations) {
+) -> (Reported, OperatorsReaderAllocations) {
     let mut items = OperatorsReader::new(alloc, reader.clone()).into_iter_with_offsets();
-    let mut told = Told::new();
+    let mut reported = Reported::new();
     let count = list.len() as u64;
     for _ in 0..=count {
         match items.next() {
-            Some(Ok((op, offset))) => told.give_at(list, &op, offset),
+            Some(Ok((op, offset))) => reported.give_at(list, &op, offset),
             Some(Err(e)) => {
-                told.refusal = Some(e);
+                reported.refusal = Some(e);
                 break;
             }
             None => break,
         }
     }
-    told.check(items.next().is_none());
-    (told, items.into_allocations())
+    reported.check(items.next().is_none());
+    (reported, items.into_allocations())
 }

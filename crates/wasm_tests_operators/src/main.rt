@@ -7,11 +7,11 @@ mod items;
 mod own_misc;
 mod prints;
 mod reads;
+mod reported;
 mod row;
 mod stacks;
 mod tally;
 mod texts;
-mod told;
 mod visits;
 
 use crate::input::{read_input, row_of};

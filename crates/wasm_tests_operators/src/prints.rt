@@ -1,6 +1,6 @@
 //! A visitor that hashes what it visits.
 
-use crate::told::Listed;
+use crate::reported::Listed;
 use std::fmt::{self, Write};
 use wasm_operators::{
     BinaryReader, BrTable, MiscOperator, Operator, Result, VisitGroups, VisitOperator,
@@ -52,7 +52,7 @@ impl Visitor for Prints {
     type Output = ();
 
     // Holds for every operator.
-    ghost visits = { λ before op answer after. Unit {0} };
+    ghost visits = { λ before op outcome after. Unit {0} };
 
     fn visit_any(&mut self, op: Operator<'static>) {
         self.add(&op);
@@ -79,7 +79,7 @@ impl Visitor for LargePrints {
     type Output = [u64; 512];
 
     // Holds for every operator.
-    ghost visits = { λ before op answer after. Unit {0} };
+    ghost visits = { λ before op outcome after. Unit {0} };
 
     fn visit_any(&mut self, op: Operator<'static>) -> [u64; 512] {
         self.prints.add(&op);
@@ -117,7 +117,7 @@ impl Visitor for OwnPrints {
     type Output = ();
 
     // Holds for every operator.
-    ghost visits = { λ before op answer after. Unit {0} };
+    ghost visits = { λ before op outcome after. Unit {0} };
 
     fn visit_any(&mut self, op: Operator<'static>) {
         self.prints.add(&op);

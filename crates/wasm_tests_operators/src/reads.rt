@@ -1,23 +1,23 @@
 //! The calls that read.
 
-use crate::told::{Listed, Told, is_memory};
+use crate::reported::{Listed, Reported, is_memory};
 use wasm_operators::{FrameStack, Operator, OperatorsReader, Result};
 
 /// Reads an expression by `read_all`. A second call must add nothing, and end in the same way.
 pub fn read_all<'a>(
     operators: &mut OperatorsReader<'a>,
     list: &mut Vec<(Operator<'a>, u64)>,
-) -> Told {
-    let mut told = Told::new();
-    let answer = read_to_end(operators, list, &mut told);
-    told.operators = list.len();
-    told.refusal = answer.err();
+) -> Reported {
+    let mut reported = Reported::new();
+    let outcome = read_to_end(operators, list, &mut reported);
+    reported.operators = list.len();
+    reported.refusal = outcome.err();
     let position = operators.original_position();
-    let again = read_to_end(operators, list, &mut told);
-    let is_same = again.err() == told.refusal && list.len() == told.operators;
-    told.check(is_same);
-    told.check(operators.original_position() == position);
-    told
+    let again = read_to_end(operators, list, &mut reported);
+    let is_same = again.err() == reported.refusal && list.len() == reported.operators;
+    reported.check(is_same);
+    reported.check(operators.original_position() == position);
+    reported
 }
 
 /// Calls `read_all`. If allocation fails, what was read is kept, and a second call continues after
@@ -25,68 +25,68 @@ pub fn read_all<'a>(
 fn read_to_end<'a>(
     operators: &mut OperatorsReader<'a>,
     list: &mut Vec<(Operator<'a>, u64)>,
-    told: &mut Told,
+    reported: &mut Reported,
 ) -> Result<()> {
     match operators.read_all(list) {
         Err(e) if is_memory(e) => {
-            told.check(e.offset() == operators.original_position());
+            reported.check(e.offset() == operators.original_position());
             operators.read_all(list)
         }
-        answer => answer,
+        outcome => outcome,
     }
 }
 
 /// Reads the operators one by one, and calls `finish` at the end of the data.
-pub fn read_each<'a>(operators: &mut OperatorsReader<'a>, list: Listed<'_, 'a>) -> Told {
-    let mut told = Told::new();
+pub fn read_each<'a>(operators: &mut OperatorsReader<'a>, list: Listed<'_, 'a>) -> Reported {
+    let mut reported = Reported::new();
     let count = list.len() as u64;
     for _ in 0..=count {
         if operators.eof() {
-            told.refusal = operators.finish().err();
+            reported.refusal = operators.finish().err();
             break;
         }
-        match read_twice(operators, &mut told) {
-            Ok((op, offset)) => told.give_at(list, &op, offset),
+        match read_twice(operators, &mut reported) {
+            Ok((op, offset)) => reported.give_at(list, &op, offset),
             Err(e) => {
-                told.refusal = Some(e);
+                reported.refusal = Some(e);
                 break;
             }
         }
     }
-    told
+    reported
 }
 
 /// Reads one operator. If that fails, a second read must fail with the same error.
 fn read_twice<'a>(
     operators: &mut OperatorsReader<'a>,
-    told: &mut Told,
+    reported: &mut Reported,
 ) -> Result<(Operator<'a>, u64)> {
-    let answer = read_with_memory(operators, told);
-    if let Err(e) = &answer {
-        let again = read_with_memory(operators, told);
-        told.check(again.err() == Some(*e));
+    let outcome = read_with_memory(operators, reported);
+    if let Err(e) = &outcome {
+        let again = read_with_memory(operators, reported);
+        reported.check(again.err() == Some(*e));
     }
-    answer
+    outcome
 }
 
 /// Reads one operator, once more if allocation failed. A failed read changes nothing. Allocation
 /// may fail only for operators that open a frame or own a list.
 fn read_with_memory<'a>(
     operators: &mut OperatorsReader<'a>,
-    told: &mut Told,
+    reported: &mut Reported,
 ) -> Result<(Operator<'a>, u64)> {
     let position = operators.original_position();
     let frame = operators.current_frame();
-    let answer = operators.read_with_offset();
-    if let Err(e) = &answer {
+    let outcome = operators.read_with_offset();
+    if let Err(e) = &outcome {
         let stays = operators.original_position() == position && operators.current_frame() == frame;
-        told.check(stays);
+        reported.check(stays);
         if is_memory(*e) {
-            told.check(e.offset() == position && may_take_memory(operators));
+            reported.check(e.offset() == position && may_take_memory(operators));
             return operators.read_with_offset();
         }
     }
-    answer
+    outcome
 }
 
 /// Returns whether reading the next operator may allocate.
@@ -98,25 +98,25 @@ fn may_take_memory(operators: &OperatorsReader<'_>) -> bool {
 }
 
 /// Reads one operator from each of several clones.
-pub fn read_clones<'a>(operators: &mut OperatorsReader<'a>, list: Listed<'_, 'a>) -> Told {
-    let mut told = Told::new();
+pub fn read_clones<'a>(operators: &mut OperatorsReader<'a>, list: Listed<'_, 'a>) -> Reported {
+    let mut reported = Reported::new();
     let count = list.len() as u64;
     for _ in 0..count {
-        let mut answer = operators.clone();
-        if let Err(e) = &answer {
-            told.check(is_memory(*e) && e.offset() == 0);
-            answer = operators.clone();
+        let mut outcome = operators.clone();
+        if let Err(e) = &outcome {
+            reported.check(is_memory(*e) && e.offset() == 0);
+            outcome = operators.clone();
         }
-        let Ok(mut copy) = answer else {
+        let Ok(mut copy) = outcome else {
             break;
         };
-        match read_with_memory(&mut copy, &mut told) {
-            Ok((op, offset)) => told.give_at(list, &op, offset),
+        match read_with_memory(&mut copy, &mut reported) {
+            Ok((op, offset)) => reported.give_at(list, &op, offset),
             Err(_) => break,
         }
-        let _ = read_with_memory(operators, &mut told);
-        told.check(copy.original_position() == operators.original_position());
-        told.check(copy.current_frame() == operators.current_frame());
+        let _ = read_with_memory(operators, &mut reported);
+        reported.check(copy.original_position() == operators.original_position());
+        reported.check(copy.current_frame() == operators.current_frame());
     }
-    told
+    reported
 }

@@ -3,7 +3,7 @@
 use crate::input::Features;
 use crate::items::{items, items_with_offsets};
 use crate::reads::{read_all, read_clones, read_each};
-use crate::told::{Listed, Told};
+use crate::reported::{Listed, Reported};
 use crate::visits::{visit_all, visit_all_simd, visit_boxed, visit_large, visit_own};
 use bitflags::Flags;
 use std::alloc::Global;
@@ -17,13 +17,13 @@ const FEW: usize = 16;
 
 /// The results of the calls for an expression.
 #[derive(Clone, Copy, Debug, PartialEq, Eq)]
-struct Answers {
-    read: Told,
+struct Outcomes {
+    read: Reported,
     position: u64,
     frame: Option<FrameKind>,
     finish: Option<Error>,
-    items: Told,
-    plain: Told,
+    items: Reported,
+    plain: Reported,
     /// Whether the other calls have the same results.
     agree: Agree,
 }
@@ -60,9 +60,9 @@ pub fn run_row<R: Print>(
     bytes: &[u8],
 ) -> io::Result<()> {
     let mut list = Vec::new(alloc);
-    let answers = answers_to(alloc, features.first(), bytes, &mut list);
+    let outcomes = outcomes_of(alloc, features.first(), bytes, &mut list);
     print_list(rt, list.as_slice())?;
-    print_answers(rt, answers)?;
+    print_outcomes(rt, outcomes)?;
     if let Features::These(_) = features {
         return println!(rt);
     }
@@ -71,7 +71,7 @@ pub fn run_row<R: Print>(
     for bits in 0..64u32 {
         if features.take(bits) {
             sets = sets.wrapping_add(1);
-            if !is_read(alloc, bits, bytes, list.as_slice(), answers.read) {
+            if !is_read(alloc, bits, bytes, list.as_slice(), outcomes.read) {
                 others = others.wrapping_add(1);
             }
         }
@@ -80,24 +80,30 @@ pub fn run_row<R: Print>(
 }
 
 /// Returns whether `read_all` reads this list under these features, and ends in this way.
-fn is_read(alloc: Global, bits: u32, bytes: &[u8], list: Listed<'_, '_>, wanted: Told) -> bool {
+fn is_read(
+    alloc: Global,
+    bits: u32,
+    bytes: &[u8],
+    list: Listed<'_, '_>,
+    expected: Reported,
+) -> bool {
     let reader = BinaryReader::new_features(bytes, 0, WasmFeatures::from_bits_retain(bits));
     let mut found = Vec::new(alloc);
-    let mut told = read_all(&mut OperatorsReader::new(alloc, reader), &mut found);
-    told.operators = 0;
+    let mut reported = read_all(&mut OperatorsReader::new(alloc, reader), &mut found);
+    reported.operators = 0;
     for (op, offset) in found.iter() {
-        told.give_at(list, op, *offset);
+        reported.give_at(list, op, *offset);
     }
-    told == wanted
+    reported == expected
 }
 
 /// Returns the results of the calls under these features. `list` is what `read_all` reads.
-fn answers_to<'a>(
+fn outcomes_of<'a>(
     alloc: Global,
     bits: u32,
     bytes: &'a [u8],
     list: &mut Vec<(Operator<'a>, u64)>,
-) -> Answers {
+) -> Outcomes {
     let reader = BinaryReader::new_features(bytes, 0, WasmFeatures::from_bits_retain(bits));
     let mut operators = OperatorsReader::new(alloc, reader.clone());
     let read = read_all(&mut operators, list);
@@ -106,7 +112,7 @@ fn answers_to<'a>(
     let items = items(alloc, &reader, list);
     let mut again = OperatorsReader::new_with_allocs(alloc, reader.clone(), allocations);
     let plain = visit_all(&mut again, list);
-    Answers {
+    Outcomes {
         read,
         position: operators.original_position(),
         frame: operators.current_frame(),
@@ -128,8 +134,8 @@ fn answers_to<'a>(
 /// Returns whether the clones read the list.
 fn are_clones<'a>(alloc: Global, reader: &BinaryReader<'a>, list: Listed<'_, 'a>) -> bool {
     let mut operators = OperatorsReader::new(alloc, reader.clone());
-    let told = read_clones(&mut operators, list);
-    told.is_right && told.operators == list.len()
+    let reported = read_clones(&mut operators, list);
+    reported.is_right && reported.operators == list.len()
 }
 
 /// Prints the operators with their offsets, or their number and the last one.
@@ -150,35 +156,35 @@ fn print_list<R: Print>(rt: &R, list: Listed<'_, '_>) -> io::Result<()> {
 }
 
 /// Prints the results of the calls.
-fn print_answers<R: Print>(rt: &R, answers: Answers) -> io::Result<()> {
+fn print_outcomes<R: Print>(rt: &R, outcomes: Outcomes) -> io::Result<()> {
     print!(rt; "; ")?;
-    print_end(rt, answers.read.refusal)?;
-    if let Some(e) = answers.read.refusal {
+    print_end(rt, outcomes.read.refusal)?;
+    if let Some(e) = outcomes.read.refusal {
         print!(rt; ": {}", e.message())?;
     }
-    print!(rt; "\n    at {} in ", answers.position)?;
-    match answers.frame {
+    print!(rt; "\n    at {} in ", outcomes.position)?;
+    match outcomes.frame {
         Some(kind) => print!(rt; "{kind:?}")?,
         None => print!(rt; "no frame")?,
     }
     print!(rt; "; finish: ")?;
-    print_end(rt, answers.finish)?;
-    print_told(rt, "items", answers.items)?;
-    print_told(rt, "plain visits", answers.plain)?;
-    if answers.read.is_right && answers.agree == ALL_AGREE {
+    print_end(rt, outcomes.finish)?;
+    print_reported(rt, "items", outcomes.items)?;
+    print_reported(rt, "plain visits", outcomes.plain)?;
+    if outcomes.read.is_right && outcomes.agree == ALL_AGREE {
         print!(rt; "; the others agree")
     } else {
-        print!(rt; "; NOT: {:?}", answers.agree)
+        print!(rt; "; NOT: {:?}", outcomes.agree)
     }
 }
 
 /// Prints how many operators a call returned, and its error.
-fn print_told<R: Print>(rt: &R, name: &str, told: Told) -> io::Result<()> {
-    print!(rt; "; {name}: {}", told.operators)?;
-    if !told.is_right {
+fn print_reported<R: Print>(rt: &R, name: &str, reported: Reported) -> io::Result<()> {
+    print!(rt; "; {name}: {}", reported.operators)?;
+    if !reported.is_right {
         print!(rt; ", NOT those of the list")?;
     }
-    match told.refusal {
+    match reported.refusal {
         Some(e) => {
             print!(rt; ", ")?;
             print_end(rt, Some(e))

@@ -1,7 +1,7 @@
 //! The stack of open frames, and the allocations of readers.
 
 use crate::prints::Prints;
-use crate::told::is_memory;
+use crate::reported::is_memory;
 use std::alloc::Global;
 use std::io::{self, Print};
 use wasm_operators::{
@@ -54,7 +54,7 @@ fn push_with_memory(stack: &mut ControlStack, kind: FrameKind) -> Result<()> {
     let before = stack.last();
     match stack.push(kind) {
         Err(e) if is_memory(e) && e.offset() == 0 && stack.last() == before => stack.push(kind),
-        answer => answer,
+        outcome => outcome,
     }
 }
 
@@ -62,7 +62,7 @@ fn push_with_memory(stack: &mut ControlStack, kind: FrameKind) -> Result<()> {
 fn clone_with_memory(stack: &ControlStack) -> Result<ControlStack> {
     match stack.clone() {
         Err(e) if is_memory(e) && e.offset() == 0 => stack.clone(),
-        answer => answer,
+        outcome => outcome,
     }
 }
 
@@ -98,8 +98,8 @@ fn print_reserved<R: Print>(rt: &R, alloc: Global) -> io::Result<()> {
     let reader = BinaryReader::new(&CLOSED, 0);
     let mut operators = OperatorsReader::new_with_allocs(alloc, reader, allocations);
     let mut prints = Prints::new();
-    let answer = operators.visit_all_simd(&mut prints);
-    println!(rt; ", {} visits, {answer:?}", prints.operators)
+    let outcome = operators.visit_all_simd(&mut prints);
+    println!(rt; ", {} visits, {outcome:?}", prints.operators)
 }
 
 /// Prints what readers return about the rest of their data.

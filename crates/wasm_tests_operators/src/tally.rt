@@ -28,7 +28,7 @@ impl Visitor for Tally {
     type Output = ();
 
     // Holds for every operator.
-    ghost visits = { λ before op answer after. Unit {0} };
+    ghost visits = { λ before op outcome after. Unit {0} };
 
     fn visit_any(&mut self, _op: Operator<'static>) {
         self.any = self.any.saturating_add(1);
@@ -110,24 +110,24 @@ pub fn print_tallies<R: Print>(rt: &R, alloc: Global) -> io::Result<()> {
 
 fn print_visits<R: Print>(rt: &R, alloc: Global, name: &str, bytes: &[u8]) -> io::Result<()> {
     let mut tally = Tally { own: 0, any: 0 };
-    let answer = operators(alloc, bytes).visit_all(&mut tally);
-    println!(rt; "visits of its own, {name}: {answer:?}, {tally:?}")?;
-    let answer = operators(alloc, bytes).visit_all_simd(&mut tally);
-    println!(rt; "once more: {answer:?}, {tally:?}")?;
+    let outcome = operators(alloc, bytes).visit_all(&mut tally);
+    println!(rt; "visits of its own, {name}: {outcome:?}, {tally:?}")?;
+    let outcome = operators(alloc, bytes).visit_all_simd(&mut tally);
+    println!(rt; "once more: {outcome:?}, {tally:?}")?;
     let mut tally = Tally { own: 0, any: 0 };
     let mut lent = &mut tally;
-    let answer = operators(alloc, bytes).visit_all(&mut lent);
-    println!(rt; "by reference: {answer:?}, {tally:?}")?;
+    let outcome = operators(alloc, bytes).visit_all(&mut lent);
+    println!(rt; "by reference: {outcome:?}, {tally:?}")?;
     let mut made = Box::new(alloc, Tally { own: 0, any: 0 });
     if made.is_err() {
         made = Box::new(alloc, Tally { own: 0, any: 0 });
     }
     let mut boxed = made?;
-    let answer = operators(alloc, bytes).visit_all(&mut boxed);
-    println!(rt; "in a box: {answer:?}, {:?}", *boxed)?;
+    let outcome = operators(alloc, bytes).visit_all(&mut boxed);
+    println!(rt; "in a box: {outcome:?}, {:?}", *boxed)?;
     let mut lent = &mut boxed;
-    let answer = operators(alloc, bytes).visit_all(&mut lent);
-    println!(rt; "by reference, once more: {answer:?}, {:?}", *boxed)
+    let outcome = operators(alloc, bytes).visit_all(&mut lent);
+    println!(rt; "by reference, once more: {outcome:?}, {:?}", *boxed)
 }
 
 fn operators<'a>(alloc: Global, bytes: &'a [u8]) -> OperatorsReader<'a> {

@@ -1,6 +1,6 @@
 //! The listing of a body.
 
-use crate::answers::fingerprint;
+use crate::outcomes::fingerprint;
 use std::alloc::Global;
 use wasm_listing::operators::{Error, WasmFeatures};
 use wasm_listing::{DumpFault, run};

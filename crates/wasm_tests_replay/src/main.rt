@@ -2,8 +2,8 @@
 //! result that differs.
 #![tactic(auto)]
 
-mod answers;
 mod listing;
+mod outcomes;
 mod parts;
 mod reading;
 mod replay;

@@ -1,6 +1,6 @@
 //! Bytes read as a constant expression, as locals and as a code section.
 
-use crate::answers::write_refusal;
+use crate::outcomes::write_refusal;
 use std::alloc::Global;
 use wasm_listing::operators::{
     BinaryReader, CodeSectionReader, ConstExpr, Error, FunctionBody, LocalsReader, WasmFeatures,

@@ -12,11 +12,11 @@ pub fn write_fields(
     out: &mut String,
 ) -> std::result::Result<Result<()>, AllocError> {
     let mut operators = Vec::new(alloc);
-    let answer = read_body(alloc, features, body, &mut operators);
+    let outcome = read_body(alloc, features, body, &mut operators);
     for (operator, offset) in operators.as_slice() {
         write_line(out, operator, *offset)?;
     }
-    Ok(answer)
+    Ok(outcome)
 }
 
 /// Reads the operators after the locals.
@@ -28,7 +28,7 @@ fn read_body<'a>(
 ) -> Result<()> {
     let reader = BinaryReader::new_features(body, 0, features);
     match FunctionBody::new(reader).get_operators_reader(alloc) {
-        Ok(mut behind) => behind.read_all(operators),
+        Ok(mut after) => after.read_all(operators),
         Err(e) => Err(e),
     }
 }

@@ -1,7 +1,7 @@
 //! The comparison of results with those of wasmparser.
 
-use crate::answers::{fingerprint, write_visits};
 use crate::listing::Listing;
+use crate::outcomes::{fingerprint, write_visits};
 use crate::parts::{write_constant, write_locals, write_section};
 use crate::reading::write_fields;
 use crate::row::{Row, Sample, is_heading, row_of, sample_of};
@@ -22,7 +22,7 @@ pub struct Replay {
     /// Whether the current row differs.
     differs: bool,
     /// The result of a call as text.
-    answer: String,
+    outcome: String,
 }
 
 impl Replay {
@@ -33,7 +33,7 @@ impl Replay {
             cases: 0,
             differ: 0,
             differs: false,
-            answer: String::new(alloc),
+            outcome: String::new(alloc),
         }
     }
 
@@ -72,19 +72,19 @@ impl Replay {
     /// Compares the listing, and how it ends.
     fn listing<R: Print>(&mut self, rt: &R, row: &Row<'_>, body: &[u8]) -> io::Result<()> {
         let listing = Listing::of(self.alloc, row.features, body);
-        listing.write_status(&mut self.answer)?;
+        listing.write_status(&mut self.outcome)?;
         self.compare(rt, "status", row.status)?;
-        listing.write_number(&mut self.answer)?;
+        listing.write_number(&mut self.outcome)?;
         self.compare(rt, "number", row.number)?;
-        listing.write_offset(&mut self.answer)?;
+        listing.write_offset(&mut self.outcome)?;
         self.compare(rt, "offset", row.offset)?;
-        listing.write_text(&mut self.answer)?;
+        listing.write_text(&mut self.outcome)?;
         self.compare(rt, "text", row.text)?;
-        listing.write_count(&mut self.answer)?;
+        listing.write_count(&mut self.outcome)?;
         self.compare(rt, "operators", row.operators)?;
-        listing.write_print(&mut self.answer)?;
+        listing.write_print(&mut self.outcome)?;
         self.compare(rt, "listing", row.listing)?;
-        listing.write_lines(&mut self.answer)?;
+        listing.write_lines(&mut self.outcome)?;
         self.compare(rt, "lines", row.lines)
     }
 
@@ -93,51 +93,51 @@ impl Replay {
         let mut text = String::new(self.alloc);
         let end = write_fields(self.alloc, row.features, body, &mut text)?;
         let print = fingerprint(text.as_bytes());
-        write!(self.answer, "{print:016x}")?;
-        if self.answer.as_str() != row.fields {
+        write!(self.outcome, "{print:016x}")?;
+        if self.outcome.as_str() != row.fields {
             print!(rt; "{text}")?;
         }
         self.compare(rt, "fields", row.fields)?;
-        write_visits(&mut self.answer, text.lines().count() as u64, end)?;
+        write_visits(&mut self.outcome, text.lines().count() as u64, end)?;
         self.compare_end(rt, "read_all", row)
     }
 
     /// Compares the number of visits of visitors that count.
     fn visits<R: Print>(&mut self, rt: &R, row: &Row<'_>, body: &[u8]) -> io::Result<()> {
-        write_all(self.alloc, row.features, body, &mut self.answer)?;
+        write_all(self.alloc, row.features, body, &mut self.outcome)?;
         self.compare_end(rt, "visit_all_simd", row)?;
-        write_plain(self.alloc, row.features, body, &mut self.answer)?;
+        write_plain(self.alloc, row.features, body, &mut self.outcome)?;
         self.compare(rt, "visit_all", row.plain)
     }
 
     /// Compares the results for the same bytes as a constant expression, locals and a code section.
     fn parts<R: Print>(&mut self, rt: &R, row: &Row<'_>, body: &[u8]) -> io::Result<()> {
-        write_constant(self.alloc, row.features, body, &mut self.answer)?;
+        write_constant(self.alloc, row.features, body, &mut self.outcome)?;
         self.compare(rt, "constant expression", row.constant)?;
-        write_locals(row.features, body, &mut self.answer)?;
+        write_locals(row.features, body, &mut self.outcome)?;
         self.compare(rt, "locals", row.locals)?;
-        write_section(self.alloc, row.features, body, &mut self.answer)?;
+        write_section(self.alloc, row.features, body, &mut self.outcome)?;
         self.compare(rt, "code section", row.section)
     }
 
     /// Compares the result with the number of operators that wasmparser reads, and with how that
     /// ends.
     fn compare_end<R: Print>(&mut self, rt: &R, what: &str, row: &Row<'_>) -> io::Result<()> {
-        let mut wanted = String::new(self.alloc);
+        let mut expected = String::new(self.alloc);
         match row.status {
-            "0" => write!(wanted, "{} Ok", row.operators)?,
-            _ => write!(wanted, "{} E{}@{}", row.operators, row.number, row.offset)?,
+            "0" => write!(expected, "{} Ok", row.operators)?,
+            _ => write!(expected, "{} E{}@{}", row.operators, row.number, row.offset)?,
         }
-        self.compare(rt, what, wanted.as_str())
+        self.compare(rt, what, expected.as_str())
     }
 
     /// Compares the result with the expected one, and clears it.
-    fn compare<R: Print>(&mut self, rt: &R, what: &str, wanted: &str) -> io::Result<()> {
-        if self.answer.as_str() != wanted {
+    fn compare<R: Print>(&mut self, rt: &R, what: &str, expected: &str) -> io::Result<()> {
+        if self.outcome.as_str() != expected {
             self.differs = true;
-            println!(rt; "{what}: {}, and not {wanted}", self.answer)?;
+            println!(rt; "{what}: {}, and not {expected}", self.outcome)?;
         }
-        self.answer.clear();
+        self.outcome.clear();
         Ok(())
     }
 
@@ -145,29 +145,29 @@ impl Replay {
     fn sample<R: Print>(&mut self, rt: &R, sample: &Sample<'_>) -> io::Result<()> {
         let hexadecimal = format!(in self.alloc;
             "{}{}{}",
-            sample.before, sample.operator, sample.behind
+            sample.before, sample.operator, sample.after
         )?;
         let mut bytes = Vec::new(self.alloc);
         read_hex(&mut bytes, hexadecimal.as_str())?;
         let body = bytes.as_slice();
         let offset = sample.before.len() / 2;
         let listing = Listing::of(self.alloc, WasmFeatures::all(), body);
-        listing.write_status(&mut self.answer)?;
+        listing.write_status(&mut self.outcome)?;
         self.compare(rt, "status", "0")?;
-        let wanted = format!(in self.alloc; "{offset} {}", sample.name)?;
-        self.find(rt, listing.lines(), wanted.as_str())?;
+        let expected = format!(in self.alloc; "{offset} {}", sample.name)?;
+        self.find(rt, listing.lines(), expected.as_str())?;
         let mut text = String::new(self.alloc);
         let _end = write_fields(self.alloc, WasmFeatures::all(), body, &mut text)?;
-        let wanted = format!(in self.alloc; "{offset} {}", sample.fields)?;
-        self.find(rt, text.as_str(), wanted.as_str())
+        let expected = format!(in self.alloc; "{offset} {}", sample.fields)?;
+        self.find(rt, text.as_str(), expected.as_str())
     }
 
     /// Searches for a line, and prints the whole text if it is missing.
-    fn find<R: Print>(&mut self, rt: &R, text: &str, wanted: &str) -> io::Result<()> {
-        if text.lines().any(|line| line == wanted) {
+    fn find<R: Print>(&mut self, rt: &R, text: &str, expected: &str) -> io::Result<()> {
+        if text.lines().any(|line| line == expected) {
             return Ok(());
         }
         self.differs = true;
-        println!(rt; "no line {wanted}, but\n{text}")
+        println!(rt; "no line {expected}, but\n{text}")
     }
 }

@@ -59,7 +59,7 @@ pub struct Sample<'r> {
     /// The bytes before the operator, those of the operator, and those after it, in hexadecimal.
     pub before: &'r str,
     pub operator: &'r str,
-    pub behind: &'r str,
+    pub after: &'r str,
     /// The operator's name and its fields.
     pub fields: &'r str,
 }
@@ -75,7 +75,7 @@ pub fn sample_of<'r>(line: &'r str) -> Option<Sample<'r>> {
         name,
         before: columns.next()?,
         operator: columns.next()?,
-        behind: columns.next()?,
+        after: columns.next()?,
         fields: columns.next()?,
     })
 }

@@ -1,6 +1,6 @@
 //! Visitors that count.
 
-use crate::answers::write_visits;
+use crate::outcomes::write_visits;
 use std::alloc::Global;
 use wasm_listing::operators::{
     BinaryReader, BrTable, FunctionBody, Operator, OperatorsReader, Result, VisitGroups,
@@ -18,7 +18,7 @@ impl Visitor for Plain {
     type Output = ();
 
     // Holds for every operator.
-    ghost visits = { λ before op answer after. Unit {0} };
+    ghost visits = { λ before op outcome after. Unit {0} };
 
     fn visit_any(&mut self, _op: Operator<'static>) {
         self.visits = self.visits.saturating_add(1);
@@ -43,7 +43,7 @@ impl Visitor for All {
     type Output = ();
 
     // Holds for every operator.
-    ghost visits = { λ before op answer after. Unit {0} };
+    ghost visits = { λ before op outcome after. Unit {0} };
 
     fn visit_any(&mut self, _op: Operator<'static>) {
         self.visits = self.visits.saturating_add(1);
@@ -61,7 +61,7 @@ impl<'a> VisitOperator<'a> for All {
 impl VisitSimdOperator for All {}
 
 /// Creates a reader after the locals of a body.
-fn behind_locals<'a>(
+fn after_locals<'a>(
     alloc: Global,
     features: WasmFeatures,
     body: &'a [u8],
@@ -77,19 +77,19 @@ pub fn write_plain(
     out: &mut String,
 ) -> Written {
     let mut plain = Plain { visits: 0 };
-    let answer = match behind_locals(alloc, features, body) {
+    let outcome = match after_locals(alloc, features, body) {
         Ok(mut operators) => operators.visit_all(&mut plain),
         Err(e) => Err(e),
     };
-    write_visits(out, plain.visits, answer)
+    write_visits(out, plain.visits, outcome)
 }
 
 /// Writes how many visits `visit_all_simd` makes, and how it ends.
 pub fn write_all(alloc: Global, features: WasmFeatures, body: &[u8], out: &mut String) -> Written {
     let mut all = All { visits: 0 };
-    let answer = match behind_locals(alloc, features, body) {
+    let outcome = match after_locals(alloc, features, body) {
         Ok(mut operators) => operators.visit_all_simd(&mut all),
         Err(e) => Err(e),
     };
-    write_visits(out, all.visits, answer)
+    write_visits(out, all.visits, outcome)
 }

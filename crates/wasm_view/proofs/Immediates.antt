@@ -323,29 +323,29 @@ argument_again m t o target ordering =
     ap (λ (s : Option MemArgOrdering). (let same : MemArg = record { align = m.align; max_align = m.max_align; offset = m.offset; target = m.target; ordering = s } in same)) ordering
 
 -- The immediates of these kinds that the fields of the struct hold.
-abbrev told_by : List Kind → WasmOperator → List Immediate
-told_by (is_unsigned_32 ∷ []) v = unsigned_32 v.first ∷ []
-told_by (is_memory_index ∷ []) v = memory_index v.first ∷ []
-told_by (is_unsigned_32 ∷ is_unsigned_32 ∷ []) v = unsigned_32 v.first ∷ unsigned_32 v.second ∷ []
-told_by (is_unsigned_32 ∷ is_table_index ∷ []) v = unsigned_32 v.first ∷ table_index_32 v.second ∷ []
-told_by (is_memory_argument k max ∷ []) v = memory_argument k max (argument_at v) ∷ []
-told_by (is_memory_argument k max ∷ is_one_lane ∷ []) v = memory_argument k max (argument_at v) ∷ one_lane v.lane ∷ []
-told_by (is_one_lane ∷ []) v = one_lane v.lane ∷ []
-told_by (is_signed_32 ∷ []) v = signed_32 (cast_signed w64 v.wide) ∷ []
-told_by (is_signed_64 ∷ []) v = signed_64 (cast_signed w64 v.wide) ∷ []
-told_by (is_float_32 ∷ []) v = float_32 v.wide ∷ []
-told_by (is_float_64 ∷ []) v = float_64 v.wide ∷ []
-told_by (is_vector ∷ []) v = vector (record { 0 = v.bytes }) ∷ []
-told_by (is_sixteen_lanes ∷ []) v = sixteen_lanes v.bytes ∷ []
-told_by (is_order ∷ is_unsigned_32 ∷ []) v = order (order_at v.ordering) ∷ unsigned_32 v.first ∷ []
-told_by (is_order ∷ is_unsigned_32 ∷ is_unsigned_32 ∷ []) v = order (order_at v.ordering) ∷ unsigned_32 v.first ∷ unsigned_32 v.second ∷ []
-told_by (is_fence_order ∷ []) v = fence_order (order_at v.ordering) ∷ []
-told_by (is_heap_type ∷ []) v = heap_type (heap_at v.kind v.first) ∷ []
-told_by (is_cast ∷ []) v =
+abbrev read_back : List Kind → WasmOperator → List Immediate
+read_back (is_unsigned_32 ∷ []) v = unsigned_32 v.first ∷ []
+read_back (is_memory_index ∷ []) v = memory_index v.first ∷ []
+read_back (is_unsigned_32 ∷ is_unsigned_32 ∷ []) v = unsigned_32 v.first ∷ unsigned_32 v.second ∷ []
+read_back (is_unsigned_32 ∷ is_table_index ∷ []) v = unsigned_32 v.first ∷ table_index_32 v.second ∷ []
+read_back (is_memory_argument k max ∷ []) v = memory_argument k max (argument_at v) ∷ []
+read_back (is_memory_argument k max ∷ is_one_lane ∷ []) v = memory_argument k max (argument_at v) ∷ one_lane v.lane ∷ []
+read_back (is_one_lane ∷ []) v = one_lane v.lane ∷ []
+read_back (is_signed_32 ∷ []) v = signed_32 (cast_signed w64 v.wide) ∷ []
+read_back (is_signed_64 ∷ []) v = signed_64 (cast_signed w64 v.wide) ∷ []
+read_back (is_float_32 ∷ []) v = float_32 v.wide ∷ []
+read_back (is_float_64 ∷ []) v = float_64 v.wide ∷ []
+read_back (is_vector ∷ []) v = vector (record { 0 = v.bytes }) ∷ []
+read_back (is_sixteen_lanes ∷ []) v = sixteen_lanes v.bytes ∷ []
+read_back (is_order ∷ is_unsigned_32 ∷ []) v = order (order_at v.ordering) ∷ unsigned_32 v.first ∷ []
+read_back (is_order ∷ is_unsigned_32 ∷ is_unsigned_32 ∷ []) v = order (order_at v.ordering) ∷ unsigned_32 v.first ∷ unsigned_32 v.second ∷ []
+read_back (is_fence_order ∷ []) v = fence_order (order_at v.ordering) ∷ []
+read_back (is_heap_type ∷ []) v = heap_type (heap_at v.kind v.first) ∷ []
+read_back (is_cast ∷ []) v =
     cast (record { relative_depth = v.first; from = reference_at v.kind v.second; to = reference_at v.other_kind v.third }) ∷ []
-told_by (is_block_type ∷ []) v = block_type (block_at v.kind v.first) ∷ []
-told_by (is_select_types ∷ []) v = select_types (select.One (value_at v.kind v.first)) ∷ []
-told_by _ v = []
+read_back (is_block_type ∷ []) v = block_type (block_at v.kind v.first) ∷ []
+read_back (is_select_types ∷ []) v = select_types (select.One (value_at v.kind v.first)) ∷ []
+read_back _ v = []
 
 -- The immediates that the struct determines completely.
 abbrev pub AreWhole : List Immediate → Type 0
@@ -372,41 +372,41 @@ AreWhole (block_type ty ∷ []) = Unit {0}
 AreWhole (select_types (select.One ty) ∷ []) = Unit {0}
 AreWhole _ = ⊥
 
-pub told_again : (offset opcode : ℕ) (is : List Immediate) → AreWhole is → told_by (map kind_of is) (view offset opcode is) ≡ is
-told_again offset opcode [] whole = refl
-told_again offset opcode (unsigned_32 a ∷ []) whole = refl
-told_again offset opcode (memory_index a ∷ []) whole = refl
-told_again offset opcode (unsigned_32 a ∷ unsigned_32 b ∷ []) whole = refl
-told_again offset opcode (unsigned_32 a ∷ table_index_32 b ∷ []) whole = refl
-told_again offset opcode (memory_argument k max m ∷ []) whole =
+pub read_back_same : (offset opcode : ℕ) (is : List Immediate) → AreWhole is → read_back (map kind_of is) (view offset opcode is) ≡ is
+read_back_same offset opcode [] whole = refl
+read_back_same offset opcode (unsigned_32 a ∷ []) whole = refl
+read_back_same offset opcode (memory_index a ∷ []) whole = refl
+read_back_same offset opcode (unsigned_32 a ∷ unsigned_32 b ∷ []) whole = refl
+read_back_same offset opcode (unsigned_32 a ∷ table_index_32 b ∷ []) whole = refl
+read_back_same offset opcode (memory_argument k max m ∷ []) whole =
     ap (λ (n : MemArg). memory_argument k max n ∷ []) (argument_again m _ _ (target_again m.target) (ordering_again m.ordering))
-told_again offset opcode (memory_argument k max m ∷ one_lane lane ∷ []) whole =
+read_back_same offset opcode (memory_argument k max m ∷ one_lane lane ∷ []) whole =
     ap (λ (n : MemArg). memory_argument k max n ∷ one_lane lane ∷ []) (argument_again m _ _ (target_again m.target) (ordering_again m.ordering))
-told_again offset opcode (one_lane lane ∷ []) whole = refl
-told_again offset opcode (signed_32 n ∷ []) whole = ap (λ (z : ℤ). signed_32 z ∷ []) (to_z-of_z w64 n whole)
-told_again offset opcode (signed_64 n ∷ []) whole = ap (λ (z : ℤ). signed_64 z ∷ []) (to_z-of_z w64 n whole)
-told_again offset opcode (float_32 bits ∷ []) whole = refl
-told_again offset opcode (float_64 bits ∷ []) whole = refl
-told_again offset opcode (vector v ∷ []) whole = refl
-told_again offset opcode (sixteen_lanes lanes ∷ []) whole = refl
-told_again offset opcode (order o ∷ unsigned_32 a ∷ []) whole = ap (λ (p : Ordering). order p ∷ unsigned_32 a ∷ []) (order_again o)
-told_again offset opcode (order o ∷ unsigned_32 a ∷ unsigned_32 b ∷ []) whole =
+read_back_same offset opcode (one_lane lane ∷ []) whole = refl
+read_back_same offset opcode (signed_32 n ∷ []) whole = ap (λ (z : ℤ). signed_32 z ∷ []) (to_z-of_z w64 n whole)
+read_back_same offset opcode (signed_64 n ∷ []) whole = ap (λ (z : ℤ). signed_64 z ∷ []) (to_z-of_z w64 n whole)
+read_back_same offset opcode (float_32 bits ∷ []) whole = refl
+read_back_same offset opcode (float_64 bits ∷ []) whole = refl
+read_back_same offset opcode (vector v ∷ []) whole = refl
+read_back_same offset opcode (sixteen_lanes lanes ∷ []) whole = refl
+read_back_same offset opcode (order o ∷ unsigned_32 a ∷ []) whole = ap (λ (p : Ordering). order p ∷ unsigned_32 a ∷ []) (order_again o)
+read_back_same offset opcode (order o ∷ unsigned_32 a ∷ unsigned_32 b ∷ []) whole =
     ap (λ (p : Ordering). order p ∷ unsigned_32 a ∷ unsigned_32 b ∷ []) (order_again o)
-told_again offset opcode (fence_order o ∷ []) whole = ap (λ (p : Ordering). fence_order p ∷ []) (order_again o)
-told_again offset opcode (heap_type ty ∷ []) whole = ap (λ (h : HeapType). heap_type h ∷ []) (heap_again ty)
-told_again offset opcode (cast c ∷ []) whole =
+read_back_same offset opcode (fence_order o ∷ []) whole = ap (λ (p : Ordering). fence_order p ∷ []) (order_again o)
+read_back_same offset opcode (heap_type ty ∷ []) whole = ap (λ (h : HeapType). heap_type h ∷ []) (heap_again ty)
+read_back_same offset opcode (cast c ∷ []) whole =
     ap (λ (r : Reference). cast (record { relative_depth = c.relative_depth; from = r; to = reference_at (reference_kind c.to) (heap_index c.to.heap_type) }) ∷ [])
     (reference_again c.from.nullable c.from.heap_type) ∙
     ap (λ (r : Reference). cast (record { relative_depth = c.relative_depth; from = c.from; to = r }) ∷ []) (reference_again c.to.nullable c.to.heap_type)
-told_again offset opcode (block_type ty ∷ []) whole = ap (λ (b : BlockType). block_type b ∷ []) (block_again ty)
-told_again offset opcode (select_types (select.One ty) ∷ []) whole = ap (λ (v : ValType). select_types (select.One v) ∷ []) (value_again ty)
-told_again offset opcode _ whole = absurd whole
+read_back_same offset opcode (block_type ty ∷ []) whole = ap (λ (b : BlockType). block_type b ∷ []) (block_again ty)
+read_back_same offset opcode (select_types (select.One ty) ∷ []) whole = ap (λ (v : ValType). select_types (select.One v) ∷ []) (value_again ty)
+read_back_same offset opcode _ whole = absurd whole
 
 -- So the struct and the kinds determine the immediates.
 pub same_immediates : (offset opcode at code : ℕ) (is js : List Immediate) → AreWhole is → AreWhole js → map kind_of is ≡ map kind_of js →
     view offset opcode is ≡ view at code js → is ≡ js
 same_immediates offset opcode at code is js w x kinds same =
-    sym (told_again offset opcode is w) ∙ ap (λ ks. told_by ks (view offset opcode is)) kinds ∙ ap (told_by (map kind_of js)) same ∙ told_again at code js x
+    sym (read_back_same offset opcode is w) ∙ ap (λ ks. read_back ks (view offset opcode is)) kinds ∙ ap (read_back (map kind_of js)) same ∙ read_back_same at code js x
 
 -- The opcode and the offset are in fields of their own.
 pub view_offset : (offset opcode : ℕ) (is : List Immediate) → (view offset opcode is).offset ≡ offset

@@ -64,7 +64,7 @@ named (operator.Atomic op) shape has = atomic_named op shape
 named _ shape has = refl
 
 -- The name that the number and the shape in a C struct determine.
-pub name_told : (op : Operator) (offset : ℕ) → name_at (view_of (op, offset)).opcode (view_of (op, offset)).shape ≡ name_of op
-name_told op offset =
+pub name_agrees : (op : Operator) (offset : ℕ) → name_at (view_of (op, offset)).opcode (view_of (op, offset)).shape ≡ name_of op
+name_agrees op offset =
     let number = view_opcode offset (opcode_number (prefix_of op) (opcode_of op)) (immediates_of op) in
     ap (λ n. name_at n (view_of (op, offset)).shape) number ∙ named op (view_of (op, offset)).shape (has_shape op offset)

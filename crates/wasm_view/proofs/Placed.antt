@@ -5,7 +5,7 @@ use Rattle.wasm_instr.specs.declared.operator.Operator.{Operator}
 use Rattle.wasm_instr.specs.declared.operator.Operator.TheVariants as operator
 use Rattle.wasm_view.specs.Members.{type_of}
 use Rattle.wasm_view.specs.declared.members.WasmType.{WasmType}
-use Rattle.wasm_view.specs.Lists.{written, types_of, PlacesOne, PlacesMembers, AnswersMembers}
+use Rattle.wasm_view.specs.Lists.{written, types_of, PlacesOne, PlacesMembers, ReturnsMembers}
 
 pub written_none : {X : Type 0} (old : List X) → written [] old ≡ old
 written_none [] = refl
@@ -47,18 +47,18 @@ drop_all (y ∷ ys) (suc n) past = drop_all ys n (omega (arith, past))
 -- A member that is written because the array has an element for it.
 pub member_set : {X : Type 0} (member : X) (index from place : ℕ) (old new : List X) → from ≤ index → place ≡ index - from → place < length old →
     new ≡ set old place member → PlacesOne member index from old new
-member_set member index from place old new behind at within put seen base is placed =
-    let there : from ≤ length seen = omega (arith, behind, is) in
+member_set member index from place old new after at within put seen base is placed =
+    let there : from ≤ length seen = omega (arith, after, is) in
     let n : place ≡ length (drop from seen) = omega (arith, at, is, drop_length seen from there) in
     let fits : length (drop from seen) < length base = omega (arith, within, n, ap length placed, written_length (drop from seen) base) in
     put ∙ ap (λ list. set list place member) placed ∙ ap (λ m. set (written (drop from seen) base) m member) n ∙
     written_one (drop from seen) base member fits ∙ ap (λ list. written list base) (sym (drop_more seen member from there))
 
 -- A member after the end of the array.
-pub member_behind : {X : Type 0} (member : X) (index from place : ℕ) (old : List X) → from ≤ index → place ≡ index - from → length old ≤ place →
+pub member_after : {X : Type 0} (member : X) (index from place : ℕ) (old : List X) → from ≤ index → place ≡ index - from → length old ≤ place →
     PlacesOne member index from old old
-member_behind member index from place old behind at full seen base is placed =
-    let there : from ≤ length seen = omega (arith, behind, is) in
+member_after member index from place old after at full seen base is placed =
+    let there : from ≤ length seen = omega (arith, after, is) in
     let past : length base ≤ length (drop from seen) =
     omega (arith, full, at, is, drop_length seen from there, ap length placed, written_length (drop from seen) base) in
     placed ∙ written_full (drop from seen) base member past ∙ ap (λ list. written list base) (sym (drop_more seen member from there))
@@ -110,7 +110,7 @@ none_placed (suc n) base = sym (written_none base)
 
 -- The type of a `select` that has one type, without a list.
 pub lone_placed : (op : Operator) (ty : ValType) (from : ℕ) (plain : WasmType) (base new : List WasmType) → op ≡ operator.TypedSelect ty → plain ≡ type_of ty →
-    PlacesOne plain 0 from base new → AnswersMembers (types_of op) from base (Some 1) new
+    PlacesOne plain 0 from base new → ReturnsMembers (types_of op) from base (Some 1) new
 lone_placed op ty from plain base new is same one =
     let placed = one [] base refl (none_placed from base) ∙ ap (λ p. written (drop from (p ∷ [])) base) same in
-    subst (λ o. AnswersMembers (types_of o) from base (Some 1) new) (sym is) (1, refl, (refl, placed))
+    subst (λ o. ReturnsMembers (types_of o) from base (Some 1) new) (sym is) (1, refl, (refl, placed))

@@ -14,39 +14,39 @@ with_last byte (n ∷ numbers) lt = ap (λ t. before_number t byte n numbers) (l
 with_more : (byte n : ℕ) (numbers : List ℕ) → 128 ≤ byte → with_byte byte (n ∷ numbers) ≡ (128 * n + (byte - 128)) ∷ numbers
 with_more byte n numbers le = ap (λ t. before_number t byte n numbers) (le-ltb byte 128 le)
 
-first_number : (width : ℕ) (text behind : List ℕ) (n : ℕ) → EncodesUnsigned width text n → numbers_of (text ++ behind) ≡ n ∷ numbers_of behind
-first_number width [] behind n p = absurd p
-first_number width (c ∷ []) behind n p = with_last c (numbers_of behind) p.0 ∙ ap (λ z. z ∷ numbers_of behind) (sym p.1)
-first_number width (c ∷ d ∷ text) behind n (w, le, lt, high, sum, p) =
-    let below = first_number (width - 7) (d ∷ text) behind high p in
+first_number : (width : ℕ) (text after : List ℕ) (n : ℕ) → EncodesUnsigned width text n → numbers_of (text ++ after) ≡ n ∷ numbers_of after
+first_number width [] after n p = absurd p
+first_number width (c ∷ []) after n p = with_last c (numbers_of after) p.0 ∙ ap (λ z. z ∷ numbers_of after) (sym p.1)
+first_number width (c ∷ d ∷ text) after n (w, le, lt, high, sum, p) =
+    let below = first_number (width - 7) (d ∷ text) after high p in
     let value : 128 * high + (c - 128) ≡ n = omega arith in
-    ap (with_byte c) below ∙ with_more c high (numbers_of behind) le ∙ ap (λ z. z ∷ numbers_of behind) value
+    ap (with_byte c) below ∙ with_more c high (numbers_of after) le ∙ ap (λ z. z ∷ numbers_of after) value
 
 -- Reading the bytes of encoded numbers returns these numbers.
 pub numbers_are : (text : List ℕ) (numbers : List ℕ) → EncodesEach (EncodesUnsigned 32) text numbers → numbers_of text ≡ numbers
 numbers_are text [] p = ap numbers_of p
-numbers_are text (n ∷ numbers) (first, behind, e, p, ps) =
-    ap numbers_of e ∙ first_number 32 first behind n p ∙ ap (λ z. n ∷ z) (numbers_are behind numbers ps)
+numbers_are text (n ∷ numbers) (first, after, e, p, ps) =
+    ap numbers_of e ∙ first_number 32 first after n p ∙ ap (λ z. n ∷ z) (numbers_are after numbers ps)
 
 -- ---- the targets that an iterator has left; it returns each as `Ok`
 
 abbrev oks : List ℕ → List (Result ℕ Error)
 oks ns = map Ok ns
 
-abbrev answered : Result ℕ Error → ℕ
-answered (Ok n) = n
-answered (Err e) = 0
+abbrev returned : Result ℕ Error → ℕ
+returned (Ok n) = n
+returned (Err e) = 0
 
-all_answered : (ns : List ℕ) → map answered (oks ns) ≡ ns
-all_answered [] = refl
-all_answered (n ∷ ns) = ap (λ ms. n ∷ ms) (all_answered ns)
+all_returned : (ns : List ℕ) → map returned (oks ns) ≡ ns
+all_returned [] = refl
+all_returned (n ∷ ns) = ap (λ ms. n ∷ ms) (all_returned ns)
 
-pub first_answered : (old new : List ℕ) (target : Result ℕ Error) (label : ℕ) → oks old ≡ target ∷ oks new → target ≡ Ok label → old ≡ label ∷ new
-first_answered old new target label e is =
-    sym (all_answered old) ∙ ap (map answered) e ∙ ap (λ ns. answered target ∷ ns) (all_answered new) ∙ ap (λ t. answered t ∷ new) is
+pub first_returned : (old new : List ℕ) (target : Result ℕ Error) (label : ℕ) → oks old ≡ target ∷ oks new → target ≡ Ok label → old ≡ label ∷ new
+first_returned old new target label e is =
+    sym (all_returned old) ∙ ap (map returned) e ∙ ap (λ ns. returned target ∷ ns) (all_returned new) ∙ ap (λ t. returned t ∷ new) is
 
-none_answered : (old : List ℕ) → oks old ≡ [] → old ≡ []
-none_answered old e = sym (all_answered old) ∙ ap (map answered) e
+none_returned : (old : List ℕ) → oks old ≡ [] → old ≡ []
+none_returned old e = sym (all_returned old) ∙ ap (map returned) e
 
 abbrev IsFirstOk : List (Result ℕ Error) → Type 0
 IsFirstOk (Err e ∷ rs) = ⊥
@@ -76,5 +76,5 @@ one_further seen label index at = omega (arith, at, length-append seen (label �
 pub none_left : (all seen old base new : List ℕ) (count from : ℕ) → oks old ≡ [] → all ≡ seen ++ old → count ≡ length all →
     new ≡ written (drop from seen) base → PlacesMembers all from base count new
 none_left all seen old base new count from end parts n placed =
-    let whole : seen ≡ all = sym (append-nil seen) ∙ ap (λ list. seen ++ list) (sym (none_answered old end)) ∙ sym parts in
+    let whole : seen ≡ all = sym (append-nil seen) ∙ ap (λ list. seen ++ list) (sym (none_returned old end)) ∙ sym parts in
     (n, placed ∙ ap (λ list. written (drop from list) base) whole)

@@ -43,9 +43,9 @@ abbrev pub PlacesMembers : {X : Type 0} → List X → ℕ → List X → ℕ �
 PlacesMembers members from old count new = (count ≡ length members) × (new ≡ written (drop from members) old)
 
 -- The same for the list of an operator; if it has none, nothing changes.
-abbrev pub AnswersMembers : {X : Type 0} → Option (List X) → ℕ → List X → Option ℕ → List X → Type 0
-AnswersMembers None from old result new = (result ≡ None) × (new ≡ old)
-AnswersMembers (Some members) from old result new = (count : ℕ) × (result ≡ Some count) × PlacesMembers members from old count new
+abbrev pub ReturnsMembers : {X : Type 0} → Option (List X) → ℕ → List X → Option ℕ → List X → Type 0
+ReturnsMembers None from old result new = (result ≡ None) × (new ≡ old)
+ReturnsMembers (Some members) from old result new = (count : ℕ) × (result ≡ Some count) × PlacesMembers members from old count new
 
 -- One more member is written, after those with a lower index.
 abbrev pub PlacesOne : {X : Type 0} → X → ℕ → ℕ → List X → List X → Type 0

@@ -2,7 +2,7 @@
 ghost use Rattle.std.specs.Prelude.{◌≡◌, [], ◌∷◌, ◌<◌, ◌^◌, map, length};
 ghost use Rattle.wasm_instr.specs.imm.BranchTables.{numbers_of};
 ghost use Rattle.wasm_view.specs.Members.{type_of, catch_of, handle_of};
-ghost use Rattle.wasm_view.specs.Lists.{targets_of, types_of, catches_of, handles_of, PlacesMembers, AnswersMembers, PlacesOne};
+ghost use Rattle.wasm_view.specs.Lists.{targets_of, types_of, catches_of, handles_of, PlacesMembers, ReturnsMembers, PlacesOne};
 
 use crate::members::{WasmHandler, WasmType, catch_of, handle_of, type_of};
 use wasm_instr::below::ValType;
@@ -71,7 +71,7 @@ fn place_handles(handles: &[Handle], from: usize, out: &mut [WasmHandler]) -> us
 /// `out` has space. Returns how many targets the operator has. For any other operator, returns
 /// `None` and leaves `out` unchanged.
 pub fn targets_of(op: &Operator<'_>, from: usize, out: &mut [u32]) -> Option<usize>
-    ensures { AnswersMembers (targets_of op.now) from out.old result out.new }
+    ensures { ReturnsMembers (targets_of op.now) from out.old result out.new }
 {
     match op {
         Operator::BrTable { targets } => Some(place_targets(targets, from, out)),
@@ -81,7 +81,7 @@ pub fn targets_of(op: &Operator<'_>, from: usize, out: &mut [u32]) -> Option<usi
 
 /// Writes the types of a `select` that has types, in the same way as [`targets_of`].
 pub fn types_of(op: &Operator<'_>, from: usize, out: &mut [WasmType]) -> Option<usize>
-    ensures { AnswersMembers (types_of op.now) from out.old result out.new }
+    ensures { ReturnsMembers (types_of op.now) from out.old result out.new }
 {
     match op {
         Operator::TypedSelect { ty } => {
@@ -95,7 +95,7 @@ pub fn types_of(op: &Operator<'_>, from: usize, out: &mut [WasmType]) -> Option<
 
 /// Writes the clauses of a `try_table`, in the same way as [`targets_of`].
 pub fn catches_of(op: &Operator<'_>, from: usize, out: &mut [WasmHandler]) -> Option<usize>
-    ensures { AnswersMembers (catches_of op.now) from out.old result out.new }
+    ensures { ReturnsMembers (catches_of op.now) from out.old result out.new }
 {
     match op {
         Operator::TryTable { try_table } => {
@@ -108,7 +108,7 @@ pub fn catches_of(op: &Operator<'_>, from: usize, out: &mut [WasmHandler]) -> Op
 /// Writes the clauses of a `resume`, a `resume_throw` or a `resume_throw_ref`, in the same way as
 /// [`targets_of`].
 pub fn handles_of(op: &Operator<'_>, from: usize, out: &mut [WasmHandler]) -> Option<usize>
-    ensures { AnswersMembers (handles_of op.now) from out.old result out.new }
+    ensures { ReturnsMembers (handles_of op.now) from out.old result out.new }
 {
     match op {
         Operator::Resume { resume_table, .. }

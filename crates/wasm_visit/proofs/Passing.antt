@@ -35,9 +35,9 @@ through_holder held visits E F (Err e) old new s t x left (same, h) = (left (sym
 -- The same for a call that decodes some opcodes and returns `None` for the others.
 pub common_through_holder : {V A W : Type 0} (held : W → MutBor V) (visits : V → Operator → A → V → Type 0) (start : ℕ) (result : Option (Result A Error))
     (old new : Reader) (s t : W) (x : V) → ((held s).ghost_name ≡ (held t).ghost_name → x ≡ (held t).now) →
-    IfSome result (λ answer. (frame : FrameKind) →
-    DecodesAt (λ s op a t. ((held s).ghost_name ≡ (held t).ghost_name) × visits (held s).now op a (held t).now) frame start answer old new s t) →
-    IfSome result (λ answer. (frame : FrameKind) → DecodesAt visits frame start answer old new (held s).now x)
-common_through_holder held visits start (Some answer) old new s t x left h =
-    λ frame. through_holder held visits (EncodesAllowed old.features frame) (OperatorFault old.features frame) answer (at_position old start) new s t x left (h frame)
+    IfSome result (λ outcome. (frame : FrameKind) →
+    DecodesAt (λ s op a t. ((held s).ghost_name ≡ (held t).ghost_name) × visits (held s).now op a (held t).now) frame start outcome old new s t) →
+    IfSome result (λ outcome. (frame : FrameKind) → DecodesAt visits frame start outcome old new (held s).now x)
+common_through_holder held visits start (Some outcome) old new s t x left h =
+    λ frame. through_holder held visits (EncodesAllowed old.features frame) (OperatorFault old.features frame) outcome (at_position old start) new s t x left (h frame)
 common_through_holder held visits start None old new s t x left h = tt

@@ -1,7 +1,7 @@
 //! A visitor that passes all operators to `visit_any`.
 ghost use Rattle.std.specs.Prelude.{◌≡◌, None, IfSome, IfNone};
 ghost use Rattle.wasm_decode_groups.specs.grammar.declared.frame_kind.FrameKind.{FrameKind};
-ghost use Rattle.wasm_decode_groups.specs.opcodes.Decoding.{StandsBehind, DecodesAt};
+ghost use Rattle.wasm_decode_groups.specs.opcodes.Decoding.{IsAfterCode, DecodesAt};
 ghost use Rattle.wasm_decode_groups.specs.OneByte.{IsOneByteCode};
 
 use std::alloc::Global;
@@ -51,12 +51,12 @@ pub fn one_byte<V: Visitor>(
     frame: FrameKind,
     code: u8,
 ) -> Result<V::Output>
-    requires behind { StandsBehind start None code reader.old }
+    requires after { IsAfterCode start None code reader.old }
     requires apart { IsOneByteCode code }
     ensures { DecodesAt V.visits frame start result reader.old reader.new v.old v.new }
 {
     match common_one_byte(v, reader, start, code) {
-        Some(answer) => answer,
+        Some(outcome) => outcome,
         None => other_one_byte(v, alloc, reader, start, frame, code),
     }
 }
@@ -72,9 +72,9 @@ fn common_one_byte<V: Visitor>(
     start: usize,
     code: u8,
 ) -> Option<Result<V::Output>>
-    requires { StandsBehind start None code reader.old }
+    requires { IsAfterCode start None code reader.old }
     ensures common { IfSome result
-        (λ answer. (frame : FrameKind) → DecodesAt V.visits frame start answer reader.old reader.new v.old v.new) }
+        (λ outcome. (frame : FrameKind) → DecodesAt V.visits frame start outcome reader.old reader.new v.old v.new) }
     ensures reader { IfNone result (reader.new ≡ reader.old) }
     ensures visitor { IfNone result (v.new ≡ v.old) }
 {
@@ -91,7 +91,7 @@ fn other_one_byte<V: Visitor>(
     frame: FrameKind,
     code: u8,
 ) -> Result<V::Output>
-    requires behind { StandsBehind start None code reader.old }
+    requires after { IsAfterCode start None code reader.old }
     requires apart { IsOneByteCode code }
     ensures { DecodesAt V.visits frame start result reader.old reader.new v.old v.new }
 {

@@ -20,7 +20,7 @@ pub fn visit_operator<'a, V: VisitOperator<'a>>(
     op: &Operator<'a>,
 ) -> Result<V::Output>
     requires { ¬ IsVector op.now }
-    ensures visited { IfOk result (λ answer. V.visits v.old op.now answer v.new) }
+    ensures visited { IfOk result (λ outcome. V.visits v.old op.now outcome v.new) }
     ensures refused { IfErr result (λ e. IsOutOfMemoryAt 0 e × (v.new ≡ v.old)) }
     ensures lean { ¬ HoldsList op.now → IsOk result }
 {
@@ -41,7 +41,7 @@ pub fn visit_operator_with_simd<'a, V>(
 ) -> Result<V::Output>
 where
     V: VisitOperator<'a> + VisitSimdOperator,
-    ensures visited { IfOk result (λ answer. V.visits v.old op.now answer v.new) }
+    ensures visited { IfOk result (λ outcome. V.visits v.old op.now outcome v.new) }
     ensures refused { IfErr result (λ e. IsOutOfMemoryAt 0 e × (v.new ≡ v.old)) }
     ensures lean { ¬ HoldsList op.now → IsOk result }
 {

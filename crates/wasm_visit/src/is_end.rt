@@ -15,7 +15,7 @@ pub struct IsEndOperatorVisitor;
 impl Visitor for IsEndOperatorVisitor {
     type Output = bool;
 
-    ghost visits = { λ before op answer after. IsTrue answer ↔ (op ≡ Operator.End) };
+    ghost visits = { λ before op outcome after. IsTrue outcome ↔ (op ≡ Operator.End) };
 
     #[inline(always)]
     fn visit_any(&mut self, op: Operator<'static>) -> bool {

@@ -61,7 +61,7 @@ impl<T> OperatorMaker<T> {
 impl<T: HoldOperator> Visitor for OperatorMaker<T> {
     type Output = T;
 
-    ghost visits = { λ before op answer after. T.holds op answer };
+    ghost visits = { λ before op outcome after. T.holds op outcome };
 
     #[inline(always)]
     fn visit_any(&mut self, op: Operator<'static>) -> T {

@@ -2,7 +2,7 @@
 ghost use Rattle.std.specs.Prelude.{◌≤◌, ◌<◌, Some};
 ghost use Rattle.wasm_decode_groups.specs.grammar.declared.frame_kind.FrameKind.{FrameKind};
 ghost use Rattle.wasm_decode_groups.specs.instr.declared.operator.Operator.{Operator};
-ghost use Rattle.wasm_decode_groups.specs.opcodes.Decoding.{StandsBehind, DecodesAt};
+ghost use Rattle.wasm_decode_groups.specs.opcodes.Decoding.{IsAfterCode, DecodesAt};
 ghost use Rattle.wasm_decode_groups.specs.groups.Groups.{IsSimdHigh, IsSimdLow};
 
 use crate::any::ByAny;
@@ -59,7 +59,7 @@ pub trait VisitSimdOperator: Visitor {
     ) -> Result<Self::Output>
     where
         Self: Sized,
-        requires behind { StandsBehind start (Some 0xfd) code reader.old }
+        requires after { IsAfterCode start (Some 0xfd) code reader.old }
         requires half { code < 0x80 }
         ensures { (frame : FrameKind)
             → DecodesAt Self.visits frame start result reader.old reader.new self.old self.new }
@@ -86,7 +86,7 @@ pub trait VisitSimdOperator: Visitor {
     ) -> Result<Self::Output>
     where
         Self: Sized,
-        requires behind { StandsBehind start (Some 0xfd) code reader.old }
+        requires after { IsAfterCode start (Some 0xfd) code reader.old }
         requires half { 0x80 ≤ code }
         ensures { (frame : FrameKind)
             → DecodesAt Self.visits frame start result reader.old reader.new self.old self.new }

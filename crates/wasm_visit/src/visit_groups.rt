@@ -2,7 +2,7 @@
 ghost use Rattle.std.specs.Prelude.{◌≡◌, ◌≤◌, ◌<◌, [], Some, None};
 ghost use Rattle.wasm_decode_groups.specs.grammar.declared.frame_kind.FrameKind.{FrameKind};
 ghost use Rattle.wasm_decode_groups.specs.instr.declared.operator.Operator.{Operator};
-ghost use Rattle.wasm_decode_groups.specs.opcodes.Decoding.{StandsBehind, VisitsRow, DecodesAt};
+ghost use Rattle.wasm_decode_groups.specs.opcodes.Decoding.{IsAfterCode, VisitsRow, DecodesAt};
 ghost use Rattle.wasm_decode_groups.specs.OneByte.{IsOneByteCode};
 ghost use Rattle.wasm_decode_groups.specs.groups.Groups.{IsOneByte};
 
@@ -90,7 +90,7 @@ pub trait VisitGroups: Visitor {
     ) -> Result<Self::Output>
     where
         Self: Sized,
-        requires behind { StandsBehind start None code reader.old }
+        requires after { IsAfterCode start None code reader.old }
         requires apart { IsOneByteCode code }
         ensures { DecodesAt Self.visits frame start result reader.old reader.new self.old self.new }
     {
@@ -116,7 +116,7 @@ pub trait VisitGroups: Visitor {
     ) -> Result<Self::Output>
     where
         Self: Sized,
-        requires behind { StandsBehind start None code reader.old }
+        requires after { IsAfterCode start None code reader.old }
         requires apart { IsOneByteCode code }
         requires low { code < 0x20 }
         ensures { DecodesAt Self.visits frame start result reader.old reader.new self.old self.new }
@@ -152,7 +152,7 @@ pub trait VisitGroups: Visitor {
     ) -> Result<Self::Output>
     where
         Self: Sized,
-        requires behind { StandsBehind start (Some 0xfb) code reader.old }
+        requires after { IsAfterCode start (Some 0xfb) code reader.old }
         ensures { (frame : FrameKind)
             → DecodesAt Self.visits frame start result reader.old reader.new self.old self.new }
     {
@@ -175,7 +175,7 @@ pub trait VisitGroups: Visitor {
     ) -> Result<Self::Output>
     where
         Self: Sized,
-        requires behind { StandsBehind start (Some 0xfc) code reader.old }
+        requires after { IsAfterCode start (Some 0xfc) code reader.old }
         ensures { (frame : FrameKind)
             → DecodesAt Self.visits frame start result reader.old reader.new self.old self.new }
     {
@@ -198,7 +198,7 @@ pub trait VisitGroups: Visitor {
     ) -> Result<Self::Output>
     where
         Self: Sized,
-        requires behind { StandsBehind start (Some 0xfe) code reader.old }
+        requires after { IsAfterCode start (Some 0xfe) code reader.old }
         ensures { (frame : FrameKind)
             → DecodesAt Self.visits frame start result reader.old reader.new self.old self.new }
     {

@@ -16,7 +16,7 @@ pub struct Factory;
 impl Visitor for Factory {
     type Output = Operator<'static>;
 
-    ghost visits = { λ before op answer after. answer ≡ op };
+    ghost visits = { λ before op outcome after. outcome ≡ op };
 
     #[inline(always)]
     fn visit_any(&mut self, op: Operator<'static>) -> Operator<'static> {

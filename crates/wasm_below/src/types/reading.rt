@@ -2,7 +2,7 @@
 ghost use Rattle.std.specs.Prelude.{◌≡◌, ◌≢◌, ℕ, ◌+◌, ◌≤◌, ◌⊎◌, ◌∷◌, [], IsTrue, ◌↔◌, IfSome, IfNone, IfErr};
 ghost use Rattle.wasm_below.specs.declared.types.AbstractHeapType.{AbstractHeapType};
 ghost use Rattle.wasm_below_bytes.specs.Source.{Reads, BeginsWith, rest};
-ghost use Rattle.wasm_below.specs.TypeEncoding.{heap_type_byte, ref_byte, behind_byte, LeadsShort, LeadsRefType, LedBy, EncodesShort, EncodesConcrete, EncodesExact, EncodesHeapType, EncodesShortRef, EncodesLongRef, EncodesRefType, EncodesNumberType, EncodesValType, ShortFault, ByteFault, ExactFault, ConcreteFault, HeapTypeFault, RefTypeFault, ValTypeFault};
+ghost use Rattle.wasm_below.specs.TypeEncoding.{heap_type_byte, ref_byte, after_byte, LeadsShort, LeadsRefType, LedBy, EncodesShort, EncodesConcrete, EncodesExact, EncodesHeapType, EncodesShortRef, EncodesLongRef, EncodesRefType, EncodesNumberType, EncodesValType, ShortFault, ByteFault, ExactFault, ConcreteFault, HeapTypeFault, RefTypeFault, ValTypeFault};
 
 use super::{AbstractHeapType, HeapType, MAX_TYPE_INDEX, RefType, ValType};
 use wasm_below_bytes::{BinaryReader, Message, Result, TypeName};
@@ -163,7 +163,7 @@ impl RefType {
     fn read_long(reader: &mut BinaryReader<'_>, nullable: bool) -> Result<RefType>
         requires { BeginsWith (ref_byte nullable) (rest reader.old) }
         ensures reads { Reads EncodesLongRef result reader.old reader.new }
-        ensures fault { IfErr result (λ e. HeapTypeFault e.message (behind_byte reader.old) e.offset) }
+        ensures fault { IfErr result (λ e. HeapTypeFault e.message (after_byte reader.old) e.offset) }
     {
         let start = reader.current_position();
         reader.advance();

@@ -37,7 +37,7 @@ impl<'a> BinaryReader<'a> {
     {
         match u32_at(self.buffer, self.position) {
             Ok(number) => {
-                self.position = number.behind;
+                self.position = number.after;
                 Ok(number.value as u32)
             }
             Err(refusal) => Err(self.no_number(refusal, 32, NumberName::VarU32)),
@@ -127,14 +127,14 @@ impl<'a> BinaryReader<'a> {
         ensures fault { IfErr result (λ e. U32Fault e.message self.old e.offset) }
     {
         if let Some(number) = two_bytes(self.buffer, self.position) {
-            self.position = number.behind;
+            self.position = number.after;
             return Ok(number.value as u32);
         }
         let number = long_u32(self.buffer, self.position);
-        if number.behind == 0 {
+        if number.after == 0 {
             return Err(self.coded_refusal(number.value, 32, NumberName::VarU32));
         }
-        self.position = number.behind;
+        self.position = number.after;
         Ok(number.value as u32)
     }
 
@@ -145,14 +145,14 @@ impl<'a> BinaryReader<'a> {
         ensures fault { IfErr result (λ e. U64Fault e.message self.old e.offset) }
     {
         if let Some(number) = two_bytes(self.buffer, self.position) {
-            self.position = number.behind;
+            self.position = number.after;
             return Ok(number.value);
         }
         let number = long_u64(self.buffer, self.position);
-        if number.behind == 0 {
+        if number.after == 0 {
             return Err(self.coded_refusal(number.value, 64, NumberName::VarU64));
         }
-        self.position = number.behind;
+        self.position = number.after;
         Ok(number.value)
     }
 
@@ -164,7 +164,7 @@ impl<'a> BinaryReader<'a> {
     {
         match long_i32(self.buffer, self.position) {
             Ok(number) => {
-                self.position = number.behind;
+                self.position = number.after;
                 Ok(number.value as i32)
             }
             Err(refusal) => Err(self.no_number(refusal, 32, NumberName::VarI32)),
@@ -179,7 +179,7 @@ impl<'a> BinaryReader<'a> {
     {
         match long_s33(self.buffer, self.position) {
             Ok(number) => {
-                self.position = number.behind;
+                self.position = number.after;
                 Ok(number.value)
             }
             Err(refusal) => Err(as_too_long(self.no_number(refusal, 33, NumberName::VarS33))),
@@ -193,10 +193,10 @@ impl<'a> BinaryReader<'a> {
         ensures fault { IfErr result (λ e. I64Fault e.message self.old e.offset) }
     {
         let number = long_i64(self.buffer, self.position);
-        if number.behind == 0 {
+        if number.after == 0 {
             return Err(self.coded_refusal(number.value.unsigned_abs(), 64, NumberName::VarI64));
         }
-        self.position = number.behind;
+        self.position = number.after;
         Ok(number.value)
     }
 

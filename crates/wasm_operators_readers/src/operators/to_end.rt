@@ -29,9 +29,9 @@ impl<'a> OperatorsReader<'a> {
             → NextMayAllocate EncodesAllowed self.new ⊎ (vec_capacity list.new.items < vec_len list.new.items + 1)) }
     {
         let mut reader = self.reader.clone();
-        let answer = collect_rest(list, self.alloc, &mut reader, &mut self.control);
+        let outcome = collect_rest(list, self.alloc, &mut reader, &mut self.control);
         self.reader = reader;
-        answer
+        outcome
     }
 
     /// Visits to the end of the data or to an error, and finishes.
@@ -44,10 +44,10 @@ impl<'a> OperatorsReader<'a> {
     {
         let mut reader = self.reader.clone();
         let mut control = replace(&mut self.control, ControlStack::new(self.alloc));
-        let answer = visit_rest_simd(v, self.alloc, &mut reader, &mut control);
+        let outcome = visit_rest_simd(v, self.alloc, &mut reader, &mut control);
         self.reader = reader;
         self.control = control;
-        answer
+        outcome
     }
 
     /// Visits to the end of the data, to a SIMD operator or to another error, and finishes.
@@ -60,9 +60,9 @@ impl<'a> OperatorsReader<'a> {
     {
         let mut reader = self.reader.clone();
         let mut control = replace(&mut self.control, ControlStack::new(self.alloc));
-        let answer = visit_rest(v, self.alloc, &mut reader, &mut control);
+        let outcome = visit_rest(v, self.alloc, &mut reader, &mut control);
         self.reader = reader;
         self.control = control;
-        answer
+        outcome
     }
 }

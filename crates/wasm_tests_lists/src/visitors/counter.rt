@@ -32,7 +32,7 @@ impl Visitor for Counter {
     type Output = ();
 
     // A visit lowers no count.
-    ghost visits = { λ before op answer after. (before.own ≤ after.own) × (before.any ≤ after.any)
+    ghost visits = { λ before op outcome after. (before.own ≤ after.own) × (before.any ≤ after.any)
         × (before.tables ≤ after.tables) };
 
     fn visit_any(&mut self, _op: Operator<'static>) {

@@ -23,7 +23,7 @@ impl<'m, M> Visitor for Interp<'m, M> {
     type Output = bool;
 
     // A visit does not lower the count.
-    ghost visits = { λ before op answer after. before.unknown ≤ after.unknown };
+    ghost visits = { λ before op outcome after. before.unknown ≤ after.unknown };
 
     fn visit_any(&mut self, _op: Operator<'static>) -> bool {
         self.unknown = self.unknown.saturating_add(1);

@@ -16,7 +16,7 @@ impl<'w> Visitor for Printer<'w> {
     type Output = Result<(), AllocError>;
 
     // A visit does not lower the count.
-    ghost visits = { λ before op answer after. before.others ≤ after.others };
+    ghost visits = { λ before op outcome after. before.others ≤ after.others };
 
     fn visit_any(&mut self, _op: Operator<'static>) -> Result<(), AllocError> {
         self.others = self.others.saturating_add(1);

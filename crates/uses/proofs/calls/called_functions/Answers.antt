@@ -7,7 +7,7 @@ use Rattle.uses.proofs.calls.called_functions.Goals as goal
 pub returns : goal.returns
 returns c =
     let opens = rw (c.new-body.ensures ∙ c.new_features.ensures) at c.in_ok-get_operators_reader.ensures.opens in
-    let along = (c.in_ok-visit_all_simd.ensures.rest [] c.in_ok-get_operators_reader.ensures.stood).tree in
+    let along = (c.in_ok-visit_all_simd.ensures.rest [] c.in_ok-get_operators_reader.ensures.read_so_far).tree in
     let whole = c.opened_bodies.ensures.whole (reader_of c.args.features 0 c.args.bytes.now) _ _ along.0 opens along.2 in
     let after : Found = c.visit_all_simd.new.v in
     let same : record { calls = c.found.inside.calls.items; refused = c.found.inside.refused } ≡ after = c.found.view_is in

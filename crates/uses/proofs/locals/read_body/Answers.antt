@@ -21,8 +21,8 @@ returns c =
     let none : StepsLocals None c.declarations.items c.next.new.self = c.in_default.ensures.steps in
     let stepped = subst (HasStepped c.declarations.locals.items body) (sym none.1) c.declarations.invariant in
     let left : c.next.new.self.left ≡ 0 = ap (λ items. items.left) none.1 ∙ none.0 in
-    let behind = c.into_operators_reader.ensures.behind body c.declarations.locals.items left stepped in
-    let along = (c.in_ok-read_all.ensures.rest [] c.into_operators_reader.ensures.stood).tree in
-    let whole = c.past_locals.ensures.body body c.into_operators_reader.result.reader c.declarations.locals.items along.0 behind along.2.encodes in
+    let after = c.into_operators_reader.ensures.after body c.declarations.locals.items left stepped in
+    let along = (c.in_ok-read_all.ensures.rest [] c.into_operators_reader.ensures.read_so_far).tree in
+    let whole = c.past_locals.ensures.body body c.into_operators_reader.result.reader c.declarations.locals.items along.0 after along.2.encodes in
     let same = along.1 ∙ ap (λ first. first ++ along.0) c.new-operators.ensures.items in
     subst (EncodesBody (input c.args.features c.args.bytes.now) c.declarations.locals.items) (sym same) whole

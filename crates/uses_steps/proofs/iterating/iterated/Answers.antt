@@ -8,7 +8,7 @@ use Rattle.uses_steps.proofs.iterating.iterated.Goals as goal
 pub operators-init : goal.operators-init
 operators-init c =
     let r = reader_of c.args.features 0 c.args.bytes.now in
-    let none = gives_none r c.new-reader.result (c.new-reader.ensures.reader ∙ c.new_features.ensures) c.new-reader.ensures.stood in
+    let none = gives_none r c.new-reader.result (c.new-reader.ensures.reader ∙ c.new_features.ensures) c.new-reader.ensures.read_so_far in
     rw (c.into_iter_with_offsets-items.ensures, c.new-found.ensures.items) none
 
 pub operators-preserved : goal.operators-preserved
@@ -26,5 +26,5 @@ pub returns : goal.returns
 returns c =
     let r = reader_of c.args.features 0 c.args.bytes.now in
     let given = c.operators.invariant in
-    let along = (c.path_is_run.ensures (roles_of (operators c.operators.found.items)) c.operators.items.reader.frames).0 given.stood.path in
+    let along = (c.path_is_run.ensures (roles_of (operators c.operators.found.items)) c.operators.items.reader.frames).0 given.read_so_far.path in
     gives_all r c.operators.items c.operators.found.items given c.in_default.ensures.steps.0 along

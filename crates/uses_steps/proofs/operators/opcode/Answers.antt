@@ -2,4 +2,4 @@ use Rattle.uses_steps.proofs.operators.opcode.Goals as goal
 
 pub returns : goal.returns
 returns c = λ features text encodes.
-    (encodes.head, encodes.behind, encodes.parts, rw (c.info-row.ensures.prefix, c.info-row.ensures.code) encodes.code)
+    (encodes.head, encodes.after, encodes.parts, rw (c.info-row.ensures.prefix, c.info-row.ensures.code) encodes.code)

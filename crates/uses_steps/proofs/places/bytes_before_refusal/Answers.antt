@@ -5,7 +5,7 @@ use Rattle.uses_steps.proofs.places.bytes_before_refusal.Goals as goal
 
 pub returns-in-Ok : goal.returns-in-Ok
 returns-in-Ok c =
-    let along = (c.in-Ok.ensures.rest [] c.new-reader.ensures.stood).tree in
+    let along = (c.in-Ok.ensures.rest [] c.new-reader.ensures.read_so_far).tree in
     let encodes = rw (c.new-reader.ensures.reader ∙ c.new_features.ensures) at along.2.encodes in
     record { part = ([], sym (append-nil c.args.bytes.now)); place = tt; whole = (refl, (along.0, encodes)) }
 

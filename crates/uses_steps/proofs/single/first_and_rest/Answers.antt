@@ -11,8 +11,8 @@ use Rattle.uses_steps.proofs.single.first_and_rest.Goals as goal
 pub returns-in-Ok-read_all-clause-found : goal.returns-in-Ok-read_all-clause-found
 returns-in-Ok-read_all-clause-found c =
     let op = c.in-Ok.first in
-    let stood = c.one_operator.ensures.any [] op c.new-reader.result c.read.new.self c.in-Ok.ensures c.new-reader.ensures.stood in
-    let along = (c.in-Ok-read_all.ensures.rest (op ∷ []) stood).tree in
+    let read_so_far = c.one_operator.ensures.any [] op c.new-reader.result c.read.new.self c.in-Ok.ensures c.new-reader.ensures.read_so_far in
+    let along = (c.in-Ok-read_all.ensures.rest (op ∷ []) read_so_far).tree in
     let list = along.1 ∙ ap (λ first. first ++ along.0) c.new-others.ensures.items in
     let all = first_then c.args.features c.args.bytes.now c.new-reader.result c.read.new.self op along.0 (c.new-reader.ensures.reader ∙ c.new_features.ensures)
     c.in-Ok.ensures along.2.encodes in
@@ -26,7 +26,7 @@ returns-in-Ok-clause-only c = λ whole encodes.
     let others = c.in-Err-read_all.ensures.runs in
     let both = c.single_reads.ensures.joined old mid c.read_all.new.self _ others.0 first others.2 in
     let there = subst (λ r. EncodesExpression (source_of r) whole) (sym (c.new-reader.ensures.reader ∙ c.new_features.ensures)) encodes in
-    c.read_to_the_end.ensures.only [] c.in-Err-read_all.error old c.read_all.new.self _ whole c.new-reader.ensures.stood both others.3 there
+    c.read_to_the_end.ensures.only [] c.in-Err-read_all.error old c.read_all.new.self _ whole c.new-reader.ensures.read_so_far both others.3 there
 
 pub returns-clause-only : goal.returns-clause-only
 returns-clause-only c = λ whole encodes.

@@ -1,7 +1,7 @@
 use Rattle.std.proofs.Common.{◌≡◌, ◌≢◌, sym, subst, ap, ◌∙◌}
 use Rattle.wasm_operators.specs.below.bytes.message.Message.TheVariants as message
 use Rattle.wasm_operators.specs.below.Source.{Reader, offset_of}
-use Rattle.wasm_operators.specs.opcodes.Entry.{instruction_behind}
+use Rattle.wasm_operators.specs.opcodes.Entry.{guarded_instruction}
 use Rattle.wasm_operators.specs.opcodes.OperatorFaults.{OperatorFault}
 use Rattle.uses_steps.proofs.Singles.{fault_before}
 use Rattle.uses_steps.proofs.single.why_refused.Goals as goal
@@ -40,5 +40,5 @@ returns-in-WrongFrame-clause-feature c = λ guard begins lacks.
     let other : e.message ≢ message.OutOfMemory = λ m. absurd (cc (said, m)) in
     let fault = fault_before e s c.next_refusal.new.operators c.in-Some.frame (sym c.current_frame.ensures ∙ c.in-Some.is) other c.in-Some-next_refusal.ensures in
     let comes = (rw same at c.features_required.ensures.comes) guard s.reader begins lacks in
-    let one = (rw same at c.operator_refusals.ensures.any) e.message (message.FeatureRequired (instruction_behind guard)) s.reader e.offset (offset_of s.reader) fault comes in
+    let one = (rw same at c.operator_refusals.ensures.any) e.message (message.FeatureRequired (guarded_instruction guard)) s.reader e.offset (offset_of s.reader) fault comes in
     absurd (cc (said, one.0))

@@ -8,7 +8,7 @@ use Rattle.uses_steps.proofs.vectors.count_before_vectors.Goals as goal
 pub returns-in-Ok : goal.returns-in-Ok
 returns-in-Ok c = λ longest is.
     let s = input c.args.features c.args.bytes.now in
-    let along = (c.in-Ok.ensures.rest [] c.new-reader.ensures.stood).tree in
+    let along = (c.in-Ok.ensures.rest [] c.new-reader.ensures.read_so_far).tree in
     let encodes = rw (c.new-reader.ensures.reader ∙ c.new_features.ensures) at along.2.encodes in
     let same = c.one_longest_beginning.ensures s along.0 longest (c.whole_is_longest.ensures [] s along.0 tt encodes) is in
     let few = c.layouts.ensures.length 0 along.0 c.args.bytes.now encodes.0 in
@@ -19,7 +19,7 @@ pub returns : goal.returns
 returns c = λ longest is.
     let s = input c.args.features c.args.bytes.now in
     let same = c.new-reader.ensures.reader ∙ c.new_features.ensures in
-    let along = (c.in-Err.ensures.rest [] c.new-reader.ensures.stood).beginning in
+    let along = (c.in-Err.ensures.rest [] c.new-reader.ensures.read_so_far).beginning in
     let found = longest_at IsScalar c.in-Err.error.message _ along.0 (λ m. c.in_default.not-OutOfMemory (c.message.ensures ∙ m)) along.2.at in
     let is_front = (c.scalar_longest.ensures.exactly [] s longest along.0 is).0 (rw same at found) in
     let takes = rw same at along.2.takes in

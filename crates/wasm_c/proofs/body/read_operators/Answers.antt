@@ -24,7 +24,7 @@ returns-then-placed-out c =
       f.0 ++ more,
       record {
         ends = ends_joined c.single_reads.ensures.joined c.read_to_the_end.ensures.tree c.read_to_the_end.ensures.beginning c.read_all-end.result
-            c.args.operators.now c.fill-placed.new.operators c.read_all-end.new.self f.0 more c.requires.stood f.1 runs;
+            c.args.operators.now c.fill-placed.new.operators c.read_all-end.new.self f.0 more c.requires.read_so_far f.1 runs;
         counted = omega (arith, f.2, c.len.ensures, c.as_slice.ensures.len, ap length c.as_slice.ensures.value, length-append f.0 more);
         in_array = array_joined f.0 more c.args.out.now c.fill-placed.new.out c.place.new.out c.fill-placed.result f.2 f.3 f.4 placed;
       },
@@ -37,7 +37,7 @@ returns c =
     let result = c.visit_all_simd-end.result in
     let end =
     ends_visited _ c.single_reads.ensures.joined c.read_to_the_end.ensures.tree c.read_to_the_end.ensures.beginning c.read_to_the_end.ensures.refused result
-    c.args.operators.now c.fill-placed.new.operators c.visit_all_simd-end.new.self f.0 c.requires.stood f.1 c.visit_all_simd-end.ensures.runs in
+    c.args.operators.now c.fill-placed.new.operators c.visit_all_simd-end.new.self f.0 c.requires.read_so_far f.1 c.visit_all_simd-end.ensures.runs in
     let few = ends_few result c.args.operators.now (f.0 ++ end.0) (subst IsNoLonger (sym c.requires.features) c.layouts.ensures.length) end.2 in (
       f.0 ++ end.0,
       record {

@@ -4,8 +4,8 @@ use Rattle.wasm_c.proofs.lists.handles_at.Goals as goal
 
 pub returns-in-Ok : goal.returns-in-Ok
 returns-in-Ok c =
-    list_read handles_of c.in-Ok.op c.handles_of.result c.answer_count.result c.args.bytes.now c.args.offset c.args.features c.args.at c.args.index c.args.count.now
-    c.answer_count.new.count c.args.out.now c.handles_of.new.out c.in-Ok.ensures c.handles_of.ensures c.answer_count.ensures.some c.answer_count.ensures.none
+    list_read handles_of c.in-Ok.op c.handles_of.result c.store_count.result c.args.bytes.now c.args.offset c.args.features c.args.at c.args.index c.args.count.now
+    c.store_count.new.count c.args.out.now c.handles_of.new.out c.in-Ok.ensures c.handles_of.ensures c.store_count.ensures.some c.store_count.ensures.none
 
 pub returns-in-Err : goal.returns-in-Err
 returns-in-Err c =

@@ -4,8 +4,8 @@ use Rattle.wasm_c.proofs.lists.types_at.Goals as goal
 
 pub returns-in-Ok : goal.returns-in-Ok
 returns-in-Ok c =
-    list_read types_of c.in-Ok.op c.types_of.result c.answer_count.result c.args.bytes.now c.args.offset c.args.features c.args.at c.args.index c.args.count.now
-    c.answer_count.new.count c.args.out.now c.types_of.new.out c.in-Ok.ensures c.types_of.ensures c.answer_count.ensures.some c.answer_count.ensures.none
+    list_read types_of c.in-Ok.op c.types_of.result c.store_count.result c.args.bytes.now c.args.offset c.args.features c.args.at c.args.index c.args.count.now
+    c.store_count.new.count c.args.out.now c.types_of.new.out c.in-Ok.ensures c.types_of.ensures c.store_count.ensures.some c.store_count.ensures.none
 
 pub returns-in-Err : goal.returns-in-Err
 returns-in-Err c =

@@ -2,7 +2,7 @@ use Rattle.std.proofs.Common.{◌++◌, Some, subst}
 use Rattle.std.specs.Prelude.{codes}
 use Rattle.std.specs.Option.{option_map}
 use Rattle.wasm_operators.specs.below.bytes.message.Message.TheVariants as message
-use Rattle.wasm_c.specs.Texts.{message_text, AnswersText}
+use Rattle.wasm_c.specs.Texts.{message_text, ReturnsText}
 use Rattle.wasm_c.proofs.text.write_feature.Goals as goal
 
 pub returns-in-Some : goal.returns-in-Some
@@ -11,6 +11,6 @@ returns-in-Some c =
     let end = c.write_three.result in
     let new = c.write_three.new.text in
     let text =
-    subst (λ name. AnswersText (Some (codes "legacy_exceptions feature required for " ++ (name ++ codes " instruction"))) old end new) c.text.ensures
+    subst (λ name. ReturnsText (Some (codes "legacy_exceptions feature required for " ++ (name ++ codes " instruction"))) old end new) c.text.ensures
     c.write_three.ensures in
-    subst (λ name. AnswersText (option_map message_text (option_map message.FeatureRequired name)) old end new) c.in-Some.ensures text
+    subst (λ name. ReturnsText (option_map message_text (option_map message.FeatureRequired name)) old end new) c.in-Some.ensures text

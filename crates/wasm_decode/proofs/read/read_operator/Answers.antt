@@ -2,16 +2,16 @@ use Rattle.std.proofs.Common.{sym, subst}
 use Rattle.wasm_visit.specs.opcodes.Allowed.{EncodesAllowed, EncodesIn}
 use Rattle.wasm_visit.specs.opcodes.OperatorFaults.{OperatorFault, FaultIn}
 use Rattle.wasm_decode.specs.Reading.{DecodesOperator}
-use Rattle.wasm_decode.proofs.DecodingLemmas.{stands, read_from_start, read_in}
+use Rattle.wasm_decode.proofs.DecodingLemmas.{occurs, read_from_start, read_in}
 use Rattle.wasm_decode.proofs.read.read_operator.Goals as goal
 
 pub returns-in-Ok : goal.returns-in-Ok
 returns-in-Ok c =
     let r = c.args.reader.now in
     let k = c.in-Some.frame in
-    let s = stands r c.read_u8.new.self c.in-Ok.code c.current_position-start.result c.in-Ok.ensures.reads c.current_position-start.ensures in
-    subst (λ z. DecodesOperator (EncodesIn (EncodesAllowed r.features) z) (FaultIn (OperatorFault r.features) z) c.read_behind.result r c.read_behind.new.reader)
+    let s = occurs r c.read_u8.new.self c.in-Ok.code c.current_position-start.result c.in-Ok.ensures.reads c.current_position-start.ensures in
+    subst (λ z. DecodesOperator (EncodesIn (EncodesAllowed r.features) z) (FaultIn (OperatorFault r.features) z) c.read_after_opcode.result r c.read_after_opcode.new.reader)
     (sym c.in-Some.is)
-    (read_in (EncodesAllowed r.features) (OperatorFault r.features) k r c.read_behind.new.reader c.read_behind.result
-    (read_from_start EncodesAllowed OperatorFault k c.current_position-start.result r c.read_u8.new.self c.read_behind.new.reader c.read_behind.result s.0
-    c.read_behind.ensures))
+    (read_in (EncodesAllowed r.features) (OperatorFault r.features) k r c.read_after_opcode.new.reader c.read_after_opcode.result
+    (read_from_start EncodesAllowed OperatorFault k c.current_position-start.result r c.read_u8.new.self c.read_after_opcode.new.reader c.read_after_opcode.result s.0
+    c.read_after_opcode.ensures))

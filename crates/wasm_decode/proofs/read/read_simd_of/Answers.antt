@@ -16,7 +16,7 @@ returns-then-has_no_immediates c k =
     let is = c.has_no_immediates.ensures.without c.if-has_no_immediates.true in
     let op = c.vector_without_immediates in
     as_read (EncodesAllowed r.features k) (OperatorFault r.features k) (at_position r c.args.start) r r r (Ok (operator.Simd op.result))
-    (visited_without_immediates {V = Reader} (λ before op answer after. answer ≡ op) (OperatorFault r.features k) k (Some 0xfd) c.args.code c.args.start r r r (operator.Simd op.result) is c.requires
+    (visited_without_immediates {V = Reader} (λ before op outcome after. outcome ≡ op) (OperatorFault r.features k) k (Some 0xfd) c.args.code c.args.start r r r (operator.Simd op.result) is c.requires
     (operator.Simd op.result, refl, op.ensures.0, op.ensures.1, refl))
 
 pub returns : goal.returns

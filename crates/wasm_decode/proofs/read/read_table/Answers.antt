@@ -14,11 +14,11 @@ returns-in-Ok c k =
     let r = c.args.reader.now in
     let op = operator.BrTable c.in-Ok.targets in
     as_read {V = Unit {0}} (EncodesAllowed r.features k) (OperatorFault r.features k) (at_position r c.args.start) c.branch_table.new.reader tt tt (Ok op)
-    (visited_free (λ (v : Unit {0}) (op answer : Operator) (w : Unit {0}). answer ≡ op) (OperatorFault r.features k) k None 0x0e (is_branch_table ∷ []) (branch_table c.in-Ok.targets ∷ [])
+    (visited_free (λ (v : Unit {0}) (op outcome : Operator) (w : Unit {0}). outcome ≡ op) (OperatorFault r.features k) k None 0x0e (is_branch_table ∷ []) (branch_table c.in-Ok.targets ∷ [])
     c.args.start r c.branch_table.new.reader tt tt op refl c.requires (op, refl, refl, refl, refl) c.in-Ok.ensures)
 
 pub returns-in-Err : goal.returns-in-Err
 returns-in-Err c k =
     let r = c.args.reader.now in
-    (refuses_free (λ (v : Unit {0}) (op answer : Operator) (w : Unit {0}). answer ≡ op) k None 0x0e (is_branch_table ∷ []) c.args.start c.in-Err.e r c.branch_table.new.reader tt
+    (refuses_free (λ (v : Unit {0}) (op outcome : Operator) (w : Unit {0}). outcome ≡ op) k None 0x0e (is_branch_table ∷ []) c.args.start c.in-Err.e r c.branch_table.new.reader tt
     ((λ h. cc h), omega arith) refl c.requires c.in-Err.ensures).1

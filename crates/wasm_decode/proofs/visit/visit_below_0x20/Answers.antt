@@ -4,8 +4,8 @@ use Rattle.wasm_decode.proofs.visit.visit_below_0x20.Goals as goal
 
 pub returns-in-14-clause-scalar : goal.returns-in-14-clause-scalar
 returns-in-14-clause-scalar g c =
-    to_scalar g.V.Visitor.visits c.args.frame c.args.start c.args.code c.args.reader.now c.table_behind.new.reader c.args.v.now c.table_behind.new.v c.table_behind.result
-    (λ h. grind (arith, h, c.requires.low)) c.requires.behind (c.table_behind.ensures c.args.frame)
+    to_scalar g.V.Visitor.visits c.args.frame c.args.start c.args.code c.args.reader.now c.table_after_opcode.new.reader c.args.v.now c.table_after_opcode.new.v c.table_after_opcode.result
+    (λ h. grind (arith, h, c.requires.low)) c.requires.after (c.table_after_opcode.ensures c.args.frame)
 
 pub decode_below_0x20-requires-clause-apart : goal.decode_below_0x20-requires-clause-apart
 decode_below_0x20-requires-clause-apart g c =
@@ -18,4 +18,4 @@ decode_below_0x20-requires-clause-apart g c =
 pub returns-in_default-clause-scalar : goal.returns-in_default-clause-scalar
 returns-in_default-clause-scalar g c =
     to_scalar g.V.Visitor.visits c.args.frame c.args.start c.args.code c.args.reader.now c.decode_below_0x20.new.reader c.args.v.now c.decode_below_0x20.new.self c.decode_below_0x20.result
-    (λ h. grind (arith, h, c.requires.low)) c.requires.behind c.decode_below_0x20.ensures
+    (λ h. grind (arith, h, c.requires.low)) c.requires.after c.decode_below_0x20.ensures

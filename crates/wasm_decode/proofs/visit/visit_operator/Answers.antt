@@ -2,16 +2,16 @@ use Rattle.std.proofs.Common.{sym, subst}
 use Rattle.wasm_visit.specs.opcodes.Allowed.{EncodesScalar, EncodesIn}
 use Rattle.wasm_visit.specs.opcodes.Decoding.{Decodes}
 use Rattle.wasm_visit.specs.opcodes.OperatorFaults.{ScalarOperatorFault, FaultIn}
-use Rattle.wasm_decode.proofs.DecodingLemmas.{stands, from_start, visited_in}
+use Rattle.wasm_decode.proofs.DecodingLemmas.{occurs, from_start, visited_in}
 use Rattle.wasm_decode.proofs.visit.visit_operator.Goals as goal
 
 pub returns-in-Ok : goal.returns-in-Ok
 returns-in-Ok g c =
     let r = c.args.reader.now in
     let k = c.in-Some.frame in
-    let s = stands r c.read_u8.new.self c.in-Ok.code c.current_position-start.result c.in-Ok.ensures.reads c.current_position-start.ensures in
-    subst (λ z. Decodes g.V.Visitor.visits (EncodesIn (EncodesScalar r.features) z) (FaultIn (ScalarOperatorFault r.features) z) c.visit_behind.result r c.visit_behind.new.reader c.args.v.now c.visit_behind.new.v)
+    let s = occurs r c.read_u8.new.self c.in-Ok.code c.current_position-start.result c.in-Ok.ensures.reads c.current_position-start.ensures in
+    subst (λ z. Decodes g.V.Visitor.visits (EncodesIn (EncodesScalar r.features) z) (FaultIn (ScalarOperatorFault r.features) z) c.visit_after_opcode.result r c.visit_after_opcode.new.reader c.args.v.now c.visit_after_opcode.new.v)
     (sym c.in-Some.is)
-    (visited_in g.V.Visitor.visits (EncodesScalar r.features) (ScalarOperatorFault r.features) k r c.visit_behind.new.reader c.args.v.now c.visit_behind.new.v c.visit_behind.result
-    (from_start g.V.Visitor.visits EncodesScalar ScalarOperatorFault k c.current_position-start.result r c.read_u8.new.self c.visit_behind.new.reader c.args.v.now c.visit_behind.new.v
-    c.visit_behind.result s.0 c.visit_behind.ensures))
+    (visited_in g.V.Visitor.visits (EncodesScalar r.features) (ScalarOperatorFault r.features) k r c.visit_after_opcode.new.reader c.args.v.now c.visit_after_opcode.new.v c.visit_after_opcode.result
+    (from_start g.V.Visitor.visits EncodesScalar ScalarOperatorFault k c.current_position-start.result r c.read_u8.new.self c.visit_after_opcode.new.reader c.args.v.now c.visit_after_opcode.new.v
+    c.visit_after_opcode.result s.0 c.visit_after_opcode.ensures))

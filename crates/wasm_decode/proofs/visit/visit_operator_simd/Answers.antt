@@ -2,16 +2,16 @@ use Rattle.std.proofs.Common.{sym, subst}
 use Rattle.wasm_visit.specs.opcodes.Allowed.{EncodesAllowed, EncodesIn}
 use Rattle.wasm_visit.specs.opcodes.Decoding.{Decodes}
 use Rattle.wasm_visit.specs.opcodes.OperatorFaults.{OperatorFault, FaultIn}
-use Rattle.wasm_decode.proofs.DecodingLemmas.{stands, from_start, visited_in}
+use Rattle.wasm_decode.proofs.DecodingLemmas.{occurs, from_start, visited_in}
 use Rattle.wasm_decode.proofs.visit.visit_operator_simd.Goals as goal
 
 pub returns-in-Ok : goal.returns-in-Ok
 returns-in-Ok g c =
     let r = c.args.reader.now in
     let k = c.in-Some.frame in
-    let s = stands r c.read_u8.new.self c.in-Ok.code c.current_position-start.result c.in-Ok.ensures.reads c.current_position-start.ensures in
-    subst (λ z. Decodes g.V.Visitor.visits (EncodesIn (EncodesAllowed r.features) z) (FaultIn (OperatorFault r.features) z) c.visit_behind_simd.result r c.visit_behind_simd.new.reader c.args.v.now c.visit_behind_simd.new.v)
+    let s = occurs r c.read_u8.new.self c.in-Ok.code c.current_position-start.result c.in-Ok.ensures.reads c.current_position-start.ensures in
+    subst (λ z. Decodes g.V.Visitor.visits (EncodesIn (EncodesAllowed r.features) z) (FaultIn (OperatorFault r.features) z) c.visit_after_opcode_simd.result r c.visit_after_opcode_simd.new.reader c.args.v.now c.visit_after_opcode_simd.new.v)
     (sym c.in-Some.is)
-    (visited_in g.V.Visitor.visits (EncodesAllowed r.features) (OperatorFault r.features) k r c.visit_behind_simd.new.reader c.args.v.now c.visit_behind_simd.new.v c.visit_behind_simd.result
-    (from_start g.V.Visitor.visits EncodesAllowed OperatorFault k c.current_position-start.result r c.read_u8.new.self c.visit_behind_simd.new.reader c.args.v.now c.visit_behind_simd.new.v
-    c.visit_behind_simd.result s.0 c.visit_behind_simd.ensures))
+    (visited_in g.V.Visitor.visits (EncodesAllowed r.features) (OperatorFault r.features) k r c.visit_after_opcode_simd.new.reader c.args.v.now c.visit_after_opcode_simd.new.v c.visit_after_opcode_simd.result
+    (from_start g.V.Visitor.visits EncodesAllowed OperatorFault k c.current_position-start.result r c.read_u8.new.self c.visit_after_opcode_simd.new.reader c.args.v.now c.visit_after_opcode_simd.new.v
+    c.visit_after_opcode_simd.result s.0 c.visit_after_opcode_simd.ensures))

@@ -10,9 +10,9 @@ use Rattle.wasm_decode_groups.proofs.atomic_operators.atomic_fence.Goals as goal
 pub returns-in-Ok : goal.returns-in-Ok
 returns-in-Ok g c k =
     let r = c.args.reader.now in
-    visited_free g.V.Visitor.visits (OperatorFault r.features k) k (Some 0xfe) 0x03 (is_fence_order ∷ []) (fence_order c.in-Ok.it ∷ []) c.args.start r c.fence.new.reader c.args.v.now c.visit_atomic_fence.new.self c.visit_atomic_fence.result refl c.requires.behind (operator.Atomic (atomic.AtomicFence c.in-Ok.it), refl, refl, refl, c.visit_atomic_fence.ensures) c.in-Ok.ensures
+    visited_free g.V.Visitor.visits (OperatorFault r.features k) k (Some 0xfe) 0x03 (is_fence_order ∷ []) (fence_order c.in-Ok.it ∷ []) c.args.start r c.fence.new.reader c.args.v.now c.visit_atomic_fence.new.self c.visit_atomic_fence.result refl c.requires.after (operator.Atomic (atomic.AtomicFence c.in-Ok.it), refl, refl, refl, c.visit_atomic_fence.ensures) c.in-Ok.ensures
 
 pub returns-in-Err : goal.returns-in-Err
 returns-in-Err g c k =
     let r = c.args.reader.now in
-    refuses_free g.V.Visitor.visits k (Some 0xfe) 0x03 (is_fence_order ∷ []) c.args.start c.in-Err.e r c.fence.new.reader c.args.v.now (refl, omega arith) refl c.requires.behind c.in-Err.ensures
+    refuses_free g.V.Visitor.visits k (Some 0xfe) 0x03 (is_fence_order ∷ []) c.args.start c.in-Err.e r c.fence.new.reader c.args.v.now (refl, omega arith) refl c.requires.after c.in-Err.ensures

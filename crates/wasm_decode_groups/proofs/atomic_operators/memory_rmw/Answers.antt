@@ -12,10 +12,10 @@ pub returns-in-Ok : goal.returns-in-Ok
 returns-in-Ok g c k =
     let r = c.args.reader.now in
     let is = c.requires.kinds ∙ ap (λ z. free (is_memory_argument kind.Rmw z ∷ [])) (sym c.align_of_memory_rmw.ensures) in
-    visited_free g.V.Visitor.visits (OperatorFault r.features k) k (Some 0xfe) c.args.code (is_memory_argument kind.Rmw c.align_of_memory_rmw.result ∷ []) (memory_argument kind.Rmw c.align_of_memory_rmw.result c.in-Ok.it ∷ []) c.args.start r c.memory.new.reader c.args.v.now c.visit_memory_rmw.new.v c.visit_memory_rmw.result is c.requires.behind (subst (λ z. VisitsRow g.V.Visitor.visits (Some 0xfe) c.args.code (memory_argument kind.Rmw z c.in-Ok.it ∷ []) c.args.v.now c.visit_memory_rmw.result c.visit_memory_rmw.new.v) (sym c.align_of_memory_rmw.ensures) c.visit_memory_rmw.ensures) c.in-Ok.ensures
+    visited_free g.V.Visitor.visits (OperatorFault r.features k) k (Some 0xfe) c.args.code (is_memory_argument kind.Rmw c.align_of_memory_rmw.result ∷ []) (memory_argument kind.Rmw c.align_of_memory_rmw.result c.in-Ok.it ∷ []) c.args.start r c.memory.new.reader c.args.v.now c.visit_memory_rmw.new.v c.visit_memory_rmw.result is c.requires.after (subst (λ z. VisitsRow g.V.Visitor.visits (Some 0xfe) c.args.code (memory_argument kind.Rmw z c.in-Ok.it ∷ []) c.args.v.now c.visit_memory_rmw.result c.visit_memory_rmw.new.v) (sym c.align_of_memory_rmw.ensures) c.visit_memory_rmw.ensures) c.in-Ok.ensures
 
 pub returns-in-Err : goal.returns-in-Err
 returns-in-Err g c k =
     let r = c.args.reader.now in
     let is = c.requires.kinds ∙ ap (λ z. free (is_memory_argument kind.Rmw z ∷ [])) (sym c.align_of_memory_rmw.ensures) in
-    refuses_free g.V.Visitor.visits k (Some 0xfe) c.args.code (is_memory_argument kind.Rmw c.align_of_memory_rmw.result ∷ []) c.args.start c.in-Err.e r c.memory.new.reader c.args.v.now (refl, omega arith) is c.requires.behind c.in-Err.ensures
+    refuses_free g.V.Visitor.visits k (Some 0xfe) c.args.code (is_memory_argument kind.Rmw c.align_of_memory_rmw.result ∷ []) c.args.start c.in-Err.e r c.memory.new.reader c.args.v.now (refl, omega arith) is c.requires.after c.in-Err.ensures

@@ -3,18 +3,18 @@ use Rattle.wasm_visit_groups.specs.instr.declared.operator.Operator.TheVariants 
 use Rattle.wasm_visit_groups.specs.instr.Immediate.{try_clauses, is_try_clauses}
 use Rattle.wasm_decode_opcodes.specs.OperatorFaults.{OperatorFault}
 use Rattle.wasm_decode_opcodes.proofs.MemoryLemmas.{owns_try, needs_list, refuses_list}
-use Rattle.wasm_decode_opcodes.proofs.OperatorLemmas.{visited_free, within_behind}
+use Rattle.wasm_decode_opcodes.proofs.OperatorLemmas.{visited_free, within_after_code}
 use Rattle.wasm_decode_groups.proofs.guarded.try_table.Goals as goal
 
 pub returns-in-Ok : goal.returns-in-Ok
 returns-in-Ok g c k =
     let r = c.args.reader.now in
-    visited_free g.V.Visitor.visits (OperatorFault r.features k) k None 0x1f (is_try_clauses ∷ []) (try_clauses c.in-Ok.it ∷ []) c.args.start r c.try_table.new.reader c.args.v.now c.visit_try_table.new.self c.visit_try_table.result refl c.requires.behind (operator.TryTable c.in-Ok.it, refl, refl, refl, c.visit_try_table.ensures) c.in-Ok.ensures
+    visited_free g.V.Visitor.visits (OperatorFault r.features k) k None 0x1f (is_try_clauses ∷ []) (try_clauses c.in-Ok.it ∷ []) c.args.start r c.try_table.new.reader c.args.v.now c.visit_try_table.new.self c.visit_try_table.result refl c.requires.after (operator.TryTable c.in-Ok.it, refl, refl, refl, c.visit_try_table.ensures) c.in-Ok.ensures
 
 pub returns-in-Err : goal.returns-in-Err
 returns-in-Err g c k =
     let r = c.args.reader.now in
-    refuses_list g.V.Visitor.visits k 0x1f (is_try_clauses ∷ []) c.args.start c.in-Err.e r c.try_table.new.reader c.args.v.now ((λ h. cc h), omega arith) refl c.requires.behind c.in-Err.ensures (λ m. needs_list k 0x1f c.args.start (is_try_clauses ∷ []) r ((λ h. cc h), omega arith) refl (inr (inl refl)) c.requires.behind owns_try)
+    refuses_list g.V.Visitor.visits k 0x1f (is_try_clauses ∷ []) c.args.start c.in-Err.e r c.try_table.new.reader c.args.v.now ((λ h. cc h), omega arith) refl c.requires.after c.in-Err.ensures (λ m. needs_list k 0x1f c.args.start (is_try_clauses ∷ []) r ((λ h. cc h), omega arith) refl (inr (inl refl)) c.requires.after owns_try)
 
 pub try_table-requires-clause-within : goal.try_table-requires-clause-within
-try_table-requires-clause-within g c = within_behind c.args.start None 0x1f c.args.reader.now c.requires.behind
+try_table-requires-clause-within g c = within_after_code c.args.start None 0x1f c.args.reader.now c.requires.after

@@ -9,9 +9,9 @@ use Rattle.wasm_decode_groups.proofs.one_byte_operators.br_if_alone.Goals as goa
 pub returns-in-Ok : goal.returns-in-Ok
 returns-in-Ok g c k =
     let r = c.args.reader.now in
-    visited_free g.V.Visitor.visits (OperatorFault r.features k) k None 0x0d (is_unsigned_32 ∷ []) (unsigned_32 c.in-Ok.it ∷ []) c.args.start r c.unsigned.new.reader c.args.v.now c.visit_br_if.new.self c.visit_br_if.result refl c.requires.behind (operator.BrIf c.in-Ok.it, refl, refl, refl, c.visit_br_if.ensures) c.in-Ok.ensures
+    visited_free g.V.Visitor.visits (OperatorFault r.features k) k None 0x0d (is_unsigned_32 ∷ []) (unsigned_32 c.in-Ok.it ∷ []) c.args.start r c.unsigned.new.reader c.args.v.now c.visit_br_if.new.self c.visit_br_if.result refl c.requires.after (operator.BrIf c.in-Ok.it, refl, refl, refl, c.visit_br_if.ensures) c.in-Ok.ensures
 
 pub returns-in-Err : goal.returns-in-Err
 returns-in-Err g c k =
     let r = c.args.reader.now in
-    refuses_free g.V.Visitor.visits k None 0x0d (is_unsigned_32 ∷ []) c.args.start c.in-Err.e r c.unsigned.new.reader c.args.v.now ((λ h. cc (h)), omega arith) refl c.requires.behind c.in-Err.ensures
+    refuses_free g.V.Visitor.visits k None 0x0d (is_unsigned_32 ∷ []) c.args.start c.in-Err.e r c.unsigned.new.reader c.args.v.now ((λ h. cc (h)), omega arith) refl c.requires.after c.in-Err.ensures

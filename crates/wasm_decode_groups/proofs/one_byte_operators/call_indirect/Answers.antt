@@ -9,9 +9,9 @@ use Rattle.wasm_decode_groups.proofs.one_byte_operators.call_indirect.Goals as g
 pub returns-in-Ok : goal.returns-in-Ok
 returns-in-Ok g c k =
     let r = c.args.reader.now in
-    visited_free g.V.Visitor.visits (OperatorFault r.features k) k None 0x11 (is_unsigned_32 ∷ is_table_index ∷ []) (unsigned_32 c.in-Ok.it.0 ∷ table_index_32 c.in-Ok.it.1 ∷ []) c.args.start r c.call_indirect.new.reader c.args.v.now c.visit_call_indirect.new.self c.visit_call_indirect.result refl c.requires.behind (operator.CallIndirect (c.in-Ok.it.0) (c.in-Ok.it.1), refl, refl, refl, c.visit_call_indirect.ensures) c.in-Ok.ensures
+    visited_free g.V.Visitor.visits (OperatorFault r.features k) k None 0x11 (is_unsigned_32 ∷ is_table_index ∷ []) (unsigned_32 c.in-Ok.it.0 ∷ table_index_32 c.in-Ok.it.1 ∷ []) c.args.start r c.call_indirect.new.reader c.args.v.now c.visit_call_indirect.new.self c.visit_call_indirect.result refl c.requires.after (operator.CallIndirect (c.in-Ok.it.0) (c.in-Ok.it.1), refl, refl, refl, c.visit_call_indirect.ensures) c.in-Ok.ensures
 
 pub returns-in-Err : goal.returns-in-Err
 returns-in-Err g c k =
     let r = c.args.reader.now in
-    refuses_free g.V.Visitor.visits k None 0x11 (is_unsigned_32 ∷ is_table_index ∷ []) c.args.start c.in-Err.e r c.call_indirect.new.reader c.args.v.now ((λ h. cc (h)), omega arith) refl c.requires.behind c.in-Err.ensures
+    refuses_free g.V.Visitor.visits k None 0x11 (is_unsigned_32 ∷ is_table_index ∷ []) c.args.start c.in-Err.e r c.call_indirect.new.reader c.args.v.now ((λ h. cc (h)), omega arith) refl c.requires.after c.in-Err.ensures

@@ -8,4 +8,4 @@ use Rattle.wasm_decode_groups.proofs.one_byte_operators.drop_alone.Goals as goal
 pub returns : goal.returns
 returns g c k =
     let r = c.args.reader.now in
-    visited_without_immediates g.V.Visitor.visits (OperatorFault r.features k) k None 0x1a c.args.start r c.args.v.now c.visit_drop.new.self c.visit_drop.result refl c.requires.behind (operator.Drop, refl, refl, refl, c.visit_drop.ensures)
+    visited_without_immediates g.V.Visitor.visits (OperatorFault r.features k) k None 0x1a c.args.start r c.args.v.now c.visit_drop.new.self c.visit_drop.result refl c.requires.after (operator.Drop, refl, refl, refl, c.visit_drop.ensures)

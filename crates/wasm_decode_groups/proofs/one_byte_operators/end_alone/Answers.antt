@@ -8,4 +8,4 @@ use Rattle.wasm_decode_groups.proofs.one_byte_operators.end_alone.Goals as goal
 pub returns : goal.returns
 returns g c k =
     let r = c.args.reader.now in
-    visited_without_immediates g.V.Visitor.visits (OperatorFault r.features k) k None 0x0b c.args.start r c.args.v.now c.visit_end.new.self c.visit_end.result refl c.requires.behind (operator.End, refl, refl, refl, c.visit_end.ensures)
+    visited_without_immediates g.V.Visitor.visits (OperatorFault r.features k) k None 0x0b c.args.start r c.args.v.now c.visit_end.new.self c.visit_end.result refl c.requires.after (operator.End, refl, refl, refl, c.visit_end.ensures)

@@ -12,9 +12,9 @@ pub returns-in-Ok : goal.returns-in-Ok
 returns-in-Ok g c k =
     let r = c.args.reader.now in
     let fits : SFits w32 c.in-Ok.it = search rules in
-    visited_free g.V.Visitor.visits (OperatorFault r.features k) k None 0x41 (is_signed_32 ∷ []) (signed_32 c.in-Ok.it ∷ []) c.args.start r c.signed_32.new.reader c.args.v.now c.visit_i32_const.new.self c.visit_i32_const.result refl c.requires.behind (operator.I32Const (to_z w32 (of_z w32 c.in-Ok.it)), refl, refl, ap (λ z. signed_32 z ∷ []) (to_z-of_z w32 c.in-Ok.it fits), c.visit_i32_const.ensures) c.in-Ok.ensures
+    visited_free g.V.Visitor.visits (OperatorFault r.features k) k None 0x41 (is_signed_32 ∷ []) (signed_32 c.in-Ok.it ∷ []) c.args.start r c.signed_32.new.reader c.args.v.now c.visit_i32_const.new.self c.visit_i32_const.result refl c.requires.after (operator.I32Const (to_z w32 (of_z w32 c.in-Ok.it)), refl, refl, ap (λ z. signed_32 z ∷ []) (to_z-of_z w32 c.in-Ok.it fits), c.visit_i32_const.ensures) c.in-Ok.ensures
 
 pub returns-in-Err : goal.returns-in-Err
 returns-in-Err g c k =
     let r = c.args.reader.now in
-    refuses_free g.V.Visitor.visits k None 0x41 (is_signed_32 ∷ []) c.args.start c.in-Err.e r c.signed_32.new.reader c.args.v.now ((λ h. cc (h)), omega arith) refl c.requires.behind c.in-Err.ensures
+    refuses_free g.V.Visitor.visits k None 0x41 (is_signed_32 ∷ []) c.args.start c.in-Err.e r c.signed_32.new.reader c.args.v.now ((λ h. cc (h)), omega arith) refl c.requires.after c.in-Err.ensures

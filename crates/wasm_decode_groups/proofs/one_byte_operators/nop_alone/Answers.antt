@@ -8,4 +8,4 @@ use Rattle.wasm_decode_groups.proofs.one_byte_operators.nop_alone.Goals as goal
 pub returns : goal.returns
 returns g c k =
     let r = c.args.reader.now in
-    visited_without_immediates g.V.Visitor.visits (OperatorFault r.features k) k None 0x01 c.args.start r c.args.v.now c.visit_nop.new.self c.visit_nop.result refl c.requires.behind (operator.Nop, refl, refl, refl, c.visit_nop.ensures)
+    visited_without_immediates g.V.Visitor.visits (OperatorFault r.features k) k None 0x01 c.args.start r c.args.v.now c.visit_nop.new.self c.visit_nop.result refl c.requires.after (operator.Nop, refl, refl, refl, c.visit_nop.ensures)

@@ -9,9 +9,9 @@ use Rattle.wasm_decode_groups.proofs.one_byte_operators.ref_null.Goals as goal
 pub returns-in-Ok : goal.returns-in-Ok
 returns-in-Ok g c k =
     let r = c.args.reader.now in
-    visited_free g.V.Visitor.visits (OperatorFault r.features k) k None 0xd0 (is_heap_type ∷ []) (heap_type c.in-Ok.it ∷ []) c.args.start r c.heap_type.new.reader c.args.v.now c.visit_ref_null.new.self c.visit_ref_null.result refl c.requires.behind (operator.RefNull c.in-Ok.it, refl, refl, refl, c.visit_ref_null.ensures) c.in-Ok.ensures
+    visited_free g.V.Visitor.visits (OperatorFault r.features k) k None 0xd0 (is_heap_type ∷ []) (heap_type c.in-Ok.it ∷ []) c.args.start r c.heap_type.new.reader c.args.v.now c.visit_ref_null.new.self c.visit_ref_null.result refl c.requires.after (operator.RefNull c.in-Ok.it, refl, refl, refl, c.visit_ref_null.ensures) c.in-Ok.ensures
 
 pub returns-in-Err : goal.returns-in-Err
 returns-in-Err g c k =
     let r = c.args.reader.now in
-    refuses_free g.V.Visitor.visits k None 0xd0 (is_heap_type ∷ []) c.args.start c.in-Err.e r c.heap_type.new.reader c.args.v.now ((λ h. cc (h)), omega arith) refl c.requires.behind c.in-Err.ensures
+    refuses_free g.V.Visitor.visits k None 0xd0 (is_heap_type ∷ []) c.args.start c.in-Err.e r c.heap_type.new.reader c.args.v.now ((λ h. cc (h)), omega arith) refl c.requires.after c.in-Err.ensures

@@ -8,4 +8,4 @@ use Rattle.wasm_decode_groups.proofs.one_byte_operators.return_alone.Goals as go
 pub returns : goal.returns
 returns g c k =
     let r = c.args.reader.now in
-    visited_without_immediates g.V.Visitor.visits (OperatorFault r.features k) k None 0x0f c.args.start r c.args.v.now c.visit_return.new.self c.visit_return.result refl c.requires.behind (operator.Return, refl, refl, refl, c.visit_return.ensures)
+    visited_without_immediates g.V.Visitor.visits (OperatorFault r.features k) k None 0x0f c.args.start r c.args.v.now c.visit_return.new.self c.visit_return.result refl c.requires.after (operator.Return, refl, refl, refl, c.visit_return.ensures)

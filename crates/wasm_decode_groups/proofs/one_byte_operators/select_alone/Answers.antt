@@ -8,4 +8,4 @@ use Rattle.wasm_decode_groups.proofs.one_byte_operators.select_alone.Goals as go
 pub returns : goal.returns
 returns g c k =
     let r = c.args.reader.now in
-    visited_without_immediates g.V.Visitor.visits (OperatorFault r.features k) k None 0x1b c.args.start r c.args.v.now c.visit_select.new.self c.visit_select.result refl c.requires.behind (operator.Select, refl, refl, refl, c.visit_select.ensures)
+    visited_without_immediates g.V.Visitor.visits (OperatorFault r.features k) k None 0x1b c.args.start r c.args.v.now c.visit_select.new.self c.visit_select.result refl c.requires.after (operator.Select, refl, refl, refl, c.visit_select.ensures)

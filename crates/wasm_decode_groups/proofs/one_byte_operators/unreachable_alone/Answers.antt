@@ -8,4 +8,4 @@ use Rattle.wasm_decode_groups.proofs.one_byte_operators.unreachable_alone.Goals 
 pub returns : goal.returns
 returns g c k =
     let r = c.args.reader.now in
-    visited_without_immediates g.V.Visitor.visits (OperatorFault r.features k) k None 0x00 c.args.start r c.args.v.now c.visit_unreachable.new.self c.visit_unreachable.result refl c.requires.behind (operator.Unreachable, refl, refl, refl, c.visit_unreachable.ensures)
+    visited_without_immediates g.V.Visitor.visits (OperatorFault r.features k) k None 0x00 c.args.start r c.args.v.now c.visit_unreachable.new.self c.visit_unreachable.result refl c.requires.after (operator.Unreachable, refl, refl, refl, c.visit_unreachable.ensures)

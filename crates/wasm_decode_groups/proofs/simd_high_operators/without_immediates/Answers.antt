@@ -7,4 +7,4 @@ use Rattle.wasm_decode_groups.proofs.simd_high_operators.without_immediates.Goal
 pub returns : goal.returns
 returns g c k =
     let r = c.args.reader.now in
-    visited_without_immediates g.V.Visitor.visits (OperatorFault r.features k) k (Some 0xfd) c.args.code c.args.start r c.args.v.now c.visit_without_immediates.new.v c.visit_without_immediates.result c.requires.kinds c.requires.behind c.visit_without_immediates.ensures
+    visited_without_immediates g.V.Visitor.visits (OperatorFault r.features k) k (Some 0xfd) c.args.code c.args.start r c.args.v.now c.visit_without_immediates.new.v c.visit_without_immediates.result c.requires.kinds c.requires.after c.visit_without_immediates.ensures

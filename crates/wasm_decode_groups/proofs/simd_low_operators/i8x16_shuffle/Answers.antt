@@ -10,9 +10,9 @@ use Rattle.wasm_decode_groups.proofs.simd_low_operators.i8x16_shuffle.Goals as g
 pub returns-in-Ok : goal.returns-in-Ok
 returns-in-Ok g c k =
     let r = c.args.reader.now in
-    visited_free g.V.Visitor.visits (OperatorFault r.features k) k (Some 0xfd) 0x0d (is_sixteen_lanes ∷ []) (sixteen_lanes c.in-Ok.it ∷ []) c.args.start r c.lanes.new.reader c.args.v.now c.visit_i8x16_shuffle.new.self c.visit_i8x16_shuffle.result refl c.requires.behind (operator.Simd (simd.I8x16Shuffle c.in-Ok.it), refl, refl, refl, c.visit_i8x16_shuffle.ensures) c.in-Ok.ensures
+    visited_free g.V.Visitor.visits (OperatorFault r.features k) k (Some 0xfd) 0x0d (is_sixteen_lanes ∷ []) (sixteen_lanes c.in-Ok.it ∷ []) c.args.start r c.lanes.new.reader c.args.v.now c.visit_i8x16_shuffle.new.self c.visit_i8x16_shuffle.result refl c.requires.after (operator.Simd (simd.I8x16Shuffle c.in-Ok.it), refl, refl, refl, c.visit_i8x16_shuffle.ensures) c.in-Ok.ensures
 
 pub returns-in-Err : goal.returns-in-Err
 returns-in-Err g c k =
     let r = c.args.reader.now in
-    refuses_free g.V.Visitor.visits k (Some 0xfd) 0x0d (is_sixteen_lanes ∷ []) c.args.start c.in-Err.e r c.lanes.new.reader c.args.v.now (refl, omega arith) refl c.requires.behind c.in-Err.ensures
+    refuses_free g.V.Visitor.visits k (Some 0xfd) 0x0d (is_sixteen_lanes ∷ []) c.args.start c.in-Err.e r c.lanes.new.reader c.args.v.now (refl, omega arith) refl c.requires.after c.in-Err.ensures

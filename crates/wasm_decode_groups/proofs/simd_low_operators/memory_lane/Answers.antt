@@ -12,10 +12,10 @@ pub returns-in-Ok : goal.returns-in-Ok
 returns-in-Ok g c k =
     let r = c.args.reader.now in
     let is = c.requires.kinds ∙ ap (λ z. free (is_memory_argument kind.Plain z ∷ is_one_lane ∷ [])) (sym c.align_of_memory_lane.ensures) in
-    visited_free g.V.Visitor.visits (OperatorFault r.features k) k (Some 0xfd) c.args.code (is_memory_argument kind.Plain c.align_of_memory_lane.result ∷ is_one_lane ∷ []) (memory_argument kind.Plain c.align_of_memory_lane.result c.in-Ok.it.0 ∷ one_lane c.in-Ok.it.1 ∷ []) c.args.start r c.memory_lane.new.reader c.args.v.now c.visit_memory_lane.new.v c.visit_memory_lane.result is c.requires.behind (subst (λ z. VisitsRow g.V.Visitor.visits (Some 0xfd) c.args.code (memory_argument kind.Plain z c.in-Ok.it.0 ∷ one_lane c.in-Ok.it.1 ∷ []) c.args.v.now c.visit_memory_lane.result c.visit_memory_lane.new.v) (sym c.align_of_memory_lane.ensures) c.visit_memory_lane.ensures) c.in-Ok.ensures
+    visited_free g.V.Visitor.visits (OperatorFault r.features k) k (Some 0xfd) c.args.code (is_memory_argument kind.Plain c.align_of_memory_lane.result ∷ is_one_lane ∷ []) (memory_argument kind.Plain c.align_of_memory_lane.result c.in-Ok.it.0 ∷ one_lane c.in-Ok.it.1 ∷ []) c.args.start r c.memory_lane.new.reader c.args.v.now c.visit_memory_lane.new.v c.visit_memory_lane.result is c.requires.after (subst (λ z. VisitsRow g.V.Visitor.visits (Some 0xfd) c.args.code (memory_argument kind.Plain z c.in-Ok.it.0 ∷ one_lane c.in-Ok.it.1 ∷ []) c.args.v.now c.visit_memory_lane.result c.visit_memory_lane.new.v) (sym c.align_of_memory_lane.ensures) c.visit_memory_lane.ensures) c.in-Ok.ensures
 
 pub returns-in-Err : goal.returns-in-Err
 returns-in-Err g c k =
     let r = c.args.reader.now in
     let is = c.requires.kinds ∙ ap (λ z. free (is_memory_argument kind.Plain z ∷ is_one_lane ∷ [])) (sym c.align_of_memory_lane.ensures) in
-    refuses_free g.V.Visitor.visits k (Some 0xfd) c.args.code (is_memory_argument kind.Plain c.align_of_memory_lane.result ∷ is_one_lane ∷ []) c.args.start c.in-Err.e r c.memory_lane.new.reader c.args.v.now (refl, omega arith) is c.requires.behind c.in-Err.ensures
+    refuses_free g.V.Visitor.visits k (Some 0xfd) c.args.code (is_memory_argument kind.Plain c.align_of_memory_lane.result ∷ is_one_lane ∷ []) c.args.start c.in-Err.e r c.memory_lane.new.reader c.args.v.now (refl, omega arith) is c.requires.after c.in-Err.ensures

@@ -7,4 +7,4 @@ use Rattle.wasm_decode_opcodes.proofs.immediates.select.Goals as goal
 pub returns-in-Err-clause-reads : goal.returns-in-Err-clause-reads
 returns-in-Err-clause-reads c =
     let r = c.args.reader.now in
-    memory_refused EncodesSelect is_select_types select_types c.args.start c.in-Err.e c.refuse_from.result r c.read.new.reader c.refuse_from.new.reader (of_select r.features) c.requires.begun c.requires.within c.in-Err.ensures.reads c.in-Err.ensures.fault c.refuse_from.ensures.back c.refuse_from.ensures.told
+    memory_refused EncodesSelect is_select_types select_types c.args.start c.in-Err.e c.refuse_from.result r c.read.new.reader c.refuse_from.new.reader (of_select r.features) c.requires.begun c.requires.within c.in-Err.ensures.reads c.in-Err.ensures.fault c.refuse_from.ensures.back c.refuse_from.ensures.reported

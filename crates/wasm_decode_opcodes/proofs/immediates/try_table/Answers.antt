@@ -7,4 +7,4 @@ use Rattle.wasm_decode_opcodes.proofs.immediates.try_table.Goals as goal
 pub returns-in-Err : goal.returns-in-Err
 returns-in-Err c =
     let r = c.args.reader.now in
-    memory_refused EncodesTryTable is_try_clauses try_clauses c.args.start c.in-Err.e c.refuse_from.result r c.from_reader.new.reader c.refuse_from.new.reader (of_try_table r.features) c.requires.begun c.requires.within c.in-Err.ensures.reads c.in-Err.ensures.fault c.refuse_from.ensures.back c.refuse_from.ensures.told
+    memory_refused EncodesTryTable is_try_clauses try_clauses c.args.start c.in-Err.e c.refuse_from.result r c.from_reader.new.reader c.refuse_from.new.reader (of_try_table r.features) c.requires.begun c.requires.within c.in-Err.ensures.reads c.in-Err.ensures.fault c.refuse_from.ensures.back c.refuse_from.ensures.reported

@@ -10,5 +10,5 @@ returns c k =
     let r = c.args.reader.now in
     let code = c.args.code in
     let e = c.refuse.result in
-    refuses_unknown k None code c.args.start e r c.refuse.new.self ((λ h. cc (sym c.requires.unknown ∙ h)), omega arith) c.requires.unknown c.requires.behind c.refuse.ensures.rewound (subst IsReadFault (sym c.refuse.ensures.message) tt) c.refuse.ensures.offset
-    (λ some. opcode_fault k code c.args.start e.message r e.offset (omega arith) c.requires.behind (subst (λ z. EntryFault r.features k (r.start + c.args.start) code z e.message r e.offset) (sym c.requires.unknown) (c.refuse.ensures.message, c.refuse.ensures.offset)))
+    refuses_unknown k None code c.args.start e r c.refuse.new.self ((λ h. cc (sym c.requires.unknown ∙ h)), omega arith) c.requires.unknown c.requires.after c.refuse.ensures.rewound (subst IsReadFault (sym c.refuse.ensures.message) tt) c.refuse.ensures.offset
+    (λ some. opcode_fault k code c.args.start e.message r e.offset (omega arith) c.requires.after (subst (λ z. EntryFault r.features k (r.start + c.args.start) code z e.message r e.offset) (sym c.requires.unknown) (c.refuse.ensures.message, c.refuse.ensures.offset)))

@@ -11,5 +11,5 @@ returns c k =
     let p = c.args.prefix in
     let code = c.args.code in
     let e = c.refuse.result in
-    refuses_unknown k (Some p) code c.args.start e r c.refuse.new.self (c.requires.prefix, omega arith) c.requires.unknown c.requires.behind c.refuse.ensures.rewound (subst IsReadFault (sym c.refuse.ensures.message) tt) c.refuse.ensures.offset
-    (λ some. subopcode_fault k p code c.args.start e.message r e.offset (omega arith) c.requires.prefix c.requires.behind (subst (λ z. FreeFault r.features (r.start + c.args.start) (Some p) code z e.message r e.offset) (sym c.requires.unknown) (c.refuse.ensures.message, c.refuse.ensures.offset)))
+    refuses_unknown k (Some p) code c.args.start e r c.refuse.new.self (c.requires.prefix, omega arith) c.requires.unknown c.requires.after c.refuse.ensures.rewound (subst IsReadFault (sym c.refuse.ensures.message) tt) c.refuse.ensures.offset
+    (λ some. subopcode_fault k p code c.args.start e.message r e.offset (omega arith) c.requires.prefix c.requires.after (subst (λ z. FreeFault r.features (r.start + c.args.start) (Some p) code z e.message r e.offset) (sym c.requires.unknown) (c.refuse.ensures.message, c.refuse.ensures.offset)))

@@ -30,10 +30,10 @@ pub returns-in-Err-clause-whole : goal.returns-in-Err-clause-whole
 returns-in-Err-clause-whole g c =
     let l = c.loop-declaration in
     let some : l._declaration < c.args.locals.now.count = let a = c.loop-declaration-test.true in let b = c.get_count-declaration-end.ensures in omega (arith, a, b) in
-    λ declarations text more each stands few.
+    λ declarations text more each occurs few.
     none_refused _ c.args.start c.args.bytes.now c.args.parameters l._declaration l.first c.args.locals.now l.locals c.read.new.self
     (g.W.Write.contents c.args.writer.now) (g.W.Write.contents l.writer) c.in-Err.e declarations text more c.declarations.ensures.one some l.invariant
-    c.in-Err.ensures each stands few
+    c.in-Err.ensures each occurs few
 
 pub returns-clause-lists : goal.returns-clause-lists
 returns-clause-lists g c =

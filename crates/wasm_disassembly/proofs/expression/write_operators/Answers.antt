@@ -17,10 +17,10 @@ operators-preserved g c =
     let l = c.operators in
     let at = c.original_position-offset.result in
     let shown = c.bytes_between-shown.ensures.bytes ∙ ap (λ n. between c.args.start c.args.bytes.now at n) c.original_position.ensures in
-    listed_more c.args.start l.depth c.in-Ok-write_operator.behind at c.args.bytes.now c.bytes_between-shown.result.now c.new-operators.result l.operators
+    listed_more c.args.start l.depth c.in-Ok-write_operator.after at c.args.bytes.now c.bytes_between-shown.result.now c.new-operators.result l.operators
     c.read.new.self (g.W.Write.contents c.args.writer.now) (g.W.Write.contents l.writer) (g.W.Write.contents c.write_operator.new.writer) c.in-Ok.op
     c.single_reads.ensures.next c.single_reads.ensures.progress l.invariant c.in-Ok.ensures c.original_position-offset.ensures shown
-    c.in-Ok-write_operator.ensures.lines c.in-Ok-write_operator.ensures.behind
+    c.in-Ok-write_operator.ensures.lines c.in-Ok-write_operator.ensures.after
 
 pub operators-smaller : goal.operators-smaller
 operators-smaller g c = fewer_left c.in-Ok.op c.operators.operators c.read.new.self c.single_reads.ensures.progress c.in-Ok.ensures
@@ -40,7 +40,7 @@ returns-in-Err-clause-lists g c =
     let part = λ (other : e.message ≢ message.OutOfMemory).
     listed_part c.args.start c.operators.depth c.args.bytes.now c.args.reader e opened c.operators.operators new before after l c.new-operators.ensures.reader
     c.new-operators.ensures.fresh same.0
-    (c.read_to_the_end.ensures.beginning [] e opened new l.placed c.new-operators.ensures.stood ran stops) other in
+    (c.read_to_the_end.ensures.beginning [] e opened new l.placed c.new-operators.ensures.read_so_far ran stops) other in
     subst (λ f. ListsOperators {X = Unit {0}} c.args.start c.args.bytes.now (Err f) c.args.reader before after) (sym c.fault_of.ensures)
     (at_fault (λ f. ListsOperators {X = Unit {0}} c.args.start c.args.bytes.now (Err f) c.args.reader before after) e.message e tt part)
 
@@ -57,14 +57,14 @@ returns-in-Err-clause-whole g c =
     λ placed encodes.
     let whole = subst (λ r. EncodesExpression (source_of r) placed) (sym c.new-operators.ensures.reader) encodes in
     subst IsHalt (sym c.fault_of.ensures)
-    (memory_halts e (c.read_to_the_end.ensures.only [] e opened new l.placed placed c.new-operators.ensures.stood ran stops whole))
+    (memory_halts e (c.read_to_the_end.ensures.only [] e opened new l.placed placed c.new-operators.ensures.read_so_far ran stops whole))
 
 pub returns-in-Ok-finish-clause-lists : goal.returns-in-Ok-finish-clause-lists
 returns-in-Ok-finish-clause-lists g c =
     let l = c.operators.invariant in
     let opened = c.new-operators.result in
     let now = c.operators.operators in
-    let tree = c.read_to_the_end.ensures.tree [] opened now l.placed c.new-operators.ensures.stood l.ran c.in-Ok-finish.ensures.0 c.in-Ok-finish.ensures.1 in
+    let tree = c.read_to_the_end.ensures.tree [] opened now l.placed c.new-operators.ensures.read_so_far l.ran c.in-Ok-finish.ensures.0 c.in-Ok-finish.ensures.1 in
     listed_whole tt c.args.start c.operators.depth c.args.bytes.now c.args.reader opened now (g.W.Write.contents c.args.writer.now)
     (g.W.Write.contents c.operators.writer) l c.new-operators.ensures.reader tree
 
@@ -78,7 +78,7 @@ returns-clause-lists g c =
     let left = c.read_to_the_end.ensures.finished e now all c.in-Err-finish.ensures in
     listed_part c.args.start c.operators.depth c.args.bytes.now c.args.reader e opened now now (g.W.Write.contents c.args.writer.now)
     (g.W.Write.contents c.operators.writer) l c.new-operators.ensures.reader c.new-operators.ensures.fresh refl
-    (c.read_to_the_end.ensures.beginning [] e opened now l.placed c.new-operators.ensures.stood l.ran (inl left))
+    (c.read_to_the_end.ensures.beginning [] e opened now l.placed c.new-operators.ensures.read_so_far l.ran (inl left))
     (λ is. absurd (cc (is, left.2)))
 
 pub returns-clause-whole : goal.returns-clause-whole
@@ -91,7 +91,7 @@ returns-clause-whole g c =
     let left = c.read_to_the_end.ensures.finished e now all c.in-Err-finish.ensures in
     λ placed encodes.
     let whole = subst (λ r. EncodesExpression (source_of r) placed) (sym c.new-operators.ensures.reader) encodes in
-    let memory = c.read_to_the_end.ensures.only [] e opened now l.placed placed c.new-operators.ensures.stood l.ran (inl left) whole in
+    let memory = c.read_to_the_end.ensures.only [] e opened now l.placed placed c.new-operators.ensures.read_so_far l.ran (inl left) whole in
     let frames = left.2 in
     absurd (cc (memory, frames))
 

@@ -7,7 +7,7 @@ use Rattle.wasm_lines.specs.Lines.{header_of}
 use Rattle.wasm_disassembly.specs.LocalLines.{declarations_of, locals_in, ListsDeclarations}
 use Rattle.wasm_disassembly.specs.Disassembly.{Heading, Disassembles, ListsOperators}
 use Rattle.wasm_disassembly.proofs.Halts.{at_halt}
-use Rattle.wasm_disassembly.proofs.Listed.{listed_to, at_body, stopped_at_count, stopped_in_locals, operators_ended, locals_past, count_stands, announced}
+use Rattle.wasm_disassembly.proofs.Listed.{listed_to, at_body, stopped_at_count, stopped_in_locals, operators_ended, locals_past, count_occurs, announced}
 use Rattle.wasm_disassembly.proofs.function.disassemble.Goals as goal
 
 pub returns-in-Err-clause-text : goal.returns-in-Err-clause-text
@@ -27,7 +27,7 @@ returns-in-Err-get_locals_reader-clause-text g c =
 
 pub returns-in-Err-get_locals_reader-clause-whole : goal.returns-in-Err-get_locals_reader-clause-whole
 returns-in-Err-get_locals_reader-clause-whole g c =
-    λ declarations placed encodes few. count_stands _ c.in-Err-get_locals_reader.e c.args.body.now declarations placed c.in-Err-get_locals_reader.ensures encodes
+    λ declarations placed encodes few. count_occurs _ c.in-Err-get_locals_reader.e c.args.body.now declarations placed c.in-Err-get_locals_reader.ensures encodes
 
 pub returns-in-Err-write_declarations-clause-text : goal.returns-in-Err-write_declarations-clause-text
 returns-in-Err-write_declarations-clause-text g c =
@@ -51,7 +51,7 @@ returns-in-Err-write_declarations-clause-whole g c =
     c.in-Ok-get_locals_reader.ensures encodes in
     let none = c.in-Ok-get_locals_reader.ensures.3 in
     let fits : c.in-Ok-get_locals_reader.locals.total + locals_in declarations ≤ max_locals = omega (arith, none, few) in
-    c.in-Err-write_declarations.ensures.whole declarations a.text a.more a.each a.stands fits
+    c.in-Err-write_declarations.ensures.whole declarations a.text a.more a.each a.occurs fits
 
 pub returns-clause-text : goal.returns-clause-text
 returns-clause-text g c =

@@ -16,14 +16,14 @@ pub loop-import-preserved : goal.loop-import-preserved
 loop-import-preserved c =
     let h = c.loop-import.invariant in
     let import = c.in-Ok-read.import in
-    let stand = item_more EncodesImport c.read_var_u32.new.self h.0 c.loop-import.reader c.read.new.reader import h.1 c.in-Ok-read.ensures.reads in
+    let occur = item_more EncodesImport c.read_var_u32.new.self h.0 c.loop-import.reader c.read.new.reader import h.1 c.in-Ok-read.ensures.reads in
     let known : IsKnownImport import = search rules in
     let one : c.from-functions.result ≡ cond (import.kind == 0) 1 0 = search rules in
     let few : c.from-functions.result ≤ 1 = search rules in
     let sum = functions_more h.0 import in
     let long = length_push h.0 import in (
       h.0 ++ import ∷ [],
-      stand,
+      occur,
       long ∙ ap (λ n. n + 1) h.2,
       All-push IsKnownImport h.0 import h.3 known,
       let f = h.4 in omega (arith, f, one, sum),
@@ -64,20 +64,20 @@ pub returns-in-Err-read-clause-fault : goal.returns-in-Err-read-clause-fault
 returns-in-Err-read-clause-fault c =
     let h = c.loop-import.invariant in
     let fewer : length h.0 < c.in-Ok.count = let so = h.2 in let test = c.loop-import-test.true in omega (arith, so, test) in
-    let stand = items_to EncodesImport IsKnownImport c.args.contents c.read_var_u32.new.self c.loop-import.reader c.in-Ok.count h.0 c.in-Ok.ensures.reads h.1
+    let occur = items_to EncodesImport IsKnownImport c.args.contents c.read_var_u32.new.self c.loop-import.reader c.in-Ok.count h.0 c.in-Ok.ensures.reads h.1
     fewer h.3 in
     let read = c.in-Err-read.ensures in
     of_refusal (λ f. ImportsFault f c.args.contents) c.in-Err-read.e c.from-in-Err-read.result c.from-in-Err-read.ensures read.reads.1.fault
-    (inr (c.loop-import.reader, stand, (read.reads.1, read.fault)))
+    (inr (c.loop-import.reader, occur, (read.reads.1, read.fault)))
 
 pub returns-then-kind-gt-TAG-clause-fault : goal.returns-then-kind-gt-TAG-clause-fault
 returns-then-kind-gt-TAG-clause-fault c =
     let h = c.loop-import.invariant in
     let fewer : length h.0 < c.in-Ok.count = let so = h.2 in let test = c.loop-import-test.true in omega (arith, so, test) in
-    let stand = items_to EncodesImport IsKnownImport c.args.contents c.read_var_u32.new.self c.loop-import.reader c.in-Ok.count h.0 c.in-Ok.ensures.reads h.1
+    let occur = items_to EncodesImport IsKnownImport c.args.contents c.read_var_u32.new.self c.loop-import.reader c.in-Ok.count h.0 c.in-Ok.ensures.reads h.1
     fewer h.3 in (
       c.loop-import.reader,
-      stand,
+      occur,
       c.original_position-offset.ensures,
       c.in-Ok-read.import,
       c.read.new.reader,

@@ -41,8 +41,8 @@ pub returns-in-Err-read-clause-fault : goal.returns-in-Err-read-clause-fault
 returns-in-Err-read-clause-fault c =
     let h = c.loop-export.invariant in
     let fewer : length h.0 < c.in-Ok.count = let so = h.2 in let test = c.loop-export-test.true in omega (arith, so, test) in
-    let stand = items_to EncodesExport IsAny c.args.contents c.read_var_u32.new.self c.loop-export.reader c.in-Ok.count h.0 c.in-Ok.ensures.reads h.1 fewer
+    let occur = items_to EncodesExport IsAny c.args.contents c.read_var_u32.new.self c.loop-export.reader c.in-Ok.count h.0 c.in-Ok.ensures.reads h.1 fewer
     (any_items h.0) in
     let read = c.in-Err-read.ensures in
     of_refusal (λ f. ExportsFault f c.args.contents) c.in-Err-read.e c.from-in-Err-read.result c.from-in-Err-read.ensures read.reads.1.fault
-    (inr (c.loop-export.reader, stand, (read.reads.1, read.fault)))
+    (inr (c.loop-export.reader, occur, (read.reads.1, read.fault)))

@@ -4,14 +4,14 @@ use Rattle.wasm_module.specs.Names.{EncodesNameAssociation}
 use Rattle.wasm_functions.specs.Names.{bytes_of, with_names, ReadsItems}
 use Rattle.wasm_functions.specs.Sections.{or_first}
 use Rattle.wasm_functions.proofs.Named.{not_first}
-use Rattle.wasm_functions.proofs.Standing.{one_more, first_more}
+use Rattle.wasm_functions.proofs.Occurring.{one_more, first_more}
 use Rattle.wasm_functions.proofs.names.name_functions.Goals as goal
 
 pub returns-in-Err : goal.returns-in-Err
 returns-in-Err c =
     let h = c.sections.invariant in (
       [],
-      record { before = h.0; mid = c.sections.reader; stand = h.1; others = h.2; gives = inr (refl, inr (c.in-Err.field-0, c.in-Err.ensures.reads.1)) },
+      record { before = h.0; mid = c.sections.reader; occur = h.1; others = h.2; gives = inr (refl, inr (c.in-Err.field-0, c.in-Err.ensures.reads.1)) },
       ap (λ (v : Vec (Bor (List ℕ)) Global). bytes_of v.items) h.3,
     )
 
@@ -22,7 +22,7 @@ returns-then-id-eq-FUNCTION_NAMES c =
     let reads = subst (λ (r : Reader). ReadsItems EncodesNameAssociation r a.0) c.contents.ensures a.1 in
     let gives = inl (c.in-Ok.section, c.read_section.new.reader, c.in-Ok.ensures.reads, sym c.id.ensures ∙ c.if-id-eq-FUNCTION_NAMES.true, reads) in (
       a.0,
-      record { before = h.0; mid = c.sections.reader; stand = h.1; others = h.2; gives = gives },
+      record { before = h.0; mid = c.sections.reader; occur = h.1; others = h.2; gives = gives },
       a.2 ∙ ap (λ (v : Vec (Bor (List ℕ)) Global). with_names c.args.imported (bytes_of v.items) a.0) h.3,
     )
 
@@ -42,6 +42,6 @@ returns c =
     let h = c.sections.invariant in
     let end : rest c.sections.reader ≡ [] = search rules in (
       [],
-      record { before = h.0; mid = c.sections.reader; stand = h.1; others = h.2; gives = inr (refl, inl end) },
+      record { before = h.0; mid = c.sections.reader; occur = h.1; others = h.2; gives = inr (refl, inl end) },
       ap (λ (v : Vec (Bor (List ℕ)) Global). bytes_of v.items) h.3,
     )

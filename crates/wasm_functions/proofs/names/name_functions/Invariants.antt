@@ -1,12 +1,12 @@
 use Rattle.std.proofs.Common.{◌≡◌, List, None, length}
 use Rattle.wasm_module.specs.below.Source.{rest}
 use Rattle.wasm_module.specs.Module.{SectionParts}
-use Rattle.wasm_functions.specs.Sections.{SectionsStand, first_with}
+use Rattle.wasm_functions.specs.Sections.{SectionsOccur, first_with}
 use Rattle.wasm_functions.proofs.names.name_functions.Given as goal
 
 -- These subsections were read, and none of them names functions.
 abbrev pub invariant-sections : goal.invariant-sections
-invariant-sections l = (before : List SectionParts) × SectionsStand l.initial.reader before l.reader × (first_with 1 before ≡ None) ×
+invariant-sections l = (before : List SectionParts) × SectionsOccur l.initial.reader before l.reader × (first_with 1 before ≡ None) ×
     (l.names ≡ l.initial.names)
 
 abbrev pub decreases-sections : goal.decreases-sections

@@ -1,7 +1,7 @@
 use Rattle.std.proofs.Common.{◌≡◌, ◌∷◌, ◌++◌, [], inr, rules}
 use Rattle.wasm_module.specs.below.Source.{rest, reader_of}
 use Rattle.wasm_functions.proofs.Refused.{sections_to}
-use Rattle.wasm_functions.proofs.Standing.{one_more}
+use Rattle.wasm_functions.proofs.Occurring.{one_more}
 use Rattle.wasm_functions.proofs.Unique.{no_module}
 use Rattle.wasm_functions.proofs.sections.find_names.Goals as goal
 
@@ -10,11 +10,11 @@ customs-preserved c =
     let h = c.customs.invariant in
     let s = c.in-Ok-read_section.section in
     let read = c.in-Ok-read_section.ensures in
-    let stand = one_more c.in-Ok.reader h.0 c.customs.reader c.read_section.new.reader s h.1 read.reads read.placed in
-    (h.0 ++ s ∷ [], stand, c.or_last-found.ensures h.0 h.2)
+    let occur = one_more c.in-Ok.reader h.0 c.customs.reader c.read_section.new.reader s h.1 read.reads read.placed in
+    (h.0 ++ s ∷ [], occur, c.or_last-found.ensures h.0 h.2)
 
 pub returns-in-Err-clause-refused : goal.returns-in-Err-clause-refused
-returns-in-Err-clause-refused c sections is = c.in-Err.ensures.refused is.behind is.begins
+returns-in-Err-clause-refused c sections is = c.in-Err.ensures.refused is.after is.begins
 
 pub returns-in-Err-read_section-clause-refused : goal.returns-in-Err-read_section-clause-refused
 returns-in-Err-read_section-clause-refused c sections is =
@@ -30,5 +30,5 @@ returns-in-Err-read_section-clause-fault c =
     let more : rest c.customs.reader ≡ [] → ⊥ = search rules in
     let read = c.in-Err-read_section.ensures in
     let whole = reader_of c.args.features 0 c.args.bytes.now in
-    let stand = sections_to whole c.in-Ok.reader c.customs.reader h.0 c.in-Ok.ensures.ok h.1 more in
-    inr (c.customs.reader, stand, (read.reads.1, read.fault))
+    let occur = sections_to whole c.in-Ok.reader c.customs.reader h.0 c.in-Ok.ensures.ok h.1 more in
+    inr (c.customs.reader, occur, (read.reads.1, read.fault))

@@ -2,12 +2,12 @@ use Rattle.std.proofs.Common.{List, length}
 use Rattle.wasm_module.specs.below.Source.{rest}
 use Rattle.wasm_module.specs.Module.{SectionParts}
 use Rattle.wasm_functions.specs.Names.{LastNames}
-use Rattle.wasm_functions.specs.Sections.{SectionsStand}
+use Rattle.wasm_functions.specs.Sections.{SectionsOccur}
 use Rattle.wasm_functions.proofs.sections.find_names.Given as goal
 
 -- These sections were read, and this is the last custom section `name` among them.
 abbrev pub invariant-customs : goal.invariant-customs
-invariant-customs l = (sections : List SectionParts) × SectionsStand l.initial.reader sections l.reader × LastNames sections l.found
+invariant-customs l = (sections : List SectionParts) × SectionsOccur l.initial.reader sections l.reader × LastNames sections l.found
 
 abbrev pub decreases-customs : goal.decreases-customs
 decreases-customs l = length (rest l.reader)

@@ -2,7 +2,7 @@ use Rattle.std.proofs.Common.{◌≡◌, ◌∷◌, ◌++◌, [], sym, ap, ◌�
 use Rattle.wasm_module.specs.below.Source.{rest, reader_of}
 use Rattle.wasm_functions.specs.Sections.{or_first}
 use Rattle.wasm_functions.proofs.Refused.{sections_to}
-use Rattle.wasm_functions.proofs.Standing.{one_more, first_more}
+use Rattle.wasm_functions.proofs.Occurring.{one_more, first_more}
 use Rattle.wasm_functions.proofs.Unique.{no_module}
 use Rattle.wasm_functions.proofs.sections.find_section.Goals as goal
 
@@ -11,11 +11,11 @@ sections-preserved c =
     let h = c.sections.invariant in
     let s = c.in-Ok-read_section.section in
     let read = c.in-Ok-read_section.ensures in
-    let stand = one_more c.in-Ok.reader h.0 c.sections.reader c.read_section.new.reader s h.1 read.reads read.placed in
-    (h.0 ++ s ∷ [], stand, c.or_first-found.ensures ∙ ap (λ found. or_first found s c.args.id) h.2 ∙ sym (first_more c.args.id h.0 s))
+    let occur = one_more c.in-Ok.reader h.0 c.sections.reader c.read_section.new.reader s h.1 read.reads read.placed in
+    (h.0 ++ s ∷ [], occur, c.or_first-found.ensures ∙ ap (λ found. or_first found s c.args.id) h.2 ∙ sym (first_more c.args.id h.0 s))
 
 pub returns-in-Err-clause-refused : goal.returns-in-Err-clause-refused
-returns-in-Err-clause-refused c sections is = c.in-Err.ensures.refused is.behind is.begins
+returns-in-Err-clause-refused c sections is = c.in-Err.ensures.refused is.after is.begins
 
 pub returns-in-Err-read_section-clause-refused : goal.returns-in-Err-read_section-clause-refused
 returns-in-Err-read_section-clause-refused c sections is =
@@ -31,5 +31,5 @@ returns-in-Err-read_section-clause-fault c =
     let more : rest c.sections.reader ≡ [] → ⊥ = search rules in
     let read = c.in-Err-read_section.ensures in
     let whole = reader_of c.args.features 0 c.args.bytes.now in
-    let stand = sections_to whole c.in-Ok.reader c.sections.reader h.0 c.in-Ok.ensures.ok h.1 more in
-    inr (c.sections.reader, stand, (read.reads.1, read.fault))
+    let occur = sections_to whole c.in-Ok.reader c.sections.reader h.0 c.in-Ok.ensures.ok h.1 more in
+    inr (c.sections.reader, occur, (read.reads.1, read.fault))

@@ -1,12 +1,12 @@
 use Rattle.std.proofs.Common.{◌≡◌, List, length}
 use Rattle.wasm_module.specs.below.Source.{rest}
 use Rattle.wasm_module.specs.Module.{SectionParts}
-use Rattle.wasm_functions.specs.Sections.{SectionsStand, first_with}
+use Rattle.wasm_functions.specs.Sections.{SectionsOccur, first_with}
 use Rattle.wasm_functions.proofs.sections.find_section.Given as goal
 
 -- These sections were read, and this is the first of them with the number.
 abbrev pub invariant-sections : goal.invariant-sections
-invariant-sections l = (sections : List SectionParts) × SectionsStand l.initial.reader sections l.reader × (l.found ≡ first_with l.id sections)
+invariant-sections l = (sections : List SectionParts) × SectionsOccur l.initial.reader sections l.reader × (l.found ≡ first_with l.id sections)
 
 abbrev pub decreases-sections : goal.decreases-sections
 decreases-sections l = length (rest l.reader)

@@ -1,7 +1,7 @@
 use Rattle.std.proofs.Common.{◌≡◌, ◌+◌, ◌<◌, [], ◌∷◌, ◌++◌, length, sym, subst, ap, ◌∙◌, inl, inr, rules, arith}
 use Rattle.std.proofs.lemmas.List.{length_push}
 use Rattle.wasm_module.specs.below.Number.{EncodesUnsigned}
-use Rattle.wasm_functions.specs.Items.{ItemsStand}
+use Rattle.wasm_functions.specs.Items.{ItemsOccur}
 use Rattle.wasm_functions.specs.Refusals.{FunctionsFault, IsAny}
 use Rattle.wasm_functions.proofs.Named.{not_both}
 use Rattle.wasm_functions.proofs.Next.{none_refused}
@@ -17,8 +17,8 @@ loop-function-preserved c =
     let pushed : c.push.new.self.items ≡ types ++ ty ∷ [] = search rules in
     let first = c.read_var_u32.new.self in
     let now = c.read_var_u32-in-loop-function.new.self in
-    let stand = item_more (EncodesUnsigned 32) first types c.loop-function.reader now ty h.0 c.in-Ok-read_var_u32.ensures.reads in (
-      subst (λ xs. ItemsStand (EncodesUnsigned 32) first xs now) (sym pushed) stand,
+    let occur = item_more (EncodesUnsigned 32) first types c.loop-function.reader now ty h.0 c.in-Ok-read_var_u32.ensures.reads in (
+      subst (λ xs. ItemsOccur (EncodesUnsigned 32) first xs now) (sym pushed) occur,
       ap length pushed ∙ length_push types ty ∙ ap (λ n. n + 1) h.1,
     )
 
@@ -43,8 +43,8 @@ pub returns-in-Err-read_var_u32-clause-fault : goal.returns-in-Err-read_var_u32-
 returns-in-Err-read_var_u32-clause-fault c =
     let h = c.loop-function.invariant in
     let fewer : length c.loop-function.types.items < c.in-Ok.count = let so = h.1 in let test = c.loop-function-test.true in omega (arith, so, test) in
-    let stand = items_to (EncodesUnsigned 32) IsAny c.args.contents c.read_var_u32.new.self c.loop-function.reader c.in-Ok.count c.loop-function.types.items
+    let occur = items_to (EncodesUnsigned 32) IsAny c.args.contents c.read_var_u32.new.self c.loop-function.reader c.in-Ok.count c.loop-function.types.items
     c.in-Ok.ensures.reads h.0 fewer (any_items c.loop-function.types.items) in
     let read = c.in-Err-read_var_u32.ensures in
     of_refusal (λ f. FunctionsFault f c.args.contents) c.in-Err-read_var_u32.e c.from-in-Err-read_var_u32.result c.from-in-Err-read_var_u32.ensures read.reads.1.fault
-    (inr (c.loop-function.reader, stand, (read.reads.1, read.fault)))
+    (inr (c.loop-function.reader, occur, (read.reads.1, read.fault)))

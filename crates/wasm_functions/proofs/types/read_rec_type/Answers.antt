@@ -27,17 +27,17 @@ loop-ty-preserved c =
     )
 
 pub returns-in-Err-clause-refused : goal.returns-in-Err-clause-refused
-returns-in-Err-clause-refused c types end all stand known =
+returns-in-Err-clause-refused c types end all occur known =
     let h = c.loop-ty.invariant in
     let fewer : length h.0 < length types = let so = h.2 in let test = c.loop-ty-test.true in omega (arith, so, test, all) in
-    let (y, ys, next, parts, reads) = more_items EncodesSubType c.types.ensures.one c.args.reader.now h.0 types c.loop-ty.reader end h.1 stand fewer in
+    let (y, ys, next, parts, reads) = more_items EncodesSubType c.types.ensures.one c.args.reader.now h.0 types c.loop-ty.reader end h.1 occur fewer in
     absurd (not_both EncodesSubType c.in-Err.e c.loop-ty.reader next y c.in-Err.ensures.reads.1 reads)
 
 pub returns-in-Other-clause-refused : goal.returns-in-Other-clause-refused
-returns-in-Other-clause-refused c types end all stand known =
+returns-in-Other-clause-refused c types end all occur known =
     let h = c.loop-ty.invariant in
     let fewer : length h.0 < length types = let so = h.2 in let test = c.loop-ty-test.true in omega (arith, so, test, all) in
-    let (y, ys, next, parts, reads) = more_items EncodesSubType c.types.ensures.one c.args.reader.now h.0 types c.loop-ty.reader end h.1 stand fewer in
+    let (y, ys, next, parts, reads) = more_items EncodesSubType c.types.ensures.one c.args.reader.now h.0 types c.loop-ty.reader end h.1 occur fewer in
     let same = one_value EncodesSubType c.types.ensures.one c.loop-ty.reader c.read.new.reader next c.in-Ok.ty y c.in-Ok.ensures.reads reads in
     let is_known : IsKnownType c.in-Ok.ty = subst IsKnownType (sym same) (all_at IsKnownType h.0 y ys types parts known) in
     absurd (subst IsKnownType c.in-Other.is is_known)
@@ -46,15 +46,15 @@ pub returns-in-Err-clause-fault : goal.returns-in-Err-clause-fault
 returns-in-Err-clause-fault c =
     let h = c.loop-ty.invariant in
     let fewer : length h.0 < c.args.len = let so = h.2 in let test = c.loop-ty-test.true in omega (arith, so, test) in
-    let stand = sub_types_to c.args.len c.args.reader.now c.loop-ty.reader h.0 h.1 fewer h.3 in
+    let occur = sub_types_to c.args.len c.args.reader.now c.loop-ty.reader h.0 h.1 fewer h.3 in
     let read = c.in-Err.ensures in
     of_refusal (λ f. SubTypesFault f c.args.len c.args.reader.now) c.in-Err.e c.from.result c.from.ensures read.reads.1.fault
-    (c.loop-ty.reader, stand, (read.reads.1, read.fault))
+    (c.loop-ty.reader, occur, (read.reads.1, read.fault))
 
 pub returns-in-Other-clause-fault : goal.returns-in-Other-clause-fault
 returns-in-Other-clause-fault c =
     let h = c.loop-ty.invariant in
     let fewer : length h.0 < c.args.len = let so = h.2 in let test = c.loop-ty-test.true in omega (arith, so, test) in
-    let stand = sub_types_to c.args.len c.args.reader.now c.loop-ty.reader h.0 h.1 fewer h.3 in
+    let occur = sub_types_to c.args.len c.args.reader.now c.loop-ty.reader h.0 h.1 fewer h.3 in
     let reads = subst (λ (ty : CompositeType). Reads EncodesSubType (Ok ty) c.loop-ty.reader c.read.new.reader) c.in-Other.is c.in-Ok.ensures.reads in
-    (c.loop-ty.reader, stand, c.original_position-offset.ensures, c.read.new.reader, reads)
+    (c.loop-ty.reader, occur, c.original_position-offset.ensures, c.read.new.reader, reads)

@@ -4,5 +4,5 @@ use Rattle.wasm_imm_control.proofs.block_type.read_by_copy.Goals as goal
 
 pub returns-clause-fault : goal.returns-clause-fault
 returns-clause-fault c =
-    let r = c.read_other-answer in
+    let r = c.read_other-outcome in
     subst (λ s. IfErr r.result (λ e. BlockTypeFault e.message s e.offset)) c.clone-lent.ensures r.ensures.fault

@@ -28,7 +28,7 @@ returns-then-index-lt0-clause-reads c =
     let over : (i : ℕ) → c.in_ok-index.index ≡ pos i → ⊥ = λ i e. absurd (omega (arith, ints, c.if-index-lt0.true, same, e)) in
     negative_refused c.new.result c.args.reader.now c.read_var_s33.new.self c.rewind.new.self c.in_ok-index.index c.current_position-start.result
     c.in_ok-index.ensures.reads over c.current_position-start.ensures c.rewind.ensures (c.new.ensures.offset ∙
-    c.original_position-behind.ensures) (subst IsReadFault (sym c.new.ensures.message) tt)
+    c.original_position-after.ensures) (subst IsReadFault (sym c.new.ensures.message) tt)
 
 pub returns-in_err-index-clause-fault : goal.returns-in_err-index-clause-fault
 returns-in_err-index-clause-fault c =
@@ -46,5 +46,5 @@ returns-then-index-lt0-clause-fault c =
       c.in_ok-index.index,
       c.read_var_s33.new.self,
       c.in_ok-index.ensures.reads,
-      (under, c.new.ensures.message, c.new.ensures.offset ∙ c.original_position-behind.ensures),
+      (under, c.new.ensures.message, c.new.ensures.offset ∙ c.original_position-after.ensures),
     )

@@ -1,5 +1,5 @@
 use Rattle.std.proofs.Common.{◌+◌, arith}
-use Rattle.wasm_imm_control.proofs.PassedTargets.{targets_behind}
+use Rattle.wasm_imm_control.proofs.PassedTargets.{targets_after}
 use Rattle.wasm_imm_control.proofs.branch_table.pass_short_targets.Goals as goal
 
 pub loop-position-preserved : goal.loop-position-preserved
@@ -8,5 +8,5 @@ loop-position-preserved c =
     let p = l.position in (
       omega (arith, l.invariant.0),
       omega (arith, l.invariant.1),
-      targets_behind p 4 c.args.bytes.now 0 p (p + 4) l.invariant.2 (c.are_four_short.ensures c.if-are_four_short.true),
+      targets_after p 4 c.args.bytes.now 0 p (p + 4) l.invariant.2 (c.are_four_short.ensures c.if-are_four_short.true),
     )

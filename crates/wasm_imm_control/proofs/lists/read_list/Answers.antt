@@ -24,7 +24,7 @@ returns-in-Err-read_members-clause-reads g c =
     IsRefused (EncodesMany (g.T.FromReader.encodes z) c.in-Ok.count) true c.in-Err-read_members.e mid) same c.in-Err-read_members.ensures.reads in
     begun_refused (EncodesSize c.args.limit) (EncodesMany (g.T.FromReader.encodes f)) c.in-Err-read_members.e c.refuse_from.result c.args.reader.now mid
     c.read_members.new.reader c.refuse_from.new.reader c.in-Ok.count c.current_position-start.result (size_prefix_code c.args.limit)
-    (λ text p. unsigned_some 32 text c.in-Ok.count p.0) s h c.current_position-start.ensures c.refuse_from.ensures.back c.refuse_from.ensures.told
+    (λ text p. unsigned_some 32 text c.in-Ok.count p.0) s h c.current_position-start.ensures c.refuse_from.ensures.back c.refuse_from.ensures.reported
 
 pub returns-in-Ok-read_members-clause-reads : goal.returns-in-Ok-read_members-clause-reads
 returns-in-Ok-read_members-clause-reads g c =
@@ -53,5 +53,5 @@ returns-in-Err-read_members-clause-fault g c =
       mid,
       s,
       subst (λ z. many z f.message f.offset) same
-          (kept_fault (many mid.features) c.in-Err-read_members.e f _ c.refuse_from.ensures.told c.in-Err-read_members.ensures.fault some),
+          (kept_fault (many mid.features) c.in-Err-read_members.e f _ c.refuse_from.ensures.reported c.in-Err-read_members.ensures.fault some),
     )

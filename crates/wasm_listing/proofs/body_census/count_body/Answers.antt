@@ -30,11 +30,11 @@ pub returns-clause-counts : goal.returns-clause-counts
 returns-clause-counts c =
     opened_body (Counted c.args.census.now c.visit_all_simd.new.v) (NextMayAllocate EncodesAllowed) c.visit_all_simd.result
     (input_of c.args.features c.args.bytes.now) c.in_ok-operators.operators c.visit_all_simd.new.self c.opened_bodies.ensures.whole
-    c.opened_bodies.ensures.stopped_visits c.in_ok-operators.ensures.opens (c.visit_all_simd.ensures.rest [] c.in_ok-operators.ensures.stood)
+    c.opened_bodies.ensures.stopped_visits c.in_ok-operators.ensures.opens (c.visit_all_simd.ensures.rest [] c.in_ok-operators.ensures.read_so_far)
 
 pub returns-clause-whole : goal.returns-clause-whole
 returns-clause-whole c = λ declarations placed encodes.
-    (c.visit_all_simd.ensures.rest [] c.in_ok-operators.ensures.stood).only placed
+    (c.visit_all_simd.ensures.rest [] c.in_ok-operators.ensures.read_so_far).only placed
     (c.opened_bodies.ensures.expression (input_of c.args.features c.args.bytes.now) c.in_ok-operators.operators declarations placed
     c.in_ok-operators.ensures.opens encodes) tt
 

@@ -22,10 +22,10 @@ pub returns-clause-reads : goal.returns-clause-reads
 returns-clause-reads c =
     opened_body (Adds c.args.out.now.items c.read_all.new.out.items) Anywhere c.read_all.result (input_of c.args.features c.args.bytes.now)
     c.in_ok-operators.operators c.read_all.new.self c.opened_bodies.ensures.whole c.opened_bodies.ensures.stopped c.in_ok-operators.ensures.opens
-    (c.read_all.ensures.rest [] c.in_ok-operators.ensures.stood)
+    (c.read_all.ensures.rest [] c.in_ok-operators.ensures.read_so_far)
 
 pub returns-clause-whole : goal.returns-clause-whole
 returns-clause-whole c = λ declarations placed encodes.
-    (c.read_all.ensures.rest [] c.in_ok-operators.ensures.stood).only placed
+    (c.read_all.ensures.rest [] c.in_ok-operators.ensures.read_so_far).only placed
     (c.opened_bodies.ensures.expression (input_of c.args.features c.args.bytes.now) c.in_ok-operators.operators declarations placed
     c.in_ok-operators.ensures.opens encodes) tt

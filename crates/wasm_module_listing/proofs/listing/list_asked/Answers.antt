@@ -15,11 +15,11 @@ returns-then-not-is_asked-clause-lists g c = (
   refl,
 )
 
-pub returns-in-Ok-answer-clause-lists : goal.returns-in-Ok-answer-clause-lists
-returns-in-Ok-answer-clause-lists g c =
+pub returns-in-Ok-outcome-clause-lists : goal.returns-in-Ok-outcome-clause-lists
+returns-in-Ok-outcome-clause-lists g c =
     let l = c.in-Ok.ensures.lists in
     let lists : ListsFunction c.args.functions.now c.args.place c.args.body.now [] l.0 =
-    (c.in-Ok.answer, l.2, ap (refusals_of (index_of c.args.functions.now c.args.place)) (sym c.in-Ok-answer.is)) in (
+    (c.in-Ok.outcome, l.2, ap (refusals_of (index_of c.args.functions.now c.args.place)) (sym c.in-Ok-outcome.is)) in (
       [],
       l.0,
       l.1,
@@ -31,18 +31,18 @@ returns-in-Ok-answer-clause-lists g c =
 pub returns-in-Ok-complain-clause-lists : goal.returns-in-Ok-complain-clause-lists
 returns-in-Ok-complain-clause-lists g c =
     let l = c.in-Ok.ensures.lists in
-    let e = c.in-Err-answer.e in
-    let told = (c.index-index.result, e) ∷ [] in
-    let lists : ListsFunction c.args.functions.now c.args.place c.args.body.now told l.0 = (
-      c.in-Ok.answer,
+    let e = c.in-Err-outcome.e in
+    let reported = (c.index-index.result, e) ∷ [] in
+    let lists : ListsFunction c.args.functions.now c.args.place c.args.body.now reported l.0 = (
+      c.in-Ok.outcome,
       l.2,
-      ap (λ i. (i, e) ∷ []) c.index-index.ensures ∙ ap (refusals_of (index_of c.args.functions.now c.args.place)) (sym c.in-Err-answer.is),
+      ap (λ i. (i, e) ∷ []) c.index-index.ensures ∙ ap (refusals_of (index_of c.args.functions.now c.args.place)) (sym c.in-Err-outcome.is),
     ) in (
-      told,
+      reported,
       l.0,
       keeps_both (g.W.Write.contents c.args.writer.now) (g.W.Write.contents c.list_function.new.writer) (g.W.Write.contents c.complain.new.writer) l.0 l.1
           c.in-Ok-complain.ensures.keeps,
       asked_for _ _ c.is_asked.result _ (c.is_asked.ensures ∙ ap (is_asked c.args.only) c.index-index.ensures) c.if-not-is_asked.false lists,
-      (c.complain.new.complaints, c.in-Ok-complain.ensures.tells, refl),
+      (c.complain.new.complaints, c.in-Ok-complain.ensures.reports, refl),
       refl,
     )

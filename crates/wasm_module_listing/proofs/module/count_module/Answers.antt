@@ -8,7 +8,7 @@ use Rattle.wasm_module_listing.proofs.module.count_module.Goals as goal
 
 pub returns-in-Err-clause-counts : goal.returns-in-Err-clause-counts
 returns-in-Err-clause-counts g c =
-    counts_refused g.C.Complaints.tells c.args.features c.args.only c.args.bytes.now c.in-Err.fault c.args.complaints.now c.in-Err.ensures.refuses
+    counts_refused g.C.Complaints.reports c.args.features c.args.only c.args.bytes.now c.in-Err.fault c.args.complaints.now c.in-Err.ensures.refuses
 
 pub returns-in-Err-clause-whole : goal.returns-in-Err-clause-whole
 returns-in-Err-clause-whole g c =
@@ -17,7 +17,7 @@ returns-in-Err-clause-whole g c =
 pub returns-in-Some-clause-counts : goal.returns-in-Some-clause-counts
 returns-in-Some-clause-counts g c =
     let opens = subst (λ (code : Option Reader). OpensModule c.args.features c.args.only c.args.bytes.now c.in-Ok.opened.0 code) c.in-Some.is c.in-Ok.ensures.opens in
-    counts_module g.C.Complaints.tells c.args.features c.args.only c.args.bytes.now c.in-Ok.opened.0 c.in-Some.code c.count_code.result
+    counts_module g.C.Complaints.reports c.args.features c.args.only c.args.bytes.now c.in-Ok.opened.0 c.in-Some.code c.count_code.result
     c.args.complaints.now c.count_code.new.complaints opens c.count_code.ensures.counts c.count_code.ensures.later
 
 pub returns-in-Some-clause-whole : goal.returns-in-Some-clause-whole

@@ -1,26 +1,26 @@
 use Rattle.wasm_module_listing.proofs.Chosen.{on_true, on_false, not_on_true, not_on_false, tabulates_none}
 use Rattle.wasm_module_listing.proofs.request.run.Goals as goal
 
-pub returns-then-not-wanted-clause-tabulates : goal.returns-then-not-wanted-clause-tabulates
-returns-then-not-wanted-clause-tabulates g c = not_on_true c.args.wanted.census _ c.if-not-wanted.true
+pub returns-then-not-requested-clause-tabulates : goal.returns-then-not-requested-clause-tabulates
+returns-then-not-requested-clause-tabulates g c = not_on_true c.args.requested.census _ c.if-not-requested.true
 
-pub returns-then-not-wanted-clause-counted : goal.returns-then-not-wanted-clause-counted
-returns-then-not-wanted-clause-counted g c = not_on_true c.args.wanted.census _ c.if-not-wanted.true
+pub returns-then-not-requested-clause-counted : goal.returns-then-not-requested-clause-counted
+returns-then-not-requested-clause-counted g c = not_on_true c.args.requested.census _ c.if-not-requested.true
 
-pub returns-then-not-wanted-clause-listed : goal.returns-then-not-wanted-clause-listed
-returns-then-not-wanted-clause-listed g c = on_false c.args.wanted.census _ c.list_module.ensures.whole
+pub returns-then-not-requested-clause-listed : goal.returns-then-not-requested-clause-listed
+returns-then-not-requested-clause-listed g c = on_false c.args.requested.census _ c.list_module.ensures.whole
 
 pub returns-in-Err-clause-tabulates : goal.returns-in-Err-clause-tabulates
 returns-in-Err-clause-tabulates g c =
-    on_true c.args.wanted.census _
-    (tabulates_none g.C.Complaints.tells c.args.wanted.features c.args.wanted.function c.args.bytes.now c.in-Err.fault c.args.complaints.now
+    on_true c.args.requested.census _
+    (tabulates_none g.C.Complaints.reports c.args.requested.features c.args.requested.function c.args.bytes.now c.in-Err.fault c.args.complaints.now
     c.count_module.new.complaints (g.W.Write.contents c.args.writer.now) c.in-Err.ensures.counts)
 
 pub returns-in-Err-clause-counted : goal.returns-in-Err-clause-counted
-returns-in-Err-clause-counted g c = on_true c.args.wanted.census _ c.in-Err.ensures.whole
+returns-in-Err-clause-counted g c = on_true c.args.requested.census _ c.in-Err.ensures.whole
 
 pub returns-in-Ok-write_table-clause-lists : goal.returns-in-Ok-write_table-clause-lists
-returns-in-Ok-write_table-clause-lists g c = not_on_false c.args.wanted.census _ c.if-not-wanted.false
+returns-in-Ok-write_table-clause-lists g c = not_on_false c.args.requested.census _ c.if-not-requested.false
 
 pub returns-in-Ok-write_table-clause-listed : goal.returns-in-Ok-write_table-clause-listed
-returns-in-Ok-write_table-clause-listed g c = not_on_false c.args.wanted.census _ c.if-not-wanted.false
+returns-in-Ok-write_table-clause-listed g c = not_on_false c.args.requested.census _ c.if-not-requested.false

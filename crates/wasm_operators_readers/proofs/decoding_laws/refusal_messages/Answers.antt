@@ -1,8 +1,8 @@
-use Rattle.wasm_operators_readers.proofs.Messages.{operator_told, scalar_told}
+use Rattle.wasm_operators_readers.proofs.Messages.{operator_read_fault, scalar_read_fault}
 use Rattle.wasm_operators_readers.proofs.decoding_laws.refusal_messages.Goals as goal
 
 pub returns-clause-any : goal.returns-clause-any
-returns-clause-any c = operator_told c.args.features c.args.frame
+returns-clause-any c = operator_read_fault c.args.features c.args.frame
 
 pub returns-clause-scalar : goal.returns-clause-scalar
-returns-clause-scalar c = scalar_told c.args.features c.args.frame
+returns-clause-scalar c = scalar_read_fault c.args.features c.args.frame

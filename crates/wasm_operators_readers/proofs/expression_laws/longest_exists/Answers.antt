@@ -5,10 +5,10 @@ use Rattle.wasm_operators_readers.proofs.Existence.{longest_is_some, flat_is_som
 use Rattle.wasm_operators_readers.proofs.expression_laws.longest_exists.Goals as goal
 
 pub returns-clause-any : goal.returns-clause-any
-returns-clause-any c = λ before s stood none. longest_is_some IsAny tt before s stood none
+returns-clause-any c = λ before s read_so_far none. longest_is_some IsAny tt before s read_so_far none
 
 pub returns-clause-scalar : goal.returns-clause-scalar
-returns-clause-scalar c = λ before s stood none. longest_is_some IsScalar refl before s stood none
+returns-clause-scalar c = λ before s read_so_far none. longest_is_some IsScalar refl before s read_so_far none
 
 pub returns-clause-flat : goal.returns-clause-flat
 returns-clause-flat c = λ frames s none. flat_is_some IsAny tt frames s none

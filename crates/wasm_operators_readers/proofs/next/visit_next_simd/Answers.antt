@@ -3,16 +3,16 @@ use Rattle.wasm_decode.specs.opcodes.Allowed.{EncodesAllowed}
 use Rattle.wasm_decode.specs.opcodes.OperatorFaults.{OperatorFault}
 use Rattle.wasm_operators_readers.specs.Next.{state_of}
 use Rattle.wasm_operators_readers.proofs.DecoderPremises.{sound}
-use Rattle.wasm_operators_readers.proofs.VisitSteps.{step_allowed_behind, visited_with_step, refused_behind, visited_from_20}
+use Rattle.wasm_operators_readers.proofs.VisitSteps.{step_allowed_after, visited_with_step, refused_after, visited_from_20}
 use Rattle.wasm_operators_readers.proofs.next.visit_next_simd.Goals as goal
 
-pub advance-requires-clause-allowed : goal.advance-requires-clause-allowed
-advance-requires-clause-allowed g c =
+pub make_step-requires-clause-allowed : goal.make_step-requires-clause-allowed
+make_step-requires-clause-allowed g c =
     let at = c.in-Ok.at in
     let old = state_of c.args.reader.now c.args.control.now in
     let mid = state_of c.begin.new.reader c.begin.new.control in
     let new = state_of c.visit_below_0x20.new.reader c.begin.new.control in
-    step_allowed_behind g.V.Visitor.visits EncodesAllowed OperatorFault sound (λ f kind text op h. h.1) old mid new at.frame at.code at.start c.in-Ok-visit_below_0x20.answer c.args.v.now
+    step_allowed_after g.V.Visitor.visits EncodesAllowed OperatorFault sound (λ f kind text op h. h.1) old mid new at.frame at.code at.start c.in-Ok-visit_below_0x20.outcome c.args.v.now
     c.visit_below_0x20.new.v c.in-Ok.ensures.begun c.in-Ok-visit_below_0x20.ensures.allowed
 
 pub returns-in-Ok-visit_below_0x20 : goal.returns-in-Ok-visit_below_0x20
@@ -20,9 +20,9 @@ returns-in-Ok-visit_below_0x20 g c =
     let at = c.in-Ok.at in
     let old = state_of c.args.reader.now c.args.control.now in
     let mid = state_of c.begin.new.reader c.begin.new.control in
-    let new = state_of c.visit_below_0x20.new.reader c.advance.new.control in
-    let step = c.advance.ensures in
-    visited_with_step g.V.Visitor.visits EncodesAllowed OperatorFault sound old mid new at.frame at.code at.start c.in-Ok-visit_below_0x20.answer c.args.v.now
+    let new = state_of c.visit_below_0x20.new.reader c.make_step.new.control in
+    let step = c.make_step.ensures in
+    visited_with_step g.V.Visitor.visits EncodesAllowed OperatorFault sound old mid new at.frame at.code at.start c.in-Ok-visit_below_0x20.outcome c.args.v.now
     c.visit_below_0x20.new.v c.in-Ok.ensures.begun c.in-Ok-visit_below_0x20.ensures.allowed step.frames step.opened step.other step.memory
 
 pub returns-in-Err-visit_below_0x20 : goal.returns-in-Err-visit_below_0x20
@@ -32,14 +32,14 @@ returns-in-Err-visit_below_0x20 g c =
     let mid = state_of c.begin.new.reader c.begin.new.control in
     let new = state_of c.visit_below_0x20.new.reader c.begin.new.control in
     let e = c.in-Err-visit_below_0x20.e in
-    refused_behind g.V.Visitor.visits EncodesAllowed OperatorFault old mid new at.frame at.code at.start e c.args.v.now c.visit_below_0x20.new.v
+    refused_after g.V.Visitor.visits EncodesAllowed OperatorFault old mid new at.frame at.code at.start e c.args.v.now c.visit_below_0x20.new.v
     c.in-Ok.ensures.begun c.in-Err-visit_below_0x20.ensures.allowed refl refl
 
-pub returns-then-leaves_frames : goal.returns-then-leaves_frames
-returns-then-leaves_frames g c =
+pub returns-then-keeps_frames : goal.returns-then-keeps_frames
+returns-then-keeps_frames g c =
     let at = c.in-Ok.at in
     let old = state_of c.args.reader.now c.args.control.now in
     let mid = state_of c.begin.new.reader c.begin.new.control in
-    let new = state_of c.visit_behind_simd.new.reader c.begin.new.control in
-    visited_from_20 g.V.Visitor.visits EncodesAllowed OperatorFault sound (λ f kind text op h. h.1) old mid new at.frame at.code at.start c.visit_behind_simd.result c.args.v.now c.visit_behind_simd.new.v
-    (c.leaves_frames.ensures.0 c.if-leaves_frames.true) c.in-Ok.ensures.begun c.visit_behind_simd.ensures refl refl
+    let new = state_of c.visit_after_opcode_simd.new.reader c.begin.new.control in
+    visited_from_20 g.V.Visitor.visits EncodesAllowed OperatorFault sound (λ f kind text op h. h.1) old mid new at.frame at.code at.start c.visit_after_opcode_simd.result c.args.v.now c.visit_after_opcode_simd.new.v
+    (c.keeps_frames.ensures.0 c.if-keeps_frames.true) c.in-Ok.ensures.begun c.visit_after_opcode_simd.ensures refl refl

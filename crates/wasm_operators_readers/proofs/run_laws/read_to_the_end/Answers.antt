@@ -11,15 +11,15 @@ use Rattle.wasm_operators_readers.proofs.Runs.{run_tree, run_beginning, run_only
 use Rattle.wasm_operators_readers.proofs.run_laws.read_to_the_end.Goals as goal
 
 pub returns-clause-tree : goal.returns-clause-tree
-returns-clause-tree c = λ before old new placed stood ran closed all. run_tree before old new placed stood ran closed all
+returns-clause-tree c = λ before old new placed read_so_far ran closed all. run_tree before old new placed read_so_far ran closed all
 
 pub returns-clause-beginning : goal.returns-clause-beginning
-returns-clause-beginning c = λ before e old new placed stood ran stops.
-    run_beginning Everything IsAny EncodesAllowed OperatorFault Anywhere keeps_all before e old new placed stood ran tt stops
+returns-clause-beginning c = λ before e old new placed read_so_far ran stops.
+    run_beginning Everything IsAny EncodesAllowed OperatorFault Anywhere keeps_all before e old new placed read_so_far ran tt stops
 
 pub returns-clause-only : goal.returns-clause-only
-returns-clause-only c = λ before e old new placed whole stood ran stops encodes.
-    run_only Everything IsAny EncodesAllowed OperatorFault Anywhere keeps_all before e old new placed whole stood ran tt stops encodes tt
+returns-clause-only c = λ before e old new placed whole read_so_far ran stops encodes.
+    run_only Everything IsAny EncodesAllowed OperatorFault Anywhere keeps_all before e old new placed whole read_so_far ran tt stops encodes tt
 
 pub returns-clause-refused : goal.returns-clause-refused
 returns-clause-refused c = λ e s stops. needs_more EncodesAllowed OperatorFault (NextMayAllocate EncodesAllowed) Anywhere (λ t h. tt) e s stops

@@ -2,7 +2,7 @@ use Rattle.std.proofs.Common.{◌++◌, string_bytes, flat_map, ap, sym, ◌∙�
 use Rattle.std.proofs.lemmas.Result.{on_ok_weaker}
 use Rattle.wasm_instr.specs.imm.BranchTables.{numbers_of}
 use Rattle.wasm_text.specs.Values.{number_text}
-use Rattle.wasm_text.proofs.Targets.{numbers_are, first_answered, never_refused, target_written, table_written}
+use Rattle.wasm_text.proofs.Targets.{numbers_are, first_returned, never_refused, target_written, table_written}
 use Rattle.wasm_text.proofs.lists.write_branch_table.Goals as goal
 
 pub loop-target-init : goal.loop-target-init
@@ -18,7 +18,7 @@ loop-target-preserved-in-Continue-1 c = (
   tt,
   tt,
   target_written _ _ _ c.loop-target.target-iterator c.next.new.self c.in-Ok.label
-      (first_answered c.loop-target.target-iterator c.next.new.self c.in-Some.target c.in-Ok.label c.in-Some.ensures.steps c.in-Ok.is)
+      (first_returned c.loop-target.target-iterator c.next.new.self c.in-Some.target c.in-Ok.label c.in-Some.ensures.steps c.in-Ok.is)
       c.in_ok-write_number.ensures c.loop-target.invariant.2,
 )
 

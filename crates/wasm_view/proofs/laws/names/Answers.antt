@@ -1,5 +1,5 @@
-use Rattle.wasm_view.proofs.Named.{name_told}
+use Rattle.wasm_view.proofs.Named.{name_agrees}
 use Rattle.wasm_view.proofs.laws.names.Goals as goal
 
 pub returns : goal.returns
-returns c = name_told
+returns c = name_agrees

@@ -1,7 +1,7 @@
 use Rattle.std.proofs.Common.{refl, sym, ap, ◌∙◌, arith, ◌++◌, ◌∷◌, [], length}
 use Rattle.wasm_instr.specs.imm.BranchTables.{numbers_of}
 use Rattle.wasm_view.proofs.Placed.{none_placed}
-use Rattle.wasm_view.proofs.Targets.{numbers_are, first_answered, never_refused, fits_below, one_fewer, one_further, none_left}
+use Rattle.wasm_view.proofs.Targets.{numbers_are, first_returned, never_refused, fits_below, one_fewer, one_further, none_left}
 use Rattle.wasm_view.proofs.lists.place_targets.Goals as goal
 
 pub loop-target-init : goal.loop-target-init
@@ -16,7 +16,7 @@ loop-target-init c = (
 
 pub overflow_add-index : goal.overflow_add-index
 overflow_add-index c =
-    let first = first_answered c.loop-target.target-iterator c.next.new.self c.in-Some.target c.in-Ok.label c.in-Some.ensures.steps c.in-Ok.is in
+    let first = first_returned c.loop-target.target-iterator c.next.new.self c.in-Some.target c.in-Ok.label c.in-Some.ensures.steps c.in-Ok.is in
     let inv = c.loop-target.invariant in
     let few = fits_below (numbers_of c.args.table.now.targets) inv.2 c.loop-target.target-iterator c.next.new.self c.in-Ok.label c.loop-target.index c.len-count.result
     first inv.3 inv.4 (c.len-count.ensures ∙ sym c.targets-target-items.ensures.0 ∙ ap length (sym (numbers_are c.args.table.now.targets _ c.targets-target-items.ensures.1))) c.len-count.type_inv in
@@ -24,7 +24,7 @@ overflow_add-index c =
 
 pub loop-target-preserved-in-Ok : goal.loop-target-preserved-in-Ok
 loop-target-preserved-in-Ok c =
-    let first = first_answered c.loop-target.target-iterator c.next.new.self c.in-Some.target c.in-Ok.label c.in-Some.ensures.steps c.in-Ok.is in
+    let first = first_returned c.loop-target.target-iterator c.next.new.self c.in-Some.target c.in-Ok.label c.in-Some.ensures.steps c.in-Ok.is in
     let inv = c.loop-target.invariant in (
       tt,
       tt,

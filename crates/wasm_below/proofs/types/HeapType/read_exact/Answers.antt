@@ -7,8 +7,8 @@ use Rattle.wasm_below.specs.TypeEncoding.{EncodesExact, NoIndex}
 use Rattle.wasm_below_bytes.proofs.Faults.{first_fault}
 use Rattle.wasm_below.proofs.TypeFaults.{no_index}
 use Rattle.wasm_below_bytes.proofs.TakesLemmas.{takes_then, back}
-use Rattle.wasm_below_bytes.proofs.Prefixes.{advanced, refused_at, behind_refused}
-use Rattle.wasm_below.proofs.TypeEncodings.{no_exact, exact_behind, exact_empty}
+use Rattle.wasm_below_bytes.proofs.Prefixes.{advanced, refused_at, after_refused}
+use Rattle.wasm_below.proofs.TypeEncodings.{no_exact, exact_after, exact_empty}
 use Rattle.wasm_below.proofs.types.HeapType.read_exact.Goals as goal
 
 pub returns-then-index-gt-MAX_TYPE_INDEX-clause-reads : goal.returns-then-index-gt-MAX_TYPE_INDEX-clause-reads
@@ -36,16 +36,16 @@ returns-in-Err-clause-reads c =
     let first = advanced c.args.reader.now c.advance.new.self 98 c.requires c.advance.ensures in (
       back c.args.reader.now c.advance.new.self c.rewind.new.self (98 ∷ []) c.current_position-start.result first c.current_position-start.ensures
           (c.rewind.ensures ∙ ap (λ r. at_position r c.current_position-start.result) h.0),
-      behind_refused (EncodesUnsigned 32) EncodesExact c.in-Err.e c.args.reader.now c.advance.new.self 98 first exact_empty exact_behind h.1,
+      after_refused (EncodesUnsigned 32) EncodesExact c.in-Err.e c.args.reader.now c.advance.new.self 98 first exact_empty exact_after h.1,
     )
 
 pub returns-in-Err-clause-fault : goal.returns-in-Err-clause-fault
 returns-in-Err-clause-fault c =
     let e = c.in-Err.e in
     let h = c.in-Err.ensures in
-    let Behind = λ (n : ℕ). NoIndex c.args.reader.now in
-    subst (λ r. ThenFault (EncodesUnsigned 32) U32Fault Behind e.message r e.offset) c.advance.ensures
-    (first_fault (EncodesUnsigned 32) U32Fault Behind e c.advance.new.self h.reads.1 h.fault)
+    let After = λ (n : ℕ). NoIndex c.args.reader.now in
+    subst (λ r. ThenFault (EncodesUnsigned 32) U32Fault After e.message r e.offset) c.advance.ensures
+    (first_fault (EncodesUnsigned 32) U32Fault After e c.advance.new.self h.reads.1 h.fault)
 
 pub returns-then-index-gt-MAX_TYPE_INDEX-clause-fault : goal.returns-then-index-gt-MAX_TYPE_INDEX-clause-fault
 returns-then-index-gt-MAX_TYPE_INDEX-clause-fault c =
@@ -54,11 +54,11 @@ returns-then-index-gt-MAX_TYPE_INDEX-clause-fault c =
     let begin = c.args.reader.now in
     let new = c.read_var_u32.new.self in
     let start = ap (λ (r : Reader). r.start) c.advance.ensures in
-    let behind = subst (λ z. Reads (EncodesUnsigned 32) (Ok c.in-Ok.index) z new) c.advance.ensures r in
+    let after = subst (λ z. Reads (EncodesUnsigned 32) (Ok c.in-Ok.index) z new) c.advance.ensures r in
     inr (
       c.in-Ok.index,
       new,
-      behind,
+      after,
       no_index c.refuse.result.message c.refuse.result.offset c.current_position-start.result begin c.advance.new.self new r.0
           r.2 start c.current_position-start.ensures h.message h.offset,
     )

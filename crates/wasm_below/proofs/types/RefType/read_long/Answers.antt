@@ -2,8 +2,8 @@ use Rattle.std.proofs.Common.{◌∷◌, [], subst, sym, ap, ◌∙◌}
 use Rattle.wasm_below_bytes.specs.Source.{at_position}
 use Rattle.wasm_below.specs.TypeEncoding.{ref_byte, HeapTypeFault, EncodesHeapType, EncodesLongRef}
 use Rattle.wasm_below_bytes.proofs.TakesLemmas.{takes_then, back}
-use Rattle.wasm_below_bytes.proofs.Prefixes.{advanced, behind_refused}
-use Rattle.wasm_below.proofs.TypeEncodings.{long_behind, long_empty}
+use Rattle.wasm_below_bytes.proofs.Prefixes.{advanced, after_refused}
+use Rattle.wasm_below.proofs.TypeEncodings.{long_after, long_empty}
 use Rattle.wasm_below.proofs.types.RefType.read_long.Goals as goal
 
 pub returns-in-Ok-clause-reads : goal.returns-in-Ok-clause-reads
@@ -21,7 +21,7 @@ returns-in-Err-clause-reads c =
     let first = advanced c.args.reader.now c.advance.new.self code c.requires c.advance.ensures in (
       back c.args.reader.now c.advance.new.self c.rewind.new.self (code ∷ []) c.current_position-start.result first c.current_position-start.ensures
           (c.rewind.ensures ∙ ap (λ r. at_position r c.current_position-start.result) h.0),
-      behind_refused EncodesHeapType EncodesLongRef c.in-Err.e c.args.reader.now c.advance.new.self code first long_empty (long_behind c.args.nullable) h.1,
+      after_refused EncodesHeapType EncodesLongRef c.in-Err.e c.args.reader.now c.advance.new.self code first long_empty (long_after c.args.nullable) h.1,
     )
 
 pub returns-in-Err-clause-fault : goal.returns-in-Err-clause-fault

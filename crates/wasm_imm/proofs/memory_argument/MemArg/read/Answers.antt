@@ -7,7 +7,7 @@ use Rattle.wasm_imm_control.proofs.of_below.TakesLemmas.{back}
 use Rattle.wasm_imm.specs.MemoryArgument.{EncodesOffset, EncodesMemArg}
 use Rattle.wasm_imm.specs.MemoryArgumentFaults.{OffsetFault, MemArgFault}
 use Rattle.wasm_imm.proofs.FlagsNumber.{short_refused, short_read}
-use Rattle.wasm_imm.proofs.MemoryArgumentFaults.{short_fault, behind_fault}
+use Rattle.wasm_imm.proofs.MemoryArgumentFaults.{short_fault, fault_after_flags}
 use Rattle.wasm_imm.proofs.memory_argument.MemArg.read.Goals as goal
 
 pub returns-in-Err-read_offset-clause-reads : goal.returns-in-Err-read_offset-clause-reads
@@ -55,7 +55,7 @@ returns-in-Err-read_announced-clause-fault c =
     let start = c.current_position-start.result in
     let home = back old mid (at_position mid start) r.0 start r.2 c.current_position-start.ensures refl in
     subst (λ (z : Reader). MemArgFault z.features c.args.kind e.message old e.offset) home
-    (behind_fault mid.features c.args.kind c.in-Ok.flags (offset_of (at_position mid start)) old mid r (ap offset_of home) e.message e.offset
+    (fault_after_flags mid.features c.args.kind c.in-Ok.flags (offset_of (at_position mid start)) old mid r (ap offset_of home) e.message e.offset
     c.in-Err-read_announced.ensures.fault)
 
 pub returns-in-Err-read_offset-clause-fault : goal.returns-in-Err-read_offset-clause-fault
@@ -66,5 +66,5 @@ returns-in-Err-read_offset-clause-fault c =
     let mid = c.read_var_u32.new.self in
     let same : mid.features ≡ f = ap (λ (r : Reader). r.features) r.2.moved in
     let h = subst (λ (z : WasmFeatures). OffsetFault z e.message mid e.offset) same c.in-Err-read_offset.ensures.fault in
-    behind_fault f c.args.kind c.in-Ok.flags (offset_of c.args.reader.now) c.args.reader.now mid r refl e.message e.offset
+    fault_after_flags f c.args.kind c.in-Ok.flags (offset_of c.args.reader.now) c.args.reader.now mid r refl e.message e.offset
     (short_fault f c.args.kind c.in-Ok.flags (offset_of c.args.reader.now) c.args.reader.now mid r (omega arith) e.message e.offset h)

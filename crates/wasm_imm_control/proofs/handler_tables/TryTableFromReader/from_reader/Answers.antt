@@ -22,7 +22,7 @@ pub returns-in-Err-read_list-clause-reads : goal.returns-in-Err-read_list-clause
 returns-in-Err-read_list-clause-reads c =
     catches_refused c.in-Err-read_list.e c.refuse_from.result c.args.reader.now c.read.new.reader c.read_list.new.reader c.refuse_from.new.reader c.in-Ok.ty
     c.current_position-start.result c.in-Ok.ensures.reads c.in-Err-read_list.ensures.reads c.current_position-start.ensures c.refuse_from.ensures.back
-    c.refuse_from.ensures.told
+    c.refuse_from.ensures.reported
 
 pub returns-in-Err-clause-fault : goal.returns-in-Err-clause-fault
 returns-in-Err-clause-fault c = λ some. inl (refused_now EncodesBlockType c.in-Err.e c.args.reader.now c.in-Err.ensures.reads.1, c.in-Err.ensures.fault)
@@ -35,5 +35,5 @@ returns-in-Err-read_list-clause-fault c =
       c.in-Ok.ty,
       mid,
       c.in-Ok.ensures.reads,
-      kept_fault F c.in-Err-read_list.e c.refuse_from.result _ c.refuse_from.ensures.told c.in-Err-read_list.ensures.fault some,
+      kept_fault F c.in-Err-read_list.e c.refuse_from.result _ c.refuse_from.ensures.reported c.in-Err-read_list.ensures.fault some,
     )

@@ -4,13 +4,13 @@ use Rattle.wasm_below.proofs.TakesLemmas.{takes_then}
 use Rattle.wasm_imm_control.proofs.Faults.{leading_ended}
 use Rattle.wasm_imm_control.proofs.handlers.Catch.read.Goals as goal
 
-pub returns-in-Ok-read_behind-clause-reads : goal.returns-in-Ok-read_behind-clause-reads
-returns-in-Ok-read_behind-clause-reads c =
+pub returns-in-Ok-read_after_byte-clause-reads : goal.returns-in-Ok-read_after_byte-clause-reads
+returns-in-Ok-read_after_byte-clause-reads c =
     let b = c.in-Ok.ensures.reads in
-    let i = c.in-Ok-read_behind.ensures.reads in (
+    let i = c.in-Ok-read_after_byte.ensures.reads in (
       b.0 ++ i.0,
       (i.0, ap (λ z. z ++ i.0) b.1.0 ∙ ap (λ z. z ∷ i.0) i.1.0, i.1.1),
-      takes_then c.args.reader.now c.read_u8.new.self c.read_behind.new.reader b.0 i.0 b.2 i.2,
+      takes_then c.args.reader.now c.read_u8.new.self c.read_after_byte.new.reader b.0 i.0 b.2 i.2,
     )
 
 pub returns-in-Err-clause-fault : goal.returns-in-Err-clause-fault

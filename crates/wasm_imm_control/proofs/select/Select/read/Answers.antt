@@ -33,7 +33,7 @@ pub returns-in-Err-read_members-clause-reads : goal.returns-in-Err-read_members-
 returns-in-Err-read_members-clause-reads c =
     types_refused c.in-Err-read_members.e c.refuse_from.result c.args.reader.now c.read_size.new.self c.read_members.new.reader c.refuse_from.new.reader
     c.in-Ok.count c.current_position-start.result c.in-Ok.ensures.reads c.in-Err-read_members.ensures.reads c.current_position-start.ensures
-    c.refuse_from.ensures.back c.refuse_from.ensures.told
+    c.refuse_from.ensures.back c.refuse_from.ensures.reported
 
 pub returns-in-Err-read_members-clause-lone : goal.returns-in-Err-read_members-clause-lone
 returns-in-Err-read_members-clause-lone c = λ m. not_one c.args.reader.now c.read_size.new.self c.in-Ok.count c.in-Ok.ensures.reads c.if-count-eq1.false
@@ -64,5 +64,5 @@ returns-in-Err-read_members-clause-fault c =
       c.in-Ok.count,
       mid,
       c.in-Ok.ensures.reads,
-      kept_fault F c.in-Err-read_members.e c.refuse_from.result _ c.refuse_from.ensures.told c.in-Err-read_members.ensures.fault some,
+      kept_fault F c.in-Err-read_members.e c.refuse_from.result _ c.refuse_from.ensures.reported c.in-Err-read_members.ensures.fault some,
     )

@@ -14,11 +14,11 @@ returns-clause-runs c =
     c.read_to_end.new.out.items c.read_to_end.ensures.runs
 
 pub returns-clause-rest : goal.returns-clause-rest
-returns-clause-rest c = λ before stood.
+returns-clause-rest c = λ before read_so_far.
     let runs = collected_runs EncodesAllowed OperatorFault Anywhere c.read_to_end.result c.args.self.now c.read_to_end.new.self c.args.out.now.items
     c.read_to_end.new.out.items c.read_to_end.ensures.runs in
     runs_rest (Adds c.args.out.now.items c.read_to_end.new.out.items) IsAny Everything EncodesAllowed OperatorFault Anywhere (λ placed h. tt) keeps_all
-    is_reading c.read_to_end.result before c.args.self.now c.read_to_end.new.self (λ longest l none. absurd (none tt)) runs stood
+    is_reading c.read_to_end.result before c.args.self.now c.read_to_end.new.self (λ longest l none. absurd (none tt)) runs read_so_far
 
 pub returns-clause-flat : goal.returns-clause-flat
 returns-clause-flat c =

@@ -9,12 +9,12 @@ use Rattle.wasm_operators_readers.proofs.Premises.{IsNoVector}
 use Rattle.wasm_operators_readers.proofs.operators.OperatorsReader.visit_all.Goals as goal
 
 pub returns-clause-rest : goal.returns-clause-rest
-returns-clause-rest g c = λ before stood.
+returns-clause-rest g c = λ before read_so_far.
     runs_rest (VisitedScalar g.V.Visitor.visits c.args.v.now c.visit_to_end.new.v) IsScalar IsNoVector EncodesScalar ScalarOperatorFault (NextMayAllocate EncodesScalar)
     (λ placed h. h.1) keeps_scalar scalar_is_reading c.visit_to_end.result before c.args.self.now c.visit_to_end.new.self
     (scalar_refused (VisitedScalar g.V.Visitor.visits c.args.v.now c.visit_to_end.new.v) EncodesScalar ScalarOperatorFault (NextMayAllocate EncodesScalar)
-    (λ placed h. h.1) keeps_scalar refuses_vectors c.visit_to_end.result before c.args.self.now c.visit_to_end.new.self c.visit_to_end.ensures stood)
-    c.visit_to_end.ensures stood
+    (λ placed h. h.1) keeps_scalar refuses_vectors c.visit_to_end.result before c.args.self.now c.visit_to_end.new.self c.visit_to_end.ensures read_so_far)
+    c.visit_to_end.ensures read_so_far
 
 pub returns-clause-flat : goal.returns-clause-flat
 returns-clause-flat g c =

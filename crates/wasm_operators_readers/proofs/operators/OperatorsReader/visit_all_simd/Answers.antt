@@ -9,10 +9,10 @@ use Rattle.wasm_operators_readers.proofs.Premises.{Everything}
 use Rattle.wasm_operators_readers.proofs.operators.OperatorsReader.visit_all_simd.Goals as goal
 
 pub returns-clause-rest : goal.returns-clause-rest
-returns-clause-rest g c = λ before stood.
+returns-clause-rest g c = λ before read_so_far.
     runs_rest (Visited g.V.Visitor.visits c.args.v.now c.visit_to_end_simd.new.v) IsAny Everything EncodesAllowed OperatorFault (NextMayAllocate EncodesAllowed)
     (λ placed h. tt) keeps_all is_reading c.visit_to_end_simd.result before c.args.self.now c.visit_to_end_simd.new.self
-    (λ longest l none. absurd (none tt)) c.visit_to_end_simd.ensures stood
+    (λ longest l none. absurd (none tt)) c.visit_to_end_simd.ensures read_so_far
 
 pub returns-clause-flat : goal.returns-clause-flat
 returns-clause-flat g c =

@@ -15,7 +15,7 @@ returns-then-has_no_immediates g c k =
     let r = c.args.reader.now in
     let is = c.has_no_immediates.ensures.without c.if-has_no_immediates.true in
     let op = c.simd_low_without_immediates in
-    visited_without_immediates g.Self.Visitor.visits (OperatorFault r.features k) k (Some 0xfd) c.args.code c.args.start r c.args.self.now c.visit_any.new.self c.visit_any.result is c.requires.behind
+    visited_without_immediates g.Self.Visitor.visits (OperatorFault r.features k) k (Some 0xfd) c.args.code c.args.start r c.args.self.now c.visit_any.new.self c.visit_any.result is c.requires.after
     (operator.Simd op.result, refl, op.ensures.0, op.ensures.1, c.visit_any.ensures)
 
 pub returns : goal.returns

@@ -1,0 +1,118 @@
+//! Decodes the bytes after an opcode, except a branch table. SIMD operators without immediates are
+//! visited inline. All other operators with a prefix byte are decoded by a call that is not
+//! inlined.
+ghost use Rattle.std.specs.Prelude.{◌≡◌, ◌≢◌, [], Some, None, IfOk, IfErr};
+ghost use Rattle.wasm_visit.specs.below.Source.{at_position};
+ghost use Rattle.wasm_visit.specs.grammar.declared.frame_kind.FrameKind.{FrameKind};
+ghost use Rattle.wasm_visit.specs.opcodes.Decoding.{IsAfterCode, DecodesAt, RefusesAt, VisitsRow};
+ghost use Rattle.wasm_visit.specs.opcodes.Entries.{entry_at};
+ghost use Rattle.wasm_visit.specs.opcodes.Entry.{free, prefixes};
+ghost use Rattle.wasm_visit.specs.decode.WithoutImmediates.{IsVectorWithoutImmediates};
+
+use crate::out_of_line::visit_after_prefix;
+use crate::prefixes::{Atomic, Gc, Misc, Simd};
+use std::alloc::Global;
+use wasm_visit::below::{BinaryReader, Result};
+use wasm_visit::grammar::FrameKind;
+use wasm_visit::instr::SimdOperator;
+use wasm_visit::{VisitGroups, VisitSimdOperator, decode};
+
+/// Reads the subopcode after a prefix byte at the position `start`: a LEB128 number of 32 bits,
+/// which may be overlong. On an error the reader goes back to `start`.
+#[inline(always)]
+pub fn subopcode(reader: &mut BinaryReader<'_>, start: usize, prefix: u8) -> Result<u32>
+    requires after { IsAfterCode start None prefix reader.old }
+    requires prefix { entry_at None prefix ≡ prefixes }
+    ensures read { IfOk result (λ code. IsAfterCode start (Some prefix) code reader.new) }
+    ensures stays { IfOk result (λ code. reader.new ≡ at_position reader.old reader.new.position) }
+    ensures refuses { IfErr result (λ e. (frame : FrameKind) → RefusesAt frame start e reader.old reader.new) }
+{
+    match reader.read_var_u32() {
+        Ok(code) => Ok(code),
+        Err(e) => {
+            reader.rewind(start);
+            Err(e)
+        }
+    }
+}
+
+/// Visits an operator that is neither a branch table nor a SIMD operator, after its opcode.
+#[inline(always)]
+pub fn group_after_opcode<V: VisitGroups>(
+    v: &mut V,
+    alloc: Global,
+    reader: &mut BinaryReader<'_>,
+    start: usize,
+    frame: FrameKind,
+    code: u8,
+) -> Result<V::Output>
+    requires after { IsAfterCode start None code reader.old }
+    requires table { code ≢ 0x0e }
+    requires vector { code ≢ 0xfd }
+    ensures { DecodesAt V.visits frame start result reader.old reader.new v.old v.new }
+{
+    match code {
+        0xfb => visit_after_prefix(v, reader, start, Gc),
+        0xfc => visit_after_prefix(v, reader, start, Misc),
+        0xfe => visit_after_prefix(v, reader, start, Atomic),
+        0x45..=0xc4 => Ok(v.decode_numeric(code)),
+        _ => v.decode_one_byte(alloc, reader, start, frame, code),
+    }
+}
+
+/// Visits a SIMD operator, after the prefix byte 0xfd.
+#[inline(always)]
+pub fn simd_after_prefix<V: VisitSimdOperator>(
+    v: &mut V,
+    reader: &mut BinaryReader<'_>,
+    start: usize,
+) -> Result<V::Output>
+    requires { IsAfterCode start None 0xfd reader.old }
+    ensures { (frame : FrameKind) → DecodesAt V.visits frame start result reader.old reader.new v.old v.new }
+{
+    match subopcode(reader, start, 0xfd) {
+        Ok(code) => simd_of(v, reader, start, code),
+        Err(e) => Err(e),
+    }
+}
+
+/// Visits the SIMD operator with this subopcode, after the subopcode.
+#[inline(always)]
+pub fn simd_of<V: VisitSimdOperator>(
+    v: &mut V,
+    reader: &mut BinaryReader<'_>,
+    start: usize,
+    code: u32,
+) -> Result<V::Output>
+    requires { IsAfterCode start (Some 0xfd) code reader.old }
+    ensures { (frame : FrameKind) → DecodesAt V.visits frame start result reader.old reader.new v.old v.new }
+{
+    if decode::has_no_immediates(code) {
+        return Ok(visit_without_immediates(v, code));
+    }
+    visit_after_prefix(v, reader, start, Simd { code })
+}
+
+/// Returns the SIMD operator without immediates that has this subopcode.
+#[inline(always)]
+pub fn vector_without_immediates(code: u32) -> SimdOperator
+    requires { entry_at (Some 0xfd) code ≡ free [] }
+    ensures { IsVectorWithoutImmediates code result }
+{
+    match code {
+        0x00..=0x7f => decode::simd_low_without_immediates(code),
+        _ => decode::simd_high_without_immediates(code),
+    }
+}
+
+/// Makes the SIMD operator without immediates that has this subopcode, and visits it.
+#[inline(always)]
+fn visit_without_immediates<V: VisitSimdOperator>(v: &mut V, code: u32) -> V::Output
+    requires { entry_at (Some 0xfd) code ≡ free [] }
+    ensures { VisitsRow V.visits (Some 0xfd) code [] v.old result v.new }
+{
+    match code {
+        0x00..=0x7f => v.dispatch_simd_low(decode::simd_low_without_immediates(code)),
+        _ => v.dispatch_simd_high(decode::simd_high_without_immediates(code)),
+    }
+}

@@ -1,0 +1,18 @@
+-- The position of a reader after a prefix byte and a subopcode.
+use Rattle.std.proofs.Common.{◌≡◌, ℕ, suc, ◌+◌, List, [], ◌∷◌, length, Ok, Some, refl, sym, subst, ap, ◌∙◌, arith}
+use Rattle.wasm_decode.specs.below.Number.{EncodesUnsigned}
+use Rattle.wasm_decode.specs.below.Source.{Reader, at_position, Takes, Reads, IsByte}
+use Rattle.wasm_decode.specs.opcodes.Decoding.{IsAfterCode}
+
+-- The reader is after both, since it read one after the other.
+pub after_both : (old mid new : Reader) (start byte code : ℕ) → start ≡ old.position → Reads IsByte (Ok byte) old mid → Reads (EncodesUnsigned 32) (Ok code) mid new →
+    IsAfterCode start (Some byte) code new
+after_both old mid new start byte code same (text, is, first) (number, encodes, second) =
+    let one : Takes old mid (byte ∷ []) = subst (Takes old mid) is.0 first in
+    let both : Takes old new (byte ∷ number) = record {
+      moved = second.moved ∙ ap (λ (r : Reader). at_position r (r.position + length number)) one.moved ∙ ap (at_position old) (omega arith);
+      parts = one.parts ∙ ap (λ z. byte ∷ z) second.parts;
+    } in
+    let back : at_position new start ≡ old = ap (at_position new) same ∙ ap (λ (r : Reader). at_position r old.position) both.moved in
+    let position : new.position ≡ old.position + suc (length number) = ap (λ (r : Reader). r.position) both.moved in
+    record { begun = omega (arith, same, position); opcode = (byte ∷ number, (number, refl, encodes), subst (λ z. Takes z new (byte ∷ number)) (sym back) both) }

@@ -1,0 +1,46 @@
+//! A visitor without fields, which overrides a visit.
+use wasm_visit::instr::{BrTable, MiscOperator, Operator};
+use wasm_visit::{VisitGroups, VisitMisc, VisitOperator, VisitSimdOperator, Visitor, dispatch};
+
+/// The call that a visitor received.
+#[derive(Clone, Copy, Debug)]
+pub enum Call {
+    Own,
+    Any,
+    Table,
+}
+
+/// A visitor that returns which call it received. It overrides the visit of `DataDrop`.
+#[derive(Debug, Drop)]
+pub struct Reports;
+
+impl Visitor for Reports {
+    type Output = Call;
+
+    // Holds for every operator.
+    ghost visits = { λ before op outcome after. Unit {0} };
+
+    fn visit_any(&mut self, _op: Operator<'static>) -> Call {
+        Call::Any
+    }
+}
+
+impl VisitMisc for Reports {
+    fn visit_data_drop(&mut self, _data_index: u32) -> Call {
+        Call::Own
+    }
+}
+
+impl VisitGroups for Reports {
+    fn dispatch_misc(&mut self, op: MiscOperator) -> Call {
+        dispatch::misc(self, op)
+    }
+}
+
+impl<'a> VisitOperator<'a> for Reports {
+    fn visit_br_table(&mut self, _targets: BrTable<'a>) -> Call {
+        Call::Table
+    }
+}
+
+impl VisitSimdOperator for Reports {}

@@ -1,0 +1,29 @@
+//! Results in the format of the input.
+
+use wasm_listing::operators::{Error, Result};
+use wasm_tests_texts::Written;
+
+/// Writes an error: its number and its offset.
+pub fn write_refusal(out: &mut String, e: Error) -> Written {
+    let number = e.message().number();
+    let offset = e.offset();
+    write!(out, "E{number}@{offset}")
+}
+
+/// Writes how many operators a call visited, and how it ended.
+pub fn write_visits(out: &mut String, visits: u64, outcome: Result<()>) -> Written {
+    write!(out, "{visits} ")?;
+    match outcome {
+        Ok(()) => out.push_str("Ok"),
+        Err(e) => write_refusal(out, e),
+    }
+}
+
+/// Returns the FNV-1a hash of a text, in 64 bits.
+pub fn fingerprint(text: &[u8]) -> u64 {
+    let mut print = 0xcbf2_9ce4_8422_2325;
+    for byte in text {
+        print = (print ^ u64::from(*byte)).wrapping_mul(0x100_0000_01b3);
+    }
+    print
+}
