@@ -1,5 +1,5 @@
 /* Runs each function of crates/wasm_bench over encodings that are made here, and prints the best time of some rounds
-   in nanoseconds a call. The sum that a function answers is compared with the sum of what was encoded. */
+   in nanoseconds per call. The sum that a function returns is compared with the sum of what was encoded. */
 #include <stdint.h>
 #include <stdio.h>
 #include <stdlib.h>
@@ -25,7 +25,7 @@ static void put_signed(int64_t n) {
     put((unsigned)(n & 127));
 }
 
-/* Each of these encodes the value number i, and answers what it adds to the sum. */
+/* Each of these encodes the i-th value, and returns what it adds to the sum. */
 static uint64_t byte(uint64_t i) { put(i & 255); return i & 255; }
 static uint64_t unsigned_1(uint64_t i) { put_unsigned(i % 128); return i % 128; }
 static uint64_t unsigned_2(uint64_t i) { put_unsigned(128 + i % 1000); return 128 + i % 1000; }

@@ -1,5 +1,5 @@
 #!/usr/bin/env python3
-"""Writes the input of the program wasm_tests_c from the answers of the original that wasm_tests_replay has.
+"""Writes the input of the program wasm_tests_c from wasmparser's results in wasm_tests_replay.
 
     tools/c_answers.py            writes crates/wasm_tests_c/stdin and stdout
     tools/c_answers.py --check    fails if one of them is not what crates/wasm_tests_replay/stdin gives
@@ -52,7 +52,7 @@ HANDLERS = {
 
 
 def rows(text):
-    """Returns the rows of the answers and those of the samples, each as a dictionary by its columns."""
+    """Returns the rows of the results and of the samples, by column."""
     answers, samples = text.split("\nname\t")
     tables = []
     for table in (answers, f"name\t{samples}"):
@@ -62,7 +62,7 @@ def rows(text):
 
 
 def taken(answers):
-    """Yields the answers that are replayed: every eighth, and the first of each refusal."""
+    """Yields the results to replay: every eighth, and the first of each error."""
     seen = set()
     for at, row in enumerate(answers):
         refusal = row["E"], re.sub(r"0x[0-9a-f]+|\d+", "", row["text"])
@@ -72,7 +72,6 @@ def taken(answers):
 
 
 def body_line(row):
-    """Returns the line of a body."""
     is_read = row["status"] == "0"
     number = "0" if is_read else row["E"].removeprefix("E")
     offset = len(row["hex"]) // 2 if is_read else row["offset"]
@@ -87,7 +86,6 @@ def member_of(word):
 
 
 def list_line(sample):
-    """Returns the line of a sample whose operator has a list."""
     found = re.search(r"\[(.*)\]", sample["fields"]) or re.search(r"=(.*)", sample["fields"])
     members = [member_of(word) for word in found[1].split(",") if word]
     text = f"0 {len(members)}:" + "".join(f" {member};" for member in members)
@@ -96,7 +94,7 @@ def list_line(sample):
 
 
 def files_of(text):
-    """Returns the program's input and what it has to print, by name, for the text of the answers."""
+    """Returns the program's input and expected output by name, for the text of the results."""
     answers, samples = rows(text)
     bodies = list(taken(answers))
     lists = [it for it in samples if it["name"] in LISTS]

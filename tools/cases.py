@@ -8,12 +8,11 @@ Without `--program`, each of the two builds of a program is run: `rt ci` and `rt
 `rt ci` also makes `NAME.by-rattle`. The program is run once for each row. A row has these columns, separated by tabs:
 
     case       what the case shows
-    words      the arguments, parted by spaces; `""` is an argument without a letter, and \\xNN in one a byte,
-               as in \\xff, with which no text begins
-    input      standard input, in hexadecimal; `unreadable` where a folder stands in its place
+    words      the arguments, with spaces between them; `""` is an empty argument, and \\xNN a byte
+    input      standard input, in hexadecimal, or `unreadable` for a folder
     status     the exit status
-    output     what the program writes, with \\n for a line feed and \\t for a tab; `unwritable` where the device is full
-    complaint  what it writes to standard error, with a line feed behind it
+    output     standard output, with \\n for a line feed and \\t for a tab, or `unwritable` for a full device
+    complaint  standard error, without its last line feed
 """
 
 import csv
@@ -31,7 +30,6 @@ SECONDS = 60
 
 
 def cases_of(path):
-    """The rows of a file of cases."""
     with open(path, encoding="utf-8", newline="") as lines:
         rows = csv.DictReader(lines, delimiter="\t", quoting=csv.QUOTE_NONE)
         if rows.fieldnames != COLUMNS:
@@ -40,14 +38,13 @@ def cases_of(path):
 
 
 def words_of(text):
-    """The arguments that a row has."""
     byte = lambda found: bytes.fromhex(found[1].decode())
     words = [b"" if word == '""' else word.encode() for word in text.split()]
     return [re.sub(rb"\\x([0-9a-f]{2})", byte, word) for word in words]
 
 
 def opened(folder, case):
-    """The files that stand for the program's input and output."""
+    """Returns the paths for the program's standard input and output."""
     if case["input"] == "unreadable":
         given = folder
     else:
@@ -58,10 +55,10 @@ def opened(folder, case):
 
 
 def ended(program, case):
-    """How a run of the program ends: status, output and complaint as a row has them."""
+    """Runs the program. Returns status, output and complaint as a row has them."""
     with tempfile.TemporaryDirectory() as folder:
         given, taken = opened(folder, case)
-        # (a shell opens the files, since Python opens no folder)
+        # (a shell opens the files, since Python cannot open a folder)
         script = 'exec "$@" < "$GIVEN" > "$TAKEN"'
         words = ["sh", "-c", script, "", program, *words_of(case["words"])]
         env = {"PATH": "/usr/bin:/bin", "GIVEN": given, "TAKEN": taken}
@@ -73,7 +70,7 @@ def ended(program, case):
 
 
 def run_cases(program, path):
-    """Runs a program on the cases of a file. Returns how many there are, and how many end wrongly."""
+    """Returns the number of cases, and how many end wrongly."""
     cases, wrong = cases_of(path), 0
     for case in cases:
         expected = (case["status"], case["output"], case["complaint"])

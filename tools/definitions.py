@@ -102,7 +102,6 @@ def used(names):
 
 
 def by_file(places):
-    """Returns names by the crate and the file that define them."""
     found = {}
     for crate, file, name in places:
         found.setdefault((crate, file), set()).add(name)
@@ -130,7 +129,6 @@ def rows_by_file(files, given, found):
 
 
 def first_difference(old, new):
-    """Returns the number of the first line in which two texts differ, or None."""
     if old == new:
         return None
     pairs = zip(old.split("\n"), new.split("\n"))
@@ -138,7 +136,6 @@ def first_difference(old, new):
 
 
 def report(rows, found, wanting, misplaced):
-    """Prints what is wrong, and a line of counts."""
     lines = [row for of_file in rows.values() for row in of_file]
     names, given = sum(len(row.names) for row in lines), sum(row.is_given for row in lines)
     print("".join(f"{line}\n" for line in wanting + misplaced), end="")

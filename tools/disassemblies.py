@@ -1,13 +1,12 @@
 #!/usr/bin/env python3
-"""Compares the disassembly of the small modules of crates/wasm_objdump/data with that of wabt, and spoils them.
+"""Compares the disassembly of the modules in crates/wasm_objdump/data with wabt's, and runs it on damaged ones.
 
     tools/disassemblies.py                                runs the two programs that `rt ci` built
     tools/disassemblies.py --program PATH [wasm_objdump]  runs the program PATH
 
-For each module NAME.wasm, the program must write NAME.txt, which `wasm-objdump -d` of wabt 1.0.32 wrote, and end with
-status 0. Then it is run on each proper prefix of the module, and on the module with each of its bytes changed once.
-Each of these runs must end in time, with status 0 and no message, or with status 1 and messages, a line each. The exit
-status is 1 if a run ends otherwise, or if no program is built.
+For each module NAME.wasm, the program must write NAME.txt, which `wasm-objdump -d` of wabt 1.0.32 wrote. Then it runs
+on each proper prefix of the module, and on the module with each byte changed once. Each run must end in time, with
+status 0 and no message, or with status 1 and messages, a line each.
 """
 
 import subprocess
@@ -22,22 +21,21 @@ SECONDS = 10
 
 
 def spoiled(module):
-    """The module cut behind each of its bytes, and with each byte changed, each with what was done."""
+    """Yields the prefixes of the module, and the module with each byte changed, each with a description."""
     for at in range(len(module)):
-        yield f"cut behind {at} bytes", module[:at]
+        yield f"cut after {at} bytes", module[:at]
     for at, byte in enumerate(module):
         yield f"byte {at} changed", module[:at] + bytes([byte ^ (0xFF if at % 2 else 0x2F)]) + module[at + 1 :]
 
 
 def is_answer(status, complaint):
-    """Whether a run ended as it may."""
+    """Returns whether a run on a damaged module ended well."""
     lines = complaint.decode(errors="replace").split("\n")
-    told = len(lines) > 1 and lines[-1] == "" and all("error" in line for line in lines[:-1])
-    return (status == 0 and not complaint) or (status == 1 and told)
+    has_errors = len(lines) > 1 and lines[-1] == "" and all("error" in line for line in lines[:-1])
+    return (status == 0 and not complaint) or (status == 1 and has_errors)
 
 
 def ended(program, words, given=b"", folder=CRATE / "data"):
-    """The status, the output and the complaint of a run; no status where it did not end."""
     try:
         ran = subprocess.run([program, *words], input=given, capture_output=True, timeout=SECONDS, cwd=folder)
     except subprocess.TimeoutExpired:
@@ -46,7 +44,7 @@ def ended(program, words, given=b"", folder=CRATE / "data"):
 
 
 def compared(program, path):
-    """What is wrong with the disassembly of a module, and of it spoiled; and how many runs there were."""
+    """Returns what is wrong with the runs on a module, and the number of runs."""
     wrong = []
     if ended(program, [path.name], folder=path.parent) != (0, path.with_suffix(".txt").read_bytes(), b""):
         wrong.append(f"{program.name}, {path.name}: not what wabt wrote")
@@ -73,7 +71,7 @@ def main():
             found, some = compared(program, path)
             wrong, runs = wrong + found, runs + some
     for fault in wrong:
-        print(f"NOT AS IT SHOULD: {fault}")
+        print(f"WRONG: {fault}")
     print(f"disassemblies: {runs} run, {len(wrong)} wrong")
     sys.exit(1 if wrong or not runs else 0)
 

@@ -1,16 +1,15 @@
 #!/usr/bin/env python3
-"""Checks what crates list in crates.txt, and that those outside the layers cite no lemma of another crate.
+"""Checks the entries of crates.txt, and that crates outside the layers cite no lemma of another crate.
 
     tools/edges.py
 
 It fails on
 
-- a crate that is listed though another one that is listed stands on it: it is reached through that one;
-- a crate or a library of the kit that is listed though no file of the crate names it;
-- a lemma of another crate of this repository (`Rattle.OTHER.proofs.`) in a file of a crate outside the layers:
-  a program, a proved caller, the library that is timed, a test. What is true for callers is a clause or a law of the
-  layer. Those that are cited today stand in CITED with the reason, so that they are told and become no more; one
-  that is cited no longer has to be taken out there.
+- a listed crate that another listed crate uses: it is reached through that one;
+- a listed crate or library of the kit that no file of the crate names;
+- a lemma of another crate (`Rattle.OTHER.proofs.`) in a program, a proved caller, the timed library or a test. What
+  callers need is a clause or a law. CITED has the exceptions, each with the reason;
+- an exception that is not cited.
 """
 
 import re
@@ -23,24 +22,23 @@ from paths import TOP, below, crates
 
 # The crates that stand on the layers and are none of them; tests are known by their names.
 OUTSIDE = ("wasm_text", "wasm_lines", "wasm_module", "wasm_functions", "wasm_disassembly", "wasm_module_listing", "wasm_objdump", "wasm_c", "wasm_c_exports", "wasm_listing", "wasm_dump", "wasm_bench", "uses", "uses_steps")
-# What is cited today: the crate, the library and the file of the lemmas, their names, and why.
-CODES = "that encodings of a kind are a prefix code, which a law says too, and that none is empty, which none says"
-REFUSED = "what a refusal says of the bytes that are there"
+# The exceptions: the crate, the library and the file of the lemmas, their names, and why.
+CODES = "encodings are a prefix code, which is also a law, and not empty, which no law says"
+REFUSED = "what an error implies for the bytes"
 BENCH = "wasm_bench", "wasm_operators_readers.proofs"
 CITED = [
     (*BENCH, "of_below.Blocks", "refused_now", REFUSED),
     (*BENCH, "of_below.PrefixCode", "byte_prefix_code signed_prefix_code signed_some", CODES),
     (*BENCH, "of_below.Steps", "number_prefix_code unsigned_some", CODES),
-    (*BENCH, "of_below.TakesLemmas", "takes_none takes_then same_rest", "what two calls took, one behind the other"),
+    (*BENCH, "of_below.TakesLemmas", "takes_none takes_then same_rest", "two calls in sequence"),
     (*BENCH, "of_imm.BlockTypes", "block_prefix_code block_empty", CODES),
     (*BENCH, "of_imm.BranchTables", "table_prefix_code", CODES),
     (*BENCH, "of_imm.FlagsNumber", "memarg_prefix_code", CODES),
-    (*BENCH, "of_imm.ListLemmas", "each_more", "a list of texts with one more"),
+    (*BENCH, "of_imm.ListLemmas", "each_more", "a longer list of texts"),
 ]
 
 
 def allowed():
-    """What may be cited today: the crate and the lemma, each with the reason."""
     rows = ((crate, f"{lib}.{path}.{name}", why) for crate, lib, path, names, why in CITED for name in names.split())
     return {(crate, lemma): why for crate, lemma, why in rows}
 
@@ -50,25 +48,24 @@ def is_outside(name):
 
 
 def files_of(name, top=TOP):
-    """The files of a crate that may name another."""
     folder = top / "crates" / name
     found = [*folder.glob("src/**/*.rt"), *folder.glob("specs/**/*.antt"), *folder.glob("proofs/**/*.antt")]
     return {path: path.read_text(encoding="utf-8") for path in sorted(found)}
 
 
 def needless(listed, texts):
-    """The entries of crates.txt that are not needed; `texts` has the files of each crate, all in one."""
+    """Yields the needless entries of crates.txt. `texts` has the files of each crate, joined."""
     for name, those in listed.items():
         for one in those:
             through = [other for other in those if other != one and one in below(listed, other)]
             if one in listed and through:
-                yield f"crates.txt: {name} lists {one}, on which {through[0]} stands that it lists too"
+                yield f"crates.txt: {name} lists {one}, which it reaches through {through[0]}"
             elif not re.search(rf"\b{one}\b", texts[name]):
                 yield f"crates.txt: {name} lists {one}, which none of its files names"
 
 
 def cited(text, crate, listed):
-    """The lemmas of other crates of the repository that a file names; of a file that it names whole, the file."""
+    """Returns the lemmas of other crates that a file names, or the files if it imports whole files."""
     found = re.findall(r"\bRattle\.(\w+)\.proofs\.([\w.]*\w)(?:\.\{([^}]*)\})?", re.sub("--.*|//.*", "", text))
     out = set()
     for other, path, names in found:
@@ -79,7 +76,6 @@ def cited(text, crate, listed):
 
 
 def citations(listed, top=TOP):
-    """What the crates outside of the layers cite, each with the files that do."""
     out = {}
     for crate in filter(is_outside, listed):
         for path, text in files_of(crate, top).items():
@@ -99,9 +95,9 @@ def main():
         if (crate, lemma) in may:
             print(f"allowed: {crate} cites {lemma}: {may[crate, lemma]}")
         else:
-            wrong.append(f"{files[0]}: cites {lemma}: make what it needs a clause or a law of the layer")
+            wrong.append(f"{files[0]}: cites {lemma}: make it a clause or a law of the layer")
     gone = sorted(set(may) - set(found))
-    wrong += [f"tools/edges.py: {crate} cites {lemma} no longer: take it out of CITED" for crate, lemma in gone]
+    wrong += [f"tools/edges.py: {crate} does not cite {lemma}: take it out of CITED" for crate, lemma in gone]
     print("\n".join(wrong), end="\n" if wrong else "")
     print(f"edges: {len(listed)} crates, {len(found)} lemmas cited from outside the layers, {len(wrong)} wrong")
     sys.exit(1 if wrong else 0)

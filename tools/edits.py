@@ -60,7 +60,6 @@ def edited(crate, text):
 
 
 def edits_of(crate, folders=FOLDERS):
-    """Returns the paths of the edits of a crate."""
     return sorted(path for folder in folders for path in crate.glob(f"{folder}/*.edit"))
 
 
@@ -81,7 +80,6 @@ def faults(top):
 
 
 def bad_in_log(text):
-    """Returns the lines of a log of `rt ci` that name a bad edit."""
     return [line for line in text.split("\n") if "BAD EDIT" in line]
 
 

@@ -87,11 +87,13 @@ def line_of(op, by_rule):
 
 
 def expected():
-    """Returns the expected output."""
     with open(CRATE / "by_rule.tsv", encoding="utf-8", newline="") as lines:
         rows = csv.DictReader(lines, delimiter="\t")
         by_rule = {row["name"]: (row["takes"], row["leaves"]) for row in rows}
     ops = originals()
+    lost = [op.name for op in ops if op.is_by_rule and op.name not in by_rule]
+    if lost:
+        sys.exit(f"crates/wasm_tests_lists/by_rule.tsv has no row for {', '.join(lost)}")
     plain = [op for op in ops if not is_made(op)]
     ordered = [op for group in ORDER for op in plain if op.group == group]
     ordered += [op for op in ops if is_made(op)]

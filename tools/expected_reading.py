@@ -83,7 +83,6 @@ class Task:
 
     @property
     def is_refused(self):
-        """Returns whether the result is an error."""
         return self.answer.split(" at ")[0][1:].isdecimal()
 
     def line(self):
@@ -129,7 +128,6 @@ def wanted(task, kinds):
 
 
 def samples():
-    """Returns two samples of each operator."""
     with open(FOLDER / "samples.tsv", encoding="utf-8", newline="") as lines:
         for row in csv.DictReader(lines, delimiter="\t"):
             frame = FRAME_BEHIND[row["before"]]
@@ -154,7 +152,6 @@ def unsigned(value):
 
 
 def unknown(ops):
-    """Returns tasks for each unknown opcode, and for the unknown subopcodes next to known ones."""
     known = {op.code for op in ops if not op.prefix} | {int(prefix, 16) for prefix in GROUPS}
     for code in range(0x100):
         if code not in known:
@@ -168,7 +165,6 @@ def unknown(ops):
 
 
 def framed():
-    """Returns tasks for the operators that need a frame or a feature, in each frame."""
     for operator, fields, frames, instruction, name in FRAMED:
         for frame in FRAMES:
             refusal = f"E7 at 2: `{instruction}` found outside `{name}` block"
@@ -181,7 +177,6 @@ def framed():
 
 
 def flagged():
-    """Returns tasks for flags of memory arguments, under all sets of features."""
     for feature, operator, answer in FLAGS:
         for features in range(ALL + 1):
             has = features >> FEATURES.index(feature) & 1
@@ -205,7 +200,6 @@ def written_by_hand():
 
 
 def tasks():
-    """Returns all tasks."""
     ops = originals()
     found = list(samples())
     longer = [lengthened(task) for task in found[::2] if f"{task.operator[0]:02x}" in GROUPS]
@@ -213,7 +207,6 @@ def tasks():
 
 
 def files():
-    """Returns the files of the program's input and output."""
     kinds = {op.name: op.immediates for op in originals()}
     asked = tasks()
     return {

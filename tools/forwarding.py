@@ -1,13 +1,12 @@
 #!/usr/bin/env python3
-"""Prints the methods by which a visitor's own visits are reached, for pasting, or checks that a visitor has them.
+"""Prints the methods that call a visitor's overridden visits, or checks that a visitor has them.
 
-    tools/forwarding.py                   the groups of visits, each with the trait and the methods in which it is named
-    tools/forwarding.py GROUP..           the methods of these groups, in full, in the impl of the trait that has them
-    tools/forwarding.py --check PATH..    fails where a type of these files or folders has visits of its own in a group
-                                          and lacks one of the methods, or one that hands over to the group
+    tools/forwarding.py                   lists the groups, each with its trait and methods
+    tools/forwarding.py GROUP..           prints the methods of these groups (`VisitMisc` or `Misc`), for pasting
+    tools/forwarding.py --check PATH..    fails if a type in these files or folders overrides visits of a group, and a
+                                          method is missing or does not call the group's function
 
-The methods are read from crates/wasm_visit/src: from each whose documentation says which call a visitor with visits
-in a group makes there. A group is named with or without `Visit`, as `VisitMisc` or `Misc`.
+It reads the methods from crates/wasm_visit/src: their documentation names the call.
 """
 
 import re
@@ -25,7 +24,7 @@ IMPL = re.compile(r"^impl(?:<[^{]*?>)? (?P<trait>\w+)(?:<[^{]*?>)? for (?P<type>
 
 
 class Method:
-    """A method by which a group is reached: its trait, its name, its text in an impl, and the call that it makes."""
+    """A method of a group: its trait, its head, and the call in its body."""
 
     def __init__(self, trait, group, call, head):
         self.trait, self.group, self.call, self.head = trait, group, call, head
@@ -37,7 +36,6 @@ class Method:
 
 
 def methods_of(text):
-    """The methods of a file's trait by which groups are reached."""
     trait = re.search(r"^pub trait (\w+)", text, re.M)[1]
     for doc, attributes, head in METHOD.findall(text):
         said = SAYS.search(" ".join(line.strip()[3:].strip() for line in doc.strip().split("\n")))
@@ -50,7 +48,6 @@ def all_methods():
 
 
 def groups_of(methods):
-    """The methods of each group."""
     out = {}
     for method in methods:
         out.setdefault(method.group, []).append(method)
@@ -58,7 +55,7 @@ def groups_of(methods):
 
 
 def pasted(methods, groups):
-    """What a visitor with visits in these groups pastes: an impl a trait."""
+    """Returns the methods of these groups, in an impl of each trait."""
     wanted = [method for method in methods if method.group in groups]
     traits = dict.fromkeys(method.trait for method in wanted)
     return "\n".join(
@@ -68,7 +65,7 @@ def pasted(methods, groups):
 
 
 def impls_of(text):
-    """The impls of a file: the trait, the type, and the text between the braces."""
+    """Yields the impls of a file: the trait, the type, and the text between the braces."""
     for found in IMPL.finditer(text):
         end = text.find("\n}", found.end())
         one_line = re.match(r"\s*\}", text[found.end() :])
@@ -76,29 +73,28 @@ def impls_of(text):
 
 
 def bodies_of(text):
-    """The methods of an impl by their names, each up to the next."""
+    """Returns the methods of an impl by name."""
     return {part.split("(")[0].split("<")[0].strip(): part for part in re.split(r"^    fn ", text, flags=re.M)[1:]}
 
 
 def missing(texts, methods):
-    """What the types of these files lack: `texts` has each file's text."""
+    """Yields what is missing. `texts` has each file's text."""
     impls = [(path, *impl) for path, text in texts.items() for impl in impls_of(text)]
     groups = groups_of(methods)
     for path, group, of, inside in impls:
-        # (a reference to a visitor and a box hand over to it; a group without a visit of its own has none to reach)
+        # (references and boxes pass calls on; an empty impl overrides nothing)
         if group not in groups or of.startswith(("&", "Box<")) or not bodies_of(inside):
             continue
         for method in groups[group]:
             there = [bodies_of(text) for _, trait, type_name, text in impls if (trait, type_name) == (method.trait, of)]
             body = next((found[method.name] for found in there if method.name in found), None)
             if body is None:
-                yield f"{path}: {of} has visits in {group}, and no {method.name} of {method.trait}: they are not made there"
+                yield f"{path}: {of} overrides visits of {group}, and has no {method.name} of {method.trait}, so they are not called there"
             elif not re.search(rf"\b{method.callee}\(\s*self\b", body):
-                yield f"{path}: {of} has visits in {group}, and its {method.name} does not call {method.callee}"
+                yield f"{path}: {of} overrides visits of {group}, and its {method.name} does not call {method.callee}"
 
 
 def texts_of(words):
-    """The .rt files of these files and folders."""
     paths = [Path(word) for word in words]
     found = [inner for path in paths for inner in (sorted(path.rglob("*.rt")) if path.is_dir() else [path])]
     return {str(path): path.read_text(encoding="utf-8") for path in found if "out" not in path.parts}

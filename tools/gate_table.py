@@ -4,12 +4,10 @@
     tools/gate_table.py LOG NOTE [LOG NOTE ..]
     tools/gate_table.py --summary LOG
 
-Each LOG is the output of one run of `.ci/run`: `.ci/run > LOG 2>&1`. NOTE is a sentence on that run, printed above its
-table. `--summary` prints the figures of one log in a few lines and writes nothing; `.ci/run` ends with it. A LOG may be
-several logs joined together, if each run continued with what the runs before it had proved: then their costs are
-added. The functions of a crate come from the prover's last line for it, the edits from `rt`'s line for each edit, the
-minutes from the lines of tools/timed.py, and how often files are read from crates.txt. The table of the edits outside
-the gate comes from tools/more_must_fail.tsv, which `tools/run more_must_fail --record` writes.
+Each LOG is the output of `.ci/run`, and NOTE a sentence for the page. The costs of several logs joined to one are added:
+runs of which each continued the one before. `--summary` prints the figures of a log; `.ci/run` ends with it. Minutes
+come from the lines of tools/timed.py, functions and edits from `rt`'s lines, the edits outside the gate from
+tools/more_must_fail.tsv, which `tools/run more_must_fail --record` writes.
 """
 
 import re
@@ -71,8 +69,6 @@ OUTSIDE = """
 
 
 class Crate:
-    """What the log has of a crate."""
-
     def __init__(self):
         self.functions = 0
         self.tried = set()
@@ -85,7 +81,7 @@ class Crate:
 
 
 def read(text):
-    """The crates of a log by name, what the whole cost, and the last line."""
+    """Returns the crates of a log by name, the cost of the whole, and the last line."""
     crates, whole, last, name = {}, None, "", None
     for line in text.split("\n"):
         if found := re.fullmatch(r"== (\w+)(: its tests)?", line):
@@ -108,19 +104,18 @@ def read(text):
 
 
 def minutes(seconds):
-    """Seconds as minutes with one digit behind the point, and nothing for none."""
+    """Returns seconds as minutes with one decimal, or an empty text for 0."""
     return f"{seconds / 60:.1f}" if seconds else ""
 
 
 def row(name, crate):
-    """A crate's row of the table."""
     cells = [minutes(crate.processor.get("proof", 0)), minutes(crate.wall.get("proof", 0))]
     cells += [minutes(crate.processor.get(part, 0)) for part in ("tests", "edits")]
     return f"| `{name}` | {crate.functions or ''} | {' | '.join(cells)} | {crate.edits or ''} |"
 
 
 def readings(listed):
-    """How often the files of a crate are read, all crates together: along every path to it, the kit's libraries too."""
+    """Returns how often the files of crates are read: once along every path to a crate or a library of the kit."""
     counts = {}
 
     def of(name):
@@ -148,20 +143,19 @@ def made_of(crates):
 
 
 def measured(text):
-    """What a log has, which has to be one of the gate."""
+    """Reads a log. Exits if it is not a log of the gate."""
     crates, whole, last = read(text)
     if whole is None or not crates:
-        sys.exit("the log has no lines of costs: it is not one of .ci/run")
+        sys.exit("the log has no lines of costs: it is not a log of .ci/run")
     return crates, whole, last
 
 
 def by_cost(crates):
-    """The names of the crates, the dearest first."""
     return sorted(crates, key=lambda name: (-sum(crates[name].processor.values()), name))
 
 
 def summary(text):
-    """The costs that a log has, in a few lines."""
+    """Returns the costs in a log, in a few lines."""
     crates, (processor, wall, count), _ = measured(text)
     whole = f"{minutes(wall)} minutes wall-clock on {count} processors, {minutes(processor)} CPU minutes"
     parts = lambda it: "+".join(minutes(it.processor.get(part, 0)) or "0" for part in ("proof", "tests", "edits"))
@@ -171,7 +165,6 @@ def summary(text):
 
 
 def run_section(text, note=""):
-    """Returns the section of one run, with a note on it."""
     crates, (processor, wall, count), last = measured(text)
     said = {"wall": minutes(wall), "processor": minutes(processor), "count": count, "last": last}
     head = RUN.format(**said, note=f" {note}" if note else "")
@@ -184,7 +177,6 @@ def run_section(text, note=""):
 
 
 def outside_section(rows):
-    """Returns the section on the edits outside the gate, from the rows of tools/more_must_fail.tsv."""
     if not rows:
         return ""
     total = sum(int(row["edits"]) for row in rows)
@@ -193,7 +185,6 @@ def outside_section(rows):
 
 
 def page(runs, rows=()):
-    """Returns the page of these runs, pairs of a log and a note, and of the edits outside the gate."""
     sections = [run_section(text, note) for text, note in runs]
     return "".join([HEAD.format(readings=readings(crates_listed())), *sections, outside_section(rows)])
 

@@ -3,12 +3,10 @@
 
     tools/growth.py [--rounds N] [--passes N] [--figure FILE]
 
-Bodies of `nop`, of blocks within each other and of one branch table are made and visited by `count_any` of
-crates/wasm_bench (`rt lib` there), by way of large_bodies.c, each at several sizes, the best of N rounds (20 if
-left out). All of them are measured once more in each pass (3 if left out), and of each body the least is kept, so
-that what slows the machine for a while slows no one body. It prints a table of nanoseconds an operator, for branch
-tables a byte, and of the memory that the visit took beside the body, and writes the figure, docs/growth.svg if left
-out.
+`count_any` of crates/wasm_bench (built by `rt lib`) visits bodies of `nop`, of nested blocks and of one branch table,
+through large_bodies.c, at several sizes. A measurement is the best of N rounds (default 20). Each pass (default 3)
+measures all bodies, and the least time of each counts. It prints a table of nanoseconds per operator (per byte for
+branch tables) and of memory without the body, and writes the figure (default docs/growth.svg).
 """
 
 import math
@@ -25,10 +23,10 @@ import large_bodies
 FIGURE = large_bodies.TOP / "docs" / "growth.svg"
 ROUNDS = 20
 PASSES = 3
-# The bodies: what one is called, what its time is divided by, and its sizes.
+# The bodies: title, unit of time, sizes.
 BODIES = {
     "nops": ("`nop`", "operator", (1_000, 10_000, 100_000, 1_000_000, 10_000_000, 100_000_000)),
-    "nested": ("blocks within each other", "operator", (1, 10, 100, 1_000, 10_000, 100_000, 1_000_000)),
+    "nested": ("nested blocks", "operator", (1, 10, 100, 1_000, 10_000, 100_000, 1_000_000)),
     "targets": ("targets of a branch table", "byte", (1, 10, 100, 1_000, 10_000, 100_000, 1_000_000, 7_654_321)),
 }
 COLOURS = ("#1f5fa8", "#b3541e", "#2f7d4f")
@@ -37,7 +35,7 @@ WIDTH, HEIGHT, LEFT, RIGHT, TOP, BOTTOM = 720, 360, 60, 20, 20, 50
 
 
 class Measured:
-    """A body that was visited: its size, its bytes, the nanoseconds by the unit, and the KiB beside it."""
+    """A visited body: its size, its bytes, the nanoseconds per unit, and the KiB without the body."""
 
     def __init__(self, size, line, unit):
         operators, length, nanoseconds, memory = line.split()
@@ -46,12 +44,10 @@ class Measured:
         self.memory = int(memory) - self.bytes // 1024
 
     def keep_least(self, other):
-        """Keeps the least time and the least memory of this and of another measurement of the same body."""
         self.time, self.memory = min(self.time, other.time), min(self.memory, other.memory)
 
 
 def measured(driver, name, rounds):
-    """The visits of a body at its sizes."""
     _, unit, sizes = BODIES[name]
     found = []
     for size in sizes:
@@ -61,7 +57,7 @@ def measured(driver, name, rounds):
 
 
 def passes(count, measure):
-    """All bodies measured so many times, one pass behind the other: of each the least."""
+    """Measures all bodies in `count` passes. Returns the least of each."""
     series = {name: measure(name) for name in BODIES}
     for _ in range(count - 1):
         for name, found in series.items():
@@ -71,14 +67,12 @@ def passes(count, measure):
 
 
 def rows(name, found):
-    """A row of the table for each size."""
     title, unit, _ = BODIES[name]
     least = min(it.memory for it in found)
-    return [f"| {it.size:,} {title} | {it.bytes:,} | {it.time:.2f} ns by the {unit} | {max(0, it.memory - least):,} KiB |" for it in found]
+    return [f"| {it.size:,} {title} | {it.bytes:,} | {it.time:.2f} ns per {unit} | {max(0, it.memory - least):,} KiB |" for it in found]
 
 
 def ticks(most):
-    """The marks of the axis of times: at most eight of them."""
     step = 1
     while most / step > 8:
         step *= 2 if str(step)[0] in "15" else 2.5
@@ -86,7 +80,6 @@ def ticks(most):
 
 
 def figure(series):
-    """The drawing of the times over the bytes, which are on a logarithmic axis."""
     marks = ticks(max(it.time for found in series.values() for it in found))
     most = math.ceil(math.log10(max(it.bytes for found in series.values() for it in found)))
     across = lambda size: LEFT + (WIDTH - LEFT - RIGHT) * math.log10(max(size, 1)) / most
@@ -103,7 +96,7 @@ def figure(series):
         title, unit, _ = BODIES[name]
         points = " ".join(f"{across(it.bytes):.1f},{up(it.time):.1f}" for it in found)
         out.append(f'<polyline points="{points}" fill="none" stroke="{COLOURS[at]}" stroke-width="2"/>')
-        label = escape(f"{title.replace('`', '')}, by the {unit}")
+        label = escape(f"{title.replace('`', '')}, per {unit}")
         out.append(f'<text x="{WIDTH - RIGHT - 10}" y="{TOP + 14 + 16 * at}" text-anchor="end" fill="{COLOURS[at]}">{label}</text>')
     return "\n".join([*out, "</svg>", ""])
 
@@ -116,11 +109,11 @@ def main():
         print(__doc__)
         sys.exit(words not in (["--help"], ["-h"]))
     if not large_bodies.LIBRARY.exists():
-        sys.exit(f"{large_bodies.LIBRARY}: no library is built: run rt lib in crates/wasm_bench")
+        sys.exit(f"{large_bodies.LIBRARY}: not built; run `rt lib` in crates/wasm_bench")
     with tempfile.TemporaryDirectory() as folder:
         driver = large_bodies.built_driver(folder)
         series = passes(int(given["--passes"]), lambda name: measured(driver, name, int(given["--rounds"])))
-    print("| Body | Bytes | Time | Memory beside it |\n|---|---|---|---|")
+    print("| Body | Bytes | Time | Memory without the body |\n|---|---|---|---|")
     print("\n".join(row for name, found in series.items() for row in rows(name, found)))
     Path(given["--figure"]).write_text(figure(series), encoding="utf-8")
 

@@ -1,7 +1,6 @@
-/* Visits one large body that is made here, by the library of crates/wasm_bench, and prints how many operators
-   were visited: large_bodies nested|alternating|nops|targets N. With a number of rounds behind these it prints
-   also how many bytes the body has, how many nanoseconds the shortest visit took, and the most KiB that the
-   process had. */
+/* Visits a large body by the library of crates/wasm_bench, and prints the number of operators:
+   large_bodies nested|alternating|nops|targets N [ROUNDS]. With ROUNDS it also prints the bytes of the body, the
+   nanoseconds of the shortest visit, and the peak memory in KiB. */
 #include <stdint.h>
 #include <stdio.h>
 #include <stdlib.h>
@@ -10,10 +9,10 @@
 
 uint64_t wasm_bench_count_any(const uint8_t *body, size_t size);
 
-/* A round visits at least so many bytes, so that a short body is visited many times. */
+/* The least bytes of a round, so that a short body is visited many times. */
 static const size_t LEAST = 1 << 20;
 
-/* A body without locals: a beginning, so many times the operators before, so many times those behind, and an end. */
+/* A body without locals: `begin`, `before` n times, `behind` n times, and an end. */
 static uint8_t *body_of(const char *begin, size_t head, size_t n, const char *before, size_t each, const char *behind,
                         size_t after, size_t *size) {
     *size = head + n * (each + after) + 1;
@@ -26,7 +25,7 @@ static uint8_t *body_of(const char *begin, size_t head, size_t n, const char *be
     return body;
 }
 
-/* A branch table with so many targets and the default one. */
+/* A branch table with so many targets, and the default target. */
 static uint8_t *table_of(size_t n, size_t *size) {
     char begin[12] = {0, 0x0e};
     size_t head = 2;
@@ -37,7 +36,7 @@ static uint8_t *table_of(size_t n, size_t *size) {
     return body_of(begin, head, n + 1, "", 1, "", 0, size);
 }
 
-/* The nanoseconds of one visit, of as many as a round has. */
+/* The nanoseconds per visit. */
 static double visit_time(const uint8_t *body, size_t size, uint64_t *operators) {
     size_t visits = size < LEAST ? LEAST / size : 1;
     struct timespec begin, end;
@@ -47,7 +46,7 @@ static double visit_time(const uint8_t *body, size_t size, uint64_t *operators) 
     return ((double)(end.tv_sec - begin.tv_sec) * 1e9 + (double)(end.tv_nsec - begin.tv_nsec)) / (double)visits;
 }
 
-/* The most KiB that this process had, as Linux tells. */
+/* The peak memory of this process in KiB. */
 static long most_memory(void) {
     char line[128];
     long found = 0;

@@ -38,7 +38,6 @@ from visits import visit_files
 
 
 def files(ops):
-    """Returns the generated files, by path."""
     out = {}
     for enum in ENUMS:
         those = [op for op in ops if op.group == enum.group]
@@ -69,7 +68,6 @@ def files(ops):
 
 
 def stale(wanted, top=TOP):
-    """Returns the files that differ from what they should be."""
     paths = {name: top / name for name in wanted}
     return [it for it, path in paths.items() if not path.exists() or path.read_bytes() != wanted[it].encode()]
 

@@ -1,20 +1,16 @@
 #!/usr/bin/env python3
-"""Lists the bodies of a folder's corpora with the built program, and compares with what is expected of each.
+"""Lists the bodies of the corpora in a folder, and compares with the expected listings.
 
     tools/real_bodies.py FOLDER [PROGRAM]
 
-The program is `crates/wasm_dump/out/wasm_dump`, as `rt run` and `rt ci` leave it, or the one that is given.
-FOLDER holds pairs of files:
+PROGRAM is by default `crates/wasm_dump/out/wasm_dump`, which `rt run` and `rt ci` build. FOLDER has pairs of files:
 
-    NAME.bodies         bodies of functions, locals first, one behind the other: of each its length in four
-                        bytes, the lowest first, and its bytes
-    NAME.expected.tsv   for each body its index, its length, the exit status, the number of the refusal, its
-                        offset, its text, how many operators are read, and a fingerprint of the listing
-                        (FNV-1a, 64 bits, in hexadecimal); all but the number are compared
+    NAME.bodies         function bodies in sequence: each is its length in four bytes, the lowest first, and its bytes
+    NAME.expected.tsv   for each body: index, length, exit status, number of the error (not compared), offset, text,
+                        number of operators, and a fingerprint of the listing (FNV-1a, 64 bits, in hexadecimal)
 
-Each body is listed by a process of its own. Then it is listed three times more: without its last byte, with one
-byte changed, and with one byte inserted, at places that are always the same. What comes of these may be a
-listing or a refusal, but the program has to end by itself, in time.
+Each body is listed by a new process; then without its last byte, with one byte changed, and with one byte inserted, at
+fixed places. On these the program must end in time, with a listing or an error.
 """
 
 import random
@@ -30,7 +26,6 @@ WORKERS = 4
 
 
 def fingerprint(text):
-    """The fingerprint of a listing."""
     print_so_far = 0xCBF29CE484222325
     for byte in text:
         print_so_far = (print_so_far ^ byte) * 0x100000001B3 & 0xFFFFFFFFFFFFFFFF
@@ -38,7 +33,6 @@ def fingerprint(text):
 
 
 def bodies_of(data):
-    """The bodies of a corpus."""
     at = 0
     while at < len(data):
         size = int.from_bytes(data[at : at + 4], "little")
@@ -49,14 +43,14 @@ def bodies_of(data):
 
 
 def expected_of(line):
-    """What a row expects: the body's length, the status, the complaint, how many lines, and their fingerprint."""
+    """Returns the length of the body, the status, the complaint, the number of lines and their fingerprint."""
     _index, length, status, _number, offset, text, operators, listing = line.split("\t")
     complaint = f"error at {offset}: {text}\n" if status != "0" else ""
     return int(length), int(status), complaint, int(operators), listing
 
 
 def ended(program, body):
-    """How the program ends on a body: status, output and complaint; no status where it takes too long."""
+    """Returns status, output and complaint; the status is None after the time limit."""
     try:
         ran = subprocess.run([program], input=body, capture_output=True, timeout=SECONDS)
     except subprocess.TimeoutExpired:
@@ -65,13 +59,13 @@ def ended(program, body):
 
 
 def told(program, body):
-    """What a row would say of a body."""
+    """Runs the program. Returns what a row for the body would have."""
     status, listing, complaint = ended(program, body)
     return len(body), status, complaint.decode(errors="replace"), listing.count(b"\n"), fingerprint(listing)
 
 
 def changed(name, index, body):
-    """The body without its last byte, with one byte changed, and with one inserted, each with what was done."""
+    """Yields the changed bodies, each with a description."""
     if not body:
         return
     yield "without its last byte", body[:-1]
@@ -83,14 +77,12 @@ def changed(name, index, body):
 
 
 def is_own_end(status, complaint):
-    """Whether the program ended by a listing or a refusal."""
     return status == 0 and not complaint or status == 1 and complaint.startswith(b"error at ")
 
 
 def faults(program, name, index, body, row):
-    """What is wrong with a body and with its changes."""
     wanted, got = expected_of(row), told(program, body)
-    out = [f"{name} {index}: {got}, and not {wanted}"] if got != wanted else []
+    out = [f"{name} {index}: {got}; expected {wanted}"] if got != wanted else []
     for what, other in changed(name, index, body):
         status, _, complaint = ended(program, other)
         if not is_own_end(status, complaint):
@@ -100,7 +92,6 @@ def faults(program, name, index, body, row):
 
 
 def pairs_of(folder):
-    """Each body of the folder with its row."""
     for path in sorted(folder.glob("*.bodies")):
         name = path.name.removesuffix(".bodies")
         bodies = list(bodies_of(path.read_bytes()))
@@ -117,7 +108,7 @@ def main():
         sys.exit(sys.argv[1:] not in (["--help"], ["-h"]))
     program = Path(sys.argv[2]).resolve() if sys.argv[2:] else PROGRAM
     if not program.exists():
-        sys.exit(f"{program}: no program is built: run rt run in crates/wasm_dump")
+        sys.exit(f"{program}: not built; run `rt run` in crates/wasm_dump")
     pairs = list(pairs_of(Path(sys.argv[1])))
     wrong = 0
     with ThreadPoolExecutor(WORKERS) as workers:
@@ -126,7 +117,7 @@ def main():
             for fault in found:
                 print(fault, flush=True)
     changes = sum(3 for _, _, body, _ in pairs if body)
-    print(f"real bodies: {len(pairs)} listed, {changes} more that were changed, {wrong} not as they should be")
+    print(f"real bodies: {len(pairs)} listed, {changes} changed ones, {wrong} wrong")
     sys.exit(1 if wrong or not pairs else 0)
 
 

@@ -1,6 +1,5 @@
-/* Loaded into a program before the C library, this refuses one of its allocations: that whose number
-   REFUSED_ALLOCATION has, from 1. Where it comes to that one, it writes a byte to the descriptor
-   that REFUSAL_TOLD has. */
+/* Loaded before the C library, this makes the allocation with the number REFUSED_ALLOCATION fail, counted
+   from 1. It then writes a byte to the descriptor REFUSAL_TOLD. */
 void *__libc_malloc(unsigned long size);
 void *__libc_realloc(void *from, unsigned long size);
 char *getenv(const char *name);

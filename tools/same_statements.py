@@ -31,18 +31,16 @@ HEAD = re.compile(r"^\s*(?:pub )?(?:unsafe )?(?:fn|trait|impl|struct|enum)\b[^\n
 
 
 def renamed(text, names):
-    """Returns a text with identifiers renamed."""
     return WORD.sub(lambda found: names.get(found[0], found[0]), text)
 
 
 def names_at(path, lines):
-    """Returns the names that hold in a file: those of all files, and in their place those of the start of its path."""
+    """Returns the renames for a file. A rename for the start of its path replaces a general one."""
     names = {line[0]: line[1] for line in lines if len(line) == 2}
     return names | {line[0]: line[1] for line in lines if len(line) == 3 and path.startswith(line[2])}
 
 
 def bare(text, suffix):
-    """Returns a text without comments."""
     return TOKENS[suffix].sub(lambda found: "" if found[0][:2] in ("//", "--") else found[0], text)
 
 
@@ -91,7 +89,6 @@ def statements(path, text):
 
 
 def git(*words):
-    """Returns what git writes."""
     return subprocess.run(["git", "-C", TOP, *words], capture_output=True, text=True, check=True).stdout
 
 
@@ -108,7 +105,6 @@ def before(base, lines):
 
 
 def now():
-    """Returns the statements of the files of this checkout by path."""
     found = {}
     for path in sorted([*TOP.glob("crates/*/specs/**/*.antt"), *TOP.glob("crates/*/src/**/*.rt")]):
         name = str(path.relative_to(TOP))

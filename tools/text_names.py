@@ -32,12 +32,11 @@ LEAST = {
     "types": "027f7f", "try_table": "4000",
 }
 OPENERS = ("Block", "Loop", "If", "Try", "TryTable")
-# Those that stand in a construct only, and what opens it.
+# Operators that occur only inside a construct, and what opens it.
 INSIDE = {"Else": "0440", "Catch": "0640", "CatchAll": "0640", "Delegate": "0640", "Rethrow": "064019"}
 
 
 def leb128(number):
-    """An unsigned number."""
     out = bytearray()
     while number >= 0x80:
         out.append(number & 0x7F | 0x80)
@@ -46,7 +45,6 @@ def leb128(number):
 
 
 def encoding(op):
-    """The least encoding of an operator."""
     out = bytes.fromhex(op.prefix) + (leb128(op.code) if op.prefix else bytes([op.code]))
     for immediate in op.immediates:
         word, *more = immediate.split()
@@ -62,7 +60,7 @@ def section(number, contents):
 
 
 def module(op):
-    """A module with all that an operator may name, and a function with this operator alone."""
+    """Returns a module with a function of this operator, and with all that the operator may refer to."""
     before = bytes.fromhex(INSIDE.get(op.name, ""))
     closed = op.name in ("Delegate", "End")
     ends = b"\x0b" * (((op.name in OPENERS or bool(before)) and not closed) + (op.name != "End"))
@@ -79,7 +77,7 @@ def module(op):
 
 
 def wabt_name(op, path):
-    """The name that wabt prints; nothing where it knows none."""
+    """Returns the name that wabt prints, or None."""
     path.write_bytes(module(op))
     shown = subprocess.run(["wasm-objdump", "-d", path], capture_output=True, text=True, check=False).stdout
     wanted = encoding(op)[:9].hex(" ")
@@ -91,7 +89,6 @@ def wabt_name(op, path):
 
 
 def by_hand():
-    """The names that are written by hand, by prefix and code."""
     rows = [line.split("\t") for line in BY_HAND.read_text(encoding="utf-8").splitlines()[1:]]
     return {(prefix, int(code, 16), immediates): name for prefix, code, immediates, name in rows}
 

@@ -1,23 +1,20 @@
 #!/usr/bin/env python3
-"""Runs the proofs of the gate, and tells what each crate cost.
+"""Runs the proofs of the gate, and measures what each crate costs.
 
     tools/timed.py COMMAND..
 
-It runs the command (`rt ci`) and passes on what that writes. Once a second it looks at the provers that work
-below the command, and counts the processor time of each for its crate: for the crate's proof, for that of
-its tests, or for its must-fail edits. Where one of these begins, and where `rt` says that a crate is proved or is
-not, it writes a line that tells how many of the crates are through, the minutes so far, and what docs/GATE.md lets
-expect:
+It runs the command (`rt ci`) and passes on its output. Once a second it reads the processor time of the provers below
+the command, for each crate's proof, tests and must-fail edits. When one of these begins or ends it writes a line: the
+crates done, the minutes so far, and the minutes that docs/GATE.md lets expect:
 
     [12/24, 18 min of about 70] wasm_visit: proof begins
 
-When the command has ended it writes
+At the end it writes, in seconds,
 
-    cost NAME PART PROCESSOR WALL    a line for each crate and part, in seconds
-    cost all PROCESSOR WALL COUNT    of the whole run, and on how many processors
+    cost NAME PART PROCESSOR WALL    for each crate and part
+    cost all PROCESSOR WALL COUNT    for the whole run, on COUNT processors
 
-and then the command's own last line once more. tools/gate_table.py makes docs/GATE.md of such a log.
-The status is the command's.
+and the command's last line again. The status is the command's. tools/gate_table.py writes docs/GATE.md from such a log.
 """
 
 import os
@@ -35,19 +32,19 @@ EVERY = 1
 
 
 class Process:
-    """A process as /proc shows it: what started it, when, and its processor time."""
+    """A process in /proc: its parent, its start, and its processor time."""
 
     def __init__(self, pid):
         with open(f"/proc/{pid}/stat", encoding="utf-8", errors="replace") as it:
             stat = it.read().rpartition(")")[2].split()
         self.parent = int(stat[1])
         self.key = (pid, stat[19])
-        # its own time, and that of its children that have ended
+        # with the time of its children that have ended
         self.seconds = sum(int(it) for it in stat[11:15]) / TICKS
 
 
 def work_of(pid):
-    """The crate that a prover works for, and which part of it; None where the process is no prover."""
+    """Returns the crate and the part that a prover works on, or None for another process."""
     try:
         with open(f"/proc/{pid}/cmdline", "rb") as it:
             words = it.read().decode(errors="replace").split("\0")
@@ -61,7 +58,7 @@ def work_of(pid):
 
 
 def below(top):
-    """The processes that were started by a process, or by one below it."""
+    """Returns the descendants of a process."""
     found = {}
     for name in os.listdir("/proc"):
         if name.isdigit():
@@ -79,8 +76,6 @@ def below(top):
 
 
 class Costs:
-    """What the provers have cost so far."""
-
     def __init__(self):
         self.processor = {}
         self.first = {}
@@ -108,7 +103,6 @@ class Costs:
             self.last[key] = now
 
     def lines(self):
-        """A line for each crate and part."""
         sums = {}
         for key, of in self.of.items():
             processor, wall = sums.get(of, (0, 0))
@@ -117,23 +111,22 @@ class Costs:
 
 
 def count_of_crates(text):
-    """How many crates a crates.txt has."""
     return sum(bool(line.split("#")[0].strip()) for line in text.split("\n"))
 
 
 def expected_minutes(page, processors):
-    """Returns the wall-clock minutes that docs/GATE.md lets expect on so many processors, or None if it has none."""
+    """Returns the wall-clock minutes to expect, by the text of docs/GATE.md, or None."""
     found = re.findall(r"took ([\d.]+) minutes wall-clock on (\d+) processors", page)
     runs = {int(count): float(wall) for wall, count in found}
     if not runs:
         return None
-    # on fewer processors than in any run, each has that much more to do
+    # (with fewer processors than in any run, each has more to do)
     count = max((count for count in runs if count <= processors), default=min(runs))
     return runs[count] * max(1, count / processors)
 
 
 class Progress:
-    """How far the run has come, as lines between those of the command."""
+    """Writes how far the run is, between the lines of the command."""
 
     def __init__(self, crates, expected, clock=time.monotonic, out=sys.stdout):
         self.crates = crates
@@ -156,14 +149,14 @@ class Progress:
         self.write(f"[{len(self.through)}/{self.crates}, {minutes}{of}] {what}\n")
 
     def begun(self, works):
-        """Tells which parts of crates are worked for that were not before."""
+        """Reports the parts of crates that are new."""
         words = {"proof": "proof begins", "tests": "proof with its tests begins", "edits": "must-fail edits begin"}
         for crate, part in sorted(set(works) - self.seen):
             self.seen.add((crate, part))
             self.tell(f"{crate}: {words[part]}")
 
     def passed_on(self, line):
-        """Writes a line of the command, and tells where it ends a crate's proof."""
+        """Writes a line of the command, and reports the end of a crate's proof."""
         self.write(line)
         found = re.fullmatch(r"rt: (\w+) (proved|NOT PROVED)(:.*)?\n", line)
         if found and found[1] not in self.through:
@@ -189,7 +182,7 @@ def main():
         sys.exit(len(sys.argv) < 2)
     costs, progress, is_done, began = Costs(), progress_of_repository(), threading.Event(), time.monotonic()
     how = {"stdin": subprocess.DEVNULL, "stdout": subprocess.PIPE, "stderr": subprocess.STDOUT}
-    # (rt's lines come when they are written, and not when its buffer is full)
+    # (so that rt's lines come at once)
     how["env"] = {**os.environ, "PYTHONUNBUFFERED": "1"}
     with subprocess.Popen(sys.argv[1:], text=True, errors="replace", **how) as ran:
         watching = threading.Thread(target=watch, args=(costs, progress, ran.pid, is_done), daemon=True)

@@ -7,12 +7,10 @@ REACHING = " and an array"
 
 
 def argument_of(op):
-    """Returns the name of the field that is the memory argument, if the operator has one."""
     return next((name for name, ty in op.fields if ty == "MemArg"), None)
 
 
 def pair_of(op):
-    """Returns the arity of an operator with a fixed one, in antt and in Rust."""
     takes = op.takes.removesuffix(REACHING)
     if op.takes == takes:
         return (f"({takes}, {op.leaves})",) * 2
@@ -26,7 +24,6 @@ def by_pair(ops):
 
 
 def argument_pattern(op, alias):
-    """Returns a pattern that binds only the memory argument, in antt."""
     names = " ".join(name if name == argument_of(op) else "_" for name, _ in op.fields)
     return f"({alias}.{op.name} {names})" if op.fields else f"{alias}.{op.name}"
 
@@ -54,7 +51,6 @@ def is_ruled(enum, ops):
 
 
 def fixed_arity_specs(ops):
-    """Returns the file of the fixed arities, as definitions."""
     body = []
     for enum in held():
         body += enum_pairs(enum, [op for op in ops if op.group == enum.group])
@@ -105,12 +101,10 @@ def argument_binding(op, ty):
 
 
 def pair_arm(ty, ops, value):
-    """Returns an arm for operators of one arity."""
     return joined_arm([argument_binding(op, ty) for op in ops], value)
 
 
 def enum_arity(enum, ops):
-    """Returns the arities of an inner enum, in code."""
     ruled = [op for op in ops if op.is_by_rule]
     low, ty, title = enum.module, "(u32, u32)", enum.title
     title = f"Returns the numbers of operands and results of {singular(title)}"
@@ -128,7 +122,6 @@ def enum_arity(enum, ops):
 
 
 def fixed_arity_source(ops):
-    """Returns the file of the fixed arities, in code."""
     inner = sorted(enum.type for enum in ENUMS if enum.group != "Simd")
     words = ["reaching as reaching_of", *[f"{enum.module}_pair" for enum in held()], "fixed_arity as pair_of"]
     out = [
@@ -158,7 +151,6 @@ def fixed_arity_source(ops):
 
 
 def operator_arity(ops):
-    """Returns the arities of all operators, in code."""
     own = [op for op in ops if op.group == "Own"]
     out = [
         "impl<'a> Operator<'a> {",

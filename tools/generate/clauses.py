@@ -58,7 +58,6 @@ def is_clause(line):
 
 
 def clauses_broken(text):
-    """Breaks the long clauses of the text of a source file."""
     return "\n".join(broken(line) if is_clause(line) else line for line in text.split("\n"))
 
 

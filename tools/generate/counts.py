@@ -5,31 +5,39 @@ import re
 from table import TOP
 
 # A number, perhaps a word, and what is counted. Numbers of other things are not checked.
-COUNTED = re.compile(r"\b(\d+) (?:vector |one-byte |numeric )?(operators|visits|proposals)\b")
+COUNTED = re.compile(r"\b(\d+) (?:(SIMD|one-byte|numeric) )?(operators|visits|proposals)\b")
 
 
 def counts(ops):
-    """Returns the counts that the docs may state."""
+    """Returns the counts that the docs may state, by the word before what is counted and what is counted."""
     groups = {}
     for op in ops:
         groups.setdefault(op.group, []).append(op)
     each = {group: len(those) for group, those in groups.items()}
-    not_vector = len(ops) - each["Simd"]
-    of_one_byte = each["Own"] + each["Numeric"]
-    operators = {len(ops), not_vector, of_one_byte, *each.values()}
+    one_byte = {each["Own"], each["Own"] + each["Numeric"]}
+    # (one-byte operators are counted with or without the numeric ones)
+    operators = {
+        "SIMD": {each["Simd"]},
+        "one-byte": one_byte,
+        "numeric": {each["Numeric"]},
+        "": {len(ops), len(ops) - each["Simd"], *one_byte, *each.values()},
+    }
     # (the visit of the branch table is in no group, and the visits of SIMD operators are in two)
     low = sum(op.code < 0x80 for op in groups["Simd"])
-    visits = operators | {len(ops) - 1, not_vector - 1, each["Own"] - 1, low, each["Simd"] - low}
-    return {"operators": operators | visits, "visits": visits, "proposals": {len({op.proposal for op in ops})}}
+    without_table = {len(ops) - 1, len(ops) - 1 - each["Simd"], each["Own"] - 1}
+    found = {(word, what): given for word, given in operators.items() for what in ("operators", "visits")}
+    found["", "visits"] = operators[""] | without_table | {low, each["Simd"] - low}
+    found["", "proposals"] = {len({op.proposal for op in ops})}
+    return found
 
 
 def wrong_counts(ops, top=TOP):
     """Returns an error for each count in the docs that the table does not give."""
     allowed = counts(ops)
     out = []
-    for page in sorted([*top.glob("*.md"), *top.glob("docs/*.md"), *top.glob("crates/*/README.md")]):
+    for page in sorted([*top.glob("*.md"), *top.glob("docs/*.md"), *top.glob("crates/*/*.md")]):
         for number, line in enumerate(page.read_text(encoding="utf-8").split("\n"), 1):
-            for count, what in COUNTED.findall(line):
-                if int(count) not in allowed[what]:
-                    out.append(f"{page.relative_to(top)}:{number}: {count} {what}: no such count in the table")
+            for found in COUNTED.finditer(line):
+                if int(found[1]) not in allowed.get((found[2] or "", found[3]), ()):
+                    out.append(f"{page.relative_to(top)}:{number}: {found[0]}: no such count in the table")
     return out

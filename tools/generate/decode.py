@@ -17,7 +17,6 @@ WITH_MEMORY = ("TypedSelect", "TryTable", "Resume", "ResumeThrow", "ResumeThrowR
 
 
 def decodes():
-    """Returns the contract of a decoding function, for any frame."""
     return "(frame : FrameKind) → DecodesAt V.visits frame start result reader.old reader.new v.old v.new"
 
 
@@ -27,7 +26,6 @@ def closed(answers):
 
 
 def arms(part):
-    """Returns the function from code to visit, for a part."""
     value = "it"
     form = part.form
     params = "" if form is None else f", {value}: {form.answer}"
@@ -48,7 +46,6 @@ def arms(part):
 
 
 def function(part):
-    """Returns the function that reads the immediates of a part and visits the operator."""
     code = part.code()
     params = "" if part.is_one else f", code: {part.code_type}"
     form = part.form
@@ -81,7 +78,6 @@ def function(part):
 
 
 def alignment(part):
-    """Returns the function from code to the exponent of the natural alignment, for a part."""
     return [
         "/// Returns the exponent of the operator's natural alignment.",
         "#[inline(always)]",
@@ -98,7 +94,6 @@ def alignment(part):
 
 
 def calls(ops, group):
-    """Returns the operators of a group that are in separate files, with their codes."""
     found = {}
     for op in group.of(ops):
         if op.name in APART:
@@ -107,7 +102,6 @@ def calls(ops, group):
 
 
 def apart(name):
-    """Returns the call of the function of an operator in a separate file."""
     given = ["v", *(["alloc"] if name in WITH_MEMORY else []), "reader", "start", *(["frame"] if name in WITH_FRAME else [])]
     return f"{APART[name]}({', '.join(given)})"
 
@@ -129,7 +123,6 @@ def group_call(ops, group, those):
 
 
 def common_call(ops, group, those):
-    """Returns the function that decodes the common operators of a group."""
     answers = [arm.partition(" => ") for arm in group_arms(those, lambda code: code in COMMON)]
     answers += [(f"        {part.code()}", "", f"{part.function}(v, reader, start),") for part in alone(ops, group)]
     return [
@@ -153,7 +146,6 @@ def common_call(ops, group, those):
 
 
 def group_head(group, those, name, more=""):
-    """Returns the head of a function that decodes a group, up to its body."""
     is_own = group.enum == "Own"
     ty = "u8" if is_own else "u32"
     given = "v: &mut V, alloc: Global, reader: &mut BinaryReader<'_>, start: usize, frame: FrameKind, code: u8" if is_own else f"v: &mut V, reader: &mut BinaryReader<'_>, start: usize, code: {ty}"
@@ -173,7 +165,6 @@ def group_head(group, those, name, more=""):
 
 
 def group_arms(those, takes):
-    """Returns the arms of the parts, for the codes that `takes` accepts."""
     out = []
     for part in those:
         call = f"{part.function}(v, reader, start{'' if part.is_one else ', code'})"
@@ -183,7 +174,6 @@ def group_arms(those, takes):
 
 
 def whole_group(ops, group, those, name):
-    """Returns the function that decodes all operators of a group."""
     more = " Every operator has an arm here." if name in ALL.values() else ""
     out = group_head(group, those, name, more)
     is_own = group.enum == "Own"
@@ -229,7 +219,6 @@ def marks(ops, those):
 
 
 def vectors_without_immediates(ops):
-    """Returns the file of the SIMD operators without immediates."""
     those = [part for group in GROUPS for part in parts(ops, group) if is_without_immediates(part)]
     table = marks(ops, those)
     count = len(table)
@@ -274,7 +263,6 @@ def vectors_without_immediates(ops):
 
 
 def decode_head(group, text):
-    """Returns the head of the file of a group."""
     prelude = ["◌≡◌"] + [it for it in ("◌≤◌", "◌<◌") if it.strip("◌") in text] + ["[]", "◌∷◌", "Some", "None"]
     prelude += [it for it in ("IfSome", "IfNone") if f"{it} " in text]
     entries = ["entry_at"] + (["align_at"] if "align_at" in text else [])
@@ -310,7 +298,6 @@ def decode_head(group, text):
 
 
 def group_decode(ops, group):
-    """Returns the file that decodes a group."""
     those = parts(ops, group)
     body = group_call(ops, group, those)
     for part in those:
@@ -326,7 +313,6 @@ def group_decode(ops, group):
 
 
 def numeric_decode(ops, group):
-    """Returns the file that decodes the numeric operators, which have no immediates."""
     those = group.of(ops)
     return "\n".join([
         f"//! Decoding of {group.short}. {HEAD}",
@@ -351,7 +337,6 @@ def numeric_decode(ops, group):
 
 
 def decode_files(ops):
-    """Returns the generated files of the decoders, by path."""
     out = {}
     for group in GROUPS:
         at = f"crates/wasm_decode_groups/src/{group.module}_operators.rt"

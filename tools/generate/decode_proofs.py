@@ -10,12 +10,10 @@ SIGNED = {"signed_32": "w32", "signed_64": "w64"}
 
 
 def operands(part, value):
-    """Returns the operands of an operator of a part, in antt."""
     return " ".join(f"({value}{it.removeprefix('{0}')})" if it != "{0}" else value for it in (part.form.values if part.form else []))
 
 
 def made(op, names):
-    """Returns an operator with these operands, in antt."""
     return f"operator.{op.name} {names}" if op.group == "Own" else f"operator.{op.group} ({op.group.lower()}.{op.name} {names})"
 
 
@@ -40,7 +38,6 @@ class Said:
             self.of_alignment(part)
 
     def of_one(self, part):
-        """Returns the pieces for one operator: the contract of its visit, with its operands."""
         names, same = operands(part, "c.in-Ok.it"), "refl"
         if part.key and part.key[0] in SIGNED:
             # the visit receives the bits of the number
@@ -51,7 +48,7 @@ class Said:
         self.row = f"({made(part.ops[0], names)}, refl, refl, {same}, {self.visit}.ensures)"
 
     def of_alignment(self, part):
-        """Returns the pieces for a memory argument: the alignment of the function is that of the operator's row."""
+        """Returns the pieces for a memory argument: the function and the operator's row have the same alignment."""
         align = f"c.align_of_{part.title}"
         term = part.term("c.in-Ok.it", self.code, "kind", "z")
         relation = f"VisitsRow g.V.Visitor.visits {part.place} {self.code} ({term}) c.args.v.now {self.visit}.result {self.visit}.new.v"
@@ -63,7 +60,6 @@ class Said:
 
 
 def answers(part):
-    """Returns the proofs of a part's function: reading failed, or read the operator's immediates."""
     it = Said(part)
     reader = "    let r = c.args.reader.now in"
     fault = "g.V.Visitor.visits (OperatorFault r.features k) k"
@@ -92,12 +88,10 @@ def answers(part):
 
 
 def answer_file(part):
-    """Returns the file of the proofs of a part's function."""
     return proof_file(part, f"{part.group.module}_operators.{part.function}", answers(part))
 
 
 def proof_file(part, function, body):
-    """Returns a file of proofs, with the names that they use."""
     text = "\n".join(body)
     path = f"Rattle.wasm_decode_groups.proofs.{function}.Goals"
     common = [it for it in ("[]", "Some", "None", "refl", "sym", "subst", "ap", "arith") if it in imported(text, [it]) or it in text and it == "[]"] + [f"◌{it}◌" for it in ("≡", "∷", "∙") if it in text]
@@ -135,17 +129,14 @@ def proof_file(part, function, body):
 
 
 def entries_name(part):
-    """Returns the name of the list that has the entries of a part."""
     return f"{PREFIXES[part.prefix].lower()}_entries" if part.prefix else "opcode_entries"
 
 
 def ranges(codes):
-    """Returns runs of codes, in antt."""
     return " ∷ ".join([f"(0x{first:02x}, 0x{last:02x})" for first, last in runs(codes)] + ["[]"])
 
 
 def test_name(part):
-    """Returns the name of the test for entries with a part's kinds."""
     return f"has_{part.title}"
 
 
@@ -155,7 +146,6 @@ def part_lemma(part):
 
 
 def kinds_lemma(part):
-    """Returns the lemmas that the entries of a part are at its codes."""
     place = part.place
     codes = [op.code for op in part.alike]
     align = "(align : ℕ) " if part.has_align else ""
@@ -210,7 +200,6 @@ def simd_lemmas(ops):
 
 
 def kinds_tests(those):
-    """Returns the tests for entries with the kinds of these parts."""
     tests = {}
     for part in those:
         tests.setdefault(test_name(part), part.kinds("code", "kind", "align"))
@@ -220,7 +209,6 @@ def kinds_tests(those):
 
 
 def unknown_lemma(ops, group):
-    """Returns the lemma that no operator has a code outside the runs."""
     part = parts(ops, group)[0]
     known = ranges([op.code for op in ops if op.prefix == part.prefix])
     if group.enum == "Own":
@@ -261,7 +249,7 @@ def codes_file(ops):
 
 
 def last_arm_file(part, function, parameters, given, answer, last=None):
-    """Returns the proof of the last arm of a match on a part's codes: a code that no other arm has is that of the last operator, or of `last`."""
+    """Returns the proof of the last arm of a match on a part's codes: a code of no other arm belongs to the last operator, or to `last`."""
     align = f"(align_at {part.place} c.args.code) " if part.has_align else ""
     body = [
         "pub returns-in_default : goal.returns-in_default",
@@ -274,7 +262,6 @@ def last_arm_file(part, function, parameters, given, answer, last=None):
 
 
 def last_visit_file(part):
-    """Returns the proof that the last arm visits the last operator."""
     last = part.ops[-1]
     visit = f"c.{last.visit}"
     row = f"({made(last, operands(part, 'c.args.it'))}, refl, refl, refl, {visit}.ensures)"
@@ -284,19 +271,16 @@ def last_visit_file(part):
 
 
 def last_alignment_file(part):
-    """Returns the proof that the last arm returns its operator's alignment."""
     last = by_alignment(part)[-1]
     relation = f"{exponent(last)} ≡ align_at {part.place} k"
     return last_arm_file(part, f"{part.group.module}_operators.align_of_{part.title}", "c", "c.requires", f"subst (λ k. {relation}) same refl", last)
 
 
 def last_without_immediates_file(part):
-    """Returns the proof that the operator of the last arm has the subopcode."""
     return last_arm_file(part, f"vectors_without_immediates.{part.group.module}_without_immediates", "c", "c.requires.without", "(same, refl)")
 
 
 def last_numeric_file(last):
-    """Returns the proof that the last arm visits the last numeric operator."""
     visit = f"c.{last.visit}"
     return "\n".join(
         [
@@ -317,7 +301,6 @@ def last_numeric_file(last):
 
 
 def run_name(run):
-    """Returns the name of a run in the goals of a proof."""
     first, last = run
     return f"in-{first}" if first == last else f"in-{first}-to-{last}"
 
@@ -347,7 +330,6 @@ def kinds_proofs(those, takes):
 
 
 def proof_head(group, name, words, lemmas):
-    """Returns the head of a file of proofs of a group's function."""
     return [
         f"-- {HEAD}",
         f"use Rattle.std.proofs.Common.{{{words}}}",
@@ -358,7 +340,6 @@ def proof_head(group, name, words, lemmas):
 
 
 def common_file(ops, group):
-    """Returns the proofs of the function for the common operators: each arm has its kinds."""
     body, lemmas = kinds_proofs(parts(ops, group), lambda code: code in COMMON)
     return "\n".join([*proof_head(group, COMMON_CALL, "arith", lemmas), *body])
 

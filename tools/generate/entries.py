@@ -27,7 +27,6 @@ OPERATOR = "Rattle.wasm_instr.specs.declared.operator.Operator"
 
 
 def kind(immediate):
-    """Returns the kind of an immediate, in antt."""
     word, *more = immediate.split()
     if word == "memory":
         return f"is_memory_argument kind.{more[0]} {more[1]}"
@@ -35,12 +34,10 @@ def kind(immediate):
 
 
 def kinds(op):
-    """Returns the kinds of the immediates of an operator, in antt."""
     return " ∷ ".join([kind(it) for it in op.immediates] + ["[]"])
 
 
 def entry(op):
-    """Returns the entry of an operator's opcode, in antt."""
     inner = f"({kinds(op)})" if op.immediates else "[]"
     if op.prefix == "" and op.name in GUARDS:
         return f"guarded {GUARDS[op.name]} {inner}"
@@ -56,12 +53,10 @@ def entries(name, those, prefixes=()):
 
 
 def names():
-    """Returns the name of the list of each prefix byte."""
     return {prefix: f"{group.lower()}_entries" for prefix, group in PREFIXES.items()}
 
 
 def entry_lists(ops):
-    """Returns the file of the lists of entries, and the entry of an opcode or a subopcode."""
     body = ["-- The entries of the opcodes, by code."]
     body += entries("opcode_entries", [op for op in ops if not op.prefix], [int(it, 16) for it in PREFIXES])
     for prefix, name in names().items():
@@ -139,7 +134,6 @@ def entries_told(ops):
 
 
 def entry_files(ops):
-    """Returns the generated files of the entries, by path."""
     return {
         "crates/wasm_decode_opcodes/specs/Entries.antt": entry_lists(ops),
         "crates/wasm_decode_opcodes/proofs/EntriesAgree.antt": entries_told(ops),

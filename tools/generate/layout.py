@@ -10,7 +10,6 @@ from clauses import clauses_broken
 
 
 def is_here():
-    """Returns whether the kit's command `rt` is on this machine."""
     return shutil.which("rt") is not None
 
 

@@ -1,6 +1,7 @@
 """Reads the operators of wasmparser from tools/original, and from nothing else."""
 
 import csv
+import sys
 from pathlib import Path
 
 FOLDER = Path(__file__).resolve().parent.parent / "original"
@@ -32,7 +33,6 @@ GROUPS = {"fb": "Gc", "fc": "Misc", "fd": "Simd", "fe": "Atomic"}
 
 
 def lines_of(name):
-    """Returns the rows of a file, each by the names of the columns."""
     with open(FOLDER / name, encoding="utf-8", newline="") as lines:
         return list(csv.DictReader(lines, delimiter="\t"))
 
@@ -47,8 +47,6 @@ def kind_of(word, fields):
 
 
 class Original:
-    """An operator of wasmparser, in the words of the table."""
-
     def __init__(self, row, arity):
         self.proposal = row["proposal"]
         self.name = row["name"]
@@ -67,25 +65,25 @@ class Original:
 
     @property
     def group(self):
-        """Returns the group whose enum has the operator."""
         if self.prefix:
             return GROUPS[self.prefix]
         return "Numeric" if 0x45 <= self.code <= 0xC4 else "Own"
 
     @property
     def is_simd(self):
-        """Returns whether its proposal is `simd` or `relaxed_simd`."""
         return self.proposal in ("simd", "relaxed_simd")
 
 
 def originals():
-    """Returns the operators in the order of wasmparser's list."""
     arities = {row["name"]: row for row in lines_of("arity.tsv")}
-    return [Original(row, arities[row["name"]]) for row in lines_of("operators.tsv")]
+    rows = lines_of("operators.tsv")
+    lost = [row["name"] for row in rows if row["name"] not in arities]
+    if lost:
+        sys.exit(f"tools/original/arity.tsv has no row for {', '.join(lost)}")
+    return [Original(row, arities[row["name"]]) for row in rows]
 
 
 def proposals():
-    """Returns the number of operators that each proposal added, in order."""
     return {row["proposal"]: int(row["operators"]) for row in lines_of("proposals.tsv")}
 
 
@@ -103,7 +101,6 @@ COMPARED = {
 
 
 def differences(ops):
-    """Returns an error for each difference between the table and wasmparser's list."""
     found = {op.name: op for op in ops}
     listed = originals()
     out = []
@@ -123,7 +120,6 @@ def differences(ops):
 
 
 def shown(value):
-    """Returns a value of a row as the table writes it."""
     if isinstance(value, int):
         return f"{value:02x}"
     if isinstance(value, list):

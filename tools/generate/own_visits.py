@@ -14,7 +14,6 @@ def own_visit(group, op):
 
 
 def own_visit_files(ops):
-    """Returns the file with the impl of the group, which overrides all visits."""
     group = next(it for it in GROUPS if it.module == "misc")
     lines = [line for op in group.of(ops) for line in own_visit(group, op)]
     text = [

@@ -69,12 +69,10 @@ FORMS["memory Plain", "lane_index"] = Form(
 
 
 def form_key(op):
-    """Returns the kinds of an operator's immediates, without alignments."""
     return tuple(it.rsplit(" ", 1)[0] if it.startswith("memory ") else it for it in op.immediates)
 
 
 def title(key):
-    """Returns the name of the function for these kinds within its group."""
     if not key:
         return "without_immediates"
     sort = key[0].removeprefix("memory ") if key[0].startswith("memory ") else ""
@@ -83,12 +81,10 @@ def title(key):
 
 
 def is_read(op):
-    """Returns whether a function reads the immediates of the operator."""
     return not op.immediates or form_key(op) in FORMS
 
 
 def unread(ops):
-    """Returns an error for each operator that the decoder would omit."""
     wanting = [op for op in ops if op.name not in APART and op.name != "BrTable" and not is_read(op)]
     return [
         f"{op.place}: no function of wasm_decode_opcodes reads the immediates {', '.join(op.immediates)}: add it, and its form to tools/generate/parts.py"
@@ -97,8 +93,6 @@ def unread(ops):
 
 
 class Part:
-    """The operators of a group whose immediates are of the same kinds."""
-
     def __init__(self, group, key, ops, every):
         self.group = group
         self.key = key
@@ -135,7 +129,6 @@ class Part:
         return self.ops[0].hex() if self.is_one else name
 
     def kinds(self, code, kind="MemArgKind", align=None):
-        """Returns the kinds of the immediates, in clauses."""
         out = []
         for it in self.key:
             if it.startswith("memory "):
@@ -153,7 +146,6 @@ class Part:
 
 
 def parts(ops, group):
-    """Returns the parts of a group, in the order of their first operators."""
     found = {}
     for op in group.of(ops):
         if op.name not in APART and is_read(op):
@@ -162,7 +154,6 @@ def parts(ops, group):
 
 
 def alone(ops, group):
-    """Returns a part for each common operator with a separate function."""
     found = []
     for op in group.of(ops):
         if group.module in ALL and op.code in ALONE:
@@ -173,7 +164,6 @@ def alone(ops, group):
 
 
 def runs(codes):
-    """Returns the first and the last code of each run of consecutive codes."""
     out = []
     for code in sorted(codes):
         if out and out[-1][1] == code - 1:
@@ -184,13 +174,11 @@ def runs(codes):
 
 
 def run_pattern(run):
-    """Returns a pattern for a run of codes."""
     first, last = run
     return f"0x{first:02x}" if first == last else f"0x{first:02x}..=0x{last:02x}"
 
 
 def exponent(op):
-    """Returns the exponent of the natural alignment of an operator with a memory argument."""
     return op.immediates[0].split()[2]
 
 

@@ -31,7 +31,6 @@ SHORT = {
 
 
 def crates():
-    """Returns the crates, each with the crates that it lists."""
     listed = {}
     for line in (TOP / "crates.txt").read_text(encoding="utf-8").splitlines():
         found = re.match(r"(\w+)(?: \w+)?:(.*)$", line)
@@ -41,7 +40,6 @@ def crates():
 
 
 def below(listed, name):
-    """Returns all crates that a crate depends on, directly or not."""
     found, left = set(), list(listed.get(name, []))
     while left:
         one = left.pop()
@@ -62,7 +60,6 @@ def way(listed, crate, name):
 
 
 def rewritten(listed, crate, text):
-    """Rewrites the paths in the text of a file of a crate."""
 
     def of_code(found):
         if found[1] == crate:
@@ -84,6 +81,5 @@ def rewritten(listed, crate, text):
 
 
 def by_listed(files):
-    """Rewrites the paths in the files of crates, each for its crate."""
     listed = crates()
     return {name: rewritten(listed, name.split("/")[1], text) for name, text in files.items()}

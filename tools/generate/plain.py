@@ -46,28 +46,23 @@ BOUND = ["a", "b", "c"]
 
 
 def kinds(op):
-    """Returns the kinds of an operator's immediates, without alignments."""
     return tuple(immediate.split()[0] for immediate in op.immediates)
 
 
 def unshaped(ops):
-    """Returns an error for each operator whose immediates have no shape."""
     told = "its immediates have no shape: give them one in tools/generate/plain.py, crates/wasm_view/src/shapes.rt and specs/View.antt"
     return [f"{op.place}: {told}" for op in ops if kinds(op) not in SHAPES]
 
 
 def number(op):
-    """Returns the opcode, or the subopcode plus 65536 times the prefix byte."""
     return op.code + (int(op.prefix, 16) << 16 if op.prefix else 0)
 
 
 def opcode_arms(ops, ty):
-    """Returns an arm for each operator."""
     return [f"{ty}::{op.name}{' { .. }' if op.fields else ''} => 0x{number(op):x}," for op in ops]
 
 
 def opcodes_source(ops):
-    """Returns the file of the numbers."""
     own = [op for op in ops if op.group == "Own"]
     names = ", ".join(enum.type for enum in sorted(ENUMS, key=lambda it: it.type))
     words = ", ".join(enum.opcode for enum in ENUMS)
@@ -110,13 +105,11 @@ def opcodes_source(ops):
 
 
 def bound(op):
-    """Returns the operator's fields, and the names that they are bound to."""
     names = BOUND[: len(op.fields)]
     return [(name, ty, to) for (name, ty), to in zip(op.fields, names)]
 
 
 def shape_arms(ops, ty, by_reference):
-    """Returns an arm for the operators of each shape."""
     groups = {}
     for op in ops:
         groups.setdefault(kinds(op), []).append(op)
@@ -134,7 +127,6 @@ def shape_arms(ops, ty, by_reference):
 
 
 def common_source(ops):
-    """Returns the file of the fields of the frequent operators."""
     common = [op for op in ops if op.name in COMMON]
     lines = [
         f"//! The C struct of an operator, made inline for frequent operators. {HEAD}",
@@ -172,7 +164,6 @@ def common_source(ops):
 
 
 def views_source(ops):
-    """Returns the file of the fields."""
     own = [op for op in ops if op.group == "Own"]
     enums = [enum for enum in held() if enum.group != "Numeric"]
     names = ", ".join(sorted(enum.type for enum in enums))
@@ -229,7 +220,6 @@ def names_in_parts(ops):
 
 
 def names_spec(ops):
-    """Returns the definitions of the names."""
     parts = names_in_parts(ops)
     lines = [
         f"-- {HEAD}",
@@ -257,7 +247,6 @@ def names_spec(ops):
 
 
 def names_source(ops):
-    """Returns the file of the names."""
     parts = names_in_parts(ops)
     first, second = [next(op for op in ops if op.name == name) for name in SHARED]
     words = ", ".join(sorted(name for name, _ in parts))
@@ -295,7 +284,6 @@ def names_source(ops):
 
 
 def plain_files(ops):
-    """Returns the generated files of the crate, over the operators that have a shape."""
     ops = [op for op in ops if kinds(op) in SHAPES]
     return {
         "crates/wasm_view/src/names.rt": names_source(ops),

@@ -49,12 +49,10 @@ LEAST = 12
 
 
 def is_made(op):
-    """Returns whether the program makes the operator at run time."""
     return any(ty in MADE for _, ty in op.fields)
 
 
 def value_of(name, ty):
-    """Returns the value of a field."""
     if ty in ("u32", "u8") and name in BY_NAME:
         return BY_NAME[name]
     if ty == "RefType":
@@ -63,7 +61,6 @@ def value_of(name, ty):
 
 
 def made(op, ty):
-    """Returns the operator as an expression."""
     if not op.fields:
         return f"{ty}::{op.name}"
     values = [f"{name}: {value_of(name, kind)}" for name, kind in op.fields]
@@ -71,7 +68,6 @@ def made(op, ty):
 
 
 def list_of(doc, name, ty, enum, ops):
-    """Returns a function that returns a list of operators."""
     return [
         "",
         f"/// {doc}",
@@ -84,7 +80,6 @@ def list_of(doc, name, ty, enum, ops):
 
 
 def values_source(ops):
-    """Returns the file of the operators made by constants."""
     constant = [op for op in ops if not is_made(op)]
     more = [("wasm_instr", enum.type) for enum in ENUMS] + [("wasm_instr", "Operator"), ("wasm_imm", "MemArgTarget")]
     out = [
@@ -111,7 +106,6 @@ def values_source(ops):
 
 
 def made_source(ops):
-    """Returns the file of the operators made at run time."""
     those = [op for op in ops if is_made(op)]
     values = {value_of(name, ty) for op in those for name, ty in op.fields}
     calls = sorted({value.split("(")[0] for value in values if value.endswith(("()", ")?"))})

@@ -28,24 +28,20 @@ PRINTERS = {
 
 
 def shape_name(fields):
-    """Returns the name of the function that prints fields of these names."""
     return f"write_{'_and_'.join(name for name, _ in fields)}"
 
 
 def printed(name, ty):
-    """Returns the call that prints a field."""
     return f'values::{PRINTERS[ty]}(out, "{name}", {name})'
 
 
 def call_of(fields):
-    """Returns the call that prints these fields."""
     if len(fields) == 1:
         return printed(*fields[0])
     return f"shapes::{shape_name(fields)}(out, {', '.join(name for name, _ in fields)})"
 
 
 def shapes(ops):
-    """Groups the operators by their fields and types."""
     found = {}
     for op in ops:
         if op.fields:
@@ -54,7 +50,6 @@ def shapes(ops):
 
 
 def shape_source(fields):
-    """Returns the function that prints these fields."""
     given = ", ".join(f"{name}: &{ty}" for name, ty in fields).replace("'a", "'_")
     calls = [printed(name, ty) for name, ty in fields]
     return [
@@ -67,7 +62,6 @@ def shape_source(fields):
 
 
 def shapes_source(ops):
-    """Returns the file with a function for each list of several fields."""
     those = [fields for fields in shapes(ops) if len(fields) > 1]
     types = {ty for fields in those for _, ty in fields}
     layers = {}
@@ -95,7 +89,6 @@ def match_arms(ops, ty):
 
 
 def enum_source(title, name, ty, ops, held_enums=()):
-    """Returns the file with the function that prints the fields of an enum's operators."""
     given = "Operator<'_>" if ty == "Operator" else ty
     uses = [f"use wasm_instr::{ty};", "use crate::values::{self, Written};", "use crate::fields::shapes;"]
     inner = []
@@ -121,7 +114,6 @@ def enum_source(title, name, ty, ops, held_enums=()):
 
 
 def printed_field_files(ops):
-    """Returns the generated files of the program, by path."""
     out = {f"{CRATE}/shapes.rt": shapes_source(ops)}
     enums = [enum for enum in held() if enum.group != "Numeric"]
     for enum in enums:

@@ -43,13 +43,11 @@ def file_of(titles, uses, body, words, lemmas=()):
 
 
 def aliases(body, *names):
-    """Returns the `use` lines of the aliases that the text has."""
     text = "\n".join(body)
     return [ALIASES[name] for name in names if f"{name}." in text]
 
 
 def enum_rows(enum, ops):
-    """Returns the columns of the rows of an inner enum, as definitions."""
     low = enum.module
     *others, (most, _) = grouped(ops, lambda op: op.proposal)
     body = ["-- The name of the proposal that added the operator.", f"abbrev pub {low}_proposal : {enum.type} → List ℕ"]
@@ -146,7 +144,6 @@ def enum_by_opcode(enum, ops):
 
 
 def fields_uses(enum):
-    """Returns the `use` lines of the enum of the fields."""
     path = f"Rattle.{enum.crate}.specs.declared.{enum.module}.{enum.group}Fields"
     return [f"use {path}.{{{enum.group}Fields}}", f"use {path}.TheVariants as fields"]
 
@@ -167,7 +164,6 @@ def from_fields(enum, ops, none):
 
 
 def equality_answer(enum):
-    """Returns the proof of `eq`: operators with equal opcodes and fields are equal."""
     low = enum.module
     return "\n".join([
         f"-- {HEAD}",
@@ -188,7 +184,6 @@ def equality_answer(enum):
 
 
 def numeric_range(none):
-    """Returns the range of the opcodes of the numeric operators, with its lemmas."""
     out = ["", "-- Whether a numeric operator has the opcode: it is in 0x45 to 0xc4.", "abbrev pub is_numeric : ℕ → Bool"]
     out.append("is_numeric code = ltb 0x44 code && ltb code 0xc5")
     for lemma, claim in {
@@ -201,7 +196,6 @@ def numeric_range(none):
 
 
 def operator_rows(ops):
-    """Returns the columns of the rows of all operators, as definitions."""
     low = "operator"
     inner = [(enum, f"(operator.{enum.group} op)") for enum in held()]
     *others, (most, _) = grouped(ops, lambda op: op.proposal)

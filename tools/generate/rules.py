@@ -39,7 +39,6 @@ VECTOR_PROPOSALS = ("simd", "relaxed_simd")
 
 
 def faults(path=TABLE):
-    """Returns all faults of the table."""
     rows = rows_of(path)
     place = named(path)
     if rows.get(1) != COLUMNS:
@@ -59,7 +58,6 @@ def faults(path=TABLE):
 
 
 def cell_faults(cells):
-    """Returns the faults of the cells of a row that prevent making an `Operator`."""
     if len(cells) != len(COLUMNS):
         return [f"{len(cells)} columns, and not {len(COLUMNS)}"]
     row = dict(zip(COLUMNS, cells))
@@ -77,7 +75,6 @@ def cell_faults(cells):
 
 
 def row_faults(op):
-    """Returns the faults of a row."""
     out = []
     if not re.fullmatch(r"[A-Z][A-Za-z0-9]*", op.name):
         out.append("the name is not a variant's: letters and digits, the first a capital")
@@ -97,7 +94,6 @@ def row_faults(op):
 
 
 def field_faults(op):
-    """Returns the faults of the fields."""
     names = [name for name, _ in op.fields]
     out = [f"two fields are named {name}" for name in sorted({it for it in names if names.count(it) > 1})]
     for name, ty in op.fields:
@@ -109,7 +105,6 @@ def field_faults(op):
 
 
 def immediate_faults(op):
-    """Returns the faults of the immediates, and of fields that do not fit them."""
     out, wanted = [], []
     for immediate in op.immediates:
         word, *more = immediate.split(" ")
@@ -133,7 +128,6 @@ def is_memory(words):
 
 
 def arity_faults(op):
-    """Returns the faults of the arity."""
     if "by rule" in (op.takes, op.leaves):
         return [] if op.takes == op.leaves else ["it takes and leaves by rule, or neither"]
     out = []

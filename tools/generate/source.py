@@ -31,7 +31,6 @@ DEBUG_PART = 24
 
 
 def uses(ops, more=()):
-    """Returns the `use` lines for the types of the fields."""
     found = {}
     for op in ops:
         for _, ty in op.fields:
@@ -44,24 +43,20 @@ def uses(ops, more=()):
 
 
 def inner(op):
-    """Returns the fields of a variant, with their types."""
     return ", ".join(f"{name}: {ty}" for name, ty in op.fields)
 
 
 def names_of(op):
-    """Returns the names of the fields."""
     return ", ".join(name for name, _ in op.fields)
 
 
 def variant(op, with_opcode=False):
-    """Returns the declaration of a variant."""
     if op.fields:
         return f"{op.name} {{ {inner(op)} }},"
     return f"{op.name} = {op.hex()}," if with_opcode else f"{op.name},"
 
 
 def rust_pattern(op, ty):
-    """Returns a pattern that matches an operator with any fields."""
     return f"{ty}::{op.name}" + (" { .. }" if op.fields else "")
 
 
@@ -71,12 +66,10 @@ def rust_binding(op, ty):
 
 
 def arms(ops, ty, value):
-    """Returns the arms of a match over operators, with one value for each."""
     return [f"{rust_pattern(op, ty)} => {value(op)}," for op in ops]
 
 
 def joined_arm(patterns, value):
-    """Returns one arm for several patterns."""
     return f"{' | '.join(patterns)} => {value},"
 
 
@@ -88,7 +81,6 @@ def proposal_arms(ops, ty, inner_arms=()):
 
 
 def shapes(ops):
-    """Groups the operators with fields by the names of the fields."""
     found = {}
     for op in ops:
         if op.fields:
@@ -113,12 +105,10 @@ class Shape:
 
 
 def fields_name(names):
-    """Returns the variant of the enum of fields for these names."""
     return "".join(word.capitalize() for word in re.split(r"[, _]+", names))
 
 
 def enum_head(enum, ops, shape):
-    """Returns the head of an enum's file."""
     prelude = ["◌≡◌"]
     words = [f"{enum.module}_proposal", f"{enum.module}_name", f"{enum.opcode}"]
     out = [f"//! {enum.title.capitalize()}. {HEAD}"]
@@ -145,7 +135,6 @@ def enum_head(enum, ops, shape):
 
 
 def info_of(enum, ops):
-    """Returns the functions for the row of an operator of an inner enum."""
     low = enum.module
     prefix = ops[0].prefix
     return [
@@ -180,7 +169,6 @@ def info_of(enum, ops):
 
 
 def opcode_column(enum, ops):
-    """Returns the function for the opcode or subopcode."""
     if any(op.fields for op in ops):
         return column(enum, ops, "code", "Returns the subopcode.", "u32", Operator.hex)
     return [
@@ -194,7 +182,6 @@ def opcode_column(enum, ops):
 
 
 def enum_source(enum, ops):
-    """Returns the file of an inner enum, with its functions."""
     shape = Shape(ops)
     out = enum_head(enum, ops, shape)
     out += [f"/// {line}" for line in enum.doc]
@@ -215,7 +202,6 @@ def enum_source(enum, ops):
 
 
 def fields_enum(enum, ops):
-    """Returns the enum of the fields of an operator, without the opcode."""
     out = [
         "/// The fields of an operator, by their names.",
         "#[derive(Clone, Copy, PartialEq, Eq)]",
@@ -287,7 +273,6 @@ def equality_of(enum):
 
 
 def debug_of(enum, ops, shape):
-    """Returns the impl of `Debug`, for enums that do not derive it."""
     out = [f"impl Debug for {enum.type} {{", "fn fmt<W: fmt::Write>(&self, f: &mut Formatter<W>) -> fmt::Result {"]
     if shape.is_plain:
         return [*out, "f.write_str(self.name())", "}", "}", ""]
@@ -346,7 +331,6 @@ def in_parts(enum, ops, name, doc, ty, arms_of):
 
 
 def outside(enum, part, is_first, is_last):
-    """Returns the condition that the subopcode of an operator is not in a part."""
     below = f"({enum.opcode} self.now < 0x{part[0].code:02x})"
     above = f"(0x{part[-1].code + 1:02x} ≤ {enum.opcode} self.now)"
     if is_first or is_last:
@@ -358,7 +342,6 @@ OWN = Enum("Own", "wasm_instr", "operator", "the other operators of one byte", [
 
 
 def operator_head(ops):
-    """Returns the head of the file of all operators."""
     more = [(enum.crate, enum.type) for enum in ENUMS]
     more += [("wasm_imm", "OperatorInfo"), ("wasm_below", "Result")]
     return [
@@ -376,7 +359,6 @@ def operator_head(ops):
 
 
 def operator_enum(ops):
-    """Returns the enum of all operators, and the conversions from the inner enums."""
     out = [
         "/// An operator with its immediates. Instructions.",
         "///",
@@ -421,7 +403,6 @@ def debug_parts(ops):
 
 
 def operator_debug(ops):
-    """Returns the impl of `Debug`, in parts. Each part prints operators that the part before does not print."""
     parts = debug_parts(ops)
     places = ["fmt", *(f"fmt_{place}" for place in ("second", "third", "fourth", "fifth")[: len(parts) - 1])]
     head = "<W: fmt::Write>(&self, f: &mut Formatter<W>) -> fmt::Result {"
@@ -443,7 +424,6 @@ def operator_debug(ops):
 
 
 def operator_info(ops):
-    """Returns the functions for the row of an operator."""
     inner_arms = [f"Operator::{enum.group}(op) => op.info().proposal," for enum in held()]
     return [
         "/// Returns the row of the operator.",
@@ -480,7 +460,6 @@ def operator_info(ops):
 
 
 def operator_column(ops, name, word, doc, ty, value):
-    """Returns a private function for a column of all operators."""
     now = ".now" if ty.startswith("&") else ""
     return [
         f"/// {doc}",
@@ -529,7 +508,6 @@ def operator_source(ops, owning=()):
 
 
 def clone_of(ty, holds_list, ops, owning=()):
-    """Returns the function that copies an operator with the lists that it owns."""
     out = [
         "/// Copies the operator with the list that it owns.",
         "///",
@@ -554,7 +532,6 @@ def lifetime(ty):
 
 
 def clone_arm(op, ty):
-    """Returns the arm of `clone` for an operator."""
     copied = []
     for name, field in op.fields:
         if field in ("SelectTypes", "TryTable", "ResumeTable"):

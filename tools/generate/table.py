@@ -13,8 +13,6 @@ PREFIXES = {"fb": "Gc", "fc": "Misc", "fd": "Simd", "fe": "Atomic"}
 
 
 class Operator:
-    """A row of the table, and its line."""
-
     def __init__(self, cells, place="tools/operators.tsv"):
         row = dict(zip(COLUMNS, cells))
         self.proposal = row["proposal"]
@@ -31,19 +29,16 @@ class Operator:
 
     @property
     def group(self):
-        """Returns the group whose enum has the operator."""
         if self.prefix:
             return PREFIXES[self.prefix]
         return "Numeric" if 0x45 <= self.code <= 0xC4 else "Own"
 
     @property
     def is_by_rule(self):
-        """Returns whether its arity depends on the module or the open frames."""
         return self.takes == "by rule"
 
     @property
     def holds_list(self):
-        """Returns whether it owns a list."""
         return any(ty in OWNING for _, ty in self.fields)
 
     def hex(self):
@@ -63,7 +58,6 @@ def table(path=TABLE):
 
 
 def named(path):
-    """Returns the path as errors write it."""
     return path.relative_to(TOP) if path.is_relative_to(TOP) else path
 
 
@@ -136,7 +130,6 @@ def singular(title):
 
 
 def held():
-    """Returns the enums that `Operator` holds, in order."""
     return sorted(ENUMS, key=lambda enum: HELD.index(enum.group))
 
 
@@ -189,7 +182,6 @@ PROPOSALS = (
 
 
 def immediates_of(op):
-    """Returns the list of the immediates of an operator, in antt."""
     names = [name for name, _ in op.fields]
     out = []
     for immediate in op.immediates:
@@ -212,7 +204,6 @@ def made_of(op, alias):
 
 
 def imported(text, names):
-    """Returns the names that occur in the text outside its comments."""
     words = set(re.findall(r"[\w'-]+", re.sub("--.*", "", text)))
     return [name for name in names if name in words]
 

@@ -54,7 +54,6 @@ def inner_uses(enum):
 
 
 def kinds_of(op):
-    """Returns the kinds of the immediates of an operator, without alignments."""
     return tuple(it.split()[0] for it in op.immediates)
 
 
@@ -75,7 +74,6 @@ def call_of(op):
 
 
 def name_specs(ops):
-    """Returns the names as definitions."""
     out = [
         f"-- {HEAD}",
         "-- The names of the operators in the text format.",
@@ -97,7 +95,6 @@ def name_specs(ops):
 
 
 def name_function(name, given, ty, those, more=()):
-    """Returns the function for the name of an operator of an enum."""
     shown = "pub fn" if ty == "Operator" else "fn"
     return [
         "",
@@ -114,7 +111,6 @@ def name_function(name, given, ty, those, more=()):
 
 
 def name_source(ops):
-    """Returns the names in code."""
     words = ", ".join(["text_name", *(f"{enum.module}_text_name" for enum in held())])
     types = ", ".join(sorted(["Operator", *(enum.type for enum in ENUMS)]))
     out = [
@@ -142,7 +138,6 @@ def operand_arms(ops, ty):
 
 
 def operand_function(name, ty, those, meaning, more=()):
-    """Returns the function that writes the operands of an operator of an enum."""
     given = "Operator<'_>" if ty == "Operator" else ty
     return [
         f"/// Writes the operands of {meaning}, with a space before each.",
@@ -158,7 +153,6 @@ def operand_function(name, ty, those, meaning, more=()):
 
 
 def operand_files(ops):
-    """Returns a file for each enum, with the function that writes its operators' operands."""
     out = {}
     for enum in held():
         if enum.group == "Numeric":
@@ -201,7 +195,6 @@ def operand_files(ops):
 
 
 def text_files(ops):
-    """Returns the generated files of wasm_text, by path."""
     return {
         f"{CRATE}/specs/Names.antt": name_specs(ops),
         f"{CRATE}/src/names.rt": name_source(ops),

@@ -5,8 +5,6 @@ from table import HEAD, WIDTH, held, singular
 
 
 class Group:
-    """A group of visits: a trait whose operators are variants of one enum."""
-
     def __init__(self, module, trait, enum, short, title, section):
         self.module = module
         self.trait = trait
@@ -49,7 +47,6 @@ ONE_BYTE_OTHERS = " | ".join(["Operator::BrTable { targets: _ }"] + [f"Operator:
 
 
 def signature(op, answer):
-    """Returns the head of a visit."""
     fields = [f"{name}: {ty}" for name, ty in op.fields]
     return f"    fn {op.visit}({', '.join(['&mut self'] + fields)}) -> {answer}"
 
@@ -60,7 +57,6 @@ def type_name(group):
 
 
 def term(op):
-    """Returns the operator as a term over its fields, in clauses."""
     inner = " ".join([f"{op.group}Operator.{op.name}" if op.group != "Own" else f"Operator.{op.name}"] + [name for name, _ in op.fields])
     if op.group == "Own":
         return f"({inner})" if op.fields else inner
@@ -68,7 +64,6 @@ def term(op):
 
 
 def made(op):
-    """Returns the expression that makes the operator from its fields."""
     ty = "Operator" if op.group == "Own" else f"{op.group}Operator"
     names = ", ".join(name for name, _ in op.fields)
     inner = f"{ty}::{op.name} {{ {names} }}" if names else f"{ty}::{op.name}"
@@ -76,7 +71,6 @@ def made(op):
 
 
 def ghost_uses(group):
-    """Returns the `ghost use` lines of the operators."""
     lines = ["ghost use Rattle.wasm_instr.specs.declared.operator.Operator.{Operator};"]
     for enum in held():
         if enum.group == group.enum:
@@ -86,7 +80,6 @@ def ghost_uses(group):
 
 
 def braced(names):
-    """Returns the names of a `use`, in braces if there are several."""
     return names[0] if len(names) == 1 else f"{{{', '.join(sorted(names))}}}"
 
 
@@ -132,7 +125,6 @@ def group_trait(ops, group):
 
 
 def arm(op):
-    """Returns the arm of a dispatch that visits an operator."""
     ty = "Operator" if op.group == "Own" else f"{op.group}Operator"
     names = ", ".join(name for name, _ in op.fields)
     pattern = f"{ty}::{op.name} {{ {names} }}" if names else f"{ty}::{op.name}"
@@ -143,7 +135,6 @@ def arm(op):
 
 
 def group_dispatch(ops, group):
-    """Returns the function that calls the visit of an operator of a group."""
     param = "Operator<'_>" if group.enum == "Own" else type_name(group)
     told = "op.entry" if group.enum == "Own" else f"(Operator.{group.enum} op)"
     wanted = {"one_byte": "IsOneByte", "simd_low": "IsSimdLow", "simd_high": "IsSimdHigh"}.get(group.module)
@@ -200,7 +191,6 @@ def group_factory(ops, group):
 
 
 def visit_files(ops):
-    """Returns the generated files of the visits, by path."""
     out = {}
     for group in GROUPS:
         out[f"crates/wasm_visit_groups/src/{group.module}.rt"] = group_trait(ops, group)

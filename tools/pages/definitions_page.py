@@ -1,5 +1,7 @@
 """Lays out docs/DEFINITIONS.md: a head, and a table for each group of files of specs/."""
 
+import re
+
 READERS = "wasm_operators_readers/{} "
 EXPRESSIONS = ("Expression", "Flat", "Openings", "Visiting")
 READS = ("Reading", "Next", "MainTheorem", "Guarded", "Iterating")
@@ -26,32 +28,28 @@ GROUPS = [
 ]
 HEAD = """# Definitions
 
-The definitions that public contracts name. `tools/run definitions --write` writes this page from the comments above the \
-definitions, and takes what these lack from `tools/definitions.tsv`. `tools/test definitions` checks it. Terms such as *walk* \
-are in [`ARCHITECTURE.md`](ARCHITECTURE.md#terms).
+The definitions that public contracts name. `tools/run definitions --write` writes this page from the comments in `specs/` \
+and from `tools/definitions.tsv`. Terms such as *walk* are in [`ARCHITECTURE.md`](ARCHITECTURE.md#terms).
 
-The section is in the WebAssembly Core Specification 3.0. A name in lower case is a proposal. An empty section is the \
-section above it, in the same file.
+A section without a chapter is in Binary Format of the WebAssembly Core Specification 3.0. A name in lower case is a \
+proposal. An empty section is the section above it, in the same file.
 
 A definition goes from values to bytes, and from trees to lists. The code goes the other way. The test programs \
-(`crates/wasm_tests_*`) check the definitions: their rows have values from the specification and from wasmparser.
-
-To read a definition:
+(`crates/wasm_tests_*`) check the definitions, with values from the specification and from wasmparser.
 
 - A name with a capital letter is a type or a statement. `EncodesSize limit text n` says that the bytes `text` encode the \
-count `n`. A name in lower case is a value or a function: `rest r` is the bytes that the reader `r` has left.
+count `n`. Other names are values or functions: `rest r` is the bytes that the reader `r` has left.
+- `Encodes` relates bytes and a value. `Fault` relates a message, the reader at the start of the call, and the offset of \
+the error.
 - `A → B → Type 0` is the type of a statement about an `A` and a `B`. A `record` is true if all its fields are.
-- `×` is "and", `⊎` is "or", `¬` is "not", `≡` is "equals", and `⊥` is never true. `(x : A) × ..` says that there is an `x`, \
-and `(x : A) → ..` speaks of each `x`.
+- `×` is "and", `⊎` "or", `¬` "not", `≡` "equals"; `⊥` is never true. `(x : A) × ..` says that there is an `x`; \
+`(x : A) → ..` speaks of each `x`.
 - `ℕ` are the natural numbers. `∷` and `++` build lists. `λ x. ..` is a function.
-- A name with `Encodes` relates bytes and a value. A name with `Fault` relates a message, the reader at the start of the \
-call, and the offset of the error.
-- `old` and `new` are the states before and after a call. A visitor names its own relation, \
-`visits before op result after`, in the trait `Visitor` of `wasm_visit_groups`.
+- `old` and `new` are the states before and after a call. A visitor has a relation `visits before op result after`.
 
 A call that allocates may fail with `OutOfMemory`. "Unless allocation fails" refers to this.
 """
-TABLE = "|Name|In words|Section|File|\n|---|---|---|---|\n"
+TABLE = "|Name|In words|Section|\n|---|---|---|\n"
 
 
 def group_of(file):
@@ -80,27 +78,31 @@ def in_order(files):
     return out
 
 
-def section_cell(row, above):
-    """Returns the cell for a row's section, which is empty if the row above it in the same file has this section."""
-    if above is None or above.file is not row.file:
-        return row.section
-    return "" if above.section == row.section else row.section or "none"
+def in_short(section):
+    """Returns a section without the chapter that the head of the page gives to sections without one."""
+    return re.sub(r"\bBinary Format[,:] ", "", section)
 
 
 def table(rows):
-    """Returns the table of a group."""
-    out, above = [TABLE], None
+    """Returns the table of a group: for each file, a row with its path and the section of its first definition, and its rows."""
+    out, file, section = [TABLE], None, ""
     crates = {row.file.crate for row in rows}
     for row in rows:
-        file = row.file.name if len(crates) == 1 else f"{row.file.crate}/{row.file.name}"
-        cells = [", ".join(f"`{name}`" for name in row.names), row.words, section_cell(row, above), f"`{file}.antt`"]
-        out.append("|" + "|".join(cell.replace("|", "\\|") for cell in cells) + "|\n")
-        above = row
+        if row.file is not file:
+            file, section = row.file, row.section
+            path = file.name if len(crates) == 1 else f"{file.crate}/{file.name}"
+            out.append(line_of([f"**{path}.antt**", "", in_short(section)]))
+        of_row = "" if row.section == section else in_short(row.section) or "none"
+        section = row.section
+        out.append(line_of([", ".join(f"`{name}`" for name in row.names), row.words, of_row]))
     return "".join(out)
 
 
+def line_of(cells):
+    return "|" + "|".join(cell.replace("|", "\\|") for cell in cells) + "|\n"
+
+
 def page(rows):
-    """Returns the page that has these rows, by file."""
     out = [HEAD]
     for at, (title, _) in enumerate(GROUPS):
         files = in_order([file for file in rows if group_of(file)[0] == at])

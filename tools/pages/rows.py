@@ -20,8 +20,6 @@ class Given:
 
 
 class Row:
-    """A row of the page: the names that share these words."""
-
     def __init__(self, file, words, section, is_given):
         self.file, self.words, self.section, self.is_given = file, words, section, is_given
         self.names = []
@@ -58,7 +56,6 @@ def commented(file, name):
 
 
 def referred(file, name):
-    """Returns the definition that the comment of another refers to, or None."""
     found = REFERS.match(file.definitions[name].words)
     if found is None:
         return None
@@ -152,5 +149,4 @@ def faults_of(files, given, wanted):
 
 
 def count(words):
-    """Returns the number of words of a text."""
     return len(words.split())

@@ -53,7 +53,6 @@ def sentences_of(comment):
 
 
 def parts_of(comment):
-    """Returns the sentences of a comment that describe, as one text, and the section that the others name."""
     sentences = sentences_of(comment)
     names = [it for it in sentences if REFERENCE.match(it)]
     return " ".join(it for it in sentences if it not in names), section_of(names)
@@ -68,7 +67,6 @@ def section_of(sentences):
 
 
 def definitions_of(lines, start):
-    """Yields the definitions of a file, each with the comment directly before it."""
     comment, head, outer = [], None, ""
     for line in lines[start:]:
         if line.lstrip().startswith("--"):
@@ -88,7 +86,6 @@ def definitions_of(lines, start):
 
 
 def files_of(top):
-    """Returns the files of specs/ of a repository, by crate and name."""
     found = {}
     for path in sorted(Path(top).glob("crates/*/specs/*.antt")):
         if path.stem != "Lib":

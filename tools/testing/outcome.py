@@ -5,8 +5,6 @@ WIDTH = 160
 
 
 class Outcome:
-    """How an item ended: how many of its tests passed and failed, and the lines that show why."""
-
     def __init__(self, passed, failed, lines=()):
         self.passed, self.failed, self.lines = passed, failed, list(lines)
 
@@ -17,7 +15,6 @@ class Outcome:
 
 
 def short(line):
-    """Returns a line, cut if it is long."""
     text = line.decode(errors="replace")
     return repr(text if len(text) <= WIDTH else f"{text[:WIDTH]}..")
 
@@ -37,5 +34,4 @@ def difference(expected, found, what):
 
 
 def tail(text, count=LINES):
-    """Returns the last lines of a text."""
     return text.rstrip("\n").split("\n")[-count:] if text.strip() else []

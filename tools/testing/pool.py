@@ -15,13 +15,11 @@ COSTS = Path(__file__).resolve().parent / "costs.tsv"
 
 
 def costs():
-    """Returns the CPU seconds of each item when it was measured last."""
     rows = [line.split("\t") for line in COSTS.read_text(encoding="utf-8").splitlines()[1:]]
     return {row[0]: float(row[1]) for row in rows}
 
 
 def store_costs(known):
-    """Writes the CPU seconds of each item, the most first."""
     rows = sorted(known.items(), key=lambda row: (-row[1], row[0]))
     lines = ["item\tCPU seconds", *[f"{item}\t{seconds:.1f}" for item, seconds in rows]]
     COSTS.write_text("\n".join(lines) + "\n", encoding="utf-8")

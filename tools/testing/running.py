@@ -28,7 +28,6 @@ class Ran:
         self.status, self.out, self.err, self.seconds = status, out, err, seconds
 
     def text(self):
-        """Returns both outputs as text."""
         return (self.out + self.err).decode(errors="replace")
 
     def failure(self, limit):
@@ -107,11 +106,8 @@ def run(words, limit, cwd, given=None, env=None):
 
 
 class Clock:
-    """Measures elapsed seconds."""
-
     def __init__(self):
         self.began = time.monotonic()
 
     def seconds(self):
-        """Returns the seconds since the clock was made."""
         return time.monotonic() - self.began

@@ -5,7 +5,7 @@ import shutil
 import sys
 
 from testing import running
-from testing.items import CHECKS, REPLAY, Check, Program, Tests, find_jobs, is_named
+from testing.items import BLOCKS, CHECKS, REPLAY, Check, Library, Program, Tests, find_jobs, is_named
 from testing.outcome import tail
 from testing.running import Clock
 
@@ -17,6 +17,7 @@ LINE = re.compile(r"(ok|FAILED) \d+ s ([\w/-]+)")
 TEST_HEAD = re.compile(r"#\[test\]\n\s*fn \w+\((\w+): [^{]*\{\n")
 WRONG_VISITS = "\nimpl VisitMisc for Broken {\n    fn visit_data_drop(&mut self) {}\n}\n"
 WRONG_ROW = "\n| `NoSuchDefinition` | a word that nothing defines | | `Nothing.antt` |\n"
+WRONG_BLOCK = "README.md\ta block that no page has\tshell\t\n"
 WRONG_EDIT = "file: src/lib.rt\nold: a text that does not occur\nnew: another\n"
 
 
@@ -28,17 +29,14 @@ class Break:
 
 
 def more(text):
-    """Returns a change that appends a text."""
     return lambda old: old + text
 
 
 def replaced(pattern, new):
-    """Returns a change that replaces the first match of a pattern."""
     return lambda old: re.sub(pattern, new, old, count=1, flags=re.M)
 
 
 def wrong_status(text):
-    """Changes the status of the first case."""
     head, row, rest = text.split("\n", 2)
     cells = row.split("\t")
     cells[3] = str(int(cells[3]) + 1)
@@ -46,22 +44,18 @@ def wrong_status(text):
 
 
 def wrong_test(text):
-    """Makes the first test fail."""
     return TEST_HEAD.sub(lambda found: f"{found[0]}    assert_eq!({found[1]}; 1, 2);\n", text, count=1)
 
 
 def first(paths):
-    """Returns the first of some paths."""
     return sorted(paths)[0]
 
 
 def head_of_lists(top):
-    """Returns the first line of the generated lists."""
     return re.search(r'^HEAD = "(.*)"$', (top / "tools" / "generate" / "table.py").read_text(encoding="utf-8"), re.M)[1]
 
 
 def breaks_of_checks(top):
-    """Returns a break of each check, by the name of the check."""
     edit = first(top.glob("crates/*/must-fail/*.edit"))
     equal = first(path for path in top.glob("tools/tests/test_*.py") if "self.assertEqual(" in path.read_text(encoding="utf-8"))
     return [
@@ -70,16 +64,17 @@ def breaks_of_checks(top):
         Break("expected", top / "crates" / "wasm_tests_lists" / "edges.txt", more("one line more\n")),
         Break("expected-reading", top / "crates" / "wasm_tests_decode" / "rows.tsv", lambda old: old + old.splitlines(True)[-1]),
         Break("definitions", top / "docs" / "DEFINITIONS.md", more(WRONG_ROW)),
+        Break("contracts", top / "crates" / "wasm_operators" / "CALLING.md", replaced(r"^  ensures: Reads", "  ensures: Read")),
         Break("edges", top / "crates.txt", replaced(r"^(uses:.*)$", r"\1 bitflags")),
         Break("forwarding", top / "crates" / "uses" / "src" / "lib.rt", more(WRONG_VISITS)),
-        Break("bindings", top / "examples" / "c" / "list.c", more('int broken = "text";\n'), [REPLAY]),
+        Break("bindings", top / "examples" / "c" / "list.c", more('int broken = "text";\n'), [REPLAY, BLOCKS]),
         Break("edits", edit, more(WRONG_EDIT)),
+        Break(BLOCKS, top / "tools" / "blocks.tsv", more(WRONG_BLOCK)),
         Break(REPLAY, top / "tools" / "bindings", replaced(r"'mvp (\d+)'", r"'mvp \g<1>0'")),
     ]
 
 
 def breaks_of_program(folder, items):
-    """Returns the breaks of the items of a program."""
     name = folder.name
     if name in items:
         stored = folder / "stdout.short"
@@ -93,17 +88,15 @@ def breaks_of_program(folder, items):
 
 
 def breaks_of_tests(folder):
-    """Returns the break of the tests of a crate."""
     tests = first(path for path in folder.glob("src/**/*.rt") if TEST_HEAD.search(path.read_text(encoding="utf-8")))
     return Break(f"{folder.name}/tests", tests, wrong_test)
 
 
 def breaks(crates):
-    """Returns the breaks of all items of a repository."""
     of_checks, found = breaks_of_checks(crates.top), []
     for job in find_jobs(crates, is_full=False):
-        if isinstance(job, Check):
-            found += [it for it in of_checks if it.item == job.name]
+        if isinstance(job, (Check, Library)):
+            found += [it for it in of_checks if it.item in job.items]
         elif isinstance(job, Program):
             found += breaks_of_program(job.folder, job.items)
         elif isinstance(job, Tests):

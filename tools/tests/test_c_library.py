@@ -10,13 +10,10 @@ from paths import TOP
 
 
 def words(text):
-    """Returns the words of a source, whatever its layout."""
     return re.findall(r"\w+|[^\w\s]", text.replace(",\n", "\n"))
 
 
 class Exports(unittest.TestCase):
-    """The exports, written from the functions of the library."""
-
     library = exports.LIBRARY.read_text(encoding="utf-8")
     written = (TOP / exports.EXPORTS).read_text(encoding="utf-8")
 
@@ -39,8 +36,6 @@ class Exports(unittest.TestCase):
 
 
 class Answers(unittest.TestCase):
-    """The input of the program wasm_tests_c."""
-
     answers = c_answers.ANSWERS.read_text(encoding="utf-8")
 
     def test_files(self):
@@ -57,8 +52,6 @@ class Answers(unittest.TestCase):
 
 
 class Unproved(unittest.TestCase):
-    """The library without a proof."""
-
     def test_program_calls_each_export(self):
         program, names = unproved_library.program_of((TOP / exports.EXPORTS).read_text(encoding="utf-8"))
         self.assertEqual(names, re.findall(r"^pub fn (\w+)", Exports.library, re.M))

@@ -48,23 +48,18 @@ abbrev mutual
 
 
 def file(text=SPEC, crate="wasm_low", name="Words"):
-    """Returns a file of specs/ with this text."""
     return specs.File(crate, name, text)
 
 
 def given(*lines):
-    """Returns lines of tools/definitions.tsv."""
     return rows.given_of("\n".join(["file\tnames\tsection\twords", *lines]))
 
 
 def named(found):
-    """Returns the names of rows, each with its words."""
     return [(row.names, row.words) for row in found]
 
 
 class Specs(unittest.TestCase):
-    """What is read of a file of specs/."""
-
     def test_names(self):
         found = [(it.name, it.head) for it in file().definitions.values()]
         alone = "Encodes EncodesSigned Lacks EncodesLong Bare Kind State one_length other_length".split()
@@ -107,8 +102,6 @@ class Specs(unittest.TestCase):
 
 
 class Rows(unittest.TestCase):
-    """The rows of a file."""
-
     def test_shared_comments(self):
         found, undescribed = rows.rows_of(file(), {"EncodesSigned", "Lacks", "Bare", "long"}, [])
         signed = "The same for a signed number. `Lacks` is about a message."
@@ -176,8 +169,6 @@ class Rows(unittest.TestCase):
 
 
 class Page(unittest.TestCase):
-    """The layout of the page."""
-
     def row(self, of_file, name, section):
         out = rows.Row(of_file, "One | two.", section, False)
         out.names.append(name)
@@ -188,10 +179,12 @@ class Page(unittest.TestCase):
         rows_of_low = [("One", "Structure"), ("Two", "Structure"), ("Three", "")]
         lines = [*(self.row(low, *it) for it in rows_of_low), self.row(other, "Four", "")]
         self.assertEqual(definitions_page.table(lines).split("\n")[2:-1], [
-            "|`One`|One \\| two.|Structure|`Words.antt`|",
-            "|`Two`|One \\| two.||`Words.antt`|",
-            "|`Three`|One \\| two.|none|`Words.antt`|",
-            "|`Four`|One \\| two.||`Other.antt`|",
+            "|**Words.antt**||Structure|",
+            "|`One`|One \\| two.||",
+            "|`Two`|One \\| two.||",
+            "|`Three`|One \\| two.|none|",
+            "|**Other.antt**|||",
+            "|`Four`|One \\| two.||",
         ])
 
     def test_order(self):

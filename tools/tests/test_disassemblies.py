@@ -21,12 +21,10 @@ esac
 
 
 class Disassemblies(unittest.TestCase):
-    """What is asked of the program."""
-
     def test_spoiled(self):
         found = dict(disassemblies.spoiled(b"ab"))
-        self.assertEqual(found["cut behind 0 bytes"], b"")
-        self.assertEqual(found["cut behind 1 bytes"], b"a")
+        self.assertEqual(found["cut after 0 bytes"], b"")
+        self.assertEqual(found["cut after 1 bytes"], b"a")
         self.assertEqual(found["byte 0 changed"], b"Nb")
         self.assertEqual(found["byte 1 changed"], b"a\x9d")
         self.assertEqual(len(found), 4)
@@ -38,7 +36,6 @@ class Disassemblies(unittest.TestCase):
             self.assertFalse(disassemblies.is_answer(status, complaint), (status, complaint))
 
     def faults(self, module, text):
-        """What is wrong with a module whose stored text is this."""
         with tempfile.TemporaryDirectory() as folder:
             program, path = Path(folder) / "program", Path(folder) / "a.wasm"
             program.write_text(ECHOES, encoding="utf-8")
@@ -56,8 +53,6 @@ class Disassemblies(unittest.TestCase):
 
 
 class Compared(unittest.TestCase):
-    """Which lines differ by what is explained."""
-
     def kinds(self, ours, theirs):
         return compare_objdump.kinds_of(ours, theirs)
 
@@ -99,12 +94,11 @@ class Compared(unittest.TestCase):
 
 
 class Modules(unittest.TestCase):
-    """The sources of the modules that are compared."""
-
     def test_each_has_a_compiler(self):
-        for name, (end, source, words) in clang_modules.MODULES.items():
-            self.assertIn(words[0], {"c": "clang", "cc": "clang++", "wat": "wat2wasm"}[end], name)
-            self.assertTrue(source.strip(), name)
+        for name, (source, words) in clang_modules.MODULES.items():
+            path = clang_modules.SOURCES / source
+            self.assertIn(words[0], {".c": "clang", ".cc": "clang++", ".wat": "wat2wasm"}[path.suffix], name)
+            self.assertTrue(path.exists(), name)
 
 
 if __name__ == "__main__":

@@ -11,7 +11,7 @@ import forwarding
 TRAIT = """\
 /// Visitors.
 pub trait VisitGroups: Visitor {
-    /// Visits an operator behind the byte 0xfc.
+    /// Visits an operator with the prefix byte 0xfc.
     ///
     /// A visitor that overrides visits of `VisitMisc` calls `dispatch::misc(self, op)` here.
     fn dispatch_misc(&mut self, op: MiscOperator) -> Self::Output
@@ -59,8 +59,6 @@ VISITS = "impl VisitMisc for Moves {\n    fn visit_memory_copy(&mut self) {}\n}\
 
 
 class Forwarding(unittest.TestCase):
-    """What is pasted, and what is told of a visitor that lacks a part of it."""
-
     def setUp(self):
         self.methods = list(forwarding.methods_of(TRAIT))
 
@@ -77,11 +75,11 @@ class Forwarding(unittest.TestCase):
     def test_what_is_pasted_is_enough(self):
         impl = PASTED.replace("for ..", "for Moves")
         self.assertEqual(self.told(VISITS + impl), [])
-        # (the two may stand in files of their own)
+        # (the two may be in separate files)
         self.assertEqual(self.told(VISITS, impl), [])
 
     def test_none(self):
-        lacks = "0.rt: Moves has visits in VisitMisc, and no {} of VisitGroups: they are not made there"
+        lacks = "0.rt: Moves overrides visits of VisitMisc, and has no {} of VisitGroups, so they are not called there"
         self.assertEqual(self.told(VISITS + "impl VisitGroups for Moves {}\n"), [lacks.format("dispatch_misc"), lacks.format("decode_misc")])
         # of another type
         self.assertEqual(len(self.told(VISITS + PASTED.replace("for ..", "for Other"))), 2)
@@ -92,7 +90,7 @@ class Forwarding(unittest.TestCase):
 
     def test_another_call(self):
         impl = PASTED.replace("for ..", "for Moves").replace("decode::misc(self, code)", "decode::gc(self, code)")
-        self.assertEqual(self.told(VISITS + impl), ["0.rt: Moves has visits in VisitMisc, and its decode_misc does not call decode::misc"])
+        self.assertEqual(self.told(VISITS + impl), ["0.rt: Moves overrides visits of VisitMisc, and its decode_misc does not call decode::misc"])
 
     def test_lifetimes(self):
         visits = VISITS.replace("impl VisitMisc for Moves", "impl<'w, M> VisitMisc for Moves<'w, M>")

@@ -7,8 +7,6 @@ import growth
 
 
 class Growth(unittest.TestCase):
-    """What is made of the driver's lines."""
-
     def test_by_the_unit(self):
         self.assertEqual(growth.Measured(4, "9 14 90.0 2000\n", "operator").time, 10.0)
         self.assertEqual(growth.Measured(4, "2 2048 1024.0 2000\n", "byte").time, 0.5)
@@ -29,7 +27,7 @@ class Growth(unittest.TestCase):
 
     def test_rows(self):
         found = [growth.Measured(n, f"{n + 1} {n + 2} {3.0 * (n + 1)} {1500 + n}\n", "operator") for n in (1000, 2000)]
-        self.assertEqual(growth.rows("nops", found)[0], "| 1,000 `nop` | 1,002 | 3.00 ns by the operator | 0 KiB |")
+        self.assertEqual(growth.rows("nops", found)[0], "| 1,000 `nop` | 1,002 | 3.00 ns per operator | 0 KiB |")
         self.assertIn("| 999 KiB |", growth.rows("nops", found)[1])
 
     def test_ticks(self):

@@ -18,8 +18,6 @@ REFUSES = "#!/bin/sh\ncat > /dev/null\necho 'error at 0: no' >&2\nexit 1\n"
 
 
 class LargeBodies(unittest.TestCase):
-    """What a listing of a large body is compared with."""
-
     def listed(self, script, name="nops", size=1000):
         with tempfile.TemporaryDirectory() as folder:
             program = Path(folder) / "program"
@@ -58,7 +56,7 @@ class LargeBodies(unittest.TestCase):
                 self.assertEqual(large_bodies.all_visited(), ([], 0))
         finally:
             large_bodies.LIBRARY = kept
-        self.assertEqual(said.getvalue(), "visited: none, no/libwasm_bench.a is not built: run rt lib in crates/wasm_bench\n")
+        self.assertEqual(said.getvalue(), "visited: none, no/libwasm_bench.a is not built; run `rt lib` in crates/wasm_bench\n")
 
     def test_growth(self):
         class Used:

@@ -22,7 +22,6 @@ def cells_of(**row):
 
 
 def row_of(kind, group, number):
-    """A row with one immediate of a kind."""
     prefix, proposal = GROUPS[group]
     types = KINDS[kind].types
     fields = ", ".join(f"{'abc'[at]}_field: {ty}" for at, ty in enumerate(types))
@@ -36,13 +35,11 @@ def row_of(kind, group, number):
 
 
 def text_of(*rows):
-    """The whole table with more rows."""
     lines = [*rows_of().values(), *rows]
     return "".join("\t".join(cells) + "\n" for cells in lines)
 
 
 def files_with(*rows):
-    """The files of the table with these rows more, which have to be good."""
     with tempfile.TemporaryDirectory() as folder:
         path = Path(folder) / "operators.tsv"
         path.write_text(text_of(*rows), encoding="utf-8")
@@ -53,8 +50,6 @@ def files_with(*rows):
 
 @unittest.skipUnless(layout.is_here(), "rt, which lays files out, is not on this machine")
 class Generated(unittest.TestCase):
-    """What the generator writes."""
-
     def test_nothing_is_stale(self):
         self.assertEqual(stale(files(table())), [])
 
@@ -146,16 +141,13 @@ class Generated(unittest.TestCase):
 
 
 class Counts(unittest.TestCase):
-    """The counts that stand in the docs."""
-
     def test_counts_of_the_docs(self):
         self.assertEqual(wrong_counts(table()), [])
 
     def test_a_count_that_is_no_more(self):
         with tempfile.TemporaryDirectory() as folder:
-            (Path(folder) / "README.md").write_text("All 628 operators,\n256 vector operators of 20 proposals.\n")
-            self.assertEqual(
-                wrong_counts(table(), Path(folder)),
-                ["README.md:2: 20 proposals: no such count in the table"],
-            )
-            self.assertEqual(len(wrong_counts(table()[1:], Path(folder))), 2)
+            (Path(folder) / "README.md").write_text("All 628 operators,\n255 SIMD operators of 20 proposals, 627 visits.\n")
+            found = [it.split(": ")[1] for it in wrong_counts(table(), Path(folder))]
+            self.assertEqual(found, ["255 SIMD operators", "20 proposals"])
+            found = [it.split(": ")[1] for it in wrong_counts([*table(), table()[0]], Path(folder))]
+            self.assertEqual(found, ["628 operators", "255 SIMD operators", "20 proposals", "627 visits"])

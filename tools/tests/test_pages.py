@@ -1,32 +1,15 @@
-"""The code that pages show is the code of proved callers and of their proofs, and what pages name exists."""
+"""What pages name exists."""
 
 import re
 import unittest
 from pathlib import Path
 
+import forwarding
 from paths import crates
-from table import COLUMNS, KINDS
+from table import COLUMNS, KINDS, table
+from visits import GROUPS
 
 TOP = Path(__file__).resolve().parent.parent.parent
-# A page, and the file whose code each of its blocks shows.
-SHOWN = [
-    ("README.md", ["crates/uses/src/list.rt"]),
-    ("docs/WRITING-A-VISITOR.md", ["crates/uses/src/count.rt", "crates/uses/src/own_visits.rt"]),
-    ("docs/CALLING.md", ["crates/uses/src/list.rt", "crates/uses/proofs/list/operators/Answers.antt"]),
-]
-
-
-def code_of(text):
-    """Returns the lines of code, without comments, imports, layout and `pub`."""
-    text = re.sub(r"//.*|^use [^;]*;", "", text, flags=re.MULTILINE)
-    lines = [line.strip().removeprefix("pub ").rstrip(" {") for line in text.splitlines()]
-    return [line for line in lines if line]
-
-
-def left_out(shown, whole):
-    """Returns the first shown line that does not follow the lines before it in the whole, or `None`."""
-    lines = iter(whole)
-    return next((line for line in shown if line not in lines), None)
 
 
 def section(page, heading):
@@ -117,19 +100,12 @@ class Columns(unittest.TestCase):
         self.assertEqual(set(re.findall(r"`(\w+)`", kinds)), set(KINDS))
 
 
-class Pages(unittest.TestCase):
-    def test_each_block_is_proved_code(self):
-        for page, files in SHOWN:
-            blocks = re.findall(r"```(?:rust|antt)\n(.*?)```", (TOP / page).read_text(encoding="utf-8"), re.DOTALL)
-            self.assertEqual(len(blocks), len(files), page)
-            for block, file in zip(blocks, files):
-                whole = code_of((TOP / file).read_text(encoding="utf-8"))
-                self.assertIsNone(left_out(code_of(block), whole), (page, file))
-
-    def test_a_changed_line_is_found(self):
-        self.assertEqual(left_out(["a", "c"], ["a", "b"]), "c")
-        self.assertEqual(left_out(["b", "a"], ["a", "b"]), "a")
-        self.assertIsNone(left_out(["a", "c"], ["a", "b", "c"]))
+class Calling(unittest.TestCase):
+    def test_the_table_of_groups(self):
+        shown = [[re.findall(r"\w+", cell) for cell in row] for row in rows(section("crates/wasm_operators/CALLING.md", "Overriding visits"))]
+        methods = forwarding.groups_of(forwarding.all_methods())
+        wanted = [(it.trait, str(len(it.of(table()))), {method.name for method in methods[it.trait]}) for it in GROUPS]
+        self.assertEqual([(group[0], count[0], set(names)) for group, _, count, names in shown], wanted)
 
 
 if __name__ == "__main__":

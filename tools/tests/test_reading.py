@@ -13,7 +13,6 @@ ORIGINALS = originals()
 
 
 def prefix_and_code(operator):
-    """The prefix byte in hexadecimal, if there is one, and the opcode behind it."""
     if f"{operator[0]:02x}" not in reading.GROUPS:
         return "", operator[0]
     code, shift = 0, 0
@@ -25,8 +24,6 @@ def prefix_and_code(operator):
 
 
 class Samples(unittest.TestCase):
-    """The samples of the original are two of each operator, in its words."""
-
     def test_two_of_each_in_order(self):
         names = [task.answer.split()[0] for task in reading.samples()]
         self.assertEqual(names, [op.name for op in originals() for _ in range(2)])
@@ -40,8 +37,6 @@ class Samples(unittest.TestCase):
 
 
 class Asked(unittest.TestCase):
-    """What is asked besides."""
-
     def test_lengthened(self):
         task = reading.Task("fd8002", "I8x16RelaxedSwizzle")
         self.assertEqual(reading.lengthened(task).operator.hex(), "fd808200")
@@ -80,8 +75,6 @@ class Asked(unittest.TestCase):
 
 
 class Wanted(unittest.TestCase):
-    """The line of a task."""
-
     kinds = {op.name: op.immediates for op in originals()}
 
     def line(self, *words, **how):
@@ -120,8 +113,6 @@ class Wanted(unittest.TestCase):
 
 
 class Printed(unittest.TestCase):
-    """The printing of fields, which is written from the table."""
-
     def test_each_type_has_its_printer(self):
         self.assertEqual({ty for op in table() for _, ty in op.fields}, set(PRINTERS))
 

@@ -20,8 +20,6 @@ LISTING = "1798f395055e8dbe"
 
 
 class RealBodies(unittest.TestCase):
-    """What a listing of a body is compared with."""
-
     def faults(self, body, row, script=LISTS):
         with tempfile.TemporaryDirectory() as folder:
             program = Path(folder) / "program"

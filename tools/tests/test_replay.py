@@ -1,4 +1,4 @@
-"""The answers that are replayed."""
+"""The results that are replayed."""
 
 import unittest
 
@@ -8,8 +8,6 @@ CRATE = FOLDER.parent.parent / "crates" / "wasm_tests_replay"
 
 
 class Replay(unittest.TestCase):
-    """The input of the program wasm_tests_replay."""
-
     lines = (CRATE / "stdin").read_text(encoding="utf-8").splitlines()
 
     def test_columns(self):

@@ -36,8 +36,6 @@ cost all 186 126 4
 
 
 class GateTable(unittest.TestCase):
-    """The table of docs/GATE.md."""
-
     def test_page(self):
         page = gate_table.page([(LOG, "Alone."), (LOG, "")])
         self.assertIn("| `wasm_low` | 7 | 2.0 | 1.5 |  | 0.5 | 1 |", page)
@@ -83,8 +81,6 @@ class GateTable(unittest.TestCase):
 
 
 class Timed(unittest.TestCase):
-    """Whose processor time is counted."""
-
     def test_own_process_is_below_its_parent(self):
         self.assertIn(os.getpid(), timed.below(os.getppid()))
         self.assertNotIn(os.getpid(), timed.below(os.getpid()))
@@ -101,8 +97,6 @@ class Timed(unittest.TestCase):
 
 
 class Progress(unittest.TestCase):
-    """What a run of the gate tells while it runs."""
-
     def test_lines(self):
         out, now = io.StringIO(), [0]
         progress = timed.Progress(3, 70.4, clock=lambda: now[0], out=out)
@@ -119,7 +113,7 @@ class Progress(unittest.TestCase):
             "[1/3, 7 min of about 70] wasm_low: proved",
             "[1/3, 14 min of about 70] wasm_low: must-fail edits begin",
         ])
-        # what the command wrote stands as it was, and gives the same table
+        # the command's output is unchanged, and gives the same table
         kept = "".join(line for line in out.getvalue().splitlines(keepends=True) if not line.startswith("["))
         self.assertEqual(kept, LOG)
         self.assertEqual(gate_table.run_section(out.getvalue()), gate_table.run_section(LOG))
@@ -147,8 +141,6 @@ LISTED = {"low": ["kit"], "middle": ["low"], "high": ["middle", "low"], "tests":
 
 
 class Paths(unittest.TestCase):
-    """Paths by what a file's crate lists."""
-
     LISTED = {
         "wasm_below": [], "wasm_imm": ["wasm_below"], "wasm_instr_ops": ["wasm_imm"], "wasm_instr": ["wasm_instr_ops"],
         "wasm_grammar": [],
@@ -190,12 +182,10 @@ class Paths(unittest.TestCase):
 
 
 class Edges(unittest.TestCase):
-    """What crates list, and what they cite."""
-
     def test_needless(self):
         texts = {"low": "kit", "middle": "low", "high": "middle low", "tests": ""}
         self.assertEqual(list(edges.needless(LISTED, texts)), [
-            "crates.txt: high lists low, on which middle stands that it lists too",
+            "crates.txt: high lists low, which it reaches through middle",
             "crates.txt: tests lists high, which none of its files names",
         ])
 
@@ -211,8 +201,6 @@ class Edges(unittest.TestCase):
 
 
 class Cases(unittest.TestCase):
-    """A program's end, as a row has it."""
-
     def ended(self, script, **row):
         with tempfile.TemporaryDirectory() as folder:
             program = Path(folder) / "program"
@@ -267,8 +255,6 @@ esac
 
 
 class Allocations(unittest.TestCase):
-    """How a run may end whose allocation is refused."""
-
     def test_refused_shapes(self):
         with tempfile.TemporaryDirectory() as folder:
             plain = (0, b"read\n", b"")
@@ -321,7 +307,7 @@ class Allocations(unittest.TestCase):
             program.write_text(TAKES_ONE, encoding="utf-8")
             program.chmod(0o755)
             found = dict(allocations.follow_tests(program, ""))
-        text = "low_tests texts::memory_of_none: its name has the word memory, and it takes no allocation"
+        text = "low_tests texts::memory_of_none: its name has the word memory, and it does not allocate"
         wanted = {"texts::memory_of_one": (1, []), "texts::memory_of_none": (0, [text]), "texts::another": (0, [])}
         self.assertEqual(found, wanted)
 
@@ -364,8 +350,6 @@ NAMES = {"wasm_low": {"Words": None, "base": ("wasm_base", [])}, "wasm_base": {"
 
 
 class Definitions(unittest.TestCase):
-    """The definitions that public contracts use."""
-
     def test_imports(self):
         words = definitions.imports_of(SOURCE, NAMES)
         self.assertEqual(words["Brief"], ("wasm_low", "Words", "Long"))
@@ -400,7 +384,6 @@ class Definitions(unittest.TestCase):
 
 
 def tool(name):
-    """A tool whose file has no end, as a module."""
     loader = importlib.machinery.SourceFileLoader(name, str(cases.TOP / "tools" / name))
     out = importlib.util.module_from_spec(importlib.util.spec_from_loader(name, loader))
     sys.dont_write_bytecode = True
@@ -409,8 +392,6 @@ def tool(name):
 
 
 class Run(unittest.TestCase):
-    """The list of the tools."""
-
     def test_each_says_what_it_does(self):
         run = tool("run")
         found = run.commands()
@@ -422,8 +403,6 @@ class Run(unittest.TestCase):
 
 
 class Touches(unittest.TestCase):
-    """The order of the crates, and what names a file."""
-
     def test_names_it(self):
         touches = tool("touches")
         source = touches.names_it(cases.TOP / "crates" / "wasm_below_bytes" / "specs" / "Source.antt", "wasm_below_bytes")

@@ -1,4 +1,4 @@
-"""The table of the operators: that it is the original's, and that its errors are told."""
+"""The table of the operators: it equals the original's, and each error is reported."""
 
 import tempfile
 import unittest
@@ -10,7 +10,6 @@ from table import COLUMNS, PROPOSALS, SHARED, Operator, rows_of, table
 
 
 def faults_with(change):
-    """What is wrong with a table whose rows, the line of names first, were changed."""
     rows = [list(cells) for cells in rows_of().values()]
     change(rows)
     with tempfile.TemporaryDirectory() as folder:
@@ -20,13 +19,10 @@ def faults_with(change):
 
 
 def line_of(rows, name):
-    """The place of an operator among the rows."""
     return next(at for at, cells in enumerate(rows) if cells[1] == name)
 
 
 class Original(unittest.TestCase):
-    """What the original's lists say of themselves, and that the table says the same."""
-
     def test_counts(self):
         found = {}
         for op in originals():
@@ -120,8 +116,6 @@ WRONG = [
 
 
 class Rules(unittest.TestCase):
-    """Each error, with the file, the line and the operator."""
-
     def test_no_fault(self):
         self.assertEqual(faults(), [])
 

@@ -20,8 +20,7 @@ program: middle
 
 
 def repository(folder, files):
-    """Makes a repository of crates with these files."""
-    texts = {"crates.txt": CRATES, "tools/bindings": "", **files}
+    texts = {"crates.txt": CRATES, **files}
     for name in ("low", "middle", "library"):
         texts.setdefault(f"crates/{name}/src/lib.rt", "")
     texts.setdefault("crates/program/src/main.rt", "")
@@ -33,8 +32,6 @@ def repository(folder, files):
 
 
 class Job:
-    """A job that reports what it is made of."""
-
     def __init__(self, name, *outcomes):
         self.items = [name, *[f"{name}/{number}" for number in range(1, len(outcomes))]]
         self.outcomes = outcomes
@@ -47,10 +44,7 @@ class Job:
 
 
 class Finding(unittest.TestCase):
-    """What there is to test in a repository."""
-
     def items(self, files, is_full=False):
-        """Returns the items of crates with these files."""
         with tempfile.TemporaryDirectory() as folder:
             jobs = items.find_jobs(repository(folder, files), is_full)
         return [it for job in jobs for it in job.items if it not in items.CHECKS]
@@ -75,8 +69,9 @@ class Finding(unittest.TestCase):
         self.assertEqual(self.items(files), ["low/tests"])
         self.assertEqual(self.items(files, is_full=True), ["low/tests", "low/tests/allocations"])
 
-    def test_replay_if_bindings_has_it(self):
-        self.assertEqual(self.items({"tools/bindings": "--unproved"}), [items.REPLAY])
+    def test_what_needs_the_library(self):
+        listed = {"crates.txt": CRATES + "wasm_c_exports staticlib: low\n", "crates/wasm_c_exports/src/lib.rt": ""}
+        self.assertEqual(self.items(listed), [items.REPLAY, items.BLOCKS])
 
     def test_chosen(self):
         jobs = [Job("low", 1), Job("program", 1, 2, 3), Job("program_of_tests", 1)]
@@ -86,8 +81,6 @@ class Finding(unittest.TestCase):
 
 
 class Building(unittest.TestCase):
-    """When a program that was kept is taken."""
-
     def test_digest(self):
         with tempfile.TemporaryDirectory() as folder:
             top = Path(folder)
@@ -104,8 +97,6 @@ class Building(unittest.TestCase):
 
 
 class Pool(unittest.TestCase):
-    """The order of the jobs, how many run, and what is reported of each."""
-
     def test_longest_first(self):
         jobs = [Job("a", 1), Job("b", 1, 1), Job("new", 1), Job("d", 1)]
         known = {"a": 3, "b": 2, "b/1": 2, "d": 9}
@@ -129,7 +120,6 @@ class Pool(unittest.TestCase):
         self.assertTrue(1 <= pool.jobs_at_once() <= len(os.sched_getaffinity(0)))
 
     def results(self, *jobs, count=2):
-        """Runs jobs. Returns how many tests of each item passed and failed."""
         wanted = {it for job in jobs for it in job.items}
         return {item: (found.passed, found.failed) for item, found, _, _ in pool.results(jobs, None, wanted, count)}
 
@@ -144,8 +134,6 @@ class Pool(unittest.TestCase):
 
 
 class Reporting(unittest.TestCase):
-    """How a difference is shown."""
-
     def test_equal(self):
         self.assertEqual(outcome.difference(b"a\n", b"a\n", "stdout"), [])
 
@@ -164,8 +152,6 @@ class Reporting(unittest.TestCase):
 
 
 class Running(unittest.TestCase):
-    """Commands with a limit."""
-
     def test_ends(self):
         ran = running.run(["sh", "-c", "cat; echo no >&2; exit 3"], 60, "/", env=running.PLAIN)
         self.assertEqual((ran.status, ran.out, ran.err, ran.failure(60)), (3, b"", b"no\n", "exit status 3"))
@@ -186,8 +172,6 @@ class Running(unittest.TestCase):
 
 
 class Scripts(unittest.TestCase):
-    """The programs that scripts run."""
-
     def test_given(self):
         path, words = built.program_of(["a", "--program", "/b", "c"])
         self.assertEqual((str(path), words), ("/b", ["a", "c"]))
@@ -200,8 +184,6 @@ class Scripts(unittest.TestCase):
 
 
 class SelfTest(unittest.TestCase):
-    """The breaks of the self-test apply to this repository."""
-
     def test_each_break_changes_its_file(self):
         crates = Crates(built.TOP)
         found = selftest.breaks(crates)
