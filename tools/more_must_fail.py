@@ -5,11 +5,12 @@
 
 `crates/NAME/more-must-fail/` holds edits that the prover must reject, like those of `crates/NAME/must-fail/`. The
 gate doesn't try them: a crate's second edit costs another proof of the crate. This tool copies the committed and
-uncommitted sources into a clone, puts these edits in the place of the gate's, and runs `rt must-fail` there.
+uncommitted crates, puts these edits in the place of the gate's, and runs `rt ci NAME..` on the copy.
 
-Without NAME it takes every crate that has such edits. The clone is temporary; `--in FOLDER` keeps it, so that a
-later run continues with its proofs. Proofs in `crates/*/out` are copied from this checkout. `rt` keeps each edit
-that was rejected, by checksums of all that it read: a second run tries only what changed.
+Without NAME it takes every crate that has such edits. `rt ci` keeps on this machine what it has proved, and what each
+edit came to, by checksums of all that it read. So a run after the gate proves no crate below NAME again, and a second
+run tries only what changed. The copy is temporary; `--in FOLDER` makes it in FOLDER, which must be new, empty or such
+a copy, and leaves it there. `RT_JOBS=N` has `rt` do N things at a time.
 
 `--record` writes the crates whose edits were all rejected into tools/more_must_fail.tsv, with the commit and the date;
 docs/GATE.md has them. It needs a checkout without uncommitted changes in crates/.
@@ -20,6 +21,7 @@ The last line is `more_must_fail: N rejected, M wrong`; the status is 0 if none 
 import argparse
 import csv
 import datetime
+import os
 import re
 import shutil
 import subprocess
@@ -31,23 +33,25 @@ from edits import TOP, edits_of
 
 RECORD = TOP / "tools" / "more_must_fail.tsv"
 COLUMNS = ["crate", "edits", "commit", "date"]
+# What a copy has of a checkout.
+COPIED = ["crates", "crates.txt", "HANDLES"]
+# A line of `rt ci` about an edit that the prover rejected.
+REJECTED = re.compile(r"(?:rt: )?must-fail (\w+)/(\S+): refused")
 
 
 def copied(folder):
-    """Makes a clone with the sources of this checkout, and the proofs that are here."""
-    folder.mkdir(parents=True, exist_ok=True)
-    listed = subprocess.run(["git", "-C", TOP, "ls-files", "-coz", "--exclude-standard"], capture_output=True, check=True)
-    kept = {name.decode() for name in listed.stdout.split(b"\0") if name and (TOP / name.decode()).is_file()}
-    for path in sorted(folder.glob("crates/*/*")):
-        if path.name != "out":
-            shutil.rmtree(path) if path.is_dir() else path.unlink()
-    for name in kept:
-        target = folder / name
-        target.parent.mkdir(parents=True, exist_ok=True)
-        shutil.copy2(TOP / name, target)
-    for out in TOP.glob("crates/*/out"):
-        if not (folder / out.relative_to(TOP)).exists():
-            shutil.copytree(out, folder / out.relative_to(TOP), symlinks=True)
+    """Makes a copy of the crates of this checkout, without what is built. Exits if the folder holds something else."""
+    left = [path.name for path in folder.iterdir() if path.name not in COPIED] if folder.exists() else []
+    if left:
+        sys.exit(f"{folder} has {left[0]}, and is no copy that this tool made: choose an empty folder")
+    shutil.rmtree(folder / "crates", ignore_errors=True)
+    listed = subprocess.run(
+        ["git", "-C", TOP, "ls-files", "-coz", "--exclude-standard", *COPIED], capture_output=True, check=True
+    )
+    for name in (name.decode() for name in listed.stdout.split(b"\0") if name):
+        if (TOP / name).is_file():
+            (folder / name).parent.mkdir(parents=True, exist_ok=True)
+            shutil.copy2(TOP / name, folder / name)
 
 
 def exchanged(folder, names):
@@ -58,19 +62,27 @@ def exchanged(folder, names):
             (crate / "more-must-fail").rename(crate / "must-fail")
 
 
+def rejected_in(lines):
+    """Yields each line of `rt ci`, and the crate and the edit that it reports as rejected, or None."""
+    for line in lines:
+        found = REJECTED.match(line)
+        yield line, (found[1], found[2]) if found else None
+
+
 def tried(folder, names):
-    """Runs `rt must-fail` in the clone, and returns how many edits it rejected and the edits that it did not."""
-    words = ["rt", "must-fail", *names]
-    ran = subprocess.Popen(words, cwd=folder, stdout=subprocess.PIPE, stderr=subprocess.STDOUT, text=True, errors="replace")
+    """Runs `rt ci` on the copy, and returns how many edits it rejected and the edits that it did not."""
+    # (rt ci refuses names if CI is set)
+    env = {name: value for name, value in os.environ.items() if name != "CI"}
+    how = {"stdout": subprocess.PIPE, "stderr": subprocess.STDOUT, "text": True, "errors": "replace"}
     seen = set()
-    for line in ran.stdout:
-        print(line, end="", flush=True)
-        if found := re.match(r"(?:rt: )?must-fail (\w+)/(\S+): refused", line):
-            seen.add((found[1], found[2]))
+    with subprocess.Popen(["rt", "ci", *names], cwd=folder, env=env, **how) as ran:
+        for line, edit in rejected_in(ran.stdout):
+            print(line, end="", flush=True)
+            seen |= {edit} - {None}
     wanted = {(name, path.name) for name in names for path in edits_of(folder / "crates" / name, ["must-fail"])}
     wrong = [f"{name}/{edit}" for name, edit in sorted(wanted - seen)]
-    if ran.wait() and not wrong:
-        wrong = ["rt must-fail failed"]
+    if ran.returncode and not wrong:
+        wrong = [f"{name}/ (rt ci failed)" for name in names]
     return len(wanted & seen), wrong
 
 
@@ -104,7 +116,7 @@ def record(names, commit):
 
 
 def run(folder, names):
-    """Tries the edits of these crates in a clone there."""
+    """Tries the edits of these crates in a copy there."""
     copied(folder)
     exchanged(folder, names)
     return tried(folder, names)
