@@ -1,20 +1,43 @@
-//! Links the proved static library, `libwasm_c.a`, and the archive that it takes its memory by, `liblibc_c.a`.
+//! Links the proved static library, `libwasm_c.a`, and the archive by which it allocates, `liblibc_c.a`.
 //!
-//! Both stand in the folder that WASM_OPERATORS_LIBRARIES names, else in `native`.
+//! Both are in the folder that WASM_OPERATORS_LIBRARIES names, or else in `native`.
 
 use std::env;
-use std::path::PathBuf;
+use std::path::{Path, PathBuf};
+use std::process::exit;
+
+/// The libraries, in the order in which they are linked.
+const LIBRARIES: [&str; 2] = ["wasm_c", "libc_c"];
+
+const WHAT_TO_RUN: [&str; 4] = [
+    "In a clone of the repository, on a machine with the Rattle kit, run",
+    "    tools/dist",
+    "    export WASM_OPERATORS_LIBRARIES=$PWD/dist/lib",
+    "(tools/dist --unproved needs minutes and proves nothing; it writes dist-unproved/lib.)",
+];
 
 fn main() {
-    println!("cargo:rerun-if-env-changed=WASM_OPERATORS_LIBRARIES");
+    println!("cargo::rerun-if-env-changed=WASM_OPERATORS_LIBRARIES");
     let folder = match env::var_os("WASM_OPERATORS_LIBRARIES") {
         Some(folder) => PathBuf::from(folder),
-        None => {
-            PathBuf::from(env::var_os("CARGO_MANIFEST_DIR").expect("cargo names it")).join("native")
-        }
+        None => Path::new(env!("CARGO_MANIFEST_DIR")).join("native"),
     };
-    println!("cargo:rustc-link-search=native={}", folder.display());
-    println!("cargo:rerun-if-changed={}", folder.display());
-    println!("cargo:rustc-link-lib=static=wasm_c");
-    println!("cargo:rustc-link-lib=static=libc_c");
+    println!("cargo::rerun-if-changed={}", folder.display());
+    println!("cargo::rustc-link-search=native={}", folder.display());
+    for library in LIBRARIES {
+        let file = folder.join(format!("lib{library}.a"));
+        if !file.is_file() {
+            report_missing(&file);
+        }
+        println!("cargo::rustc-link-lib=static={library}");
+    }
+}
+
+/// Ends the build with an error that has the commands to run.
+fn report_missing(file: &Path) -> ! {
+    println!("cargo::error={} is missing.", file.display());
+    for line in WHAT_TO_RUN {
+        println!("cargo::error={line}");
+    }
+    exit(0)
 }

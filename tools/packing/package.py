@@ -1,0 +1,65 @@
+"""Makes the cargo package: the crate of bindings/rust with the libraries that it links, as `cargo package` would."""
+
+import gzip
+import io
+import re
+import shutil
+import tarfile
+
+from packing.builds import TOP
+
+CRATE = TOP / "bindings/rust"
+KEPT = ["Cargo.toml", "Cargo.lock", "build.rs", "README.md", "src", "examples", "tests"]
+# A file of the repository that a test reads.
+OUTSIDE = re.compile(r'(include_(?:str|bytes)!\(\s*")(?:\.\./){2,}([^"]+)"')
+
+
+def field(name):
+    """Returns a field of the crate's Cargo.toml."""
+    return re.search(rf'^{name} = "(.*)"$', (CRATE / "Cargo.toml").read_text(encoding="utf-8"), re.M)[1]
+
+
+def brought_in(text):
+    """Returns a test that reads its files from the package, and these files: path in the repository and in `tests`."""
+    files = {path: f"data/{path.replace('/', '-')}" for _, path in OUTSIDE.findall(text)}
+    return OUTSIDE.sub(lambda found: f'{found[1]}{files[found[2]]}"', text), files
+
+
+def bring_in(folder):
+    """Copies what the tests read from the repository into the package."""
+    for test in sorted((folder / "tests").glob("*.rs")):
+        text, files = brought_in(test.read_text(encoding="utf-8"))
+        test.write_text(text, encoding="utf-8")
+        for path, inside in files.items():
+            (folder / "tests" / inside).parent.mkdir(exist_ok=True)
+            shutil.copyfile(TOP / path, folder / "tests" / inside)
+
+
+def make(folder, libraries, notices):
+    """Writes the package into a folder that gets its name, with these libraries and their licences. Returns its path."""
+    package = folder / f"{field('name')}-{field('version')}"
+    for name in KEPT:
+        copy = shutil.copytree if (CRATE / name).is_dir() else shutil.copyfile
+        package.mkdir(parents=True, exist_ok=True)
+        copy(CRATE / name, package / name)
+    bring_in(package)
+    # (as cargo does, for a file outside of the crate's folder)
+    manifest = package / "Cargo.toml"
+    manifest.write_text(manifest.read_text(encoding="utf-8").replace('"../../LICENSE"', '"LICENSE"'), encoding="utf-8")
+    shutil.copyfile(TOP / "LICENSE", package / "LICENSE")
+    (package / "native").mkdir()
+    for name, path in {**{path.name: path for path in libraries}, **notices}.items():
+        shutil.copyfile(path, package / "native" / name)
+    return package
+
+
+def pack(package, archive):
+    """Writes a package as a `.crate`. The same files give the same bytes."""
+    packed = io.BytesIO()
+    with tarfile.open(fileobj=packed, mode="w", format=tarfile.GNU_FORMAT) as out:
+        for path in sorted(it for it in package.rglob("*") if it.is_file()):
+            info = tarfile.TarInfo(str(path.relative_to(package.parent)))
+            info.size, info.mode = path.stat().st_size, 0o644
+            with open(path, "rb") as it:
+                out.addfile(info, it)
+    archive.write_bytes(gzip.compress(packed.getvalue(), mtime=0))

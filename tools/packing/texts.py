@@ -1,0 +1,94 @@
+"""Writes the texts of dist/: the man pages, the pkg-config file, PROVED or UNPROVED, and the checksums."""
+
+import hashlib
+import re
+import subprocess
+
+from packing.builds import TOP
+
+PKG_CONFIG = """\
+prefix=${{pcfiledir}}/../..
+includedir=${{prefix}}/include
+libdir=${{prefix}}/lib
+
+Name: wasm_operators
+Description: A decoder of the operators of WebAssembly function bodies{note}
+Version: {version}
+Cflags: -I${{includedir}}
+Libs: -L${{libdir}} -lwasm_c -llibc_c
+"""
+PROVED = """\
+commit  {commit}
+kit     {kit}
+system  Linux on x86-64{glibc}
+
+Programs: built by `rt ci` with LLVM, once it had proved them. Its last lines:
+
+{said}
+
+lib/libwasm_c.a: proved and built by `rattle build` over the libraries that `rt ci` had proved. What it said:
+
+{verdict}
+"""
+UNPROVED = """\
+NOT PROVED: built without proofs, for tests only.
+
+commit  {commit}
+kit     {kit}
+system  Linux on x86-64{glibc}
+
+The programs and the library have the checks of `rt try`: a run stops at an index out of bounds or an overflow.
+"""
+
+
+def version():
+    """Returns the version of the interface for C."""
+    header = (TOP / "include/wasm_operators.h").read_text(encoding="utf-8")
+    return re.search(r"^#define WASM_OPERATORS_VERSION (\d+)u$", header, re.M)[1]
+
+
+def purpose_of(name):
+    """Returns what a program is for: the first paragraph of its source."""
+    text = (TOP / f"crates/{name}/src/main.rt").read_text(encoding="utf-8")
+    return " ".join(re.match(r"(?://! .*\n)+", text)[0].replace("//!", "").split())
+
+
+def help_of(name, program):
+    """Returns what a program's `--help` prints, or else the text of its README."""
+    how = {"stdin": subprocess.DEVNULL, "capture_output": True, "text": True, "errors": "replace"}
+    ran = subprocess.run([program, "--help"], **how)
+    if ran.returncode == 0 and ran.stdout.strip():
+        return ran.stdout
+    text = (TOP / f"crates/{name}/README.md").read_text(encoding="utf-8")
+    return re.sub(r"\[([^\]]*)\]\([^)]*\)", r"\1", text.split("\n", 1)[1]).replace("`", "").strip() + "\n"
+
+
+def man_page(name, text, commit):
+    """Returns the man page of a program with this help text."""
+    escape = lambda it: re.sub(r"^([.'])", r"\\&\1", it.replace("\\", "\\e").replace("-", "\\-"), flags=re.M)
+    what = purpose_of(name)
+    what = (what[0].lower() + what[1:]).rstrip(".").replace("`", "")
+    head = f'.TH {name.upper()} 1 "" "{commit[:12]}"\n.SH NAME\n{escape(name)} \\- {escape(what)}\n'
+    return f"{head}.SH DESCRIPTION\n.nf\n{escape(text)}.fi\n"
+
+
+def glibc_of(programs):
+    """Returns the newest version of glibc that the programs need, as the words of a line."""
+    found = {match for path in programs for match in re.findall(rb"GLIBC_(\d+(?:\.\d+)+)\0", path.read_bytes())}
+    newest = max((tuple(map(int, it.split(b"."))) for it in found), default=None)
+    return f", with glibc {'.'.join(map(str, newest))} or later" if newest else ""
+
+
+def sum_of(path):
+    """Returns the SHA-256 of a file."""
+    found = hashlib.sha256()
+    with open(path, "rb") as it:
+        while block := it.read(1 << 20):
+            found.update(block)
+    return found.hexdigest()
+
+
+def sums_of(folder):
+    """Returns the checksums of a folder's files, in the form of sha256sum."""
+    files = sorted(it for it in folder.rglob("*") if it.is_file() and it.name != "SHA256SUMS")
+    return "".join(f"{sum_of(it)}  {it.relative_to(folder)}\n" for it in files)

@@ -1,0 +1,111 @@
+"""Uses an installed dist/ as someone without the kit would: in an empty folder, without `rt` on the PATH."""
+
+import os
+import shutil
+import subprocess
+import sys
+import tempfile
+from pathlib import Path
+
+from packing import package
+from packing.builds import TOP
+
+# Commands that may be in the same folder as `rt`.
+COMMANDS = ["cc", "cargo", "rustc", "rustup", "pkg-config", "tar", "ld", "as"]
+BODY = bytes([0x00, 0x01, 0x0B])
+LISTED = "1 Nop\n2 End\n"
+MANIFEST = """\
+[package]
+name = "first"
+version = "0.0.0"
+edition = "2024"
+
+[dependencies]
+{name} = {{ path = "{path}" }}
+"""
+MAIN = """\
+use wasm_operators::{BinaryReader, FunctionBody, Result};
+
+fn main() -> Result<()> {
+    let body = FunctionBody::new(BinaryReader::new(&[0x00, 0x01, 0x0b], 0));
+    for operator in body.get_operators_reader()?.into_iter_with_offsets() {
+        let (operator, offset) = operator?;
+        println!("{offset} {operator:?}");
+    }
+    Ok(())
+}
+"""
+
+
+class Failed(Exception):
+    """Something that was tried doesn't work; the message says what."""
+
+
+def path_without_rt(folder):
+    """Returns a PATH on which `rt` and `rattle` are missing, with links to the compilers in a folder if they are needed."""
+    folder.mkdir()
+    for name in COMMANDS:
+        if found := shutil.which(name):
+            (folder / name).symlink_to(found)
+    places = [it for it in os.environ["PATH"].split(":") if not any((Path(it) / name).exists() for name in ("rt", "rattle"))]
+    return ":".join([str(folder), *places])
+
+
+def ran(words, cwd, env, wanted=None):
+    """Runs a command and returns what it printed. Fails if it fails, or prints something else than is wanted."""
+    print("dist: $", " ".join(str(it) for it in words), flush=True)
+    done = subprocess.run([str(it) for it in words], cwd=cwd, env=env, stdin=subprocess.DEVNULL, capture_output=True, text=True)
+    if done.returncode:
+        raise Failed(f"{words[0]} failed:\n{done.stdout[-2000:]}{done.stderr[-2000:]}")
+    if wanted is not None and done.stdout != wanted:
+        raise Failed(f"{words[0]} printed\n{done.stdout}in place of\n{wanted}")
+    return done.stdout
+
+
+def try_programs(prefix):
+    """Runs each program on its cases."""
+    for program in sorted((prefix / "bin").iterdir()):
+        words = [sys.executable, "-B", TOP / "tools/cases.py", "--program", program, program.name]
+        print(ran(words, TOP, os.environ), end="")
+
+
+def try_c(prefix, folder, env):
+    """Compiles and runs the program in C."""
+    env = {**env, "PKG_CONFIG_PATH": str(prefix / "lib/pkgconfig")}
+    flags = ran(["pkg-config", "--cflags", "--libs", "wasm_operators"], folder, env).split()
+    source = prefix / "share/doc/wasm-operators/list.c"
+    ran(["cc", "-std=c99", "-Wall", "-Werror", "-o", "list", source, *flags], folder, env)
+    (folder / "body").write_bytes(BODY)
+    ran([folder / "list", "body"], folder, env, LISTED)
+
+
+def try_cargo(prefix, folder, env):
+    """Builds and runs a program over the crate, and runs the crate's tests in the unpacked package."""
+    name = f"{package.field('name')}-{package.field('version')}"
+    crate = prefix / "share/wasm-operators" / name
+    (folder / "first/src").mkdir(parents=True)
+    (folder / "first/Cargo.toml").write_text(MANIFEST.format(name=package.field("name"), path=crate), encoding="utf-8")
+    (folder / "first/src/main.rs").write_text(MAIN, encoding="utf-8")
+    ran(["cargo", "build", "--offline", "--quiet"], folder / "first", env)
+    ran(["cargo", "run", "--offline", "--quiet"], folder / "first", env, LISTED)
+    ran(["tar", "-xzf", crate.with_name(f"{name}.crate")], folder, env)
+    ran(["cargo", "test", "--offline", "--quiet"], folder / name, env)
+
+
+def run(out, install):
+    """Installs what was built into an empty folder and uses it there."""
+    with tempfile.TemporaryDirectory(prefix="dist-try-") as made:
+        folder = Path(made)
+        env = {name: value for name, value in os.environ.items() if name in ("HOME", "RUSTUP_HOME", "CARGO_HOME", "LANG")}
+        env["PATH"] = path_without_rt(folder / "path")
+        if any(shutil.which(name, path=env["PATH"]) for name in ("rt", "rattle")):
+            raise Failed("rt is still on the PATH")
+        prefix = folder / "prefix"
+        install(out, prefix)
+        try_programs(prefix)
+        for command, tries in (("cc", try_c), ("cargo", try_cargo)):
+            if shutil.which(command, path=env["PATH"]):
+                tries(prefix, folder, env)
+            else:
+                print(f"dist: no {command} here, so what needs it is not tried")
+        print("dist: the programs, the C program and the cargo crate work without the kit")

@@ -1,0 +1,310 @@
+"""What tools/dist writes: the cargo package, man pages, checksums, the installed layout, and the libraries for Rattle."""
+
+import importlib.machinery
+import importlib.util
+import io
+import os
+import shutil
+import subprocess
+import tarfile
+import tempfile
+import unittest
+from contextlib import redirect_stdout
+from pathlib import Path
+from unittest import mock
+
+import trust
+from packing import builds, package, rattle, texts
+from testing.crates import Crates
+
+TOP = Path(__file__).resolve().parent.parent.parent
+ADD = TOP / "tools/packing/add-to-kit"
+
+
+def tool(name):
+    """Returns a script of tools/ without an ending as a module."""
+    loader = importlib.machinery.SourceFileLoader(name, str(TOP / "tools" / name))
+    module = importlib.util.module_from_spec(importlib.util.spec_from_loader(name, loader))
+    loader.exec_module(module)
+    return module
+
+
+class Folders(unittest.TestCase):
+    def setUp(self):
+        folder = tempfile.TemporaryDirectory()
+        self.addCleanup(folder.cleanup)
+        self.folder = Path(folder.name)
+
+    def file(self, path, text=""):
+        """Writes a file below the test's folder."""
+        (self.folder / path).parent.mkdir(parents=True, exist_ok=True)
+        (self.folder / path).write_text(text)
+        return self.folder / path
+
+
+class Builds(Folders):
+    def test_programs_and_what_they_need(self):
+        crates = Crates(TOP)
+        programs, libraries = builds.programs_of(crates), builds.libraries_of(crates)
+        self.assertIn("wasm_objdump", programs)
+        self.assertFalse([name for name in programs if name.startswith("wasm_tests_")])
+        self.assertLess({"wasm_operators", "wasm_listing", "wasm_text", "wasm_module", "wasm_c"}, set(libraries))
+        for at, name in enumerate(libraries):
+            self.assertLessEqual(set(crates.below(name)), set(libraries[:at]), name)
+
+    def test_licences_of_the_kit(self):
+        self.file("kit/rattle/bitflags/LICENSE-MIT")
+        names, files = builds.notices_of(self.folder / "kit", Crates(TOP))
+        self.assertEqual(names, ["bitflags"])
+        self.assertEqual(list(files), ["bitflags-LICENSE-MIT"])
+
+    def test_lines_of_the_crates_that_are_packed(self):
+        listed = "# NAME: what it stands on\nlow:\nlow_c staticlib: low\nhigh: low # above\n"
+        self.assertEqual(builds.lines_of(listed, ["low", "low_c"]), "low:\nlow_c staticlib: low\n")
+
+    def test_words_for_the_prover(self):
+        self.file("repo/crates.txt", "low:\nhigh: low bitflags\nlow_c staticlib: high\n")
+        crates, kit = Crates(self.folder / "repo"), Path("/kit")
+        words = [str(it) for it in builds.link_words(kit, crates, "low_c", lambda name: Path(f"/made/{name}.rlib"))]
+        self.assertIn("high=/made/high.rlib", words)
+        self.assertNotIn("low=/made/low.rlib", words)
+        self.assertEqual(words.count("dependency=/made"), 1)
+        self.assertIn("std=/kit/rlibs/std.rlib", words)
+
+    def test_verdict(self):
+        output = "fn low: proved\naxioms libc: 1 reached of the 3 declared\n  libc::read\n  libc::write   reached\nlogic=proved functions=1\n"
+        self.assertEqual(builds.verdict_of(output), ["assumed: libc::write", "logic=proved functions=1"])
+
+
+# Commands in place of the kit's: they write what the kit's would, and print what is read of that.
+RT = """\
+#!/bin/sh
+ls crates > ../seen
+mkdir -p crates/low/out/rlib/low.rlib crates/prog/out
+echo low > crates/low/out/rlib/low.rlib/format
+echo program > crates/prog/out/prog
+echo "fn low: proved"
+echo "rt: ok; handles allowed: none"
+echo "$RESULT"
+[ "$RESULT" = "4 passed, 0 failed" ]
+"""
+RATTLE = """\
+#!/bin/sh
+for word; do last=$word; done
+echo compiled > "$last"
+echo "  libc::write   reached"
+echo "$VERDICT"
+"""
+
+
+class Proved(Folders):
+    def setUp(self):
+        super().setUp()
+        self.repo, self.kit = self.folder / "repo", self.folder / "kit"
+        self.file("repo/crates.txt", "low:\nwasm_c_exports staticlib: low\nprog: low\nwasm_tests_low: low\n")
+        for path in ("low/src/lib.rt", "low/must-fail/a.edit", "wasm_c_exports/src/lib.rt", "prog/src/main.rt", "wasm_tests_low/src/main.rt"):
+            self.file(f"repo/crates/{path}", path)
+        self.file("repo/HANDLES", "Handles allowed: none.\n")
+        git = lambda *words: subprocess.run(["git", "-C", self.repo, "-c", "user.name=n", "-c", "user.email=e", *words], check=True)
+        git("init", "-q")
+        git("add", ".")
+        git("commit", "-qm", "all")
+        self.file("kit/bin/rattle", RATTLE).chmod(0o755)
+        self.file("path/rt", RT).chmod(0o755)
+
+    def build(self, result="4 passed, 0 failed", verdict="logic=proved functions=1"):
+        """Builds the commit with the commands above."""
+        env = {"PATH": f"{self.folder}/path:{os.environ['PATH']}", "RESULT": result, "VERDICT": verdict}
+        with mock.patch.object(builds, "TOP", self.repo), mock.patch.dict(os.environ, env), redirect_stdout(io.StringIO()):
+            commit, changed = builds.commit_of(self.repo)
+            self.assertEqual(changed, [])
+            return builds.proved(self.kit, commit, self.folder / "made", self.folder / "log")
+
+    def test_what_is_built(self):
+        built = self.build()
+        self.assertEqual((self.folder / "seen").read_text().split(), ["low", "prog", "wasm_c_exports"])
+        self.assertFalse((self.folder / "made/crates/low/must-fail").exists())
+        self.assertEqual(built.programs["prog"].read_text(), "program\n")
+        self.assertEqual(list(built.libraries), ["low"])
+        self.assertEqual(built.archive.read_text(), "compiled\n")
+        self.assertEqual(built.said, ["rt: ok; handles allowed: none", "4 passed, 0 failed"])
+        self.assertEqual(built.verdict, ["assumed: libc::write", "logic=proved functions=1"])
+
+    def test_failures(self):
+        with self.assertRaisesRegex(builds.Failed, "rt ci failed"):
+            self.build(result="3 passed, 1 failed")
+        self.assertIn("3 passed, 1 failed", (self.folder / "log").read_text())
+        with self.assertRaisesRegex(builds.Failed, "wasm_c_exports is not proved"):
+            self.build(verdict="logic=not-proved")
+
+
+class Package(Folders):
+    def test_package(self):
+        library = self.file("libwasm_c.a", "archive")
+        made = package.make(self.folder / "made", [library], {"low-LICENSE": self.file("LICENSE", "free")})
+        self.assertEqual(made.name, f"wasm-operators-{package.field('version')}")
+        self.assertEqual((made / "native/libwasm_c.a").read_text(), "archive")
+        self.assertEqual((made / "native/low-LICENSE").read_text(), "free")
+        self.assertIn('license-file = "LICENSE"', (made / "Cargo.toml").read_text())
+        self.assertEqual((made / "LICENSE").read_text(), (TOP / "LICENSE").read_text())
+        outside = [path for path in made.rglob("*.rs") if package.OUTSIDE.search(path.read_text(encoding="utf-8"))]
+        self.assertEqual(outside, [])
+        packed = [self.folder / name for name in ("one.crate", "two.crate")]
+        for path in packed:
+            package.pack(made, path)
+        self.assertEqual(packed[0].read_bytes(), packed[1].read_bytes())
+        with tarfile.open(packed[0]) as it:
+            self.assertIn(f"{made.name}/Cargo.toml", it.getnames())
+
+    def test_files_that_tests_read(self):
+        text, files = package.brought_in('const A: &str = include_str!("../../../crates/low/stdin");\n')
+        self.assertEqual(text, 'const A: &str = include_str!("data/crates-low-stdin");\n')
+        self.assertEqual(files, {"crates/low/stdin": "data/crates-low-stdin"})
+        self.assertEqual(package.brought_in('include_str!("../README.md")')[1], {})
+
+    def test_the_build_script_names_the_command(self):
+        script = (TOP / "bindings/rust/build.rs").read_text(encoding="utf-8")
+        self.assertIn('"    tools/dist",', script)
+        self.assertIn("WASM_OPERATORS_LIBRARIES=$PWD/dist/lib", script)
+
+
+class Texts(Folders):
+    def test_man_page(self):
+        page = texts.man_page("wasm_objdump", "wasm_objdump [FILE]\n.dot\n--help\n", "abc")
+        self.assertTrue(page.startswith('.TH WASM_OBJDUMP 1 "" "abc"\n.SH NAME\nwasm_objdump \\- disassembles '))
+        self.assertIn("\n\\&.dot\n\\-\\-help\n.fi\n", page)
+
+    def test_help_of_a_program_without_the_option(self):
+        program = self.file("program", "#!/bin/sh\nexit 2\n")
+        program.chmod(0o755)
+        self.assertTrue(texts.help_of("wasm_dump", program).startswith("This program reads a function body"))
+        program.write_text("#!/bin/sh\necho how to\n")
+        self.assertEqual(texts.help_of("wasm_dump", program), "how to\n")
+
+    def test_newest_glibc(self):
+        program = self.folder / "program"
+        program.write_bytes(b"\0GLIBC_2.9\0GLIBC_2.34\0GLIBC_2.2.5\0")
+        self.assertEqual(texts.glibc_of([program]), ", with glibc 2.34 or later")
+        program.write_bytes(b"static")
+        self.assertEqual(texts.glibc_of([program]), "")
+
+    def test_checksums(self):
+        self.file("a/b", "x")
+        self.file("SHA256SUMS", "old")
+        text = texts.sums_of(self.folder)
+        self.assertEqual(text, f"{texts.sum_of(self.folder / 'a/b')}  a/b\n")
+        checked = subprocess.run(["sha256sum", "-c", "--quiet"], input=text, text=True, cwd=self.folder)
+        self.assertEqual(checked.returncode, 0)
+
+    def test_pkg_config(self):
+        text = texts.PKG_CONFIG.format(version=texts.version(), note="")
+        self.assertIn("prefix=${pcfiledir}/../..\n", text)
+        self.assertIn("Libs: -L${libdir} -lwasm_c -llibc_c\n", text)
+
+
+class Install(Folders):
+    def test_prefix(self):
+        for path in ("bin/low", "lib/pkgconfig/a.pc", "include/a.h", "share/man/man1/low.1", "rattle/KIT", "PROVED", "README.md"):
+            self.file(f"dist/{path}", path)
+        (self.folder / "dist/bin/low").chmod(0o755)
+        with redirect_stdout(io.StringIO()):
+            tool("dist").install(self.folder / "dist", self.folder / "prefix")
+        found = {str(it.relative_to(self.folder / "prefix")) for it in (self.folder / "prefix").rglob("*") if it.is_file()}
+        self.assertEqual(found, {
+            "bin/low", "lib/pkgconfig/a.pc", "include/a.h", "share/man/man1/low.1", "share/wasm-operators/rattle/KIT",
+            "share/doc/wasm-operators/PROVED", "share/doc/wasm-operators/README.md",
+        })
+        self.assertTrue(os.access(self.folder / "prefix/bin/low", os.X_OK))
+
+    def test_commit_of_a_build(self):
+        self.file("PROVED", texts.PROVED.format(commit="abc", kit="k", glibc="", said="", verdict=""))
+        self.assertTrue(tool("dist").is_of(self.folder, "abc"))
+        self.assertFalse(tool("dist").is_of(self.folder, "ab"))
+        self.assertFalse(tool("dist").is_of(self.folder / "none", "abc"))
+
+
+class RattleLibraries(Folders):
+    def kit(self):
+        """Makes a small kit."""
+        for path in ("bin/rattle", "bin/rtlib.py", "c/libos_c.a", "rlibs/std.rlib/format", "rattle/std/src/lib.rt", "WHAT"):
+            self.file(f"kit/{path}", path)
+        self.file("kit/KIT-ID", "kit-1\n")
+        self.file("kit/bin/rt", "#!/bin/sh\ncat \"$(dirname \"$(dirname \"$(realpath \"$0\")\")\")/KIT-ID\"\n").chmod(0o755)
+        return self.folder / "kit"
+
+    def packed(self, kit):
+        """Packs a library of this name for a kit."""
+        self.file("repo/crates.txt", "low:\n")
+        self.file("repo/crates/low/src/lib.rt", "fn low() {}\n")
+        self.file("rlib/format", "crate low\n")
+        out = self.folder / "rattle"
+        with mock.patch.object(rattle, "TOP", self.folder / "repo"):
+            rattle.make(kit, Crates(self.folder / "repo"), {"low": self.folder / "rlib"}, self.folder / "scratch", out)
+        return out
+
+    def add(self, out, kit):
+        return subprocess.run([out / "add-to-kit", kit, self.folder / "new"], capture_output=True, text=True)
+
+    @unittest.skipUnless(shutil.which("xz"), "needs xz")
+    def test_kit_of_links(self):
+        kit = self.kit()
+        out = self.packed(kit)
+        added = self.add(out, kit)
+        self.assertEqual(added.returncode, 0, added.stderr)
+        new = self.folder / "new"
+        self.assertEqual((new / "rlibs/low.rlib/format").read_text(), "crate low\n")
+        self.assertEqual((new / "rattle/low/src/lib.rt").read_text(), "fn low() {}\n")
+        self.assertEqual((new / "rlibs/std.rlib/format").read_text(), "rlibs/std.rlib/format")
+        self.assertTrue((new / "bin/rattle").is_symlink())
+        self.assertFalse((new / "bin/rt").is_symlink())
+        self.assertIn("exists", self.add(out, kit).stderr)
+        self.assertIn("`low`", (out / "README.md").read_text())
+        self.assertIn("must print `kit-1`", (out / "README.md").read_text())
+
+    @unittest.skipUnless(shutil.which("xz"), "needs xz")
+    def test_another_kit(self):
+        kit = self.kit()
+        out = self.packed(kit)
+        self.file("kit/WHAT", "another archive")
+        added = self.add(out, kit)
+        self.assertEqual(added.returncode, 1)
+        self.assertIn("these libraries are for another kit", added.stderr)
+        self.assertIn("    another archive", added.stderr)
+        self.assertFalse((self.folder / "new").exists())
+        self.assertIn("is no Rattle kit", self.add(out, self.folder).stderr)
+
+    @unittest.skipUnless(shutil.which("xz"), "needs xz")
+    def test_a_kit_that_has_the_libraries(self):
+        kit = self.kit()
+        out = self.packed(kit)
+        self.file("kit/rlibs/low.rlib/format")
+        self.assertIn("already has low", self.add(out, kit).stderr)
+        self.assertFalse((self.folder / "new").exists())
+
+
+class Trust(Folders):
+    def test_search(self):
+        self.file("crates.txt", "low:\n")
+        self.file("crates/low/src/lib.rt", 'extern "C" {\n    fn f();\n}\n// unsafe { }\nfn g() { unsafe { f() } }\n')
+        self.file("crates/low/proofs/Bad.antt", "-- axiom in a comment\naxiom bad : Type\nworse : Type\nworse = ?\nworst = f ?here x\n")
+        self.file("crates/low/out/lib.rt", 'extern "C" {}\n')
+        found = {what: places for what, _, _, places in trust.found_in(Crates(self.folder), ["low"])}
+        self.assertEqual(found["functions that C code defines"], ["crates/low/src/lib.rt:1"])
+        self.assertEqual(found["unsafe blocks and functions"], ["crates/low/src/lib.rt:5"])
+        self.assertEqual(found["axioms"], ["crates/low/proofs/Bad.antt:2"])
+        self.assertEqual(len(found["holes"]), 2)
+        self.assertEqual(found["the handles Abort, Wait, Threads, Net, Processes"], [])
+
+    def test_checksums(self):
+        made = self.file("bin/low", "x")
+        self.file("SHA256SUMS", texts.sums_of(self.folder))
+        with redirect_stdout(io.StringIO()):
+            sums = trust.sums_in(self.folder)
+            self.assertTrue(trust.compared(sums, "bin/low", made))
+            made.write_text("y")
+            self.assertFalse(trust.compared(sums, "bin/low", made))
+            self.assertFalse(trust.compared(sums, "bin/high", made))
+
+
+if __name__ == "__main__":
+    unittest.main()
