@@ -36,7 +36,7 @@ enum wasm_shape {
   WASM_SHAPE_NONE = 0, /* no immediates */
   WASM_SHAPE_INDEX = 1, /* first */
   WASM_SHAPE_TWO_INDICES = 2, /* first, second */
-  WASM_SHAPE_MEMORY = 3, /* wide, align, max_align, target, first, ordering */
+  WASM_SHAPE_MEMORY = 3, /* wide: the offset; align; max_align; target, first: what is accessed; ordering */
   WASM_SHAPE_MEMORY_LANE = 4, /* the fields of WASM_SHAPE_MEMORY, and lane */
   WASM_SHAPE_LANE = 5, /* lane */
   WASM_SHAPE_I32 = 6, /* wide */
@@ -48,11 +48,11 @@ enum wasm_shape {
   WASM_SHAPE_ORDERED = 12, /* ordering, first */
   WASM_SHAPE_ORDERED_TWO = 13, /* ordering, first, second */
   WASM_SHAPE_FENCE = 14, /* ordering */
-  WASM_SHAPE_HEAP_TYPE = 15, /* kind, first */
+  WASM_SHAPE_HEAP_TYPE = 15, /* kind, first: the heap type */
   WASM_SHAPE_CAST = 16, /* first: the label; kind, second: the source type; other_kind, third: the target type */
-  WASM_SHAPE_BLOCK = 17, /* kind, first */
+  WASM_SHAPE_BLOCK = 17, /* kind, first: the block type */
   WASM_SHAPE_BRANCH_TABLE = 18, /* first: number of targets; second: the default target */
-  WASM_SHAPE_SELECT_ONE = 19, /* kind, first */
+  WASM_SHAPE_SELECT_ONE = 19, /* kind, first: the type */
   WASM_SHAPE_SELECT_MANY = 20, /* first: number of types */
   WASM_SHAPE_TRY_TABLE = 21, /* kind, first: the block type; second: number of catches */
   WASM_SHAPE_RESUME = 22, /* first; second: number of clauses */
@@ -104,6 +104,18 @@ enum wasm_clause {
   WASM_CLAUSE_ON_SWITCH = 1
 };
 
+/* The kinds of frames: the bytes of the array `frames`, outermost first. Any other byte counts as a block. */
+enum wasm_frame {
+  WASM_FRAME_BLOCK = 0,
+  WASM_FRAME_IF = 1,
+  WASM_FRAME_ELSE = 2,
+  WASM_FRAME_LOOP = 3,
+  WASM_FRAME_TRY_TABLE = 4,
+  WASM_FRAME_LEGACY_TRY = 5,
+  WASM_FRAME_LEGACY_CATCH = 6,
+  WASM_FRAME_LEGACY_CATCH_ALL = 7
+};
+
 /* The refusals. docs/ERRORS-AND-FEATURES.md lists their texts and offsets. */
 enum wasm_refused {
   WASM_REFUSED_END_OF_DATA = 1,
@@ -139,57 +151,58 @@ enum wasm_refused {
 };
 
 /* The operators: the opcode, or the subopcode plus 65536 times the prefix byte. A typed select with no types
- * or several has the opcode of WASM_OP_TypedSelect and another shape. */
+ * or several has the opcode of WASM_OP_TypedSelect and another shape. The comment of an operator says what each
+ * field of its struct holds; the fields that it does not name are 0. */
 enum wasm_opcode {
   WASM_OP_Unreachable = 0x0,
   WASM_OP_Nop = 0x1,
-  WASM_OP_Block = 0x2,
-  WASM_OP_Loop = 0x3,
-  WASM_OP_If = 0x4,
+  WASM_OP_Block = 0x2, /* kind, first: block type */
+  WASM_OP_Loop = 0x3, /* kind, first: block type */
+  WASM_OP_If = 0x4, /* kind, first: block type */
   WASM_OP_Else = 0x5,
   WASM_OP_End = 0xb,
-  WASM_OP_Br = 0xc,
-  WASM_OP_BrIf = 0xd,
-  WASM_OP_BrTable = 0xe,
+  WASM_OP_Br = 0xc, /* first: label */
+  WASM_OP_BrIf = 0xd, /* first: label */
+  WASM_OP_BrTable = 0xe, /* first: number of targets; second: default target */
   WASM_OP_Return = 0xf,
-  WASM_OP_Call = 0x10,
-  WASM_OP_CallIndirect = 0x11,
+  WASM_OP_Call = 0x10, /* first: function index */
+  WASM_OP_CallIndirect = 0x11, /* first: type index; second: table index */
   WASM_OP_Drop = 0x1a,
   WASM_OP_Select = 0x1b,
-  WASM_OP_LocalGet = 0x20,
-  WASM_OP_LocalSet = 0x21,
-  WASM_OP_LocalTee = 0x22,
-  WASM_OP_GlobalGet = 0x23,
-  WASM_OP_GlobalSet = 0x24,
-  WASM_OP_I32Load = 0x28,
-  WASM_OP_I64Load = 0x29,
-  WASM_OP_F32Load = 0x2a,
-  WASM_OP_F64Load = 0x2b,
-  WASM_OP_I32Load8S = 0x2c,
-  WASM_OP_I32Load8U = 0x2d,
-  WASM_OP_I32Load16S = 0x2e,
-  WASM_OP_I32Load16U = 0x2f,
-  WASM_OP_I64Load8S = 0x30,
-  WASM_OP_I64Load8U = 0x31,
-  WASM_OP_I64Load16S = 0x32,
-  WASM_OP_I64Load16U = 0x33,
-  WASM_OP_I64Load32S = 0x34,
-  WASM_OP_I64Load32U = 0x35,
-  WASM_OP_I32Store = 0x36,
-  WASM_OP_I64Store = 0x37,
-  WASM_OP_F32Store = 0x38,
-  WASM_OP_F64Store = 0x39,
-  WASM_OP_I32Store8 = 0x3a,
-  WASM_OP_I32Store16 = 0x3b,
-  WASM_OP_I64Store8 = 0x3c,
-  WASM_OP_I64Store16 = 0x3d,
-  WASM_OP_I64Store32 = 0x3e,
-  WASM_OP_MemorySize = 0x3f,
-  WASM_OP_MemoryGrow = 0x40,
-  WASM_OP_I32Const = 0x41,
-  WASM_OP_I64Const = 0x42,
-  WASM_OP_F32Const = 0x43,
-  WASM_OP_F64Const = 0x44,
+  WASM_OP_LocalGet = 0x20, /* first: local index */
+  WASM_OP_LocalSet = 0x21, /* first: local index */
+  WASM_OP_LocalTee = 0x22, /* first: local index */
+  WASM_OP_GlobalGet = 0x23, /* first: global index */
+  WASM_OP_GlobalSet = 0x24, /* first: global index */
+  WASM_OP_I32Load = 0x28, /* wide: offset; align; max_align: 2; target, first: memory or array type; ordering */
+  WASM_OP_I64Load = 0x29, /* wide: offset; align; max_align: 3; target, first: memory or array type; ordering */
+  WASM_OP_F32Load = 0x2a, /* wide: offset; align; max_align: 2; target, first: memory or array type; ordering */
+  WASM_OP_F64Load = 0x2b, /* wide: offset; align; max_align: 3; target, first: memory or array type; ordering */
+  WASM_OP_I32Load8S = 0x2c, /* wide: offset; align; max_align: 0; target, first: memory or array type; ordering */
+  WASM_OP_I32Load8U = 0x2d, /* wide: offset; align; max_align: 0; target, first: memory or array type; ordering */
+  WASM_OP_I32Load16S = 0x2e, /* wide: offset; align; max_align: 1; target, first: memory or array type; ordering */
+  WASM_OP_I32Load16U = 0x2f, /* wide: offset; align; max_align: 1; target, first: memory or array type; ordering */
+  WASM_OP_I64Load8S = 0x30, /* wide: offset; align; max_align: 0; target, first: memory or array type; ordering */
+  WASM_OP_I64Load8U = 0x31, /* wide: offset; align; max_align: 0; target, first: memory or array type; ordering */
+  WASM_OP_I64Load16S = 0x32, /* wide: offset; align; max_align: 1; target, first: memory or array type; ordering */
+  WASM_OP_I64Load16U = 0x33, /* wide: offset; align; max_align: 1; target, first: memory or array type; ordering */
+  WASM_OP_I64Load32S = 0x34, /* wide: offset; align; max_align: 2; target, first: memory or array type; ordering */
+  WASM_OP_I64Load32U = 0x35, /* wide: offset; align; max_align: 2; target, first: memory or array type; ordering */
+  WASM_OP_I32Store = 0x36, /* wide: offset; align; max_align: 2; target, first: memory or array type; ordering */
+  WASM_OP_I64Store = 0x37, /* wide: offset; align; max_align: 3; target, first: memory or array type; ordering */
+  WASM_OP_F32Store = 0x38, /* wide: offset; align; max_align: 2; target, first: memory or array type; ordering */
+  WASM_OP_F64Store = 0x39, /* wide: offset; align; max_align: 3; target, first: memory or array type; ordering */
+  WASM_OP_I32Store8 = 0x3a, /* wide: offset; align; max_align: 0; target, first: memory or array type; ordering */
+  WASM_OP_I32Store16 = 0x3b, /* wide: offset; align; max_align: 1; target, first: memory or array type; ordering */
+  WASM_OP_I64Store8 = 0x3c, /* wide: offset; align; max_align: 0; target, first: memory or array type; ordering */
+  WASM_OP_I64Store16 = 0x3d, /* wide: offset; align; max_align: 1; target, first: memory or array type; ordering */
+  WASM_OP_I64Store32 = 0x3e, /* wide: offset; align; max_align: 2; target, first: memory or array type; ordering */
+  WASM_OP_MemorySize = 0x3f, /* first: memory index */
+  WASM_OP_MemoryGrow = 0x40, /* first: memory index */
+  WASM_OP_I32Const = 0x41, /* wide: value */
+  WASM_OP_I64Const = 0x42, /* wide: value */
+  WASM_OP_F32Const = 0x43, /* wide: bits of the value */
+  WASM_OP_F64Const = 0x44, /* wide: bits of the value */
   WASM_OP_I32Eqz = 0x45,
   WASM_OP_I32Eq = 0x46,
   WASM_OP_I32Ne = 0x47,
@@ -319,44 +332,44 @@ enum wasm_opcode {
   WASM_OP_I64Extend16S = 0xc3,
   WASM_OP_I64Extend32S = 0xc4,
   WASM_OP_RefEq = 0xd3,
-  WASM_OP_StructNew = 0xfb0000,
-  WASM_OP_StructNewDefault = 0xfb0001,
-  WASM_OP_StructGet = 0xfb0002,
-  WASM_OP_StructGetS = 0xfb0003,
-  WASM_OP_StructGetU = 0xfb0004,
-  WASM_OP_StructSet = 0xfb0005,
-  WASM_OP_ArrayNew = 0xfb0006,
-  WASM_OP_ArrayNewDefault = 0xfb0007,
-  WASM_OP_ArrayNewFixed = 0xfb0008,
-  WASM_OP_ArrayNewData = 0xfb0009,
-  WASM_OP_ArrayNewElem = 0xfb000a,
-  WASM_OP_ArrayGet = 0xfb000b,
-  WASM_OP_ArrayGetS = 0xfb000c,
-  WASM_OP_ArrayGetU = 0xfb000d,
-  WASM_OP_ArraySet = 0xfb000e,
+  WASM_OP_StructNew = 0xfb0000, /* first: struct type index */
+  WASM_OP_StructNewDefault = 0xfb0001, /* first: struct type index */
+  WASM_OP_StructGet = 0xfb0002, /* first: struct type index; second: field index */
+  WASM_OP_StructGetS = 0xfb0003, /* first: struct type index; second: field index */
+  WASM_OP_StructGetU = 0xfb0004, /* first: struct type index; second: field index */
+  WASM_OP_StructSet = 0xfb0005, /* first: struct type index; second: field index */
+  WASM_OP_ArrayNew = 0xfb0006, /* first: array type index */
+  WASM_OP_ArrayNewDefault = 0xfb0007, /* first: array type index */
+  WASM_OP_ArrayNewFixed = 0xfb0008, /* first: array type index; second: number of elements */
+  WASM_OP_ArrayNewData = 0xfb0009, /* first: array type index; second: data segment index */
+  WASM_OP_ArrayNewElem = 0xfb000a, /* first: array type index; second: element segment index */
+  WASM_OP_ArrayGet = 0xfb000b, /* first: array type index */
+  WASM_OP_ArrayGetS = 0xfb000c, /* first: array type index */
+  WASM_OP_ArrayGetU = 0xfb000d, /* first: array type index */
+  WASM_OP_ArraySet = 0xfb000e, /* first: array type index */
   WASM_OP_ArrayLen = 0xfb000f,
-  WASM_OP_ArrayFill = 0xfb0010,
-  WASM_OP_ArrayCopy = 0xfb0011,
-  WASM_OP_ArrayInitData = 0xfb0012,
-  WASM_OP_ArrayInitElem = 0xfb0013,
-  WASM_OP_RefTestNonNull = 0xfb0014,
-  WASM_OP_RefTestNullable = 0xfb0015,
-  WASM_OP_RefCastNonNull = 0xfb0016,
-  WASM_OP_RefCastNullable = 0xfb0017,
-  WASM_OP_BrOnCast = 0xfb0018,
-  WASM_OP_BrOnCastFail = 0xfb0019,
+  WASM_OP_ArrayFill = 0xfb0010, /* first: array type index */
+  WASM_OP_ArrayCopy = 0xfb0011, /* first: target array type index; second: source array type index */
+  WASM_OP_ArrayInitData = 0xfb0012, /* first: array type index; second: data segment index */
+  WASM_OP_ArrayInitElem = 0xfb0013, /* first: array type index; second: element segment index */
+  WASM_OP_RefTestNonNull = 0xfb0014, /* kind, first: heap type */
+  WASM_OP_RefTestNullable = 0xfb0015, /* kind, first: heap type */
+  WASM_OP_RefCastNonNull = 0xfb0016, /* kind, first: heap type */
+  WASM_OP_RefCastNullable = 0xfb0017, /* kind, first: heap type */
+  WASM_OP_BrOnCast = 0xfb0018, /* first: label; kind, second: source type; other_kind, third: target type */
+  WASM_OP_BrOnCastFail = 0xfb0019, /* first: label; kind, second: source type; other_kind, third: target type */
   WASM_OP_AnyConvertExtern = 0xfb001a,
   WASM_OP_ExternConvertAny = 0xfb001b,
   WASM_OP_RefI31 = 0xfb001c,
   WASM_OP_I31GetS = 0xfb001d,
   WASM_OP_I31GetU = 0xfb001e,
-  WASM_OP_StructNewDesc = 0xfb0020,
-  WASM_OP_StructNewDefaultDesc = 0xfb0021,
-  WASM_OP_RefGetDesc = 0xfb0022,
-  WASM_OP_RefCastDescEqNonNull = 0xfb0023,
-  WASM_OP_RefCastDescEqNullable = 0xfb0024,
-  WASM_OP_BrOnCastDescEq = 0xfb0025,
-  WASM_OP_BrOnCastDescEqFail = 0xfb0026,
+  WASM_OP_StructNewDesc = 0xfb0020, /* first: struct type index */
+  WASM_OP_StructNewDefaultDesc = 0xfb0021, /* first: struct type index */
+  WASM_OP_RefGetDesc = 0xfb0022, /* first: type index */
+  WASM_OP_RefCastDescEqNonNull = 0xfb0023, /* kind, first: heap type */
+  WASM_OP_RefCastDescEqNullable = 0xfb0024, /* kind, first: heap type */
+  WASM_OP_BrOnCastDescEq = 0xfb0025, /* first: label; kind, second: source type; other_kind, third: target type */
+  WASM_OP_BrOnCastDescEqFail = 0xfb0026, /* first: label; kind, second: source type; other_kind, third: target type */
   WASM_OP_I32TruncSatF32S = 0xfc0000,
   WASM_OP_I32TruncSatF32U = 0xfc0001,
   WASM_OP_I32TruncSatF64S = 0xfc0002,
@@ -365,130 +378,130 @@ enum wasm_opcode {
   WASM_OP_I64TruncSatF32U = 0xfc0005,
   WASM_OP_I64TruncSatF64S = 0xfc0006,
   WASM_OP_I64TruncSatF64U = 0xfc0007,
-  WASM_OP_MemoryInit = 0xfc0008,
-  WASM_OP_DataDrop = 0xfc0009,
-  WASM_OP_MemoryCopy = 0xfc000a,
-  WASM_OP_MemoryFill = 0xfc000b,
-  WASM_OP_TableInit = 0xfc000c,
-  WASM_OP_ElemDrop = 0xfc000d,
-  WASM_OP_TableCopy = 0xfc000e,
-  WASM_OP_TypedSelect = 0x1c,
-  WASM_OP_RefNull = 0xd0,
+  WASM_OP_MemoryInit = 0xfc0008, /* first: data segment index; second: memory index */
+  WASM_OP_DataDrop = 0xfc0009, /* first: data segment index */
+  WASM_OP_MemoryCopy = 0xfc000a, /* first: target memory index; second: source memory index */
+  WASM_OP_MemoryFill = 0xfc000b, /* first: memory index */
+  WASM_OP_TableInit = 0xfc000c, /* first: element segment index; second: table index */
+  WASM_OP_ElemDrop = 0xfc000d, /* first: element segment index */
+  WASM_OP_TableCopy = 0xfc000e, /* first: target table index; second: source table index */
+  WASM_OP_TypedSelect = 0x1c, /* WASM_SHAPE_SELECT_ONE with kind, first: type, or WASM_SHAPE_SELECT_MANY with first: number of types */
+  WASM_OP_RefNull = 0xd0, /* kind, first: heap type */
   WASM_OP_RefIsNull = 0xd1,
-  WASM_OP_RefFunc = 0xd2,
-  WASM_OP_TableFill = 0xfc0011,
-  WASM_OP_TableGet = 0x25,
-  WASM_OP_TableSet = 0x26,
-  WASM_OP_TableGrow = 0xfc000f,
-  WASM_OP_TableSize = 0xfc0010,
-  WASM_OP_ReturnCall = 0x12,
-  WASM_OP_ReturnCallIndirect = 0x13,
-  WASM_OP_MemoryDiscard = 0xfc0012,
-  WASM_OP_MemoryAtomicNotify = 0xfe0000,
-  WASM_OP_MemoryAtomicWait32 = 0xfe0001,
-  WASM_OP_MemoryAtomicWait64 = 0xfe0002,
-  WASM_OP_AtomicFence = 0xfe0003,
-  WASM_OP_I32AtomicLoad = 0xfe0010,
-  WASM_OP_I64AtomicLoad = 0xfe0011,
-  WASM_OP_I32AtomicLoad8U = 0xfe0012,
-  WASM_OP_I32AtomicLoad16U = 0xfe0013,
-  WASM_OP_I64AtomicLoad8U = 0xfe0014,
-  WASM_OP_I64AtomicLoad16U = 0xfe0015,
-  WASM_OP_I64AtomicLoad32U = 0xfe0016,
-  WASM_OP_I32AtomicStore = 0xfe0017,
-  WASM_OP_I64AtomicStore = 0xfe0018,
-  WASM_OP_I32AtomicStore8 = 0xfe0019,
-  WASM_OP_I32AtomicStore16 = 0xfe001a,
-  WASM_OP_I64AtomicStore8 = 0xfe001b,
-  WASM_OP_I64AtomicStore16 = 0xfe001c,
-  WASM_OP_I64AtomicStore32 = 0xfe001d,
-  WASM_OP_I32AtomicRmwAdd = 0xfe001e,
-  WASM_OP_I64AtomicRmwAdd = 0xfe001f,
-  WASM_OP_I32AtomicRmw8AddU = 0xfe0020,
-  WASM_OP_I32AtomicRmw16AddU = 0xfe0021,
-  WASM_OP_I64AtomicRmw8AddU = 0xfe0022,
-  WASM_OP_I64AtomicRmw16AddU = 0xfe0023,
-  WASM_OP_I64AtomicRmw32AddU = 0xfe0024,
-  WASM_OP_I32AtomicRmwSub = 0xfe0025,
-  WASM_OP_I64AtomicRmwSub = 0xfe0026,
-  WASM_OP_I32AtomicRmw8SubU = 0xfe0027,
-  WASM_OP_I32AtomicRmw16SubU = 0xfe0028,
-  WASM_OP_I64AtomicRmw8SubU = 0xfe0029,
-  WASM_OP_I64AtomicRmw16SubU = 0xfe002a,
-  WASM_OP_I64AtomicRmw32SubU = 0xfe002b,
-  WASM_OP_I32AtomicRmwAnd = 0xfe002c,
-  WASM_OP_I64AtomicRmwAnd = 0xfe002d,
-  WASM_OP_I32AtomicRmw8AndU = 0xfe002e,
-  WASM_OP_I32AtomicRmw16AndU = 0xfe002f,
-  WASM_OP_I64AtomicRmw8AndU = 0xfe0030,
-  WASM_OP_I64AtomicRmw16AndU = 0xfe0031,
-  WASM_OP_I64AtomicRmw32AndU = 0xfe0032,
-  WASM_OP_I32AtomicRmwOr = 0xfe0033,
-  WASM_OP_I64AtomicRmwOr = 0xfe0034,
-  WASM_OP_I32AtomicRmw8OrU = 0xfe0035,
-  WASM_OP_I32AtomicRmw16OrU = 0xfe0036,
-  WASM_OP_I64AtomicRmw8OrU = 0xfe0037,
-  WASM_OP_I64AtomicRmw16OrU = 0xfe0038,
-  WASM_OP_I64AtomicRmw32OrU = 0xfe0039,
-  WASM_OP_I32AtomicRmwXor = 0xfe003a,
-  WASM_OP_I64AtomicRmwXor = 0xfe003b,
-  WASM_OP_I32AtomicRmw8XorU = 0xfe003c,
-  WASM_OP_I32AtomicRmw16XorU = 0xfe003d,
-  WASM_OP_I64AtomicRmw8XorU = 0xfe003e,
-  WASM_OP_I64AtomicRmw16XorU = 0xfe003f,
-  WASM_OP_I64AtomicRmw32XorU = 0xfe0040,
-  WASM_OP_I32AtomicRmwXchg = 0xfe0041,
-  WASM_OP_I64AtomicRmwXchg = 0xfe0042,
-  WASM_OP_I32AtomicRmw8XchgU = 0xfe0043,
-  WASM_OP_I32AtomicRmw16XchgU = 0xfe0044,
-  WASM_OP_I64AtomicRmw8XchgU = 0xfe0045,
-  WASM_OP_I64AtomicRmw16XchgU = 0xfe0046,
-  WASM_OP_I64AtomicRmw32XchgU = 0xfe0047,
-  WASM_OP_I32AtomicRmwCmpxchg = 0xfe0048,
-  WASM_OP_I64AtomicRmwCmpxchg = 0xfe0049,
-  WASM_OP_I32AtomicRmw8CmpxchgU = 0xfe004a,
-  WASM_OP_I32AtomicRmw16CmpxchgU = 0xfe004b,
-  WASM_OP_I64AtomicRmw8CmpxchgU = 0xfe004c,
-  WASM_OP_I64AtomicRmw16CmpxchgU = 0xfe004d,
-  WASM_OP_I64AtomicRmw32CmpxchgU = 0xfe004e,
-  WASM_OP_V128Load = 0xfd0000,
-  WASM_OP_V128Load8x8S = 0xfd0001,
-  WASM_OP_V128Load8x8U = 0xfd0002,
-  WASM_OP_V128Load16x4S = 0xfd0003,
-  WASM_OP_V128Load16x4U = 0xfd0004,
-  WASM_OP_V128Load32x2S = 0xfd0005,
-  WASM_OP_V128Load32x2U = 0xfd0006,
-  WASM_OP_V128Load8Splat = 0xfd0007,
-  WASM_OP_V128Load16Splat = 0xfd0008,
-  WASM_OP_V128Load32Splat = 0xfd0009,
-  WASM_OP_V128Load64Splat = 0xfd000a,
-  WASM_OP_V128Load32Zero = 0xfd005c,
-  WASM_OP_V128Load64Zero = 0xfd005d,
-  WASM_OP_V128Store = 0xfd000b,
-  WASM_OP_V128Load8Lane = 0xfd0054,
-  WASM_OP_V128Load16Lane = 0xfd0055,
-  WASM_OP_V128Load32Lane = 0xfd0056,
-  WASM_OP_V128Load64Lane = 0xfd0057,
-  WASM_OP_V128Store8Lane = 0xfd0058,
-  WASM_OP_V128Store16Lane = 0xfd0059,
-  WASM_OP_V128Store32Lane = 0xfd005a,
-  WASM_OP_V128Store64Lane = 0xfd005b,
-  WASM_OP_V128Const = 0xfd000c,
-  WASM_OP_I8x16Shuffle = 0xfd000d,
-  WASM_OP_I8x16ExtractLaneS = 0xfd0015,
-  WASM_OP_I8x16ExtractLaneU = 0xfd0016,
-  WASM_OP_I8x16ReplaceLane = 0xfd0017,
-  WASM_OP_I16x8ExtractLaneS = 0xfd0018,
-  WASM_OP_I16x8ExtractLaneU = 0xfd0019,
-  WASM_OP_I16x8ReplaceLane = 0xfd001a,
-  WASM_OP_I32x4ExtractLane = 0xfd001b,
-  WASM_OP_I32x4ReplaceLane = 0xfd001c,
-  WASM_OP_I64x2ExtractLane = 0xfd001d,
-  WASM_OP_I64x2ReplaceLane = 0xfd001e,
-  WASM_OP_F32x4ExtractLane = 0xfd001f,
-  WASM_OP_F32x4ReplaceLane = 0xfd0020,
-  WASM_OP_F64x2ExtractLane = 0xfd0021,
-  WASM_OP_F64x2ReplaceLane = 0xfd0022,
+  WASM_OP_RefFunc = 0xd2, /* first: function index */
+  WASM_OP_TableFill = 0xfc0011, /* first: table index */
+  WASM_OP_TableGet = 0x25, /* first: table index */
+  WASM_OP_TableSet = 0x26, /* first: table index */
+  WASM_OP_TableGrow = 0xfc000f, /* first: table index */
+  WASM_OP_TableSize = 0xfc0010, /* first: table index */
+  WASM_OP_ReturnCall = 0x12, /* first: function index */
+  WASM_OP_ReturnCallIndirect = 0x13, /* first: type index; second: table index */
+  WASM_OP_MemoryDiscard = 0xfc0012, /* first: memory index */
+  WASM_OP_MemoryAtomicNotify = 0xfe0000, /* wide: offset; align; max_align: 2; target, first: memory or array type; ordering */
+  WASM_OP_MemoryAtomicWait32 = 0xfe0001, /* wide: offset; align; max_align: 2; target, first: memory or array type; ordering */
+  WASM_OP_MemoryAtomicWait64 = 0xfe0002, /* wide: offset; align; max_align: 3; target, first: memory or array type; ordering */
+  WASM_OP_AtomicFence = 0xfe0003, /* ordering */
+  WASM_OP_I32AtomicLoad = 0xfe0010, /* wide: offset; align; max_align: 2; target, first: memory or array type; ordering */
+  WASM_OP_I64AtomicLoad = 0xfe0011, /* wide: offset; align; max_align: 3; target, first: memory or array type; ordering */
+  WASM_OP_I32AtomicLoad8U = 0xfe0012, /* wide: offset; align; max_align: 0; target, first: memory or array type; ordering */
+  WASM_OP_I32AtomicLoad16U = 0xfe0013, /* wide: offset; align; max_align: 1; target, first: memory or array type; ordering */
+  WASM_OP_I64AtomicLoad8U = 0xfe0014, /* wide: offset; align; max_align: 0; target, first: memory or array type; ordering */
+  WASM_OP_I64AtomicLoad16U = 0xfe0015, /* wide: offset; align; max_align: 1; target, first: memory or array type; ordering */
+  WASM_OP_I64AtomicLoad32U = 0xfe0016, /* wide: offset; align; max_align: 2; target, first: memory or array type; ordering */
+  WASM_OP_I32AtomicStore = 0xfe0017, /* wide: offset; align; max_align: 2; target, first: memory or array type; ordering */
+  WASM_OP_I64AtomicStore = 0xfe0018, /* wide: offset; align; max_align: 3; target, first: memory or array type; ordering */
+  WASM_OP_I32AtomicStore8 = 0xfe0019, /* wide: offset; align; max_align: 0; target, first: memory or array type; ordering */
+  WASM_OP_I32AtomicStore16 = 0xfe001a, /* wide: offset; align; max_align: 1; target, first: memory or array type; ordering */
+  WASM_OP_I64AtomicStore8 = 0xfe001b, /* wide: offset; align; max_align: 0; target, first: memory or array type; ordering */
+  WASM_OP_I64AtomicStore16 = 0xfe001c, /* wide: offset; align; max_align: 1; target, first: memory or array type; ordering */
+  WASM_OP_I64AtomicStore32 = 0xfe001d, /* wide: offset; align; max_align: 2; target, first: memory or array type; ordering */
+  WASM_OP_I32AtomicRmwAdd = 0xfe001e, /* wide: offset; align; max_align: 2; target, first: memory or array type; ordering */
+  WASM_OP_I64AtomicRmwAdd = 0xfe001f, /* wide: offset; align; max_align: 3; target, first: memory or array type; ordering */
+  WASM_OP_I32AtomicRmw8AddU = 0xfe0020, /* wide: offset; align; max_align: 0; target, first: memory or array type; ordering */
+  WASM_OP_I32AtomicRmw16AddU = 0xfe0021, /* wide: offset; align; max_align: 1; target, first: memory or array type; ordering */
+  WASM_OP_I64AtomicRmw8AddU = 0xfe0022, /* wide: offset; align; max_align: 0; target, first: memory or array type; ordering */
+  WASM_OP_I64AtomicRmw16AddU = 0xfe0023, /* wide: offset; align; max_align: 1; target, first: memory or array type; ordering */
+  WASM_OP_I64AtomicRmw32AddU = 0xfe0024, /* wide: offset; align; max_align: 2; target, first: memory or array type; ordering */
+  WASM_OP_I32AtomicRmwSub = 0xfe0025, /* wide: offset; align; max_align: 2; target, first: memory or array type; ordering */
+  WASM_OP_I64AtomicRmwSub = 0xfe0026, /* wide: offset; align; max_align: 3; target, first: memory or array type; ordering */
+  WASM_OP_I32AtomicRmw8SubU = 0xfe0027, /* wide: offset; align; max_align: 0; target, first: memory or array type; ordering */
+  WASM_OP_I32AtomicRmw16SubU = 0xfe0028, /* wide: offset; align; max_align: 1; target, first: memory or array type; ordering */
+  WASM_OP_I64AtomicRmw8SubU = 0xfe0029, /* wide: offset; align; max_align: 0; target, first: memory or array type; ordering */
+  WASM_OP_I64AtomicRmw16SubU = 0xfe002a, /* wide: offset; align; max_align: 1; target, first: memory or array type; ordering */
+  WASM_OP_I64AtomicRmw32SubU = 0xfe002b, /* wide: offset; align; max_align: 2; target, first: memory or array type; ordering */
+  WASM_OP_I32AtomicRmwAnd = 0xfe002c, /* wide: offset; align; max_align: 2; target, first: memory or array type; ordering */
+  WASM_OP_I64AtomicRmwAnd = 0xfe002d, /* wide: offset; align; max_align: 3; target, first: memory or array type; ordering */
+  WASM_OP_I32AtomicRmw8AndU = 0xfe002e, /* wide: offset; align; max_align: 0; target, first: memory or array type; ordering */
+  WASM_OP_I32AtomicRmw16AndU = 0xfe002f, /* wide: offset; align; max_align: 1; target, first: memory or array type; ordering */
+  WASM_OP_I64AtomicRmw8AndU = 0xfe0030, /* wide: offset; align; max_align: 0; target, first: memory or array type; ordering */
+  WASM_OP_I64AtomicRmw16AndU = 0xfe0031, /* wide: offset; align; max_align: 1; target, first: memory or array type; ordering */
+  WASM_OP_I64AtomicRmw32AndU = 0xfe0032, /* wide: offset; align; max_align: 2; target, first: memory or array type; ordering */
+  WASM_OP_I32AtomicRmwOr = 0xfe0033, /* wide: offset; align; max_align: 2; target, first: memory or array type; ordering */
+  WASM_OP_I64AtomicRmwOr = 0xfe0034, /* wide: offset; align; max_align: 3; target, first: memory or array type; ordering */
+  WASM_OP_I32AtomicRmw8OrU = 0xfe0035, /* wide: offset; align; max_align: 0; target, first: memory or array type; ordering */
+  WASM_OP_I32AtomicRmw16OrU = 0xfe0036, /* wide: offset; align; max_align: 1; target, first: memory or array type; ordering */
+  WASM_OP_I64AtomicRmw8OrU = 0xfe0037, /* wide: offset; align; max_align: 0; target, first: memory or array type; ordering */
+  WASM_OP_I64AtomicRmw16OrU = 0xfe0038, /* wide: offset; align; max_align: 1; target, first: memory or array type; ordering */
+  WASM_OP_I64AtomicRmw32OrU = 0xfe0039, /* wide: offset; align; max_align: 2; target, first: memory or array type; ordering */
+  WASM_OP_I32AtomicRmwXor = 0xfe003a, /* wide: offset; align; max_align: 2; target, first: memory or array type; ordering */
+  WASM_OP_I64AtomicRmwXor = 0xfe003b, /* wide: offset; align; max_align: 3; target, first: memory or array type; ordering */
+  WASM_OP_I32AtomicRmw8XorU = 0xfe003c, /* wide: offset; align; max_align: 0; target, first: memory or array type; ordering */
+  WASM_OP_I32AtomicRmw16XorU = 0xfe003d, /* wide: offset; align; max_align: 1; target, first: memory or array type; ordering */
+  WASM_OP_I64AtomicRmw8XorU = 0xfe003e, /* wide: offset; align; max_align: 0; target, first: memory or array type; ordering */
+  WASM_OP_I64AtomicRmw16XorU = 0xfe003f, /* wide: offset; align; max_align: 1; target, first: memory or array type; ordering */
+  WASM_OP_I64AtomicRmw32XorU = 0xfe0040, /* wide: offset; align; max_align: 2; target, first: memory or array type; ordering */
+  WASM_OP_I32AtomicRmwXchg = 0xfe0041, /* wide: offset; align; max_align: 2; target, first: memory or array type; ordering */
+  WASM_OP_I64AtomicRmwXchg = 0xfe0042, /* wide: offset; align; max_align: 3; target, first: memory or array type; ordering */
+  WASM_OP_I32AtomicRmw8XchgU = 0xfe0043, /* wide: offset; align; max_align: 0; target, first: memory or array type; ordering */
+  WASM_OP_I32AtomicRmw16XchgU = 0xfe0044, /* wide: offset; align; max_align: 1; target, first: memory or array type; ordering */
+  WASM_OP_I64AtomicRmw8XchgU = 0xfe0045, /* wide: offset; align; max_align: 0; target, first: memory or array type; ordering */
+  WASM_OP_I64AtomicRmw16XchgU = 0xfe0046, /* wide: offset; align; max_align: 1; target, first: memory or array type; ordering */
+  WASM_OP_I64AtomicRmw32XchgU = 0xfe0047, /* wide: offset; align; max_align: 2; target, first: memory or array type; ordering */
+  WASM_OP_I32AtomicRmwCmpxchg = 0xfe0048, /* wide: offset; align; max_align: 2; target, first: memory or array type; ordering */
+  WASM_OP_I64AtomicRmwCmpxchg = 0xfe0049, /* wide: offset; align; max_align: 3; target, first: memory or array type; ordering */
+  WASM_OP_I32AtomicRmw8CmpxchgU = 0xfe004a, /* wide: offset; align; max_align: 0; target, first: memory or array type; ordering */
+  WASM_OP_I32AtomicRmw16CmpxchgU = 0xfe004b, /* wide: offset; align; max_align: 1; target, first: memory or array type; ordering */
+  WASM_OP_I64AtomicRmw8CmpxchgU = 0xfe004c, /* wide: offset; align; max_align: 0; target, first: memory or array type; ordering */
+  WASM_OP_I64AtomicRmw16CmpxchgU = 0xfe004d, /* wide: offset; align; max_align: 1; target, first: memory or array type; ordering */
+  WASM_OP_I64AtomicRmw32CmpxchgU = 0xfe004e, /* wide: offset; align; max_align: 2; target, first: memory or array type; ordering */
+  WASM_OP_V128Load = 0xfd0000, /* wide: offset; align; max_align: 4; target, first: memory or array type; ordering */
+  WASM_OP_V128Load8x8S = 0xfd0001, /* wide: offset; align; max_align: 3; target, first: memory or array type; ordering */
+  WASM_OP_V128Load8x8U = 0xfd0002, /* wide: offset; align; max_align: 3; target, first: memory or array type; ordering */
+  WASM_OP_V128Load16x4S = 0xfd0003, /* wide: offset; align; max_align: 3; target, first: memory or array type; ordering */
+  WASM_OP_V128Load16x4U = 0xfd0004, /* wide: offset; align; max_align: 3; target, first: memory or array type; ordering */
+  WASM_OP_V128Load32x2S = 0xfd0005, /* wide: offset; align; max_align: 3; target, first: memory or array type; ordering */
+  WASM_OP_V128Load32x2U = 0xfd0006, /* wide: offset; align; max_align: 3; target, first: memory or array type; ordering */
+  WASM_OP_V128Load8Splat = 0xfd0007, /* wide: offset; align; max_align: 0; target, first: memory or array type; ordering */
+  WASM_OP_V128Load16Splat = 0xfd0008, /* wide: offset; align; max_align: 1; target, first: memory or array type; ordering */
+  WASM_OP_V128Load32Splat = 0xfd0009, /* wide: offset; align; max_align: 2; target, first: memory or array type; ordering */
+  WASM_OP_V128Load64Splat = 0xfd000a, /* wide: offset; align; max_align: 3; target, first: memory or array type; ordering */
+  WASM_OP_V128Load32Zero = 0xfd005c, /* wide: offset; align; max_align: 2; target, first: memory or array type; ordering */
+  WASM_OP_V128Load64Zero = 0xfd005d, /* wide: offset; align; max_align: 3; target, first: memory or array type; ordering */
+  WASM_OP_V128Store = 0xfd000b, /* wide: offset; align; max_align: 4; target, first: memory or array type; ordering */
+  WASM_OP_V128Load8Lane = 0xfd0054, /* wide: offset; align; max_align: 0; target, first: memory or array type; ordering; lane */
+  WASM_OP_V128Load16Lane = 0xfd0055, /* wide: offset; align; max_align: 1; target, first: memory or array type; ordering; lane */
+  WASM_OP_V128Load32Lane = 0xfd0056, /* wide: offset; align; max_align: 2; target, first: memory or array type; ordering; lane */
+  WASM_OP_V128Load64Lane = 0xfd0057, /* wide: offset; align; max_align: 3; target, first: memory or array type; ordering; lane */
+  WASM_OP_V128Store8Lane = 0xfd0058, /* wide: offset; align; max_align: 0; target, first: memory or array type; ordering; lane */
+  WASM_OP_V128Store16Lane = 0xfd0059, /* wide: offset; align; max_align: 1; target, first: memory or array type; ordering; lane */
+  WASM_OP_V128Store32Lane = 0xfd005a, /* wide: offset; align; max_align: 2; target, first: memory or array type; ordering; lane */
+  WASM_OP_V128Store64Lane = 0xfd005b, /* wide: offset; align; max_align: 3; target, first: memory or array type; ordering; lane */
+  WASM_OP_V128Const = 0xfd000c, /* bytes: value */
+  WASM_OP_I8x16Shuffle = 0xfd000d, /* bytes: lanes */
+  WASM_OP_I8x16ExtractLaneS = 0xfd0015, /* lane */
+  WASM_OP_I8x16ExtractLaneU = 0xfd0016, /* lane */
+  WASM_OP_I8x16ReplaceLane = 0xfd0017, /* lane */
+  WASM_OP_I16x8ExtractLaneS = 0xfd0018, /* lane */
+  WASM_OP_I16x8ExtractLaneU = 0xfd0019, /* lane */
+  WASM_OP_I16x8ReplaceLane = 0xfd001a, /* lane */
+  WASM_OP_I32x4ExtractLane = 0xfd001b, /* lane */
+  WASM_OP_I32x4ReplaceLane = 0xfd001c, /* lane */
+  WASM_OP_I64x2ExtractLane = 0xfd001d, /* lane */
+  WASM_OP_I64x2ReplaceLane = 0xfd001e, /* lane */
+  WASM_OP_F32x4ExtractLane = 0xfd001f, /* lane */
+  WASM_OP_F32x4ReplaceLane = 0xfd0020, /* lane */
+  WASM_OP_F64x2ExtractLane = 0xfd0021, /* lane */
+  WASM_OP_F64x2ReplaceLane = 0xfd0022, /* lane */
   WASM_OP_I8x16Swizzle = 0xfd000e,
   WASM_OP_I8x16Splat = 0xfd000f,
   WASM_OP_I16x8Splat = 0xfd0010,
@@ -707,62 +720,62 @@ enum wasm_opcode {
   WASM_OP_I16x8RelaxedQ15mulrS = 0xfd0111,
   WASM_OP_I16x8RelaxedDotI8x16I7x16S = 0xfd0112,
   WASM_OP_I32x4RelaxedDotI8x16I7x16AddS = 0xfd0113,
-  WASM_OP_TryTable = 0x1f,
-  WASM_OP_Throw = 0x8,
+  WASM_OP_TryTable = 0x1f, /* kind, first: block type; second: number of catches */
+  WASM_OP_Throw = 0x8, /* first: tag index */
   WASM_OP_ThrowRef = 0xa,
-  WASM_OP_Try = 0x6,
-  WASM_OP_Catch = 0x7,
-  WASM_OP_Rethrow = 0x9,
-  WASM_OP_Delegate = 0x18,
+  WASM_OP_Try = 0x6, /* kind, first: block type */
+  WASM_OP_Catch = 0x7, /* first: tag index */
+  WASM_OP_Rethrow = 0x9, /* first: label */
+  WASM_OP_Delegate = 0x18, /* first: label */
   WASM_OP_CatchAll = 0x19,
-  WASM_OP_GlobalAtomicGet = 0xfe004f,
-  WASM_OP_GlobalAtomicSet = 0xfe0050,
-  WASM_OP_GlobalAtomicRmwAdd = 0xfe0051,
-  WASM_OP_GlobalAtomicRmwSub = 0xfe0052,
-  WASM_OP_GlobalAtomicRmwAnd = 0xfe0053,
-  WASM_OP_GlobalAtomicRmwOr = 0xfe0054,
-  WASM_OP_GlobalAtomicRmwXor = 0xfe0055,
-  WASM_OP_GlobalAtomicRmwXchg = 0xfe0056,
-  WASM_OP_GlobalAtomicRmwCmpxchg = 0xfe0057,
-  WASM_OP_TableAtomicGet = 0xfe0058,
-  WASM_OP_TableAtomicSet = 0xfe0059,
-  WASM_OP_TableAtomicRmwXchg = 0xfe005a,
-  WASM_OP_TableAtomicRmwCmpxchg = 0xfe005b,
-  WASM_OP_StructAtomicGet = 0xfe005c,
-  WASM_OP_StructAtomicGetS = 0xfe005d,
-  WASM_OP_StructAtomicGetU = 0xfe005e,
-  WASM_OP_StructAtomicSet = 0xfe005f,
-  WASM_OP_StructAtomicRmwAdd = 0xfe0060,
-  WASM_OP_StructAtomicRmwSub = 0xfe0061,
-  WASM_OP_StructAtomicRmwAnd = 0xfe0062,
-  WASM_OP_StructAtomicRmwOr = 0xfe0063,
-  WASM_OP_StructAtomicRmwXor = 0xfe0064,
-  WASM_OP_StructAtomicRmwXchg = 0xfe0065,
-  WASM_OP_StructAtomicRmwCmpxchg = 0xfe0066,
-  WASM_OP_ArrayAtomicGet = 0xfe0067,
-  WASM_OP_ArrayAtomicGetS = 0xfe0068,
-  WASM_OP_ArrayAtomicGetU = 0xfe0069,
-  WASM_OP_ArrayAtomicSet = 0xfe006a,
-  WASM_OP_ArrayAtomicRmwAdd = 0xfe006b,
-  WASM_OP_ArrayAtomicRmwSub = 0xfe006c,
-  WASM_OP_ArrayAtomicRmwAnd = 0xfe006d,
-  WASM_OP_ArrayAtomicRmwOr = 0xfe006e,
-  WASM_OP_ArrayAtomicRmwXor = 0xfe006f,
-  WASM_OP_ArrayAtomicRmwXchg = 0xfe0070,
-  WASM_OP_ArrayAtomicRmwCmpxchg = 0xfe0071,
+  WASM_OP_GlobalAtomicGet = 0xfe004f, /* ordering; first: global index */
+  WASM_OP_GlobalAtomicSet = 0xfe0050, /* ordering; first: global index */
+  WASM_OP_GlobalAtomicRmwAdd = 0xfe0051, /* ordering; first: global index */
+  WASM_OP_GlobalAtomicRmwSub = 0xfe0052, /* ordering; first: global index */
+  WASM_OP_GlobalAtomicRmwAnd = 0xfe0053, /* ordering; first: global index */
+  WASM_OP_GlobalAtomicRmwOr = 0xfe0054, /* ordering; first: global index */
+  WASM_OP_GlobalAtomicRmwXor = 0xfe0055, /* ordering; first: global index */
+  WASM_OP_GlobalAtomicRmwXchg = 0xfe0056, /* ordering; first: global index */
+  WASM_OP_GlobalAtomicRmwCmpxchg = 0xfe0057, /* ordering; first: global index */
+  WASM_OP_TableAtomicGet = 0xfe0058, /* ordering; first: table index */
+  WASM_OP_TableAtomicSet = 0xfe0059, /* ordering; first: table index */
+  WASM_OP_TableAtomicRmwXchg = 0xfe005a, /* ordering; first: table index */
+  WASM_OP_TableAtomicRmwCmpxchg = 0xfe005b, /* ordering; first: table index */
+  WASM_OP_StructAtomicGet = 0xfe005c, /* ordering; first: struct type index; second: field index */
+  WASM_OP_StructAtomicGetS = 0xfe005d, /* ordering; first: struct type index; second: field index */
+  WASM_OP_StructAtomicGetU = 0xfe005e, /* ordering; first: struct type index; second: field index */
+  WASM_OP_StructAtomicSet = 0xfe005f, /* ordering; first: struct type index; second: field index */
+  WASM_OP_StructAtomicRmwAdd = 0xfe0060, /* ordering; first: struct type index; second: field index */
+  WASM_OP_StructAtomicRmwSub = 0xfe0061, /* ordering; first: struct type index; second: field index */
+  WASM_OP_StructAtomicRmwAnd = 0xfe0062, /* ordering; first: struct type index; second: field index */
+  WASM_OP_StructAtomicRmwOr = 0xfe0063, /* ordering; first: struct type index; second: field index */
+  WASM_OP_StructAtomicRmwXor = 0xfe0064, /* ordering; first: struct type index; second: field index */
+  WASM_OP_StructAtomicRmwXchg = 0xfe0065, /* ordering; first: struct type index; second: field index */
+  WASM_OP_StructAtomicRmwCmpxchg = 0xfe0066, /* ordering; first: struct type index; second: field index */
+  WASM_OP_ArrayAtomicGet = 0xfe0067, /* ordering; first: array type index */
+  WASM_OP_ArrayAtomicGetS = 0xfe0068, /* ordering; first: array type index */
+  WASM_OP_ArrayAtomicGetU = 0xfe0069, /* ordering; first: array type index */
+  WASM_OP_ArrayAtomicSet = 0xfe006a, /* ordering; first: array type index */
+  WASM_OP_ArrayAtomicRmwAdd = 0xfe006b, /* ordering; first: array type index */
+  WASM_OP_ArrayAtomicRmwSub = 0xfe006c, /* ordering; first: array type index */
+  WASM_OP_ArrayAtomicRmwAnd = 0xfe006d, /* ordering; first: array type index */
+  WASM_OP_ArrayAtomicRmwOr = 0xfe006e, /* ordering; first: array type index */
+  WASM_OP_ArrayAtomicRmwXor = 0xfe006f, /* ordering; first: array type index */
+  WASM_OP_ArrayAtomicRmwXchg = 0xfe0070, /* ordering; first: array type index */
+  WASM_OP_ArrayAtomicRmwCmpxchg = 0xfe0071, /* ordering; first: array type index */
   WASM_OP_RefI31Shared = 0xfe0072,
-  WASM_OP_CallRef = 0x14,
-  WASM_OP_ReturnCallRef = 0x15,
+  WASM_OP_CallRef = 0x14, /* first: type index */
+  WASM_OP_ReturnCallRef = 0x15, /* first: type index */
   WASM_OP_RefAsNonNull = 0xd4,
-  WASM_OP_BrOnNull = 0xd5,
-  WASM_OP_BrOnNonNull = 0xd6,
-  WASM_OP_ContNew = 0xe0,
-  WASM_OP_ContBind = 0xe1,
-  WASM_OP_Suspend = 0xe2,
-  WASM_OP_Resume = 0xe3,
-  WASM_OP_ResumeThrow = 0xe4,
-  WASM_OP_ResumeThrowRef = 0xe5,
-  WASM_OP_Switch = 0xe6,
+  WASM_OP_BrOnNull = 0xd5, /* first: label */
+  WASM_OP_BrOnNonNull = 0xd6, /* first: label */
+  WASM_OP_ContNew = 0xe0, /* first: continuation type index */
+  WASM_OP_ContBind = 0xe1, /* first: type index of the continuation; second: type index of the result */
+  WASM_OP_Suspend = 0xe2, /* first: tag index */
+  WASM_OP_Resume = 0xe3, /* first: continuation type index; second: number of clauses */
+  WASM_OP_ResumeThrow = 0xe4, /* first: continuation type index; second: tag index; third: number of clauses */
+  WASM_OP_ResumeThrowRef = 0xe5, /* first: continuation type index; second: number of clauses */
+  WASM_OP_Switch = 0xe6, /* first: continuation type index; second: tag index */
   WASM_OP_I64Add128 = 0xfc0013,
   WASM_OP_I64Sub128 = 0xfc0014,
   WASM_OP_I64MulWideS = 0xfc0015,
@@ -971,634 +984,654 @@ uint32_t wasm_resume_handlers(const uint8_t *bytes, size_t bytes_length, uint64_
 /* Returns the proposal that added an operator, or -1 if no operator has its number. */
 static inline int wasm_operator_proposal(const wasm_operator *op) {
   switch (op->opcode) {
-    case 0x0: return WASM_PROPOSAL_MVP;
-    case 0x1: return WASM_PROPOSAL_MVP;
-    case 0x2: return WASM_PROPOSAL_MVP;
-    case 0x3: return WASM_PROPOSAL_MVP;
-    case 0x4: return WASM_PROPOSAL_MVP;
-    case 0x5: return WASM_PROPOSAL_MVP;
-    case 0xb: return WASM_PROPOSAL_MVP;
-    case 0xc: return WASM_PROPOSAL_MVP;
-    case 0xd: return WASM_PROPOSAL_MVP;
-    case 0xe: return WASM_PROPOSAL_MVP;
-    case 0xf: return WASM_PROPOSAL_MVP;
-    case 0x10: return WASM_PROPOSAL_MVP;
-    case 0x11: return WASM_PROPOSAL_MVP;
-    case 0x1a: return WASM_PROPOSAL_MVP;
-    case 0x1b: return WASM_PROPOSAL_MVP;
-    case 0x20: return WASM_PROPOSAL_MVP;
-    case 0x21: return WASM_PROPOSAL_MVP;
-    case 0x22: return WASM_PROPOSAL_MVP;
-    case 0x23: return WASM_PROPOSAL_MVP;
-    case 0x24: return WASM_PROPOSAL_MVP;
-    case 0x28: return WASM_PROPOSAL_MVP;
-    case 0x29: return WASM_PROPOSAL_MVP;
-    case 0x2a: return WASM_PROPOSAL_MVP;
-    case 0x2b: return WASM_PROPOSAL_MVP;
-    case 0x2c: return WASM_PROPOSAL_MVP;
-    case 0x2d: return WASM_PROPOSAL_MVP;
-    case 0x2e: return WASM_PROPOSAL_MVP;
-    case 0x2f: return WASM_PROPOSAL_MVP;
-    case 0x30: return WASM_PROPOSAL_MVP;
-    case 0x31: return WASM_PROPOSAL_MVP;
-    case 0x32: return WASM_PROPOSAL_MVP;
-    case 0x33: return WASM_PROPOSAL_MVP;
-    case 0x34: return WASM_PROPOSAL_MVP;
-    case 0x35: return WASM_PROPOSAL_MVP;
-    case 0x36: return WASM_PROPOSAL_MVP;
-    case 0x37: return WASM_PROPOSAL_MVP;
-    case 0x38: return WASM_PROPOSAL_MVP;
-    case 0x39: return WASM_PROPOSAL_MVP;
-    case 0x3a: return WASM_PROPOSAL_MVP;
-    case 0x3b: return WASM_PROPOSAL_MVP;
-    case 0x3c: return WASM_PROPOSAL_MVP;
-    case 0x3d: return WASM_PROPOSAL_MVP;
-    case 0x3e: return WASM_PROPOSAL_MVP;
-    case 0x3f: return WASM_PROPOSAL_MVP;
-    case 0x40: return WASM_PROPOSAL_MVP;
-    case 0x41: return WASM_PROPOSAL_MVP;
-    case 0x42: return WASM_PROPOSAL_MVP;
-    case 0x43: return WASM_PROPOSAL_MVP;
-    case 0x44: return WASM_PROPOSAL_MVP;
-    case 0x45: return WASM_PROPOSAL_MVP;
-    case 0x46: return WASM_PROPOSAL_MVP;
-    case 0x47: return WASM_PROPOSAL_MVP;
-    case 0x48: return WASM_PROPOSAL_MVP;
-    case 0x49: return WASM_PROPOSAL_MVP;
-    case 0x4a: return WASM_PROPOSAL_MVP;
-    case 0x4b: return WASM_PROPOSAL_MVP;
-    case 0x4c: return WASM_PROPOSAL_MVP;
-    case 0x4d: return WASM_PROPOSAL_MVP;
-    case 0x4e: return WASM_PROPOSAL_MVP;
-    case 0x4f: return WASM_PROPOSAL_MVP;
-    case 0x50: return WASM_PROPOSAL_MVP;
-    case 0x51: return WASM_PROPOSAL_MVP;
-    case 0x52: return WASM_PROPOSAL_MVP;
-    case 0x53: return WASM_PROPOSAL_MVP;
-    case 0x54: return WASM_PROPOSAL_MVP;
-    case 0x55: return WASM_PROPOSAL_MVP;
-    case 0x56: return WASM_PROPOSAL_MVP;
-    case 0x57: return WASM_PROPOSAL_MVP;
-    case 0x58: return WASM_PROPOSAL_MVP;
-    case 0x59: return WASM_PROPOSAL_MVP;
-    case 0x5a: return WASM_PROPOSAL_MVP;
-    case 0x5b: return WASM_PROPOSAL_MVP;
-    case 0x5c: return WASM_PROPOSAL_MVP;
-    case 0x5d: return WASM_PROPOSAL_MVP;
-    case 0x5e: return WASM_PROPOSAL_MVP;
-    case 0x5f: return WASM_PROPOSAL_MVP;
-    case 0x60: return WASM_PROPOSAL_MVP;
-    case 0x61: return WASM_PROPOSAL_MVP;
-    case 0x62: return WASM_PROPOSAL_MVP;
-    case 0x63: return WASM_PROPOSAL_MVP;
-    case 0x64: return WASM_PROPOSAL_MVP;
-    case 0x65: return WASM_PROPOSAL_MVP;
-    case 0x66: return WASM_PROPOSAL_MVP;
-    case 0x67: return WASM_PROPOSAL_MVP;
-    case 0x68: return WASM_PROPOSAL_MVP;
-    case 0x69: return WASM_PROPOSAL_MVP;
-    case 0x6a: return WASM_PROPOSAL_MVP;
-    case 0x6b: return WASM_PROPOSAL_MVP;
-    case 0x6c: return WASM_PROPOSAL_MVP;
-    case 0x6d: return WASM_PROPOSAL_MVP;
-    case 0x6e: return WASM_PROPOSAL_MVP;
-    case 0x6f: return WASM_PROPOSAL_MVP;
-    case 0x70: return WASM_PROPOSAL_MVP;
-    case 0x71: return WASM_PROPOSAL_MVP;
-    case 0x72: return WASM_PROPOSAL_MVP;
-    case 0x73: return WASM_PROPOSAL_MVP;
-    case 0x74: return WASM_PROPOSAL_MVP;
-    case 0x75: return WASM_PROPOSAL_MVP;
-    case 0x76: return WASM_PROPOSAL_MVP;
-    case 0x77: return WASM_PROPOSAL_MVP;
-    case 0x78: return WASM_PROPOSAL_MVP;
-    case 0x79: return WASM_PROPOSAL_MVP;
-    case 0x7a: return WASM_PROPOSAL_MVP;
-    case 0x7b: return WASM_PROPOSAL_MVP;
-    case 0x7c: return WASM_PROPOSAL_MVP;
-    case 0x7d: return WASM_PROPOSAL_MVP;
-    case 0x7e: return WASM_PROPOSAL_MVP;
-    case 0x7f: return WASM_PROPOSAL_MVP;
-    case 0x80: return WASM_PROPOSAL_MVP;
-    case 0x81: return WASM_PROPOSAL_MVP;
-    case 0x82: return WASM_PROPOSAL_MVP;
-    case 0x83: return WASM_PROPOSAL_MVP;
-    case 0x84: return WASM_PROPOSAL_MVP;
-    case 0x85: return WASM_PROPOSAL_MVP;
-    case 0x86: return WASM_PROPOSAL_MVP;
-    case 0x87: return WASM_PROPOSAL_MVP;
-    case 0x88: return WASM_PROPOSAL_MVP;
-    case 0x89: return WASM_PROPOSAL_MVP;
-    case 0x8a: return WASM_PROPOSAL_MVP;
-    case 0x8b: return WASM_PROPOSAL_MVP;
-    case 0x8c: return WASM_PROPOSAL_MVP;
-    case 0x8d: return WASM_PROPOSAL_MVP;
-    case 0x8e: return WASM_PROPOSAL_MVP;
-    case 0x8f: return WASM_PROPOSAL_MVP;
-    case 0x90: return WASM_PROPOSAL_MVP;
-    case 0x91: return WASM_PROPOSAL_MVP;
-    case 0x92: return WASM_PROPOSAL_MVP;
-    case 0x93: return WASM_PROPOSAL_MVP;
-    case 0x94: return WASM_PROPOSAL_MVP;
-    case 0x95: return WASM_PROPOSAL_MVP;
-    case 0x96: return WASM_PROPOSAL_MVP;
-    case 0x97: return WASM_PROPOSAL_MVP;
-    case 0x98: return WASM_PROPOSAL_MVP;
-    case 0x99: return WASM_PROPOSAL_MVP;
-    case 0x9a: return WASM_PROPOSAL_MVP;
-    case 0x9b: return WASM_PROPOSAL_MVP;
-    case 0x9c: return WASM_PROPOSAL_MVP;
-    case 0x9d: return WASM_PROPOSAL_MVP;
-    case 0x9e: return WASM_PROPOSAL_MVP;
-    case 0x9f: return WASM_PROPOSAL_MVP;
-    case 0xa0: return WASM_PROPOSAL_MVP;
-    case 0xa1: return WASM_PROPOSAL_MVP;
-    case 0xa2: return WASM_PROPOSAL_MVP;
-    case 0xa3: return WASM_PROPOSAL_MVP;
-    case 0xa4: return WASM_PROPOSAL_MVP;
-    case 0xa5: return WASM_PROPOSAL_MVP;
-    case 0xa6: return WASM_PROPOSAL_MVP;
-    case 0xa7: return WASM_PROPOSAL_MVP;
-    case 0xa8: return WASM_PROPOSAL_MVP;
-    case 0xa9: return WASM_PROPOSAL_MVP;
-    case 0xaa: return WASM_PROPOSAL_MVP;
-    case 0xab: return WASM_PROPOSAL_MVP;
-    case 0xac: return WASM_PROPOSAL_MVP;
-    case 0xad: return WASM_PROPOSAL_MVP;
-    case 0xae: return WASM_PROPOSAL_MVP;
-    case 0xaf: return WASM_PROPOSAL_MVP;
-    case 0xb0: return WASM_PROPOSAL_MVP;
-    case 0xb1: return WASM_PROPOSAL_MVP;
-    case 0xb2: return WASM_PROPOSAL_MVP;
-    case 0xb3: return WASM_PROPOSAL_MVP;
-    case 0xb4: return WASM_PROPOSAL_MVP;
-    case 0xb5: return WASM_PROPOSAL_MVP;
-    case 0xb6: return WASM_PROPOSAL_MVP;
-    case 0xb7: return WASM_PROPOSAL_MVP;
-    case 0xb8: return WASM_PROPOSAL_MVP;
-    case 0xb9: return WASM_PROPOSAL_MVP;
-    case 0xba: return WASM_PROPOSAL_MVP;
-    case 0xbb: return WASM_PROPOSAL_MVP;
-    case 0xbc: return WASM_PROPOSAL_MVP;
-    case 0xbd: return WASM_PROPOSAL_MVP;
-    case 0xbe: return WASM_PROPOSAL_MVP;
-    case 0xbf: return WASM_PROPOSAL_MVP;
-    case 0xc0: return WASM_PROPOSAL_SIGN_EXTENSION;
-    case 0xc1: return WASM_PROPOSAL_SIGN_EXTENSION;
-    case 0xc2: return WASM_PROPOSAL_SIGN_EXTENSION;
-    case 0xc3: return WASM_PROPOSAL_SIGN_EXTENSION;
-    case 0xc4: return WASM_PROPOSAL_SIGN_EXTENSION;
-    case 0xd3: return WASM_PROPOSAL_GC;
-    case 0xfb0000: return WASM_PROPOSAL_GC;
-    case 0xfb0001: return WASM_PROPOSAL_GC;
-    case 0xfb0002: return WASM_PROPOSAL_GC;
-    case 0xfb0003: return WASM_PROPOSAL_GC;
-    case 0xfb0004: return WASM_PROPOSAL_GC;
-    case 0xfb0005: return WASM_PROPOSAL_GC;
-    case 0xfb0006: return WASM_PROPOSAL_GC;
-    case 0xfb0007: return WASM_PROPOSAL_GC;
-    case 0xfb0008: return WASM_PROPOSAL_GC;
-    case 0xfb0009: return WASM_PROPOSAL_GC;
-    case 0xfb000a: return WASM_PROPOSAL_GC;
-    case 0xfb000b: return WASM_PROPOSAL_GC;
-    case 0xfb000c: return WASM_PROPOSAL_GC;
-    case 0xfb000d: return WASM_PROPOSAL_GC;
-    case 0xfb000e: return WASM_PROPOSAL_GC;
-    case 0xfb000f: return WASM_PROPOSAL_GC;
-    case 0xfb0010: return WASM_PROPOSAL_GC;
-    case 0xfb0011: return WASM_PROPOSAL_GC;
-    case 0xfb0012: return WASM_PROPOSAL_GC;
-    case 0xfb0013: return WASM_PROPOSAL_GC;
-    case 0xfb0014: return WASM_PROPOSAL_GC;
-    case 0xfb0015: return WASM_PROPOSAL_GC;
-    case 0xfb0016: return WASM_PROPOSAL_GC;
-    case 0xfb0017: return WASM_PROPOSAL_GC;
-    case 0xfb0018: return WASM_PROPOSAL_GC;
-    case 0xfb0019: return WASM_PROPOSAL_GC;
-    case 0xfb001a: return WASM_PROPOSAL_GC;
-    case 0xfb001b: return WASM_PROPOSAL_GC;
-    case 0xfb001c: return WASM_PROPOSAL_GC;
-    case 0xfb001d: return WASM_PROPOSAL_GC;
-    case 0xfb001e: return WASM_PROPOSAL_GC;
-    case 0xfb0020: return WASM_PROPOSAL_CUSTOM_DESCRIPTORS;
-    case 0xfb0021: return WASM_PROPOSAL_CUSTOM_DESCRIPTORS;
-    case 0xfb0022: return WASM_PROPOSAL_CUSTOM_DESCRIPTORS;
-    case 0xfb0023: return WASM_PROPOSAL_CUSTOM_DESCRIPTORS;
-    case 0xfb0024: return WASM_PROPOSAL_CUSTOM_DESCRIPTORS;
-    case 0xfb0025: return WASM_PROPOSAL_CUSTOM_DESCRIPTORS;
-    case 0xfb0026: return WASM_PROPOSAL_CUSTOM_DESCRIPTORS;
-    case 0xfc0000: return WASM_PROPOSAL_SATURATING_FLOAT_TO_INT;
-    case 0xfc0001: return WASM_PROPOSAL_SATURATING_FLOAT_TO_INT;
-    case 0xfc0002: return WASM_PROPOSAL_SATURATING_FLOAT_TO_INT;
-    case 0xfc0003: return WASM_PROPOSAL_SATURATING_FLOAT_TO_INT;
-    case 0xfc0004: return WASM_PROPOSAL_SATURATING_FLOAT_TO_INT;
-    case 0xfc0005: return WASM_PROPOSAL_SATURATING_FLOAT_TO_INT;
-    case 0xfc0006: return WASM_PROPOSAL_SATURATING_FLOAT_TO_INT;
-    case 0xfc0007: return WASM_PROPOSAL_SATURATING_FLOAT_TO_INT;
-    case 0xfc0008: return WASM_PROPOSAL_BULK_MEMORY;
-    case 0xfc0009: return WASM_PROPOSAL_BULK_MEMORY;
-    case 0xfc000a: return WASM_PROPOSAL_BULK_MEMORY;
-    case 0xfc000b: return WASM_PROPOSAL_BULK_MEMORY;
-    case 0xfc000c: return WASM_PROPOSAL_BULK_MEMORY;
-    case 0xfc000d: return WASM_PROPOSAL_BULK_MEMORY;
-    case 0xfc000e: return WASM_PROPOSAL_BULK_MEMORY;
-    case 0x1c: return op->shape == WASM_SHAPE_SELECT_ONE ? WASM_PROPOSAL_REFERENCE_TYPES : WASM_PROPOSAL_REFERENCE_TYPES;
-    case 0xd0: return WASM_PROPOSAL_REFERENCE_TYPES;
-    case 0xd1: return WASM_PROPOSAL_REFERENCE_TYPES;
-    case 0xd2: return WASM_PROPOSAL_REFERENCE_TYPES;
-    case 0xfc0011: return WASM_PROPOSAL_REFERENCE_TYPES;
-    case 0x25: return WASM_PROPOSAL_REFERENCE_TYPES;
-    case 0x26: return WASM_PROPOSAL_REFERENCE_TYPES;
-    case 0xfc000f: return WASM_PROPOSAL_REFERENCE_TYPES;
-    case 0xfc0010: return WASM_PROPOSAL_REFERENCE_TYPES;
-    case 0x12: return WASM_PROPOSAL_TAIL_CALL;
-    case 0x13: return WASM_PROPOSAL_TAIL_CALL;
-    case 0xfc0012: return WASM_PROPOSAL_MEMORY_CONTROL;
-    case 0xfe0000: return WASM_PROPOSAL_THREADS;
-    case 0xfe0001: return WASM_PROPOSAL_THREADS;
-    case 0xfe0002: return WASM_PROPOSAL_THREADS;
-    case 0xfe0003: return WASM_PROPOSAL_THREADS;
-    case 0xfe0010: return WASM_PROPOSAL_THREADS;
-    case 0xfe0011: return WASM_PROPOSAL_THREADS;
-    case 0xfe0012: return WASM_PROPOSAL_THREADS;
-    case 0xfe0013: return WASM_PROPOSAL_THREADS;
-    case 0xfe0014: return WASM_PROPOSAL_THREADS;
-    case 0xfe0015: return WASM_PROPOSAL_THREADS;
-    case 0xfe0016: return WASM_PROPOSAL_THREADS;
-    case 0xfe0017: return WASM_PROPOSAL_THREADS;
-    case 0xfe0018: return WASM_PROPOSAL_THREADS;
-    case 0xfe0019: return WASM_PROPOSAL_THREADS;
-    case 0xfe001a: return WASM_PROPOSAL_THREADS;
-    case 0xfe001b: return WASM_PROPOSAL_THREADS;
-    case 0xfe001c: return WASM_PROPOSAL_THREADS;
-    case 0xfe001d: return WASM_PROPOSAL_THREADS;
-    case 0xfe001e: return WASM_PROPOSAL_THREADS;
-    case 0xfe001f: return WASM_PROPOSAL_THREADS;
-    case 0xfe0020: return WASM_PROPOSAL_THREADS;
-    case 0xfe0021: return WASM_PROPOSAL_THREADS;
-    case 0xfe0022: return WASM_PROPOSAL_THREADS;
-    case 0xfe0023: return WASM_PROPOSAL_THREADS;
-    case 0xfe0024: return WASM_PROPOSAL_THREADS;
-    case 0xfe0025: return WASM_PROPOSAL_THREADS;
-    case 0xfe0026: return WASM_PROPOSAL_THREADS;
-    case 0xfe0027: return WASM_PROPOSAL_THREADS;
-    case 0xfe0028: return WASM_PROPOSAL_THREADS;
-    case 0xfe0029: return WASM_PROPOSAL_THREADS;
-    case 0xfe002a: return WASM_PROPOSAL_THREADS;
-    case 0xfe002b: return WASM_PROPOSAL_THREADS;
-    case 0xfe002c: return WASM_PROPOSAL_THREADS;
-    case 0xfe002d: return WASM_PROPOSAL_THREADS;
-    case 0xfe002e: return WASM_PROPOSAL_THREADS;
-    case 0xfe002f: return WASM_PROPOSAL_THREADS;
-    case 0xfe0030: return WASM_PROPOSAL_THREADS;
-    case 0xfe0031: return WASM_PROPOSAL_THREADS;
-    case 0xfe0032: return WASM_PROPOSAL_THREADS;
-    case 0xfe0033: return WASM_PROPOSAL_THREADS;
-    case 0xfe0034: return WASM_PROPOSAL_THREADS;
-    case 0xfe0035: return WASM_PROPOSAL_THREADS;
-    case 0xfe0036: return WASM_PROPOSAL_THREADS;
-    case 0xfe0037: return WASM_PROPOSAL_THREADS;
-    case 0xfe0038: return WASM_PROPOSAL_THREADS;
-    case 0xfe0039: return WASM_PROPOSAL_THREADS;
-    case 0xfe003a: return WASM_PROPOSAL_THREADS;
-    case 0xfe003b: return WASM_PROPOSAL_THREADS;
-    case 0xfe003c: return WASM_PROPOSAL_THREADS;
-    case 0xfe003d: return WASM_PROPOSAL_THREADS;
-    case 0xfe003e: return WASM_PROPOSAL_THREADS;
-    case 0xfe003f: return WASM_PROPOSAL_THREADS;
-    case 0xfe0040: return WASM_PROPOSAL_THREADS;
-    case 0xfe0041: return WASM_PROPOSAL_THREADS;
-    case 0xfe0042: return WASM_PROPOSAL_THREADS;
-    case 0xfe0043: return WASM_PROPOSAL_THREADS;
-    case 0xfe0044: return WASM_PROPOSAL_THREADS;
-    case 0xfe0045: return WASM_PROPOSAL_THREADS;
-    case 0xfe0046: return WASM_PROPOSAL_THREADS;
-    case 0xfe0047: return WASM_PROPOSAL_THREADS;
-    case 0xfe0048: return WASM_PROPOSAL_THREADS;
-    case 0xfe0049: return WASM_PROPOSAL_THREADS;
-    case 0xfe004a: return WASM_PROPOSAL_THREADS;
-    case 0xfe004b: return WASM_PROPOSAL_THREADS;
-    case 0xfe004c: return WASM_PROPOSAL_THREADS;
-    case 0xfe004d: return WASM_PROPOSAL_THREADS;
-    case 0xfe004e: return WASM_PROPOSAL_THREADS;
-    case 0xfd0000: return WASM_PROPOSAL_SIMD;
-    case 0xfd0001: return WASM_PROPOSAL_SIMD;
-    case 0xfd0002: return WASM_PROPOSAL_SIMD;
-    case 0xfd0003: return WASM_PROPOSAL_SIMD;
-    case 0xfd0004: return WASM_PROPOSAL_SIMD;
-    case 0xfd0005: return WASM_PROPOSAL_SIMD;
-    case 0xfd0006: return WASM_PROPOSAL_SIMD;
-    case 0xfd0007: return WASM_PROPOSAL_SIMD;
-    case 0xfd0008: return WASM_PROPOSAL_SIMD;
-    case 0xfd0009: return WASM_PROPOSAL_SIMD;
-    case 0xfd000a: return WASM_PROPOSAL_SIMD;
-    case 0xfd005c: return WASM_PROPOSAL_SIMD;
-    case 0xfd005d: return WASM_PROPOSAL_SIMD;
-    case 0xfd000b: return WASM_PROPOSAL_SIMD;
-    case 0xfd0054: return WASM_PROPOSAL_SIMD;
-    case 0xfd0055: return WASM_PROPOSAL_SIMD;
-    case 0xfd0056: return WASM_PROPOSAL_SIMD;
-    case 0xfd0057: return WASM_PROPOSAL_SIMD;
-    case 0xfd0058: return WASM_PROPOSAL_SIMD;
-    case 0xfd0059: return WASM_PROPOSAL_SIMD;
-    case 0xfd005a: return WASM_PROPOSAL_SIMD;
-    case 0xfd005b: return WASM_PROPOSAL_SIMD;
-    case 0xfd000c: return WASM_PROPOSAL_SIMD;
-    case 0xfd000d: return WASM_PROPOSAL_SIMD;
-    case 0xfd0015: return WASM_PROPOSAL_SIMD;
-    case 0xfd0016: return WASM_PROPOSAL_SIMD;
-    case 0xfd0017: return WASM_PROPOSAL_SIMD;
-    case 0xfd0018: return WASM_PROPOSAL_SIMD;
-    case 0xfd0019: return WASM_PROPOSAL_SIMD;
-    case 0xfd001a: return WASM_PROPOSAL_SIMD;
-    case 0xfd001b: return WASM_PROPOSAL_SIMD;
-    case 0xfd001c: return WASM_PROPOSAL_SIMD;
-    case 0xfd001d: return WASM_PROPOSAL_SIMD;
-    case 0xfd001e: return WASM_PROPOSAL_SIMD;
-    case 0xfd001f: return WASM_PROPOSAL_SIMD;
-    case 0xfd0020: return WASM_PROPOSAL_SIMD;
-    case 0xfd0021: return WASM_PROPOSAL_SIMD;
-    case 0xfd0022: return WASM_PROPOSAL_SIMD;
-    case 0xfd000e: return WASM_PROPOSAL_SIMD;
-    case 0xfd000f: return WASM_PROPOSAL_SIMD;
-    case 0xfd0010: return WASM_PROPOSAL_SIMD;
-    case 0xfd0011: return WASM_PROPOSAL_SIMD;
-    case 0xfd0012: return WASM_PROPOSAL_SIMD;
-    case 0xfd0013: return WASM_PROPOSAL_SIMD;
-    case 0xfd0014: return WASM_PROPOSAL_SIMD;
-    case 0xfd0023: return WASM_PROPOSAL_SIMD;
-    case 0xfd0024: return WASM_PROPOSAL_SIMD;
-    case 0xfd0025: return WASM_PROPOSAL_SIMD;
-    case 0xfd0026: return WASM_PROPOSAL_SIMD;
-    case 0xfd0027: return WASM_PROPOSAL_SIMD;
-    case 0xfd0028: return WASM_PROPOSAL_SIMD;
-    case 0xfd0029: return WASM_PROPOSAL_SIMD;
-    case 0xfd002a: return WASM_PROPOSAL_SIMD;
-    case 0xfd002b: return WASM_PROPOSAL_SIMD;
-    case 0xfd002c: return WASM_PROPOSAL_SIMD;
-    case 0xfd002d: return WASM_PROPOSAL_SIMD;
-    case 0xfd002e: return WASM_PROPOSAL_SIMD;
-    case 0xfd002f: return WASM_PROPOSAL_SIMD;
-    case 0xfd0030: return WASM_PROPOSAL_SIMD;
-    case 0xfd0031: return WASM_PROPOSAL_SIMD;
-    case 0xfd0032: return WASM_PROPOSAL_SIMD;
-    case 0xfd0033: return WASM_PROPOSAL_SIMD;
-    case 0xfd0034: return WASM_PROPOSAL_SIMD;
-    case 0xfd0035: return WASM_PROPOSAL_SIMD;
-    case 0xfd0036: return WASM_PROPOSAL_SIMD;
-    case 0xfd0037: return WASM_PROPOSAL_SIMD;
-    case 0xfd0038: return WASM_PROPOSAL_SIMD;
-    case 0xfd0039: return WASM_PROPOSAL_SIMD;
-    case 0xfd003a: return WASM_PROPOSAL_SIMD;
-    case 0xfd003b: return WASM_PROPOSAL_SIMD;
-    case 0xfd003c: return WASM_PROPOSAL_SIMD;
-    case 0xfd003d: return WASM_PROPOSAL_SIMD;
-    case 0xfd003e: return WASM_PROPOSAL_SIMD;
-    case 0xfd003f: return WASM_PROPOSAL_SIMD;
-    case 0xfd0040: return WASM_PROPOSAL_SIMD;
-    case 0xfd00d6: return WASM_PROPOSAL_SIMD;
-    case 0xfd00d7: return WASM_PROPOSAL_SIMD;
-    case 0xfd00d8: return WASM_PROPOSAL_SIMD;
-    case 0xfd00d9: return WASM_PROPOSAL_SIMD;
-    case 0xfd00da: return WASM_PROPOSAL_SIMD;
-    case 0xfd00db: return WASM_PROPOSAL_SIMD;
-    case 0xfd0041: return WASM_PROPOSAL_SIMD;
-    case 0xfd0042: return WASM_PROPOSAL_SIMD;
-    case 0xfd0043: return WASM_PROPOSAL_SIMD;
-    case 0xfd0044: return WASM_PROPOSAL_SIMD;
-    case 0xfd0045: return WASM_PROPOSAL_SIMD;
-    case 0xfd0046: return WASM_PROPOSAL_SIMD;
-    case 0xfd0047: return WASM_PROPOSAL_SIMD;
-    case 0xfd0048: return WASM_PROPOSAL_SIMD;
-    case 0xfd0049: return WASM_PROPOSAL_SIMD;
-    case 0xfd004a: return WASM_PROPOSAL_SIMD;
-    case 0xfd004b: return WASM_PROPOSAL_SIMD;
-    case 0xfd004c: return WASM_PROPOSAL_SIMD;
-    case 0xfd004d: return WASM_PROPOSAL_SIMD;
-    case 0xfd004e: return WASM_PROPOSAL_SIMD;
-    case 0xfd004f: return WASM_PROPOSAL_SIMD;
-    case 0xfd0050: return WASM_PROPOSAL_SIMD;
-    case 0xfd0051: return WASM_PROPOSAL_SIMD;
-    case 0xfd0052: return WASM_PROPOSAL_SIMD;
-    case 0xfd0053: return WASM_PROPOSAL_SIMD;
-    case 0xfd0060: return WASM_PROPOSAL_SIMD;
-    case 0xfd0061: return WASM_PROPOSAL_SIMD;
-    case 0xfd0062: return WASM_PROPOSAL_SIMD;
-    case 0xfd0063: return WASM_PROPOSAL_SIMD;
-    case 0xfd0064: return WASM_PROPOSAL_SIMD;
-    case 0xfd0065: return WASM_PROPOSAL_SIMD;
-    case 0xfd0066: return WASM_PROPOSAL_SIMD;
-    case 0xfd006b: return WASM_PROPOSAL_SIMD;
-    case 0xfd006c: return WASM_PROPOSAL_SIMD;
-    case 0xfd006d: return WASM_PROPOSAL_SIMD;
-    case 0xfd006e: return WASM_PROPOSAL_SIMD;
-    case 0xfd006f: return WASM_PROPOSAL_SIMD;
-    case 0xfd0070: return WASM_PROPOSAL_SIMD;
-    case 0xfd0071: return WASM_PROPOSAL_SIMD;
-    case 0xfd0072: return WASM_PROPOSAL_SIMD;
-    case 0xfd0073: return WASM_PROPOSAL_SIMD;
-    case 0xfd0076: return WASM_PROPOSAL_SIMD;
-    case 0xfd0077: return WASM_PROPOSAL_SIMD;
-    case 0xfd0078: return WASM_PROPOSAL_SIMD;
-    case 0xfd0079: return WASM_PROPOSAL_SIMD;
-    case 0xfd007b: return WASM_PROPOSAL_SIMD;
-    case 0xfd007c: return WASM_PROPOSAL_SIMD;
-    case 0xfd007d: return WASM_PROPOSAL_SIMD;
-    case 0xfd0080: return WASM_PROPOSAL_SIMD;
-    case 0xfd0081: return WASM_PROPOSAL_SIMD;
-    case 0xfd0082: return WASM_PROPOSAL_SIMD;
-    case 0xfd0083: return WASM_PROPOSAL_SIMD;
-    case 0xfd0084: return WASM_PROPOSAL_SIMD;
-    case 0xfd0085: return WASM_PROPOSAL_SIMD;
-    case 0xfd0086: return WASM_PROPOSAL_SIMD;
-    case 0xfd0087: return WASM_PROPOSAL_SIMD;
-    case 0xfd0088: return WASM_PROPOSAL_SIMD;
-    case 0xfd0089: return WASM_PROPOSAL_SIMD;
-    case 0xfd008a: return WASM_PROPOSAL_SIMD;
-    case 0xfd008b: return WASM_PROPOSAL_SIMD;
-    case 0xfd008c: return WASM_PROPOSAL_SIMD;
-    case 0xfd008d: return WASM_PROPOSAL_SIMD;
-    case 0xfd008e: return WASM_PROPOSAL_SIMD;
-    case 0xfd008f: return WASM_PROPOSAL_SIMD;
-    case 0xfd0090: return WASM_PROPOSAL_SIMD;
-    case 0xfd0091: return WASM_PROPOSAL_SIMD;
-    case 0xfd0092: return WASM_PROPOSAL_SIMD;
-    case 0xfd0093: return WASM_PROPOSAL_SIMD;
-    case 0xfd0095: return WASM_PROPOSAL_SIMD;
-    case 0xfd0096: return WASM_PROPOSAL_SIMD;
-    case 0xfd0097: return WASM_PROPOSAL_SIMD;
-    case 0xfd0098: return WASM_PROPOSAL_SIMD;
-    case 0xfd0099: return WASM_PROPOSAL_SIMD;
-    case 0xfd009b: return WASM_PROPOSAL_SIMD;
-    case 0xfd009c: return WASM_PROPOSAL_SIMD;
-    case 0xfd009d: return WASM_PROPOSAL_SIMD;
-    case 0xfd009e: return WASM_PROPOSAL_SIMD;
-    case 0xfd009f: return WASM_PROPOSAL_SIMD;
-    case 0xfd007e: return WASM_PROPOSAL_SIMD;
-    case 0xfd007f: return WASM_PROPOSAL_SIMD;
-    case 0xfd00a0: return WASM_PROPOSAL_SIMD;
-    case 0xfd00a1: return WASM_PROPOSAL_SIMD;
-    case 0xfd00a3: return WASM_PROPOSAL_SIMD;
-    case 0xfd00a4: return WASM_PROPOSAL_SIMD;
-    case 0xfd00a7: return WASM_PROPOSAL_SIMD;
-    case 0xfd00a8: return WASM_PROPOSAL_SIMD;
-    case 0xfd00a9: return WASM_PROPOSAL_SIMD;
-    case 0xfd00aa: return WASM_PROPOSAL_SIMD;
-    case 0xfd00ab: return WASM_PROPOSAL_SIMD;
-    case 0xfd00ac: return WASM_PROPOSAL_SIMD;
-    case 0xfd00ad: return WASM_PROPOSAL_SIMD;
-    case 0xfd00ae: return WASM_PROPOSAL_SIMD;
-    case 0xfd00b1: return WASM_PROPOSAL_SIMD;
-    case 0xfd00b5: return WASM_PROPOSAL_SIMD;
-    case 0xfd00b6: return WASM_PROPOSAL_SIMD;
-    case 0xfd00b7: return WASM_PROPOSAL_SIMD;
-    case 0xfd00b8: return WASM_PROPOSAL_SIMD;
-    case 0xfd00b9: return WASM_PROPOSAL_SIMD;
-    case 0xfd00ba: return WASM_PROPOSAL_SIMD;
-    case 0xfd00bc: return WASM_PROPOSAL_SIMD;
-    case 0xfd00bd: return WASM_PROPOSAL_SIMD;
-    case 0xfd00be: return WASM_PROPOSAL_SIMD;
-    case 0xfd00bf: return WASM_PROPOSAL_SIMD;
-    case 0xfd00c0: return WASM_PROPOSAL_SIMD;
-    case 0xfd00c1: return WASM_PROPOSAL_SIMD;
-    case 0xfd00c3: return WASM_PROPOSAL_SIMD;
-    case 0xfd00c4: return WASM_PROPOSAL_SIMD;
-    case 0xfd00c7: return WASM_PROPOSAL_SIMD;
-    case 0xfd00c8: return WASM_PROPOSAL_SIMD;
-    case 0xfd00c9: return WASM_PROPOSAL_SIMD;
-    case 0xfd00ca: return WASM_PROPOSAL_SIMD;
-    case 0xfd00cb: return WASM_PROPOSAL_SIMD;
-    case 0xfd00cc: return WASM_PROPOSAL_SIMD;
-    case 0xfd00cd: return WASM_PROPOSAL_SIMD;
-    case 0xfd00ce: return WASM_PROPOSAL_SIMD;
-    case 0xfd00d1: return WASM_PROPOSAL_SIMD;
-    case 0xfd00d5: return WASM_PROPOSAL_SIMD;
-    case 0xfd00dc: return WASM_PROPOSAL_SIMD;
-    case 0xfd00dd: return WASM_PROPOSAL_SIMD;
-    case 0xfd00de: return WASM_PROPOSAL_SIMD;
-    case 0xfd00df: return WASM_PROPOSAL_SIMD;
-    case 0xfd0067: return WASM_PROPOSAL_SIMD;
-    case 0xfd0068: return WASM_PROPOSAL_SIMD;
-    case 0xfd0069: return WASM_PROPOSAL_SIMD;
-    case 0xfd006a: return WASM_PROPOSAL_SIMD;
-    case 0xfd00e0: return WASM_PROPOSAL_SIMD;
-    case 0xfd00e1: return WASM_PROPOSAL_SIMD;
-    case 0xfd00e3: return WASM_PROPOSAL_SIMD;
-    case 0xfd00e4: return WASM_PROPOSAL_SIMD;
-    case 0xfd00e5: return WASM_PROPOSAL_SIMD;
-    case 0xfd00e6: return WASM_PROPOSAL_SIMD;
-    case 0xfd00e7: return WASM_PROPOSAL_SIMD;
-    case 0xfd00e8: return WASM_PROPOSAL_SIMD;
-    case 0xfd00e9: return WASM_PROPOSAL_SIMD;
-    case 0xfd00ea: return WASM_PROPOSAL_SIMD;
-    case 0xfd00eb: return WASM_PROPOSAL_SIMD;
-    case 0xfd0074: return WASM_PROPOSAL_SIMD;
-    case 0xfd0075: return WASM_PROPOSAL_SIMD;
-    case 0xfd007a: return WASM_PROPOSAL_SIMD;
-    case 0xfd0094: return WASM_PROPOSAL_SIMD;
-    case 0xfd00ec: return WASM_PROPOSAL_SIMD;
-    case 0xfd00ed: return WASM_PROPOSAL_SIMD;
-    case 0xfd00ef: return WASM_PROPOSAL_SIMD;
-    case 0xfd00f0: return WASM_PROPOSAL_SIMD;
-    case 0xfd00f1: return WASM_PROPOSAL_SIMD;
-    case 0xfd00f2: return WASM_PROPOSAL_SIMD;
-    case 0xfd00f3: return WASM_PROPOSAL_SIMD;
-    case 0xfd00f4: return WASM_PROPOSAL_SIMD;
-    case 0xfd00f5: return WASM_PROPOSAL_SIMD;
-    case 0xfd00f6: return WASM_PROPOSAL_SIMD;
-    case 0xfd00f7: return WASM_PROPOSAL_SIMD;
-    case 0xfd00f8: return WASM_PROPOSAL_SIMD;
-    case 0xfd00f9: return WASM_PROPOSAL_SIMD;
-    case 0xfd00fa: return WASM_PROPOSAL_SIMD;
-    case 0xfd00fb: return WASM_PROPOSAL_SIMD;
-    case 0xfd00fc: return WASM_PROPOSAL_SIMD;
-    case 0xfd00fd: return WASM_PROPOSAL_SIMD;
-    case 0xfd00fe: return WASM_PROPOSAL_SIMD;
-    case 0xfd00ff: return WASM_PROPOSAL_SIMD;
-    case 0xfd005e: return WASM_PROPOSAL_SIMD;
-    case 0xfd005f: return WASM_PROPOSAL_SIMD;
-    case 0xfd0100: return WASM_PROPOSAL_RELAXED_SIMD;
-    case 0xfd0101: return WASM_PROPOSAL_RELAXED_SIMD;
-    case 0xfd0102: return WASM_PROPOSAL_RELAXED_SIMD;
-    case 0xfd0103: return WASM_PROPOSAL_RELAXED_SIMD;
-    case 0xfd0104: return WASM_PROPOSAL_RELAXED_SIMD;
-    case 0xfd0105: return WASM_PROPOSAL_RELAXED_SIMD;
-    case 0xfd0106: return WASM_PROPOSAL_RELAXED_SIMD;
-    case 0xfd0107: return WASM_PROPOSAL_RELAXED_SIMD;
-    case 0xfd0108: return WASM_PROPOSAL_RELAXED_SIMD;
-    case 0xfd0109: return WASM_PROPOSAL_RELAXED_SIMD;
-    case 0xfd010a: return WASM_PROPOSAL_RELAXED_SIMD;
-    case 0xfd010b: return WASM_PROPOSAL_RELAXED_SIMD;
-    case 0xfd010c: return WASM_PROPOSAL_RELAXED_SIMD;
-    case 0xfd010d: return WASM_PROPOSAL_RELAXED_SIMD;
-    case 0xfd010e: return WASM_PROPOSAL_RELAXED_SIMD;
-    case 0xfd010f: return WASM_PROPOSAL_RELAXED_SIMD;
-    case 0xfd0110: return WASM_PROPOSAL_RELAXED_SIMD;
-    case 0xfd0111: return WASM_PROPOSAL_RELAXED_SIMD;
-    case 0xfd0112: return WASM_PROPOSAL_RELAXED_SIMD;
-    case 0xfd0113: return WASM_PROPOSAL_RELAXED_SIMD;
-    case 0x1f: return WASM_PROPOSAL_EXCEPTIONS;
-    case 0x8: return WASM_PROPOSAL_EXCEPTIONS;
-    case 0xa: return WASM_PROPOSAL_EXCEPTIONS;
-    case 0x6: return WASM_PROPOSAL_LEGACY_EXCEPTIONS;
-    case 0x7: return WASM_PROPOSAL_LEGACY_EXCEPTIONS;
-    case 0x9: return WASM_PROPOSAL_LEGACY_EXCEPTIONS;
-    case 0x18: return WASM_PROPOSAL_LEGACY_EXCEPTIONS;
-    case 0x19: return WASM_PROPOSAL_LEGACY_EXCEPTIONS;
-    case 0xfe004f: return WASM_PROPOSAL_SHARED_EVERYTHING_THREADS;
-    case 0xfe0050: return WASM_PROPOSAL_SHARED_EVERYTHING_THREADS;
-    case 0xfe0051: return WASM_PROPOSAL_SHARED_EVERYTHING_THREADS;
-    case 0xfe0052: return WASM_PROPOSAL_SHARED_EVERYTHING_THREADS;
-    case 0xfe0053: return WASM_PROPOSAL_SHARED_EVERYTHING_THREADS;
-    case 0xfe0054: return WASM_PROPOSAL_SHARED_EVERYTHING_THREADS;
-    case 0xfe0055: return WASM_PROPOSAL_SHARED_EVERYTHING_THREADS;
-    case 0xfe0056: return WASM_PROPOSAL_SHARED_EVERYTHING_THREADS;
-    case 0xfe0057: return WASM_PROPOSAL_SHARED_EVERYTHING_THREADS;
-    case 0xfe0058: return WASM_PROPOSAL_SHARED_EVERYTHING_THREADS;
-    case 0xfe0059: return WASM_PROPOSAL_SHARED_EVERYTHING_THREADS;
-    case 0xfe005a: return WASM_PROPOSAL_SHARED_EVERYTHING_THREADS;
-    case 0xfe005b: return WASM_PROPOSAL_SHARED_EVERYTHING_THREADS;
-    case 0xfe005c: return WASM_PROPOSAL_SHARED_EVERYTHING_THREADS;
-    case 0xfe005d: return WASM_PROPOSAL_SHARED_EVERYTHING_THREADS;
-    case 0xfe005e: return WASM_PROPOSAL_SHARED_EVERYTHING_THREADS;
-    case 0xfe005f: return WASM_PROPOSAL_SHARED_EVERYTHING_THREADS;
-    case 0xfe0060: return WASM_PROPOSAL_SHARED_EVERYTHING_THREADS;
-    case 0xfe0061: return WASM_PROPOSAL_SHARED_EVERYTHING_THREADS;
-    case 0xfe0062: return WASM_PROPOSAL_SHARED_EVERYTHING_THREADS;
-    case 0xfe0063: return WASM_PROPOSAL_SHARED_EVERYTHING_THREADS;
-    case 0xfe0064: return WASM_PROPOSAL_SHARED_EVERYTHING_THREADS;
-    case 0xfe0065: return WASM_PROPOSAL_SHARED_EVERYTHING_THREADS;
-    case 0xfe0066: return WASM_PROPOSAL_SHARED_EVERYTHING_THREADS;
-    case 0xfe0067: return WASM_PROPOSAL_SHARED_EVERYTHING_THREADS;
-    case 0xfe0068: return WASM_PROPOSAL_SHARED_EVERYTHING_THREADS;
-    case 0xfe0069: return WASM_PROPOSAL_SHARED_EVERYTHING_THREADS;
-    case 0xfe006a: return WASM_PROPOSAL_SHARED_EVERYTHING_THREADS;
-    case 0xfe006b: return WASM_PROPOSAL_SHARED_EVERYTHING_THREADS;
-    case 0xfe006c: return WASM_PROPOSAL_SHARED_EVERYTHING_THREADS;
-    case 0xfe006d: return WASM_PROPOSAL_SHARED_EVERYTHING_THREADS;
-    case 0xfe006e: return WASM_PROPOSAL_SHARED_EVERYTHING_THREADS;
-    case 0xfe006f: return WASM_PROPOSAL_SHARED_EVERYTHING_THREADS;
-    case 0xfe0070: return WASM_PROPOSAL_SHARED_EVERYTHING_THREADS;
-    case 0xfe0071: return WASM_PROPOSAL_SHARED_EVERYTHING_THREADS;
-    case 0xfe0072: return WASM_PROPOSAL_SHARED_EVERYTHING_THREADS;
-    case 0x14: return WASM_PROPOSAL_FUNCTION_REFERENCES;
-    case 0x15: return WASM_PROPOSAL_FUNCTION_REFERENCES;
-    case 0xd4: return WASM_PROPOSAL_FUNCTION_REFERENCES;
-    case 0xd5: return WASM_PROPOSAL_FUNCTION_REFERENCES;
-    case 0xd6: return WASM_PROPOSAL_FUNCTION_REFERENCES;
-    case 0xe0: return WASM_PROPOSAL_STACK_SWITCHING;
-    case 0xe1: return WASM_PROPOSAL_STACK_SWITCHING;
-    case 0xe2: return WASM_PROPOSAL_STACK_SWITCHING;
-    case 0xe3: return WASM_PROPOSAL_STACK_SWITCHING;
-    case 0xe4: return WASM_PROPOSAL_STACK_SWITCHING;
-    case 0xe5: return WASM_PROPOSAL_STACK_SWITCHING;
-    case 0xe6: return WASM_PROPOSAL_STACK_SWITCHING;
-    case 0xfc0013: return WASM_PROPOSAL_WIDE_ARITHMETIC;
-    case 0xfc0014: return WASM_PROPOSAL_WIDE_ARITHMETIC;
-    case 0xfc0015: return WASM_PROPOSAL_WIDE_ARITHMETIC;
-    case 0xfc0016: return WASM_PROPOSAL_WIDE_ARITHMETIC;
-    case 0xfe0004: return WASM_PROPOSAL_ACQUIRE_RELEASE_ATOMICS;
-    default: return -1;
+    case 0x0:
+    case 0x1:
+    case 0x2:
+    case 0x3:
+    case 0x4:
+    case 0x5:
+    case 0xb:
+    case 0xc:
+    case 0xd:
+    case 0xe:
+    case 0xf:
+    case 0x10:
+    case 0x11:
+    case 0x1a:
+    case 0x1b:
+    case 0x20:
+    case 0x21:
+    case 0x22:
+    case 0x23:
+    case 0x24:
+    case 0x28:
+    case 0x29:
+    case 0x2a:
+    case 0x2b:
+    case 0x2c:
+    case 0x2d:
+    case 0x2e:
+    case 0x2f:
+    case 0x30:
+    case 0x31:
+    case 0x32:
+    case 0x33:
+    case 0x34:
+    case 0x35:
+    case 0x36:
+    case 0x37:
+    case 0x38:
+    case 0x39:
+    case 0x3a:
+    case 0x3b:
+    case 0x3c:
+    case 0x3d:
+    case 0x3e:
+    case 0x3f:
+    case 0x40:
+    case 0x41:
+    case 0x42:
+    case 0x43:
+    case 0x44:
+    case 0x45:
+    case 0x46:
+    case 0x47:
+    case 0x48:
+    case 0x49:
+    case 0x4a:
+    case 0x4b:
+    case 0x4c:
+    case 0x4d:
+    case 0x4e:
+    case 0x4f:
+    case 0x50:
+    case 0x51:
+    case 0x52:
+    case 0x53:
+    case 0x54:
+    case 0x55:
+    case 0x56:
+    case 0x57:
+    case 0x58:
+    case 0x59:
+    case 0x5a:
+    case 0x5b:
+    case 0x5c:
+    case 0x5d:
+    case 0x5e:
+    case 0x5f:
+    case 0x60:
+    case 0x61:
+    case 0x62:
+    case 0x63:
+    case 0x64:
+    case 0x65:
+    case 0x66:
+    case 0x67:
+    case 0x68:
+    case 0x69:
+    case 0x6a:
+    case 0x6b:
+    case 0x6c:
+    case 0x6d:
+    case 0x6e:
+    case 0x6f:
+    case 0x70:
+    case 0x71:
+    case 0x72:
+    case 0x73:
+    case 0x74:
+    case 0x75:
+    case 0x76:
+    case 0x77:
+    case 0x78:
+    case 0x79:
+    case 0x7a:
+    case 0x7b:
+    case 0x7c:
+    case 0x7d:
+    case 0x7e:
+    case 0x7f:
+    case 0x80:
+    case 0x81:
+    case 0x82:
+    case 0x83:
+    case 0x84:
+    case 0x85:
+    case 0x86:
+    case 0x87:
+    case 0x88:
+    case 0x89:
+    case 0x8a:
+    case 0x8b:
+    case 0x8c:
+    case 0x8d:
+    case 0x8e:
+    case 0x8f:
+    case 0x90:
+    case 0x91:
+    case 0x92:
+    case 0x93:
+    case 0x94:
+    case 0x95:
+    case 0x96:
+    case 0x97:
+    case 0x98:
+    case 0x99:
+    case 0x9a:
+    case 0x9b:
+    case 0x9c:
+    case 0x9d:
+    case 0x9e:
+    case 0x9f:
+    case 0xa0:
+    case 0xa1:
+    case 0xa2:
+    case 0xa3:
+    case 0xa4:
+    case 0xa5:
+    case 0xa6:
+    case 0xa7:
+    case 0xa8:
+    case 0xa9:
+    case 0xaa:
+    case 0xab:
+    case 0xac:
+    case 0xad:
+    case 0xae:
+    case 0xaf:
+    case 0xb0:
+    case 0xb1:
+    case 0xb2:
+    case 0xb3:
+    case 0xb4:
+    case 0xb5:
+    case 0xb6:
+    case 0xb7:
+    case 0xb8:
+    case 0xb9:
+    case 0xba:
+    case 0xbb:
+    case 0xbc:
+    case 0xbd:
+    case 0xbe:
+    case 0xbf:
+      return WASM_PROPOSAL_MVP;
+    case 0xc0:
+    case 0xc1:
+    case 0xc2:
+    case 0xc3:
+    case 0xc4:
+      return WASM_PROPOSAL_SIGN_EXTENSION;
+    case 0xd3:
+    case 0xfb0000:
+    case 0xfb0001:
+    case 0xfb0002:
+    case 0xfb0003:
+    case 0xfb0004:
+    case 0xfb0005:
+    case 0xfb0006:
+    case 0xfb0007:
+    case 0xfb0008:
+    case 0xfb0009:
+    case 0xfb000a:
+    case 0xfb000b:
+    case 0xfb000c:
+    case 0xfb000d:
+    case 0xfb000e:
+    case 0xfb000f:
+    case 0xfb0010:
+    case 0xfb0011:
+    case 0xfb0012:
+    case 0xfb0013:
+    case 0xfb0014:
+    case 0xfb0015:
+    case 0xfb0016:
+    case 0xfb0017:
+    case 0xfb0018:
+    case 0xfb0019:
+    case 0xfb001a:
+    case 0xfb001b:
+    case 0xfb001c:
+    case 0xfb001d:
+    case 0xfb001e:
+      return WASM_PROPOSAL_GC;
+    case 0xfb0020:
+    case 0xfb0021:
+    case 0xfb0022:
+    case 0xfb0023:
+    case 0xfb0024:
+    case 0xfb0025:
+    case 0xfb0026:
+      return WASM_PROPOSAL_CUSTOM_DESCRIPTORS;
+    case 0xfc0000:
+    case 0xfc0001:
+    case 0xfc0002:
+    case 0xfc0003:
+    case 0xfc0004:
+    case 0xfc0005:
+    case 0xfc0006:
+    case 0xfc0007:
+      return WASM_PROPOSAL_SATURATING_FLOAT_TO_INT;
+    case 0xfc0008:
+    case 0xfc0009:
+    case 0xfc000a:
+    case 0xfc000b:
+    case 0xfc000c:
+    case 0xfc000d:
+    case 0xfc000e:
+      return WASM_PROPOSAL_BULK_MEMORY;
+    case 0x1c:
+    case 0xd0:
+    case 0xd1:
+    case 0xd2:
+    case 0xfc0011:
+    case 0x25:
+    case 0x26:
+    case 0xfc000f:
+    case 0xfc0010:
+      return WASM_PROPOSAL_REFERENCE_TYPES;
+    case 0x12:
+    case 0x13:
+      return WASM_PROPOSAL_TAIL_CALL;
+    case 0xfc0012:
+      return WASM_PROPOSAL_MEMORY_CONTROL;
+    case 0xfe0000:
+    case 0xfe0001:
+    case 0xfe0002:
+    case 0xfe0003:
+    case 0xfe0010:
+    case 0xfe0011:
+    case 0xfe0012:
+    case 0xfe0013:
+    case 0xfe0014:
+    case 0xfe0015:
+    case 0xfe0016:
+    case 0xfe0017:
+    case 0xfe0018:
+    case 0xfe0019:
+    case 0xfe001a:
+    case 0xfe001b:
+    case 0xfe001c:
+    case 0xfe001d:
+    case 0xfe001e:
+    case 0xfe001f:
+    case 0xfe0020:
+    case 0xfe0021:
+    case 0xfe0022:
+    case 0xfe0023:
+    case 0xfe0024:
+    case 0xfe0025:
+    case 0xfe0026:
+    case 0xfe0027:
+    case 0xfe0028:
+    case 0xfe0029:
+    case 0xfe002a:
+    case 0xfe002b:
+    case 0xfe002c:
+    case 0xfe002d:
+    case 0xfe002e:
+    case 0xfe002f:
+    case 0xfe0030:
+    case 0xfe0031:
+    case 0xfe0032:
+    case 0xfe0033:
+    case 0xfe0034:
+    case 0xfe0035:
+    case 0xfe0036:
+    case 0xfe0037:
+    case 0xfe0038:
+    case 0xfe0039:
+    case 0xfe003a:
+    case 0xfe003b:
+    case 0xfe003c:
+    case 0xfe003d:
+    case 0xfe003e:
+    case 0xfe003f:
+    case 0xfe0040:
+    case 0xfe0041:
+    case 0xfe0042:
+    case 0xfe0043:
+    case 0xfe0044:
+    case 0xfe0045:
+    case 0xfe0046:
+    case 0xfe0047:
+    case 0xfe0048:
+    case 0xfe0049:
+    case 0xfe004a:
+    case 0xfe004b:
+    case 0xfe004c:
+    case 0xfe004d:
+    case 0xfe004e:
+      return WASM_PROPOSAL_THREADS;
+    case 0xfd0000:
+    case 0xfd0001:
+    case 0xfd0002:
+    case 0xfd0003:
+    case 0xfd0004:
+    case 0xfd0005:
+    case 0xfd0006:
+    case 0xfd0007:
+    case 0xfd0008:
+    case 0xfd0009:
+    case 0xfd000a:
+    case 0xfd005c:
+    case 0xfd005d:
+    case 0xfd000b:
+    case 0xfd0054:
+    case 0xfd0055:
+    case 0xfd0056:
+    case 0xfd0057:
+    case 0xfd0058:
+    case 0xfd0059:
+    case 0xfd005a:
+    case 0xfd005b:
+    case 0xfd000c:
+    case 0xfd000d:
+    case 0xfd0015:
+    case 0xfd0016:
+    case 0xfd0017:
+    case 0xfd0018:
+    case 0xfd0019:
+    case 0xfd001a:
+    case 0xfd001b:
+    case 0xfd001c:
+    case 0xfd001d:
+    case 0xfd001e:
+    case 0xfd001f:
+    case 0xfd0020:
+    case 0xfd0021:
+    case 0xfd0022:
+    case 0xfd000e:
+    case 0xfd000f:
+    case 0xfd0010:
+    case 0xfd0011:
+    case 0xfd0012:
+    case 0xfd0013:
+    case 0xfd0014:
+    case 0xfd0023:
+    case 0xfd0024:
+    case 0xfd0025:
+    case 0xfd0026:
+    case 0xfd0027:
+    case 0xfd0028:
+    case 0xfd0029:
+    case 0xfd002a:
+    case 0xfd002b:
+    case 0xfd002c:
+    case 0xfd002d:
+    case 0xfd002e:
+    case 0xfd002f:
+    case 0xfd0030:
+    case 0xfd0031:
+    case 0xfd0032:
+    case 0xfd0033:
+    case 0xfd0034:
+    case 0xfd0035:
+    case 0xfd0036:
+    case 0xfd0037:
+    case 0xfd0038:
+    case 0xfd0039:
+    case 0xfd003a:
+    case 0xfd003b:
+    case 0xfd003c:
+    case 0xfd003d:
+    case 0xfd003e:
+    case 0xfd003f:
+    case 0xfd0040:
+    case 0xfd00d6:
+    case 0xfd00d7:
+    case 0xfd00d8:
+    case 0xfd00d9:
+    case 0xfd00da:
+    case 0xfd00db:
+    case 0xfd0041:
+    case 0xfd0042:
+    case 0xfd0043:
+    case 0xfd0044:
+    case 0xfd0045:
+    case 0xfd0046:
+    case 0xfd0047:
+    case 0xfd0048:
+    case 0xfd0049:
+    case 0xfd004a:
+    case 0xfd004b:
+    case 0xfd004c:
+    case 0xfd004d:
+    case 0xfd004e:
+    case 0xfd004f:
+    case 0xfd0050:
+    case 0xfd0051:
+    case 0xfd0052:
+    case 0xfd0053:
+    case 0xfd0060:
+    case 0xfd0061:
+    case 0xfd0062:
+    case 0xfd0063:
+    case 0xfd0064:
+    case 0xfd0065:
+    case 0xfd0066:
+    case 0xfd006b:
+    case 0xfd006c:
+    case 0xfd006d:
+    case 0xfd006e:
+    case 0xfd006f:
+    case 0xfd0070:
+    case 0xfd0071:
+    case 0xfd0072:
+    case 0xfd0073:
+    case 0xfd0076:
+    case 0xfd0077:
+    case 0xfd0078:
+    case 0xfd0079:
+    case 0xfd007b:
+    case 0xfd007c:
+    case 0xfd007d:
+    case 0xfd0080:
+    case 0xfd0081:
+    case 0xfd0082:
+    case 0xfd0083:
+    case 0xfd0084:
+    case 0xfd0085:
+    case 0xfd0086:
+    case 0xfd0087:
+    case 0xfd0088:
+    case 0xfd0089:
+    case 0xfd008a:
+    case 0xfd008b:
+    case 0xfd008c:
+    case 0xfd008d:
+    case 0xfd008e:
+    case 0xfd008f:
+    case 0xfd0090:
+    case 0xfd0091:
+    case 0xfd0092:
+    case 0xfd0093:
+    case 0xfd0095:
+    case 0xfd0096:
+    case 0xfd0097:
+    case 0xfd0098:
+    case 0xfd0099:
+    case 0xfd009b:
+    case 0xfd009c:
+    case 0xfd009d:
+    case 0xfd009e:
+    case 0xfd009f:
+    case 0xfd007e:
+    case 0xfd007f:
+    case 0xfd00a0:
+    case 0xfd00a1:
+    case 0xfd00a3:
+    case 0xfd00a4:
+    case 0xfd00a7:
+    case 0xfd00a8:
+    case 0xfd00a9:
+    case 0xfd00aa:
+    case 0xfd00ab:
+    case 0xfd00ac:
+    case 0xfd00ad:
+    case 0xfd00ae:
+    case 0xfd00b1:
+    case 0xfd00b5:
+    case 0xfd00b6:
+    case 0xfd00b7:
+    case 0xfd00b8:
+    case 0xfd00b9:
+    case 0xfd00ba:
+    case 0xfd00bc:
+    case 0xfd00bd:
+    case 0xfd00be:
+    case 0xfd00bf:
+    case 0xfd00c0:
+    case 0xfd00c1:
+    case 0xfd00c3:
+    case 0xfd00c4:
+    case 0xfd00c7:
+    case 0xfd00c8:
+    case 0xfd00c9:
+    case 0xfd00ca:
+    case 0xfd00cb:
+    case 0xfd00cc:
+    case 0xfd00cd:
+    case 0xfd00ce:
+    case 0xfd00d1:
+    case 0xfd00d5:
+    case 0xfd00dc:
+    case 0xfd00dd:
+    case 0xfd00de:
+    case 0xfd00df:
+    case 0xfd0067:
+    case 0xfd0068:
+    case 0xfd0069:
+    case 0xfd006a:
+    case 0xfd00e0:
+    case 0xfd00e1:
+    case 0xfd00e3:
+    case 0xfd00e4:
+    case 0xfd00e5:
+    case 0xfd00e6:
+    case 0xfd00e7:
+    case 0xfd00e8:
+    case 0xfd00e9:
+    case 0xfd00ea:
+    case 0xfd00eb:
+    case 0xfd0074:
+    case 0xfd0075:
+    case 0xfd007a:
+    case 0xfd0094:
+    case 0xfd00ec:
+    case 0xfd00ed:
+    case 0xfd00ef:
+    case 0xfd00f0:
+    case 0xfd00f1:
+    case 0xfd00f2:
+    case 0xfd00f3:
+    case 0xfd00f4:
+    case 0xfd00f5:
+    case 0xfd00f6:
+    case 0xfd00f7:
+    case 0xfd00f8:
+    case 0xfd00f9:
+    case 0xfd00fa:
+    case 0xfd00fb:
+    case 0xfd00fc:
+    case 0xfd00fd:
+    case 0xfd00fe:
+    case 0xfd00ff:
+    case 0xfd005e:
+    case 0xfd005f:
+      return WASM_PROPOSAL_SIMD;
+    case 0xfd0100:
+    case 0xfd0101:
+    case 0xfd0102:
+    case 0xfd0103:
+    case 0xfd0104:
+    case 0xfd0105:
+    case 0xfd0106:
+    case 0xfd0107:
+    case 0xfd0108:
+    case 0xfd0109:
+    case 0xfd010a:
+    case 0xfd010b:
+    case 0xfd010c:
+    case 0xfd010d:
+    case 0xfd010e:
+    case 0xfd010f:
+    case 0xfd0110:
+    case 0xfd0111:
+    case 0xfd0112:
+    case 0xfd0113:
+      return WASM_PROPOSAL_RELAXED_SIMD;
+    case 0x1f:
+    case 0x8:
+    case 0xa:
+      return WASM_PROPOSAL_EXCEPTIONS;
+    case 0x6:
+    case 0x7:
+    case 0x9:
+    case 0x18:
+    case 0x19:
+      return WASM_PROPOSAL_LEGACY_EXCEPTIONS;
+    case 0xfe004f:
+    case 0xfe0050:
+    case 0xfe0051:
+    case 0xfe0052:
+    case 0xfe0053:
+    case 0xfe0054:
+    case 0xfe0055:
+    case 0xfe0056:
+    case 0xfe0057:
+    case 0xfe0058:
+    case 0xfe0059:
+    case 0xfe005a:
+    case 0xfe005b:
+    case 0xfe005c:
+    case 0xfe005d:
+    case 0xfe005e:
+    case 0xfe005f:
+    case 0xfe0060:
+    case 0xfe0061:
+    case 0xfe0062:
+    case 0xfe0063:
+    case 0xfe0064:
+    case 0xfe0065:
+    case 0xfe0066:
+    case 0xfe0067:
+    case 0xfe0068:
+    case 0xfe0069:
+    case 0xfe006a:
+    case 0xfe006b:
+    case 0xfe006c:
+    case 0xfe006d:
+    case 0xfe006e:
+    case 0xfe006f:
+    case 0xfe0070:
+    case 0xfe0071:
+    case 0xfe0072:
+      return WASM_PROPOSAL_SHARED_EVERYTHING_THREADS;
+    case 0x14:
+    case 0x15:
+    case 0xd4:
+    case 0xd5:
+    case 0xd6:
+      return WASM_PROPOSAL_FUNCTION_REFERENCES;
+    case 0xe0:
+    case 0xe1:
+    case 0xe2:
+    case 0xe3:
+    case 0xe4:
+    case 0xe5:
+    case 0xe6:
+      return WASM_PROPOSAL_STACK_SWITCHING;
+    case 0xfc0013:
+    case 0xfc0014:
+    case 0xfc0015:
+    case 0xfc0016:
+      return WASM_PROPOSAL_WIDE_ARITHMETIC;
+    case 0xfe0004:
+      return WASM_PROPOSAL_ACQUIRE_RELEASE_ATOMICS;
+    default:
+      return -1;
   }
 }
 

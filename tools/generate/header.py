@@ -1,6 +1,6 @@
 """Writes the header of the C library (include/wasm_operators.h)."""
 
-from plain import number
+from plain import kinds, number
 from table import HEAD, PROPOSALS, SHARED
 
 # The shapes of the C struct, in the order of their numbers, each with the fields that have a meaning.
@@ -8,7 +8,7 @@ SHAPES = (
     ("NONE", "no immediates"),
     ("INDEX", "first"),
     ("TWO_INDICES", "first, second"),
-    ("MEMORY", "wide, align, max_align, target, first, ordering"),
+    ("MEMORY", "wide: the offset; align; max_align; target, first: what is accessed; ordering"),
     ("MEMORY_LANE", "the fields of WASM_SHAPE_MEMORY, and lane"),
     ("LANE", "lane"),
     ("I32", "wide"),
@@ -20,11 +20,11 @@ SHAPES = (
     ("ORDERED", "ordering, first"),
     ("ORDERED_TWO", "ordering, first, second"),
     ("FENCE", "ordering"),
-    ("HEAP_TYPE", "kind, first"),
+    ("HEAP_TYPE", "kind, first: the heap type"),
     ("CAST", "first: the label; kind, second: the source type; other_kind, third: the target type"),
-    ("BLOCK", "kind, first"),
+    ("BLOCK", "kind, first: the block type"),
     ("BRANCH_TABLE", "first: number of targets; second: the default target"),
-    ("SELECT_ONE", "kind, first"),
+    ("SELECT_ONE", "kind, first: the type"),
     ("SELECT_MANY", "first: number of types"),
     ("TRY_TABLE", "kind, first: the block type; second: number of catches"),
     ("RESUME", "first; second: number of clauses"),
@@ -43,6 +43,61 @@ FEATURES = (
     "MULTI_MEMORY", "MEMORY64", "CALL_INDIRECT_OVERLONG", "LEGACY_EXCEPTIONS",
     "ACQUIRE_RELEASE_ATOMICS", "MULTIBYTE_ARRAY_ACCESS",
 )
+
+# The refusals of the library, which have no text.
+MISUSES = [
+    ("WASM_REFUSED_UNKNOWN_FEATURES", 100, ""),
+    ("WASM_REFUSED_PAST_OFFSETS", 101, ""),
+    ("WASM_REFUSED_NO_ROOM", 102, ""),
+    ("WASM_REFUSED_NOT_A_READER", 103, ""),
+    ("WASM_REFUSED_NO_LIST", 104, ""),
+]
+# The kinds of frames, in the order of their bytes.
+FRAMES = ("BLOCK", "IF", "ELSE", "LOOP", "TRY_TABLE", "LEGACY_TRY", "LEGACY_CATCH", "LEGACY_CATCH_ALL")
+# What the indices of operators are called in the header, if it is not their name in the table.
+INDICES = {
+    "relative_depth": "label",
+    "mem": "memory index",
+    "dst_mem": "target memory index",
+    "src_mem": "source memory index",
+    "table": "table index",
+    "dst_table": "target table index",
+    "src_table": "source table index",
+    "elem_index": "element segment index",
+    "data_index": "data segment index",
+    "array_elem_index": "element segment index",
+    "array_data_index": "data segment index",
+    "array_type_index_dst": "target array type index",
+    "array_type_index_src": "source array type index",
+    "array_size": "number of elements",
+    "cont_type_index": "continuation type index",
+    "argument_index": "type index of the continuation",
+    "result_index": "type index of the result",
+}
+# What the fields of the C struct hold for immediates other than indices.
+HELD = {
+    "memory": "wide: offset; align; max_align: {align}; target, first: memory or array type; ordering",
+    "lane_index": "lane",
+    "signed_32": "wide: value",
+    "signed_64": "wide: value",
+    "float_32": "wide: bits of the value",
+    "float_64": "wide: bits of the value",
+    "vector": "bytes: value",
+    "lane_list": "bytes: lanes",
+    "ordered": "ordering",
+    "fence": "ordering",
+    "heap_type": "kind, first: heap type",
+    "cast": "first: label; kind, second: source type; other_kind, third: target type",
+    "block_type": "kind, first: block type",
+    "branch_table": "first: number of targets; second: default target",
+    "one_type": "WASM_SHAPE_SELECT_ONE with kind, first: type",
+    "types": "WASM_SHAPE_SELECT_MANY with first: number of types",
+    "try_table": "kind, first: block type; second: number of catches",
+    "resume_table": "{next}: number of clauses",
+}
+# The immediates that are indices, and the fields that hold these in order.
+INDEXED = ("unsigned", "memory_index", "table_index")
+PLACES = ("first", "second", "third")
 
 TOP = """/* Reads the operators of WebAssembly function bodies: the header of libwasm_c.a, a decoder that is proved.
  *
@@ -284,6 +339,26 @@ CATCHES = (("WASM_CATCH_ONE", 0, ""), ("WASM_CATCH_ONE_REF", 1, ""), ("WASM_CATC
 CLAUSES = (("WASM_CLAUSE_ON_LABEL", 0, ""), ("WASM_CLAUSE_ON_SWITCH", 1, ""))
 
 
+def meaning(op):
+    """Returns what each field of the C struct holds for an operator."""
+    names = [name for name, _ in op.fields]
+    told, used = [], 0
+    for kind, immediate in zip(kinds(op), op.immediates):
+        if kind in INDEXED:
+            name = names[len(told)]
+            told.append(f"{PLACES[used]}: {INDICES.get(name, name.replace('_', ' '))}")
+            used += 1
+        else:
+            told.append(HELD[kind].format(align=immediate.split()[-1], next=PLACES[used]))
+    return "; ".join(told)
+
+
+def meanings(op, ops):
+    """Returns what the fields hold for an operator, and for the one that shares its opcode."""
+    others = [it for it in ops if it.name == SHARED[1]] if op.name == SHARED[0] else []
+    return ", or ".join(meaning(it) for it in [op, *others])
+
+
 def enum(doc, name, rows):
     """Returns the lines of a C enum. Each row has a name, a value and a comment, which may be empty."""
     last = len(rows) - 1
@@ -294,15 +369,18 @@ def enum(doc, name, rows):
 def chosen(doc, signature, ops, answer, default):
     """Returns a C function that returns a value for each opcode. The shape separates the two operators of one opcode."""
     lines = ["", f"/* {doc} */", f"static inline {signature} {{", "  switch (op->opcode) {"]
+    cases = {}
     for op in ops:
         if op.name == SHARED[1]:
             continue
         value = answer(op)
-        if op.name == SHARED[0]:
-            others = [answer(it) for it in ops if it.name == SHARED[1]]
-            value = " : ".join([f"op->shape == WASM_SHAPE_SELECT_ONE ? {value}", *others])
-        lines.append(f"    case 0x{number(op):x}: return {value};")
-    return [*lines, f"    default: return {default};", "  }", "}"]
+        others = {answer(it) for it in ops if it.name == SHARED[1]} if op.name == SHARED[0] else {value}
+        if others != {value}:
+            value = f"op->shape == WASM_SHAPE_SELECT_ONE ? {value} : {others.pop()}"
+        cases.setdefault(value, []).append(f"    case 0x{number(op):x}:")
+    for value, those in cases.items():
+        lines += [*those, f"      return {value};"]
+    return [*lines, "    default:", f"      return {default};", "  }", "}"]
 
 
 def header(ops):
@@ -313,12 +391,13 @@ def header(ops):
     lines += KINDS.splitlines()
     lines += enum("The forms of a catch: it catches one tag or all, and REF passes the exception too.", "wasm_catch", CATCHES)
     lines += enum("The forms of a clause of a resume.", "wasm_clause", CLAUSES)
+    lines += enum("The kinds of frames: the bytes of the array `frames`, outermost first. Any other byte counts as a block.", "wasm_frame", [(f"WASM_FRAME_{name}", at, "") for at, name in enumerate(FRAMES)])
     told = [(f"WASM_REFUSED_{name}", at, "") for at, name in enumerate(REFUSALS, 1)]
-    told += [("WASM_REFUSED_UNKNOWN_FEATURES", 100, ""), ("WASM_REFUSED_PAST_OFFSETS", 101, ""), ("WASM_REFUSED_NO_ROOM", 102, ""), ("WASM_REFUSED_NOT_A_READER", 103, ""), ("WASM_REFUSED_NO_LIST", 104, "")]
+    told += MISUSES
     lines += enum("The refusals. docs/ERRORS-AND-FEATURES.md lists their texts and offsets.", "wasm_refused", told)
     distinct = [op for op in ops if op.name != SHARED[1]]
-    doc = "The operators: the opcode, or the subopcode plus 65536 times the prefix byte. A typed select with no types\n * or several has the opcode of WASM_OP_TypedSelect and another shape."
-    lines += enum(doc, "wasm_opcode", [(f"WASM_OP_{op.name}", f"0x{number(op):x}", "") for op in distinct])
+    doc = "The operators: the opcode, or the subopcode plus 65536 times the prefix byte. A typed select with no types\n * or several has the opcode of WASM_OP_TypedSelect and another shape. The comment of an operator says what each\n * field of its struct holds; the fields that it does not name are 0."
+    lines += enum(doc, "wasm_opcode", [(f"WASM_OP_{op.name}", f"0x{number(op):x}", meanings(op, ops)) for op in distinct])
     lines += enum("The proposals that added the operators.", "wasm_proposal", [(f"WASM_PROPOSAL_{it.upper()}", at, "") for at, it in enumerate(PROPOSALS)])
     lines += STRUCTS.splitlines()
     lines += CALLS.splitlines()

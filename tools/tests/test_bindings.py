@@ -23,6 +23,23 @@ class Bindings(unittest.TestCase):
         longest = max(len(op.name) for op in table())
         self.assertIn(f"#define WASM_LONGEST_NAME {longest}\n", header.header(table()))
 
+    def test_meanings_of_fields(self):
+        ops = table()
+        told = {op.name: header.meanings(op, ops) for op in ops}
+        self.assertEqual(told["Nop"], "")
+        self.assertEqual(told["Br"], "first: label")
+        self.assertEqual(told["MemoryCopy"], "first: target memory index; second: source memory index")
+        self.assertEqual(told["ResumeThrow"], "first: continuation type index; second: tag index; third: number of clauses")
+        self.assertIn("max_align: 3", told["I64Load"])
+        self.assertIn("SELECT_MANY", told["TypedSelect"])
+        without = [op.name for op in ops if op.immediates and not told[op.name]]
+        self.assertEqual(without, [])
+
+    def test_each_proposal_is_returned_once(self):
+        lines = header.header(table()).splitlines()
+        returned = [line.strip() for line in lines if line.startswith("      return WASM_PROPOSAL_")]
+        self.assertEqual(len(returned), len(set(returned)))
+
     def test_the_versions_are_one(self):
         library = (TOP / "crates/wasm_c/src/lib.rt").read_text(encoding="utf-8")
         crate = (TOP / "bindings/rust/src/native.rs").read_text(encoding="utf-8")
