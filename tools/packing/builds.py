@@ -122,10 +122,11 @@ def build_proved(kit, crates, name, rlib_of, out):
     words += link_words(kit, crates, name, rlib_of)
     words += [] if is_program else ["--crate-type", "staticlib"]
     words += ["--toolchain", kit / "toolchain", "--backend", "llvm", "--list-axioms", "--empty-contracts", "-o", out]
-    how = {"cwd": crates.folder(name), "stdin": subprocess.DEVNULL, "capture_output": True}
+    # (the verdict and the axioms are on standard error)
+    how = {"cwd": crates.folder(name), "stdin": subprocess.DEVNULL, "stdout": subprocess.PIPE, "stderr": subprocess.STDOUT}
     ran = subprocess.run([str(it) for it in words], text=True, errors="replace", **how)
     if ran.returncode or not re.search(r"^logic=proved ", ran.stdout, re.M):
-        raise Failed(f"{name} is not proved over the libraries:\n{ran.stdout[-2000:]}{ran.stderr[-2000:]}")
+        raise Failed(f"{name} is not proved over the libraries:\n{ran.stdout[-4000:]}")
     return ran.stdout
 
 
