@@ -1,7 +1,7 @@
 """Writes the arities of the operators that have a fixed arity."""
 
 from source import joined_arm
-from table import ENUMS, HEAD, enum_uses, grouped, held, pattern, singular
+from table import ENUMS, HEAD, enum_uses, grouped, held, pattern
 
 REACHING = " and an array"
 
@@ -33,11 +33,9 @@ def enum_pairs(enum, ops):
     ruled = [op for op in ops if op.is_by_rule]
     low, ty = enum.module, "ℕ × ℕ"
     made = lambda pair: pair
-    title = f"-- The numbers of operands and results of {enum.title}."
     if ruled:
         ty, made = f"Option ({ty})", lambda pair: f"Some {pair}"
-        title = f"-- The numbers of operands and results of {enum.title}; `None` if they depend on the module."
-    body = [title, f"abbrev pub {low}_pair : {enum.type} → {ty}"]
+    body = [f"abbrev pub {low}_pair : {enum.type} → {ty}"]
     *others, ((most, _), _) = by_pair(ops)
     for (pair, _), those in others:
         body += [f"{low}_pair {argument_pattern(op, low)} = {made(pair)}" for op in those]
@@ -51,10 +49,10 @@ def is_ruled(enum, ops):
 
 
 def fixed_arity_specs(ops):
-    body = []
+    body = ["-- The operands and results of an operator; `None` if they depend on the module."]
     for enum in held():
         body += enum_pairs(enum, [op for op in ops if op.group == enum.group])
-    body += ["-- The numbers of operands and results of an operator; `None` if they depend on the module.", "abbrev pub fixed_arity : Operator → Option (ℕ × ℕ)"]
+    body += ["-- The operands and results of any operator; `None` if they depend on the module.", "abbrev pub fixed_arity : Operator → Option (ℕ × ℕ)"]
     for (pair, _), those in by_pair([op for op in ops if op.group == "Own"]):
         body += [f"fixed_arity {argument_pattern(op, 'operator')} = Some {pair}" for op in those]
     for enum in held():
@@ -65,7 +63,7 @@ def fixed_arity_specs(ops):
     head = [
         f"-- {HEAD}",
         "-- The numbers of operands and results of the operators for which they are fixed.",
-        "-- WebAssembly Core Specification 3.0: Appendix, Index of Instructions. An access to an array also takes the array: proposal multibyte array access.",
+        "-- Specification: Appendix, Index of Instructions. An access to an array also takes the array: proposal multibyte array access.",
         "use Rattle.std.specs.Prelude.{ℕ, ◌+◌, Option, Some, None}",
         "use Rattle.wasm_imm.specs.declared.memory_argument.MemArg.{MemArg}",
         "use Rattle.wasm_imm.specs.declared.memory_argument.MemArgTarget.{MemArgTarget}",
@@ -77,7 +75,7 @@ def fixed_arity_specs(ops):
         "use Rattle.wasm_instr.specs.declared.operator.Operator.{Operator}",
         "use Rattle.wasm_instr.specs.declared.operator.Operator.TheVariants as operator",
         "",
-        "-- The number of operands besides the address that identify the target: one for an array, none for a memory.",
+        "-- An array is an operand besides the address; a memory is none.",
         "abbrev pub arrays_in : MemArgTarget → ℕ",
         "arrays_in (target.Array _) = 1",
         "arrays_in (target.Memory _) = 0",
@@ -106,13 +104,11 @@ def pair_arm(ty, ops, value):
 
 def enum_arity(enum, ops):
     ruled = [op for op in ops if op.is_by_rule]
-    low, ty, title = enum.module, "(u32, u32)", enum.title
-    title = f"Returns the numbers of operands and results of {singular(title)}"
+    low, ty = enum.module, "(u32, u32)"
     made = lambda pair: pair
     if ruled:
         ty, made = f"Option<{ty}>", lambda pair: f"Some({pair})"
-        title = f"{title}.\n/// `None` if they depend on the module"
-    out = ["", f"/// {title}.", f"pub fn {low}_fixed_arity(op: &{enum.type}) -> {ty}"]
+    out = ["", f"pub fn {low}_fixed_arity(op: &{enum.type}) -> {ty}"]
     out += [f"ensures {{ result ≡ {low}_pair op.now }}", "{", "match op {"]
     *others, ((_, most), _) = by_pair(ops)
     out += [pair_arm(enum.type, those, made(pair)) for (_, pair), those in others]

@@ -1,6 +1,6 @@
 """Writes the conversion of operators to a C struct (crates/wasm_view): the number of each operator, and the fields of each shape."""
 
-from table import ENUMS, HEAD, PREFIXES, SHARED, held, singular
+from table import ENUMS, HEAD, PREFIXES, SHARED, held
 
 # The function of src/shapes.rt that makes the C struct of operators with these immediates.
 SHAPES = {
@@ -92,7 +92,6 @@ def opcodes_source(ops):
         wanted = f"opcode_number (Some 0x{prefix}) ({enum.opcode} op)" if prefix else f"{enum.opcode} op"
         lines += [
             "",
-            f"/// Returns the number of {singular(enum.title)}.",
             f"fn {enum.opcode}(op: {enum.type}) -> u32",
             f"    ensures {{ result ≡ {wanted} }}",
             "{",
@@ -140,7 +139,7 @@ def common_source(ops):
         "use crate::views::own;",
         "use wasm_instr::Operator;",
         "",
-        "/// Converts an operator to a C struct, without allocating. `offset` is the offset of its first byte.",
+        "/// Converts an operator to a C struct. `offset` is the offset of its first byte.",
         "#[inline(always)]",
         "pub fn view_of(op: &Operator<'_>, offset: u64) -> WasmOperator",
         "    ensures { result ≡ view_of (op.now, offset) }",
@@ -148,7 +147,7 @@ def common_source(ops):
         "common(offset, opcode_of(op), op)",
         "}",
         "",
-        "/// Converts an operator with this number. Frequent operators are handled here, the others by a call.",
+        "/// Converts frequent operators here, and the others by a call.",
         "#[inline(always)]",
         "fn common(offset: u64, opcode: u32, op: &Operator<'_>) -> WasmOperator",
         "    ensures { result ≡ view offset opcode (immediates_of op.now) }",
@@ -178,7 +177,6 @@ def views_source(ops):
         "use crate::view::WasmOperator;",
         f"use wasm_instr::{{{names}, Operator}};",
         "",
-        "/// Converts an operator with this number.",
         "pub fn own(offset: u64, opcode: u32, op: &Operator<'_>) -> WasmOperator",
         "    ensures { result ≡ view offset opcode (immediates_of op.now) }",
         "{",
@@ -193,7 +191,6 @@ def views_source(ops):
         those = [op for op in ops if op.group == enum.group]
         lines += [
             "",
-            f"/// Converts {singular(enum.title)}.",
             f"fn {enum.module}(offset: u64, opcode: u32, op: {enum.type}) -> WasmOperator",
             f"    ensures {{ result ≡ view offset opcode ({enum.module}_immediates op) }}",
             "{",
@@ -224,10 +221,10 @@ def names_spec(ops):
     lines = [
         f"-- {HEAD}",
         "-- The names of operators by their numbers.",
-        "-- WebAssembly Core Specification 3.0: Appendix, Index of Instructions.",
+        "-- Specification: Appendix, Index of Instructions.",
         "use Rattle.std.specs.Prelude.{◌==◌, ℕ, List, [], codes, if◌then◌else◌}",
         "",
-        "-- The name of the operator with this number, or an empty text if no operator has it.",
+        "-- The name of the operator with this number, or an empty text.",
     ]
     for at in range(len(parts) - 1, -1, -1):
         name, those = parts[at]
@@ -238,7 +235,7 @@ def names_spec(ops):
         lines.append("")
     first, second = [next(op for op in ops if op.name == name) for name in SHARED]
     lines += [
-        "-- The name by number and shape: two operators share a number, and the shape 19 selects the first of them.",
+        "-- The name by number and shape: two operators share a number, and the shape 19 selects the first.",
         "abbrev pub name_at : ℕ → ℕ → List ℕ",
         "name_at number shape =",
         f'    if number == 0x{number(first):x} then (if shape == {ONE_TYPE} then codes "{first.name}" else codes "{second.name}") else {parts[0][0]} number',
@@ -255,7 +252,7 @@ def names_source(ops):
         "ghost use Rattle.std.specs.Prelude.{◌≡◌};",
         f"ghost use Rattle.wasm_view.specs.Names.{{{words}, name_at}};",
         "",
-        "/// Returns the name of the operator with this number and shape, or an empty name if no operator has them.",
+        "/// Returns the name of the operator with this number and shape, or an empty name.",
         "/// The number is the opcode, or the subopcode plus 65536 times the prefix byte.",
         "pub fn name_at(number: u32, shape: u8) -> &'static str",
         "    ensures { result.now ≡ name_at number shape }",
@@ -270,7 +267,6 @@ def names_source(ops):
         behind = f"{parts[at + 1][0]}(number)" if at + 1 < len(parts) else '""'
         lines += [
             "",
-            "/// Returns the name of an operator of this part or of a later one.",
             f"fn {name}(number: u32) -> &'static str",
             f"    ensures {{ result.now ≡ {name} number }}",
             "{",

@@ -67,10 +67,9 @@ def made(op, ty):
     return f"{ty}::{op.name} {{ {', '.join(values)} }}"
 
 
-def list_of(doc, name, ty, enum, ops):
+def list_of(name, ty, enum, ops):
     return [
         "",
-        f"/// {doc}",
         f"pub fn {name}() -> [{ty}; {len(ops)}] {{",
         "[",
         *[f"{made(op, enum)}," for op in ops],
@@ -96,12 +95,12 @@ def values_source(ops):
     ]
     for enum in held():
         those = [op for op in constant if op.group == enum.group]
-        out += list_of(f"Returns {enum.title}.", enum.module, enum.type, enum.type, those)
+        out += list_of(enum.module, enum.type, enum.type, those)
     own = [op for op in constant if op.group == "Own"]
     size = max(LEAST, -(-len(own) // len(OWN_PARTS)))
     for number, word in enumerate(OWN_PARTS):
         part = own[size * number : size * (number + 1)]
-        out += list_of("Returns a part of the other operators of one byte.", f"{word}_own", "Operator<'static>", "Operator", part)
+        out += list_of(f"{word}_own", "Operator<'static>", "Operator", part)
     return "\n".join([*out, ""])
 
 
@@ -120,10 +119,9 @@ def made_source(ops):
         "use std::alloc::Global;",
         *uses([], [("wasm_instr", "Operator"), *enums]),
         "",
-        "/// The number of operators made here.",
         f"pub const COUNT: u32 = {len(those)};",
         "",
-        "/// Returns the operator with this number, one that no constant can make. `None` after an allocation failure.",
+        "/// Returns the operator with this number, which no constant can make; `None` if allocation fails.",
         "pub fn made(alloc: Global, number: u32) -> Option<Operator<'static>> {",
         "Some(match number {",
         *arms,

@@ -70,7 +70,7 @@ def shapes_source(ops):
         if name in LAYERS:
             layers.setdefault(LAYERS[name], set()).add(name)
     out = [
-        f"//! Functions that print several fields of an operator, by the names of the fields. {HEAD}",
+        f"//! Prints several fields of an operator, by their names. {HEAD}",
         "use crate::values::{self, Written};",
         *[f"use {layer}::{{{', '.join(sorted(layers[layer]))}}};" for layer in sorted(layers)],
     ]
@@ -101,7 +101,6 @@ def enum_source(title, name, ty, ops, held_enums=()):
         f"//! Prints the fields of {title}. {HEAD}",
         *sorted(uses),
         "",
-        f"/// Prints the fields of {title}, and nothing for an operator without fields.",
         f"pub fn {name}(out: &mut String, op: &{given}) -> Written {{",
         "match op {",
         *match_arms(ops, ty),

@@ -50,22 +50,21 @@ def aliases(body, *names):
 def enum_rows(enum, ops):
     low = enum.module
     *others, (most, _) = grouped(ops, lambda op: op.proposal)
-    body = ["-- The name of the proposal that added the operator.", f"abbrev pub {low}_proposal : {enum.type} → List ℕ"]
+    body = ["-- The proposal.", f"abbrev pub {low}_proposal : {enum.type} → List ℕ"]
     for proposal, those in others:
         body += [f'{low}_proposal {pattern(op, low, False)} = codes "{proposal}"' for op in those]
     body += [f'{low}_proposal _ = codes "{most}"', ""]
-    body += ["-- The name of the variant.", f"abbrev pub {low}_name : {enum.type} → List ℕ"]
+    body += ["-- The variant's name.", f"abbrev pub {low}_name : {enum.type} → List ℕ"]
     body += [f'{low}_name {pattern(op, low, False)} = codes "{op.name}"' for op in ops]
     body += ["", "-- The opcode." if not ops[0].prefix else "-- The subopcode."]
     body.append(f"abbrev pub {enum.opcode} : {enum.type} → ℕ")
     body += [f"{enum.opcode} {pattern(op, low, False)} = {op.hex()}" for op in ops]
-    body += ["", "-- The immediates in the order of the binary format, with their values."]
-    body.append(f"abbrev pub {low}_immediates : {enum.type} → List Immediate")
+    body += ["", f"abbrev pub {low}_immediates : {enum.type} → List Immediate"]
     body += [f"{low}_immediates {pattern(op, low)} = {immediates_of(op)}" for op in ops if op.fields]
     if any(not op.fields for op in ops):
         body.append(f"{low}_immediates _ = []")
     if Shape(ops).by_fields:
-        body += ["", "-- The fields.", f"abbrev pub {low}_fields : {enum.type} → {enum.group}Fields"]
+        body += ["", f"abbrev pub {low}_fields : {enum.type} → {enum.group}Fields"]
         for op in ops:
             if op.fields:
                 names = names_of(op)
@@ -79,7 +78,7 @@ def enum_rows(enum, ops):
     prelude = ["ℕ", "List", "[]", *imported("\n".join(body), ["Some"]), *cons, "codes"]
     titles = [
         f"The rows of {enum.title}, by columns.",
-        f"WebAssembly Core Specification 3.0, Binary Format, {enum.section}.",
+        f"Specification: Binary Format, {enum.section}.",
     ]
     uses = [f"use Rattle.std.specs.Prelude.{{{', '.join(prelude)}}}", *aliases(body, "kind", "select")]
     if Shape(ops).by_fields:
@@ -132,7 +131,7 @@ def enum_by_opcode(enum, ops):
     if by_fields:
         prelude += ["sym", "ap", "◌∙◌"]
     word = enum.opcode.removeprefix(f"{low}_")
-    titles = [f"For {enum.title}: {word} and immediates determine the operator.", f"The {word} determines the kinds of the immediates, and the name."]
+    titles = [f"For {enum.title}: {word} and immediates determine the operator."]
     uses = [
         f"use Rattle.std.proofs.Common.{{{', '.join(prelude)}}}",
         *aliases(body, "kind", "select"),
@@ -151,7 +150,7 @@ def fields_uses(enum):
 def from_fields(enum, ops, none):
     """Returns the lemma that opcode and fields determine an operator."""
     low = enum.module
-    body = ["", "-- The immediates with the values of these fields.", f"abbrev of_fields : {enum.group}Fields → List Immediate"]
+    body = ["", f"abbrev of_fields : {enum.group}Fields → List Immediate"]
     for names, those in shapes(ops).items():
         body.append(f"of_fields (fields.{fields_name(names)} {names.replace(',', '')}) = {immediates_of(those[0])}")
     body += ["of_fields fields.Bare = []", ""]
@@ -199,7 +198,7 @@ def operator_rows(ops):
     low = "operator"
     inner = [(enum, f"(operator.{enum.group} op)") for enum in held()]
     *others, (most, _) = grouped(ops, lambda op: op.proposal)
-    body = ["-- The name of the proposal that added the operator.", "abbrev pub proposal_of : Operator → List ℕ"]
+    body = ["-- The proposal that added the operator.", "abbrev pub proposal_of : Operator → List ℕ"]
     for proposal, those in others:
         body += [f'proposal_of {pattern(op, low, False)} = codes "{proposal}"' for op in those]
     body += [f"proposal_of {pat} = {enum.module}_proposal op" for enum, pat in inner]
@@ -218,7 +217,7 @@ def operator_rows(ops):
     body.append("immediates_of _ = []")
     titles = [
         "The rows of all operators, by columns.",
-        "WebAssembly Core Specification 3.0: Binary Format, Instructions; Appendix, Index of Instructions.",
+        "Specification: Binary Format, Instructions; Appendix, Index of Instructions.",
     ]
     uses = ["use Rattle.std.specs.Prelude.{ℕ, List, [], ◌∷◌, Option, Some, None, codes}"]
     uses += [*aliases(body, "kind", "select"), *OPERATOR_USES]

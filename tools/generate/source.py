@@ -153,7 +153,6 @@ def info_of(enum, ops):
         "}",
         "}",
         "",
-        "/// Returns the name of the proposal that added the operator.",
         "fn proposal(&self) -> &'static str",
         f"ensures {{ result.now ≡ {low}_proposal self.now }}",
         "{",
@@ -162,7 +161,7 @@ def info_of(enum, ops):
         "}",
         "}",
         "",
-        *column(enum, ops, "name", "Returns the name of the variant.", "&'static str", lambda op: f'"{op.name}"'),
+        *column(enum, ops, "name", "&'static str", lambda op: f'"{op.name}"'),
         "",
         *opcode_column(enum, ops),
     ]
@@ -170,9 +169,8 @@ def info_of(enum, ops):
 
 def opcode_column(enum, ops):
     if any(op.fields for op in ops):
-        return column(enum, ops, "code", "Returns the subopcode.", "u32", Operator.hex)
+        return column(enum, ops, "code", "u32", Operator.hex)
     return [
-        f"/// Returns the {'subopcode' if ops[0].prefix else 'opcode'}.",
         "fn code(&self) -> u32",
         f"ensures {{ result ≡ {enum.opcode} self.now }}",
         "{",
@@ -192,7 +190,7 @@ def enum_source(enum, ops):
         out += ["", *clone_of(enum.type, f"{enum.module}_holds_list", ops)]
     if shape.by_fields:
         ty = f"{enum.group}Fields"
-        out += ["", *in_parts(enum, ops, "fields", "Returns the fields of the operator.", ty, lambda part, wrap: field_arms(enum, part, wrap))]
+        out += ["", *in_parts(enum, ops, "fields", ty, lambda part, wrap: field_arms(enum, part, wrap))]
     out += ["}", ""]
     if shape.by_fields:
         out += [*fields_enum(enum, ops), *equality_of(enum)]
@@ -215,7 +213,6 @@ def fields_enum(enum, ops):
         "}",
         "",
         f"impl {enum.group}Fields {{",
-        "/// Returns whether the fields are equal.",
         f"fn is(&self, other: &{enum.group}Fields) -> bool",
         f"ensures member {{ result ≡ ⟦<{enum.group}Fields as PartialEq>⟧.eq self.now other.now }}",
         "ensures same { IsTrue result ↔ (self.now ≡ other.now) }",
@@ -290,20 +287,20 @@ def debug_of(enum, ops, shape):
     return [*out, "}", "}", "}", ""]
 
 
-def column(enum, ops, name, doc, ty, value):
+def column(enum, ops, name, ty, value):
     """Returns a private function for a column, split into parts if the enum is large."""
 
     def arms_of(part, wrap):
         return [f"{rust_pattern(op, enum.type)} => {wrap(value(op))}," for op in part]
 
-    return in_parts(enum, ops, name, doc, ty, arms_of)
+    return in_parts(enum, ops, name, ty, arms_of)
 
 
-def in_parts(enum, ops, name, doc, ty, arms_of):
+def in_parts(enum, ops, name, ty, arms_of):
     """Returns a private function over all operators, split into parts if the enum is large. `arms_of` makes the arms of a part."""
     word = enum.opcode if name == "code" else f"{enum.module}_{name}"
     now = ".now" if ty.startswith("&") else ""
-    head = [f"/// {doc}", f"fn {name}(&self) -> {ty}", f"ensures {{ result{now} ≡ {word} self.now }}", "{"]
+    head = [f"fn {name}(&self) -> {ty}", f"ensures {{ result{now} ≡ {word} self.now }}", "{"]
     if len(ops) <= LARGE:
         return [*head, "match self {", *arms_of(ops, str), "}", "}"]
     ordered = sorted(ops, key=lambda op: op.code)
@@ -317,7 +314,7 @@ def in_parts(enum, ops, name, doc, ty, arms_of):
         none = outside(enum, part, number == 0, number == len(parts) - 1)
         out += [
             "",
-            f"/// Handles the subopcodes from 0x{part[0].code:02x} to 0x{part[-1].code:02x}, and returns `None` for others.",
+            f"/// Handles 0x{part[0].code:02x} to 0x{part[-1].code:02x}, and returns `None` for others.",
             f"fn {place}_{name}(&self) -> Option<{ty}>",
             f"ensures {{ MatchOption result {none} (λ x. x{now} ≡ {word} self.now) }}",
             "{",
@@ -360,10 +357,10 @@ def operator_head(ops):
 
 def operator_enum(ops):
     out = [
-        "/// An operator with its immediates. Instructions.",
+        "/// An operator with its immediates.",
         "///",
-        "/// The variants are the operators of one byte except the numeric ones, followed by one variant for",
-        "/// each inner enum. `From` converts from an inner enum.",
+        "/// The variants are the operators of one byte except the numeric ones, then the inner enums, from",
+        "/// which `From` converts.",
         "#[derive(Drop, PartialEq, Eq)]",
         "pub enum Operator<'a> {",
         *[variant(op) for op in ops],
@@ -444,7 +441,6 @@ def operator_info(ops):
         "}",
         "}",
         "",
-        "/// Returns the name of the proposal that added the operator.",
         "fn proposal(&self) -> &'static str",
         "ensures { result.now ≡ proposal_of self.now }",
         "{",
@@ -453,16 +449,15 @@ def operator_info(ops):
         "}",
         "}",
         "",
-        *operator_column(ops, "name", "name_of", "Returns the name of the variant.", "&'static str", lambda op: f'"{op.name}"'),
+        *operator_column(ops, "name", "name_of", "&'static str", lambda op: f'"{op.name}"'),
         "",
-        *operator_column(ops, "code", "opcode_of", "Returns the opcode, or the subopcode after a prefix byte.", "u32", Operator.hex),
+        *operator_column(ops, "code", "opcode_of", "u32", Operator.hex),
     ]
 
 
-def operator_column(ops, name, word, doc, ty, value):
+def operator_column(ops, name, word, ty, value):
     now = ".now" if ty.startswith("&") else ""
     return [
-        f"/// {doc}",
         f"fn {name}(&self) -> {ty}",
         f"ensures {{ result{now} ≡ {word} self.now }}",
         "{",
@@ -482,7 +477,7 @@ def operator_source(ops, owning=()):
         "impl<'a> Operator<'a> {",
         *operator_info(ops),
         "",
-        "/// Returns whether this is a SIMD operator: its proposal is `simd` or `relaxed_simd`.",
+        "/// Returns whether the proposal is `simd` or `relaxed_simd`.",
         "pub fn is_simd(&self) -> bool",
         "ensures simd { IsTrue result ↔ IsSimd self.now }",
         "ensures vector { IsTrue result ↔ IsVector self.now }",
@@ -509,9 +504,7 @@ def operator_source(ops, owning=()):
 
 def clone_of(ty, holds_list, ops, owning=()):
     out = [
-        "/// Copies the operator with the list that it owns.",
-        "///",
-        "/// Fails only with `OutOfMemory` at offset 0, and only if the operator owns a list.",
+        "/// Copies the operator with its list. Fails with `OutOfMemory` at offset 0, only if it owns one.",
         f"pub fn clone(&self, alloc: Global) -> Result<{ty}{lifetime(ty)}>",
         "ensures ok { IfOk result (λ copy. copy ≡ self.now) }",
         f"ensures err {{ IfErr result (λ e. {holds_list} self.now × IsOutOfMemoryAt 0 e) }}",

@@ -77,7 +77,7 @@ def name_specs(ops):
     out = [
         f"-- {HEAD}",
         "-- The names of the operators in the text format.",
-        "-- WebAssembly Core Specification 3.0, Text Format, Instructions; and the proposals.",
+        "-- Specification: Text Format, Instructions; and the proposals.",
         "use Rattle.std.specs.Prelude.{ℕ, List, codes}",
         "use Rattle.wasm_instr.specs.declared.operator.Operator.{Operator}",
         "use Rattle.wasm_instr.specs.declared.operator.Operator.TheVariants as operator",
@@ -96,9 +96,10 @@ def name_specs(ops):
 
 def name_function(name, given, ty, those, more=()):
     shown = "pub fn" if ty == "Operator" else "fn"
+    doc = ["/// Returns the operator's name in the text format."] if ty == "Operator" else []
     return [
         "",
-        "/// Returns the operator's name in the text format." if ty == "Operator" else f"/// Returns the name of the `{ty}` in the text format.",
+        *doc,
         f"{shown} {name}(op: &{given}) -> &'static str",
         f"ensures {{ result.now ≡ {name} op.now }}",
         "{",
@@ -137,10 +138,9 @@ def operand_arms(ops, ty):
     return [f"{' | '.join(rust_binding(op, ty) for op in those)} => {call}," for call, those in found.items()]
 
 
-def operand_function(name, ty, those, meaning, more=()):
+def operand_function(name, ty, those, more=()):
     given = "Operator<'_>" if ty == "Operator" else ty
     return [
-        f"/// Writes the operands of {meaning}, with a space before each.",
         f"pub fn {name}(out: &mut String, op: &{given}) -> Written",
         "{",
         "match op {",
@@ -161,8 +161,8 @@ def operand_files(ops):
         those = [op for op in ops if op.group == enum.group]
         claim = "gc_operands op.now" if low == "gc" else f"immediates_text ({low}_immediates op.now)"
         words = "gc_operands" if low == "gc" else "immediates_text"
-        text = operand_function(low, enum.type, those, enum.title)
-        text.insert(2, f"ensures {{ OnOk result (string_bytes out.new ≡ string_bytes out.old ++ {claim}) }}")
+        text = operand_function(low, enum.type, those)
+        text.insert(1, f"ensures {{ OnOk result (string_bytes out.new ≡ string_bytes out.old ++ {claim}) }}")
         row = [] if low == "gc" else [f"ghost use Rattle.wasm_instr.specs.{enum.group}.{{{low}_immediates}};"]
         out[f"{CRATE}/src/operators/{low}.rt"] = "\n".join([
             f"//! The operands of {enum.title}. {HEAD}",
@@ -177,8 +177,8 @@ def operand_files(ops):
         ])
     own = [op for op in ops if op.group == "Own"]
     inner = [f"Operator::{e.group}(inner) => {e.module}::{e.module}(out, inner)," for e in held() if e.group != "Numeric"]
-    text = operand_function("own", "Operator", own, "an operator", ["Operator::Numeric(_) => Ok(()),", *inner])
-    text.insert(2, "ensures { OnOk result (string_bytes out.new ≡ string_bytes out.old ++ operands_of op.now) }")
+    text = operand_function("own", "Operator", own, ["Operator::Numeric(_) => Ok(()),", *inner])
+    text.insert(1, "ensures { OnOk result (string_bytes out.new ≡ string_bytes out.old ++ operands_of op.now) }")
     modules = ", ".join(e.module for e in sorted(held(), key=lambda e: e.module) if e.group != "Numeric")
     out[f"{CRATE}/src/operators/own.rt"] = "\n".join([
         f"//! The operands of all operators. {HEAD}",

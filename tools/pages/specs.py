@@ -8,12 +8,12 @@ DEFINED = re.compile(rf"^ *(?:abbrev )?pub (?:record |data )?({WORD})")
 CONSTRUCTORS = re.compile(rf"^ +(?!pub )((?:{WORD} )+): ")
 # The start of a sentence that names a section of the specification, a proposal or a page.
 REFERENCE = re.compile(
-    r"WebAssembly Core Specification 3\.0[,:] |Proposals? |The legacy exception handling proposal: "
+    r"(?:WebAssembly Core )?Specification(?: 3\.0)?[,:] |Proposals? |The legacy exception handling proposal: "
     r"|docs/ERRORS-AND-FEATURES\.md has |[A-Z][a-z]+ (?:Instructions|Types)\.$"
 )
 # What is left out of such a sentence.
 SHORTER = [
-    (r"WebAssembly Core Specification 3\.0[,:] ", ""),
+    (r"(?:WebAssembly Core )?Specification(?: 3\.0)?[,:] ", ""),
     (r"The legacy exception handling proposal: [^;]*", "legacy exception handling"),
     (r"[Pp]roposals? (legacy exception handling): [^;]*", r"\1"),
     (r"(?:[;,] )?(?:and )?\b[Pp]roposals? (?=[a-z])", lambda found: "; " if found[0][0] in ";," else ""),

@@ -8,7 +8,6 @@ use Rattle.wasm_operators.specs.Laws.{LaysOutBoth}
 use Rattle.uses.specs.Again.{HasFound}
 use Rattle.uses.proofs.Parts.{operators_join}
 
--- If a reader took a text, the operators encoded after its position are encoded after that text.
 laid_after : (r old : Reader) (text : List ℕ) (placed : Placed) (more : List ℕ) → Takes r old text → LaidOut old.features (offset_of old) placed more →
     LaidOut r.features (offset_of r + length text) placed more
 laid_after r old text placed more takes laid =
@@ -25,7 +24,6 @@ takes_both r old new a b first second =
       parts = first.parts ∙ ap (λ t. a ++ t) second.parts ∙ sym (append_assoc a b (rest new));
     }
 
--- Before the first call, nothing is found.
 pub found_none : (r : Reader) (now : State) → now.reader ≡ r → ReadSoFar [] now → HasFound r now []
 found_none r now same read_so_far =
     let place : r.position ≡ r.position + 0 = omega arith in
@@ -36,7 +34,6 @@ found_none r now same read_so_far =
       read_so_far = read_so_far;
     }
 
--- One more call that failed.
 pub found_more : (r : Reader) (old new : State) (found placed : Placed) (text : List ℕ) → LaysOutBoth r.features → HasFound r old found →
     Takes old.reader new.reader text → LaidOut old.reader.features (offset_of old.reader) placed text →
     ReadSoFar (operators found ++ operators placed) new → HasFound r new (found ++ placed)
@@ -47,7 +44,6 @@ found_more r old new found placed text joined h takes laid read_so_far = record 
   read_so_far = subst (λ ops. ReadSoFar ops new) (sym (operators_join found placed)) read_so_far;
 }
 
--- One more call that read the whole expression.
 pub whole_after : (r : Reader) (old : State) (found placed : Placed) → LaysOutBoth r.features → HasFound r old found →
     EncodesRest (operators found) (source_of old.reader) placed → EncodesExpression (source_of r) (found ++ placed)
 whole_after r old found placed joined h (laid, walk) =

@@ -16,7 +16,6 @@ use Rattle.wasm_operators.specs.MainTheorem.{BeginningAt}
 use Rattle.uses.specs.Frames.{open_after}
 use Rattle.uses.proofs.Frames.{open_along}
 
--- The list that was read, for any error but `OutOfMemory`.
 pub longest_at : (m : Message) (r : Reader) (placed : Placed) → (m ≡ message.OutOfMemory → ⊥) → BeginningAt IsAny m [] r placed →
     IsLongestBeginning (source_of r) placed
 longest_at message.OutOfMemory r placed other h = absurd (other refl)
@@ -27,7 +26,6 @@ roles_ended [] zero = refl
 roles_ended [] (suc n) = ap (λ roles. ends ∷ roles) (roles_ended [] n)
 roles_ended (op ∷ ops) n = ap (λ roles. role_of op ∷ roles) (roles_ended ops n)
 
--- As many `end`s as there are open frames complete the list.
 pub ends_complete : (ops : List Operator) (frames : List FrameKind) →
     ((roles : List (Role Operator)) (next : List FrameKind) → frames_along (frame.Block ∷ []) roles ≡ Some next → IsWalk (roles ++ replicate (length next) ends)) →
     frames_along (frame.Block ∷ []) (roles_of ops) ≡ Some frames → AreWalk (ops ++ replicate (open_after 1 ops) operator.End)

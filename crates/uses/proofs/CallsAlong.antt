@@ -1,4 +1,3 @@
--- The calls that are collected after visits of a list.
 use Rattle.std.proofs.Common.{◌≡◌, List, [], ◌∷◌, ◌++◌, false, sym, ap, ◌∙◌, append-nil, append_assoc}
 use Rattle.wasm_operators.specs.Expression.{Placed}
 use Rattle.wasm_operators.specs.Visiting.{VisitRun, Visited}

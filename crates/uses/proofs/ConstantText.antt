@@ -1,4 +1,3 @@
--- The reader of a constant expression, and the text that it reads.
 use Rattle.std.proofs.Common.{◌≡◌, ℕ, ℤ, ◌+◌, List, length, drop, Option, ap, subst, ◌∙◌, arith}
 use Rattle.wasm_operators.specs.below.bytes.features.WasmFeatures.{WasmFeatures}
 use Rattle.wasm_operators.specs.below.FromReader.{IsReaderOf}

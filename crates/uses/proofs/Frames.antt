@@ -1,4 +1,3 @@
--- The number of frames that are open after operators.
 use Rattle.std.proofs.Common.{◌≡◌, ℕ, ◌+◌, ◌-◌, List, [], ◌∷◌, length, Option, Some, None, refl, sym, ap, subst, ◌∙◌, arith}
 use Rattle.std.specs.Option.{option_map}
 use Rattle.std.proofs.lemmas.Option.{option_and_then_some}
@@ -11,7 +10,6 @@ use Rattle.wasm_operators.specs.instr.declared.operator.Operator.TheVariants as 
 use Rattle.wasm_operators.specs.instr.Roles.{role_of, roles_of}
 use Rattle.uses.specs.Frames as count
 
--- The number of frames that a role opens and closes.
 abbrev opened : {A : Type 0} → Role A → ℕ
 opened (opens n a) = 1
 opened (opens_if a) = 1
@@ -75,7 +73,6 @@ by_role operator.End = (refl, refl)
 by_role (operator.Delegate _) = (refl, refl)
 by_role _ = (refl, refl)
 
--- If the frame rules allow the operators, as many frames are open after them as are counted.
 pub open_along : (ops : List Operator) (frames next : List FrameKind) → frames_along frames (roles_of ops) ≡ Some next →
     count.open_after (length frames) ops ≡ length next
 open_along [] frames next is = ap length some

@@ -1,11 +1,9 @@
--- The arities of operators that were visited.
 use Rattle.std.proofs.Common.{◌≡◌, List, [], ◌∷◌, None, sym, ap, subst, ◌∙◌}
 use Rattle.wasm_operators.specs.Expression.{Placed}
 use Rattle.wasm_operators.specs.Visiting.{VisitRun, Visited}
 use Rattle.uses.specs.declared.heights.Heights.{Heights}
 use Rattle.uses.specs.Heights.{HaveArities, StepsHeight}
 
--- If there is no fault at the end, each operator has an arity in the module.
 run : {A : Type 0} (placed : Placed) (outcomes : List A) (before after : Heights) → after.fault ≡ None →
     VisitRun {A = A} (λ s op a t. StepsHeight s op t) before placed outcomes after →
     (before.fault ≡ None) × HaveArities before.context.types.now before.context.functions.now placed

@@ -21,7 +21,6 @@ may_follow message.EndOfData other = refl
 may_follow message.OutOfMemory other = absurd (other refl)
 may_follow _ other = tt
 
--- If peeking fails, no operator that the frame allows is encoded there.
 pub none_peeked : (kind : FrameKind) (r : Reader) (result : Result Operator Error) → PeeksOperator (Some kind) result r →
     IfErr result (λ e. e.message ≢ message.OutOfMemory → (op : Operator) (text more : List ℕ) → rest r ≡ text ++ more →
     EncodesOperator r.features op text → Allows kind (role_of op) → ⊥)

@@ -5,7 +5,8 @@ use Rattle.wasm_operators.specs.Expression.{Placed, operators, LaidOut}
 use Rattle.wasm_operators.specs.Reading.{State}
 use Rattle.wasm_operators.specs.MainTheorem.{ReadSoFar}
 
--- The operators found since this reader was opened are encoded in the bytes that were read, and the reader's state is after them.
+-- These operators are encoded in the bytes since the reader was opened, and its state is after
+-- them.
 pub record HasFound (opened : Reader) (now : State) (found : Placed) : Type 0 where
   pub text : List ℕ
   pub takes : Takes opened now.reader text

@@ -1,5 +1,5 @@
--- The operators that have an arity in a module, and the effect of a visit that keeps the height of the operand stack.
--- WebAssembly Core Specification 3.0: Validation, Instructions; Appendix, Validation Algorithm.
+-- Arities of operators in a module, and visits that keep the height of the operand stack.
+-- Specification: Validation, Instructions; Appendix, Validation Algorithm.
 use Rattle.std.specs.Prelude.{◌≡◌, ℕ, List, [], ◌∷◌, None, IsSome}
 use Rattle.wasm_operators.specs.instr.Arity.{arity_of}
 use Rattle.wasm_operators.specs.instr.declared.operator.Operator.{Operator}
@@ -8,11 +8,9 @@ use Rattle.uses.specs.declared.heights.Heights.{Heights}
 use Rattle.uses.specs.declared.module.Frame.{Frame}
 use Rattle.uses.specs.Module.{facts}
 
--- The operator has an arity in the module, for some open frames.
 abbrev pub HasArity : List (ℕ × ℕ) → List ℕ → Operator → Type 0
 HasArity types functions op = (frames : List Frame) × IsSome (arity_of (facts types functions frames) op)
 
--- Each of the operators has an arity in the module.
 abbrev pub HaveArities : List (ℕ × ℕ) → List ℕ → Placed → Type 0
 HaveArities types functions [] = Unit {0}
 HaveArities types functions (p ∷ ps) = HasArity types functions p.0 × HaveArities types functions ps
@@ -23,7 +21,8 @@ pub record KeepsModule (before after : Heights) : Type 0 where
   pub functions : after.context.functions.now ≡ before.context.functions.now
   pub fault : after.fault ≡ None → before.fault ≡ None
 
--- One visit: if there is no fault after it, there was none before, and the operator has an arity in the module.
+-- Without a fault after the visit, there was none before, and the operator has an arity in the
+-- module.
 pub record StepsHeight (before : Heights) (op : Operator) (after : Heights) : Type 0 where
   pub keeps : KeepsModule before after
   pub arity : after.fault ≡ None → HasArity before.context.types.now before.context.functions.now op

@@ -1,5 +1,5 @@
 -- The facts about a module on which arities depend, from lists of its types and functions.
--- WebAssembly Core Specification 3.0: Validation, Instructions; Appendix, Validation Algorithm.
+-- Specification: Validation, Instructions; Appendix, Validation Algorithm.
 use Rattle.std.specs.Prelude.{ℕ, ◌-◌, List, length, Option, None, if◌then◌else◌, nat_lt, min}
 use Rattle.std.specs.List.{slice_get}
 use Rattle.std.specs.Option.{option_map}
@@ -18,17 +18,17 @@ block_of arity.Nothing = block.Empty
 block_of arity.OneResult = block.Value value.I32
 block_of (arity.OfType index) = block.FuncType index
 
--- The arity of a block type.
 abbrev pub arity_of : BlockType → BlockArity
 arity_of block.Empty = arity.Nothing
 arity_of (block.Value ty) = arity.OneResult
 arity_of (block.FuncType index) = arity.OfType index
 
--- The block type and the kind of the frame at a depth. Depth 0 is the innermost frame, which is the last of the list.
+-- The block type and the kind of the frame at a depth. The innermost is the last of the list.
 abbrev pub label : List Frame → ℕ → Option (BlockType × FrameKind)
 label frames depth = if nat_lt depth (length frames) then option_map (λ f. (block_of f.arity, f.kind)) (slice_get frames (length frames - 1 - depth)) else None
 
--- The facts about a module that has only function types, with these parameters and results, and functions of these types, while these frames are open.
+-- A module of function types with these parameters and results, and functions of these types, with
+-- these open frames.
 abbrev pub facts : List (ℕ × ℕ) → List ℕ → List Frame → ModuleFacts
 facts types functions frames = record {
   func_type_arity = slice_get types;

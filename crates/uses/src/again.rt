@@ -1,4 +1,3 @@
-//! A reader that continues after allocation failure.
 ghost use Rattle.std.specs.Prelude.{IfOk};
 ghost use Rattle.wasm_operators.specs.Expression.{EncodesExpression};
 ghost use Rattle.uses.specs.Input.{input};
@@ -8,12 +7,11 @@ use wasm_operators::{
     BinaryReader, Error, Message, Operator, OperatorsReader, Result, WasmFeatures, expression_laws,
 };
 
-/// Returns the operators of an expression. Calls `read_all` at most `tries` times: again only after
-/// allocation failed. The list is the same as without a failure.
+/// Returns the operators of an expression. Calls `read_all` again after allocation failed, at most
+/// `tries` times in all.
 ///
-/// After a call that failed with `OutOfMemory`, the clause `beginning` says which operators were
-/// read before the reader's position. The clause `tree` of the next call takes these as read
-/// before, and the law `layouts` joins the lists.
+/// The clause `tree` of a call takes the operators that the clause `beginning` of the failed one
+/// gives, and the law `layouts` joins the lists.
 pub fn operators_again<'a>(
     alloc: Global,
     features: WasmFeatures,

@@ -1,4 +1,3 @@
-//! The functions that a body calls directly.
 ghost use Rattle.std.specs.Prelude.{◌≡◌, List, IfOk};
 ghost use Rattle.wasm_operators.specs.Body.{EncodesBody};
 ghost use Rattle.wasm_operators.specs.Expression.{Placed};
@@ -13,7 +12,6 @@ use wasm_operators::{
     VisitOperator, VisitSimdOperator, Visitor, WasmFeatures, body_laws,
 };
 
-/// A visitor that collects the targets of direct calls.
 #[derive(Drop)]
 struct Calls {
     calls: Vec<u32>,
@@ -31,7 +29,6 @@ impl Model for Calls {
 impl Visitor for Calls {
     type Output = ();
 
-    // A visit adds the index of the called function, if there is one.
     ghost visits = { λ before op outcome after. CallsVisit before op after };
 
     fn visit_any(&mut self, op: Operator<'static>) {
@@ -54,12 +51,10 @@ impl<'a> VisitOperator<'a> for Calls {
 
 impl VisitSimdOperator for Calls {}
 
-/// Returns the indices of the functions that a body calls directly, in order. They are those of the
-/// one expression after its locals.
+/// Returns the indices of the functions that a body calls directly, in order.
 ///
-/// The clause `tree` of `visit_all_simd` gives that expression, and the visitor's relation for each
-/// of its operators. `get_operators_reader` says where the expression starts, and the law
-/// `opened_bodies` that locals and expression are the body.
+/// The clause `tree` of `visit_all_simd` gives the expression and the relation of each visit. By
+/// the law `opened_bodies`, locals and expression are the body.
 pub fn called_functions(alloc: Global, features: WasmFeatures, bytes: &[u8]) -> Result<Vec<u32>>
     ensures { IfOk result (λ calls. (declarations : List Declaration) × (placed : Placed)
         × EncodesBody (input features bytes.now) declarations placed × (calls.items ≡ calls_of placed)) }

@@ -6,7 +6,7 @@ ghost use Rattle.uses.specs.Constants.{i32_of, TakesOffset};
 use std::alloc::Global;
 use wasm_operators::{BinaryReader, ConstExpr, Operator, Result};
 
-/// Returns the constant of an expression that is one `i32.const` and `end`, else `None`.
+/// Returns the constant of an expression that is one `i32.const` and `end`.
 fn i32_of(list: &[(Operator<'_>, u64)]) -> Option<i32>
     ensures { result ≡ i32_of (operators list.now) }
 {
@@ -19,11 +19,9 @@ fn i32_of(list: &[(Operator<'_>, u64)]) -> Option<i32>
     }
 }
 
-/// Reads the constant expression at the reader's position. Returns its constant if it is one
-/// `i32.const`, and `None` if it has other operators. On `Err` the reader is unchanged.
+/// Reads a constant expression. Returns its constant if it is one `i32.const`, otherwise `None`.
 ///
-/// `ConstExpr::read` takes the text of a constant expression and keeps it with its offset. The
-/// clause `tree` of `read_all` says that the list is the one expression that the text encodes.
+/// By the clause `tree` of `read_all`, the list is the one expression that the text encodes.
 pub fn read_offset(alloc: Global, reader: &mut BinaryReader<'_>) -> Result<Option<i32>>
     ensures takes { IfOk result (λ offset. TakesOffset offset reader.old reader.new) }
     ensures nothing { IfErr result (λ e. reader.new ≡ reader.old) }

@@ -1,4 +1,3 @@
-//! The number of operators in an expression.
 ghost use Rattle.std.specs.Prelude.{◌≡◌, ◌+◌, ◌-◌, ◌^◌, ◌<◌, length, IfOk, IfErr};
 ghost use Rattle.wasm_operators.specs.Expression.{Placed, EncodesExpression};
 ghost use Rattle.uses.specs.Input.{input};
@@ -9,7 +8,6 @@ use wasm_operators::{
     VisitSimdOperator, Visitor, WasmFeatures, expression_laws,
 };
 
-/// The number of operators that were visited.
 #[derive(Debug, Drop)]
 pub struct Count {
     pub operators: u64,
@@ -18,7 +16,6 @@ pub struct Count {
 impl Visitor for Count {
     type Output = ();
 
-    // A visit adds one.
     ghost visits = { λ before op outcome after. before.operators < 2 ^ 64 - 1 → after.operators ≡ before.operators + 1 };
 
     fn visit_any(&mut self, _op: Operator<'static>) {
@@ -38,9 +35,8 @@ impl VisitSimdOperator for Count {}
 
 /// Returns the number of operators in an expression.
 ///
-/// The visitor's relation counts one visit. Along the list of the clause `tree` it counts them all:
-/// by the law `layouts`, the list is no longer than its bytes. If the bytes encode an expression,
-/// only allocation can fail: the clause `only`.
+/// The visitor's relation counts one visit; along the list of the clause `tree` it counts all. By
+/// the law `layouts`, the list is no longer than its bytes.
 pub fn count_operators(alloc: Global, features: WasmFeatures, bytes: &[u8]) -> Result<u64>
     ensures counts { IfOk result (λ count. (placed : Placed)
         × EncodesExpression (input features bytes.now) placed × (count ≡ length placed)) }

@@ -13,7 +13,6 @@ use wasm_operators::{
     VisitSimdOperator, Visitor, WasmFeatures, body_laws,
 };
 
-/// The reason why a body has no valid stack heights.
 #[derive(Clone, Copy, Debug, PartialEq, Eq)]
 pub enum HeightFault {
     /// The module does not determine the arity of an operator.
@@ -22,11 +21,9 @@ pub enum HeightFault {
     Underflow,
     /// Too many operands are left at the end of a frame.
     LeftOver,
-    /// Allocating an open frame failed.
     Memory,
 }
 
-/// A visitor that keeps the height of the operand stack.
 #[derive(Drop)]
 pub struct Heights<'m> {
     pub context: Context<'m>,
@@ -52,7 +49,7 @@ fn is_stack_polymorphic(op: &Operator<'_>) -> bool {
     )
 }
 
-/// Returns the kind of the frame that replaces the innermost one, if the operator turns a frame.
+/// Returns the kind of frame that the innermost one becomes, if the operator turns it.
 fn turned(op: &Operator<'_>) -> Option<FrameKind> {
     match op {
         Operator::Else => Some(FrameKind::Else),
@@ -62,7 +59,6 @@ fn turned(op: &Operator<'_>) -> Option<FrameKind> {
     }
 }
 
-/// Returns the frame that an operator opens, if it opens one.
 fn opened(op: &Operator<'_>) -> Option<(BlockArity, FrameKind)> {
     match op {
         Operator::Block { blockty } => Some((BlockArity::new(*blockty), FrameKind::Block)),
@@ -82,7 +78,7 @@ fn add_frame(frames: &mut Vec<Frame>, frame: Frame) -> bool {
 }
 
 impl<'m> Heights<'m> {
-    /// Takes `takes` operands from a frame, or all of them if the frame ends.
+    /// Takes `takes` operands from a frame, or all if the frame ends.
     fn take(&mut self, frame: Frame, takes: u32, all: bool)
         ensures { KeepsModule self.old self.new }
     {
@@ -100,7 +96,6 @@ impl<'m> Heights<'m> {
         };
     }
 
-    /// Adds `leaves` results.
     fn leave(&mut self, leaves: u32)
         ensures { KeepsModule self.old self.new }
     {
@@ -108,7 +103,6 @@ impl<'m> Heights<'m> {
         self.greatest = self.greatest.max(self.height);
     }
 
-    /// Opens a frame.
     fn open(&mut self, frame: Frame)
         ensures { KeepsModule self.old self.new }
     {
@@ -117,14 +111,12 @@ impl<'m> Heights<'m> {
         }
     }
 
-    /// Closes the innermost frame.
     fn close(&mut self)
         ensures { KeepsModule self.old self.new }
     {
         let _ = self.context.frames.pop();
     }
 
-    /// Updates the frames for an operator in the innermost frame, `frame`.
     fn turn(&mut self, frame: Frame, op: &Operator<'_>)
         ensures { KeepsModule self.old self.new }
     {
@@ -154,7 +146,6 @@ impl<'m> Heights<'m> {
         }
     }
 
-    /// Applies one operator to the height and the frames.
     fn step(&mut self, op: &Operator<'_>)
         ensures { StepsHeight self.old op.now self.new }
     {
@@ -180,7 +171,6 @@ impl<'m> Heights<'m> {
 impl<'m> Visitor for Heights<'m> {
     type Output = ();
 
-    // A visit applies the operator's arity.
     ghost visits = { λ before op outcome after. StepsHeight before op after };
 
     fn visit_any(&mut self, op: Operator<'static>) {
@@ -201,8 +191,8 @@ impl<'m> VisitSimdOperator for Heights<'m> {}
 /// Computes the stack heights along a body of this function type, in a module with these types and
 /// functions.
 ///
-/// Proved: if there is no fault, the bytes encode a body, and each of its operators has an arity in
-/// the module. It is not proved that the heights are those of the validation algorithm.
+/// Proved: without a fault, the bytes encode a body whose operators have arities in the module. Not
+/// proved: that the heights are those of the validation algorithm.
 pub fn heights_of_body<'m>(
     alloc: Global,
     features: WasmFeatures,

@@ -1,5 +1,4 @@
-//! Proved callers of `wasm_operators`. Each shows how a conclusion follows from public contracts
-//! and laws alone.
+//! Proved callers of `wasm_operators`, which cite public contracts and laws only.
 //!
 //! A call that allocates may fail with `OutOfMemory`.
 #![tactic(auto)]

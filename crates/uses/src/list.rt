@@ -1,4 +1,3 @@
-//! The operators of an expression, in a list.
 ghost use Rattle.std.specs.Prelude.{◌≡◌, IfOk, IfErr};
 ghost use Rattle.wasm_operators.specs.below.Features.{all_features};
 ghost use Rattle.wasm_operators.specs.Expression.{Placed, EncodesExpression};
@@ -7,10 +6,8 @@ ghost use Rattle.uses.specs.Input.{input};
 use std::alloc::Global;
 use wasm_operators::{BinaryReader, Message, Operator, OperatorsReader, Result};
 
-/// Returns the operators of an expression, each with the offset of its first byte.
-///
-/// They are those of the one expression that the bytes encode: the clause `tree` of `read_all`. If
-/// the bytes encode one, only allocation can fail: the clause `only`.
+/// Returns the operators of an expression, each with the offset of its first byte, as the clauses
+/// `tree` and `only` of `read_all` say.
 pub fn operators<'a>(alloc: Global, bytes: &'a [u8]) -> Result<Vec<(Operator<'a>, u64)>>
     ensures encodes { IfOk result (λ found. EncodesExpression (input all_features bytes.now) found.items) }
     ensures whole { (placed : Placed) → EncodesExpression (input all_features bytes.now) placed

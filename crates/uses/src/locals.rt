@@ -1,4 +1,3 @@
-//! A body: its locals and its operators.
 ghost use Rattle.std.specs.Prelude.{IfOk};
 ghost use Rattle.wasm_operators.specs.Body.{EncodesBody};
 ghost use Rattle.uses.specs.Input.{input};
@@ -8,7 +7,6 @@ use wasm_operators::{
     BinaryReader, Error, FunctionBody, Message, Operator, Result, ValType, WasmFeatures, body_laws,
 };
 
-/// The local declarations of a body, and its operators with their offsets.
 #[derive(Drop)]
 pub struct Body<'a> {
     pub locals: Vec<(u32, ValType)>,
@@ -17,10 +15,8 @@ pub struct Body<'a> {
 
 /// Reads the one body that the bytes encode.
 ///
-/// Each step of the iterator over locals is one declaration, and the law `steps_of_locals` adds it
-/// to those before. `into_operators_reader` then says that the reader is after these declarations,
-/// and the clause `tree` of `read_all` that the rest is the expression. The law `past_locals` joins
-/// both to the body.
+/// By the law `steps_of_locals`, each step of the iterator adds a declaration. By the clause `tree`
+/// of `read_all`, the rest is the expression. The law `past_locals` joins both to the body.
 pub fn read_body<'a>(alloc: Global, features: WasmFeatures, bytes: &'a [u8]) -> Result<Body<'a>>
     ensures { IfOk result (λ body. EncodesBody (input features bytes.now) body.locals.items body.operators.items) }
 {

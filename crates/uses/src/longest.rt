@@ -10,14 +10,12 @@ use wasm_operators::{
     grammar_laws,
 };
 
-/// The operators that are kept, and the number of `end`s that complete them.
 #[derive(Drop)]
 pub struct Kept<'a> {
     pub operators: Vec<(Operator<'a>, u64)>,
     pub ends: usize,
 }
 
-/// Returns how many frames an operator opens.
 fn opens(op: &Operator<'_>) -> usize
     ensures { result ≡ opens op.now }
 {
@@ -31,7 +29,6 @@ fn opens(op: &Operator<'_>) -> usize
     }
 }
 
-/// Returns how many frames an operator closes.
 fn closes(op: &Operator<'_>) -> usize
     ensures { result ≡ closes op.now }
 {
@@ -41,7 +38,6 @@ fn closes(op: &Operator<'_>) -> usize
     }
 }
 
-/// Returns how many frames are open after the operators of an expression.
 fn open_frames(list: &[(Operator<'_>, u64)]) -> usize
     ensures { result ≡ open_after 1 (operators list.now) }
 {
@@ -52,7 +48,6 @@ fn open_frames(list: &[(Operator<'_>, u64)]) -> usize
     open
 }
 
-/// Returns these operators, with the number of `end`s that complete them.
 fn keep<'a>(found: Vec<(Operator<'a>, u64)>) -> Kept<'a>
     ensures operators { result.operators.items ≡ found.entry.items }
     ensures ends { result.ends ≡ open_after 1 (operators found.entry.items) }
@@ -64,14 +59,11 @@ fn keep<'a>(found: Vec<(Operator<'a>, u64)>) -> Kept<'a>
     }
 }
 
-/// Returns the longest list of operators that some prefix of the bytes encodes and that begins an
-/// expression. `ends` is the number of `end`s that complete it; it is 0 for a whole expression.
-/// Only allocation can fail.
+/// Returns the longest list of operators that begins an expression, and the number of `end`s that
+/// complete it. Only allocation can fail.
 ///
-/// If `read_all` fails, the clause `beginning` says that the list is the longest, and which frames
-/// its open path has. The laws `path_is_run` and `ends_complete` of the grammar say the rest. If
-/// `read_all` succeeds, the clause `tree` says so, and the law `whole_is_longest` that nothing is
-/// longer.
+/// If `read_all` fails, the clause `beginning` says so, with the laws `path_is_run` and
+/// `ends_complete`. Otherwise the clause `tree` and the law `whole_is_longest` do.
 pub fn longest_beginning<'a>(
     alloc: Global,
     features: WasmFeatures,

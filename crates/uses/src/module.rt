@@ -1,4 +1,4 @@
-//! The types and functions of a module on which arities depend, kept in slices.
+//! The types and functions of a module on which arities depend, in slices.
 ghost use Rattle.std.specs.Prelude.{◌≡◌};
 ghost use Rattle.uses.specs.Module.{arity_of, block_of};
 
@@ -16,7 +16,6 @@ pub enum BlockArity {
 }
 
 impl BlockArity {
-    /// Returns the arity of a block type.
     pub fn new(ty: BlockType) -> BlockArity
         ensures { result ≡ arity_of ty }
     {
@@ -27,7 +26,6 @@ impl BlockArity {
         }
     }
 
-    /// Returns a block type with this arity.
     pub fn block_type(&self) -> BlockType
         ensures { result ≡ block_of self.now }
     {
@@ -39,7 +37,6 @@ impl BlockArity {
     }
 }
 
-/// An open frame.
 #[derive(Clone, Copy, Debug, PartialEq, Eq)]
 pub struct Frame {
     pub arity: BlockArity,
@@ -50,9 +47,8 @@ pub struct Frame {
     pub unreachable: bool,
 }
 
-/// What arities depend on: the types and functions of a module, and the open frames, the innermost
-/// last. A type is given by the numbers of its parameters and results, a function by its type
-/// index.
+/// What arities depend on: types, as numbers of parameters and results; functions, as type indices;
+/// and the open frames, the innermost last.
 #[derive(Drop)]
 pub struct Context<'m> {
     pub types: &'m [(u32, u32)],

@@ -9,7 +9,7 @@ use wasm_operators::{
     VisitOperator, VisitSimdOperator, Visitor, WasmFeatures, decode, dispatch, expression_laws,
 };
 
-/// The number of operators that copy or fill memory, and the number of all others.
+/// The number of operators that copy or fill memory, and of all others.
 #[derive(Debug, Drop)]
 pub struct Moves {
     pub moves: u64,
@@ -19,7 +19,6 @@ pub struct Moves {
 impl Visitor for Moves {
     type Output = ();
 
-    // A visit adds one to one of the two counts.
     ghost visits = { λ before op outcome after. before.moves + before.others < 2 ^ 64 - 1
         → after.moves + after.others ≡ before.moves + before.others + 1 };
 
@@ -61,11 +60,9 @@ impl<'a> VisitOperator<'a> for Moves {
 
 impl VisitSimdOperator for Moves {}
 
-/// Counts the operators of an expression that copy or fill memory, and all others. The sum is the
-/// number of its operators.
+/// Counts the operators of an expression that copy or fill memory, and all others.
 ///
-/// The proof is that of `count_operators`, with a relation over both counts that all visits
-/// satisfy.
+/// The proof is that of `count_operators`, with a relation over both counts.
 pub fn count_moves(alloc: Global, features: WasmFeatures, bytes: &[u8]) -> Result<Moves>
     ensures { IfOk result (λ found. (placed : Placed)
         × EncodesExpression (input features bytes.now) placed × (found.moves + found.others ≡ length placed)) }

@@ -10,7 +10,6 @@ ghost use Rattle.wasm_operators.specs.grammar.Frames.{Allows};
 use std::alloc::Global;
 use wasm_operators::{BinaryReader, FrameKind, FrameStack, Operator, ReadOperators, Result};
 
-/// The innermost frame.
 #[derive(Clone, Copy, Debug, PartialEq, Eq)]
 pub struct Inside {
     pub kind: FrameKind,
@@ -27,10 +26,7 @@ impl FrameStack for Inside {
 }
 
 /// Returns the operator at the reader's position, inside a frame of this kind, without consuming
-/// it.
-///
-/// `peek_operator` returns what a read would: a prefix of the rest encodes the operator, and the
-/// frame allows it. On an error other than `OutOfMemory`, no such operator is encoded there.
+/// it. On an error other than `OutOfMemory`, none is encoded there.
 pub fn operator_inside<'a>(
     alloc: Global,
     reader: &BinaryReader<'a>,

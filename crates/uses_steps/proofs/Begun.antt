@@ -13,20 +13,17 @@ use Rattle.wasm_operators.specs.Reading.{State, Taking, Refusing, Allocating}
 use Rattle.uses_steps.specs.Begun.{BeginsExpression}
 use Rattle.uses_steps.specs.Input.{input}
 
--- If more bytes would complete the expression, only the end of the data is an error.
 pub cut_at_end : (m : Message) (left : List ℕ) → m ≢ message.OutOfMemory → m ≢ message.FramesRemain → m ≢ message.EndOfData → ¬ CutFault m left
 cut_at_end message.OutOfMemory left memory frames data_end cut = memory refl
 cut_at_end message.FramesRemain left memory frames data_end cut = frames refl
 cut_at_end message.EndOfData left memory frames data_end cut = data_end refl
 cut_at_end _ left memory frames data_end cut = cut
 
--- The list that was read, for any error but `OutOfMemory`.
 pub longest_at : (Kept : OfPlaced) (m : Message) (r : Reader) (placed : Placed) → m ≢ message.OutOfMemory → BeginningAt Kept m [] r placed →
     IsLongestOf Kept [] (source_of r) placed
 longest_at Kept message.OutOfMemory r placed other h = absurd (other refl)
 longest_at Kept _ r placed other h = h
 
--- A read by a reader that starts at the same position.
 pub begins_same : (Kept : OfPlaced) (Encodes : Taking) (Fault : Refusing) (Allocates : Allocating) (e : Error) (old other new : State) (placed : Placed) →
     other.reader ≡ old.reader → ReadsBeginning Kept Encodes Fault Allocates [] e other new placed → ReadsBeginning Kept Encodes Fault Allocates [] e old new placed
 begins_same Kept Encodes Fault Allocates e old other new placed same h = record {
@@ -38,7 +35,6 @@ begins_same Kept Encodes Fault Allocates e old other new placed same h = record 
   stops = h.stops;
 }
 
--- All of the bytes are an expression.
 pub begins_whole : (features : WasmFeatures) (bytes : List ℕ) (placed : Placed) → EncodesExpression (input features bytes) placed →
     BeginsExpression (input features bytes) (length bytes)
 begins_whole features bytes placed encodes = record {
@@ -50,7 +46,6 @@ begins_whole features bytes placed encodes = record {
   encodes = encodes;
 }
 
--- The bytes that were taken are an expression, if no frame is open after them.
 pub begins_closed : (features : WasmFeatures) (bytes text : List ℕ) (new : State) (placed : Placed) (n : ℕ) →
     Takes (reader_of features 0 bytes) new.reader text → LaidOut features 0 placed text → OpenPath (roles_of (operators placed)) new.frames →
     new.frames ≡ [] → n ≡ new.reader.position → BeginsExpression (input features bytes) n

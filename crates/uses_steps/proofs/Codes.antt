@@ -1,4 +1,5 @@
--- What a read says if the caller knows the encoding at the reader's position. No encoding is a proper prefix of another, and a fault determines the error.
+-- A caller that knows the encoding at the reader's position knows the result: no encoding is a
+-- proper prefix of another, and a fault determines the error.
 use Rattle.std.proofs.Common.{◌≡◌, ◌≢◌, ℕ, ◌+◌, List, [], ◌++◌, length, Result, Ok, Err, IfOk, IfErr, refl, sym, ap, subst, ◌∙◌, append-nil}
 use Rattle.wasm_operators.specs.below.bytes.error.Error.{Error}
 use Rattle.wasm_operators.specs.below.bytes.message.Message.{Message}
@@ -8,18 +9,15 @@ use Rattle.wasm_operators.specs.below.Refusal.{IsReadFault}
 use Rattle.wasm_operators.specs.below.Sequence.{PrefixCode, PrefixCodeUpTo}
 use Rattle.wasm_operators.specs.below.Source.{Reader, rest, Takes, Reads, Refuses, MayFollow}
 
--- Unless allocation failed, the data may end here.
 pub may_follow : (m : Message) → m ≢ message.OutOfMemory → MayFollow m []
 may_follow message.EndOfData other = refl
 may_follow message.OutOfMemory other = absurd (other refl)
 may_follow _ other = tt
 
--- A message that can be no other is `OutOfMemory`.
 pub memory_alone : (m : Message) → (m ≢ message.OutOfMemory → ⊥) → m ≡ message.OutOfMemory
 memory_alone message.OutOfMemory none = refl
 memory_alone _ none = absurd (none (λ is. absurd (cc is)))
 
--- If a value is encoded here, reading it can fail with `OutOfMemory` alone.
 pub refused_there : {X : Type 0} (Encodes : List ℕ → X → Type 0) (m : Message) (r : Reader) (text more : List ℕ) (x : X) →
     Refuses Encodes (rest r) m → Encodes text x → rest r ≡ text ++ more → m ≡ message.OutOfMemory
 refused_there Encodes m r text more x refuses encodes parts =
@@ -28,7 +26,6 @@ refused_there Encodes m r text more x refuses encodes parts =
 nothing_follows : (m : Message) → IsReadFault m → MayFollow m []
 nothing_follows m fault = may_follow m (λ is. subst IsReadFault is fault)
 
--- If a value is encoded here, that value is read.
 pub reads_known : {X : Type 0} (Encodes : List ℕ → X → Type 0) (result : Result X Error) (old new : Reader) (x : X) (text more : List ℕ) →
     PrefixCode Encodes → Reads Encodes result old new → rest old ≡ text ++ more → Encodes text x → result ≡ Ok x
 reads_known Encodes (Ok y) old new x text more code (taken, encodes, takes) parts known =
@@ -36,13 +33,11 @@ reads_known Encodes (Ok y) old new x text more code (taken, encodes, takes) part
 reads_known Encodes (Err e) old new x text more code (same, refusal) parts known =
     absurd (refusal.refuses [] (nothing_follows e.message refusal.fault) text more x known (append-nil (rest old) ∙ parts))
 
--- The value that is read is encoded here.
 pub reads_some : {X : Type 0} (Encodes : List ℕ → X → Type 0) (result : Result X Error) (old new : Reader) → Reads Encodes result old new →
     IfOk result (λ x. (text more : List ℕ) × (rest old ≡ text ++ more) × Encodes text x)
 reads_some Encodes (Ok x) old new (text, encodes, takes) = (text, rest new, takes.parts, encodes)
 reads_some Encodes (Err e) old new stopped = tt
 
--- A read takes as many bytes as the encoding here has.
 pub takes_known : {X : Type 0} (same : X → X → Type 0) (Encodes : List ℕ → X → Type 0) (old new : Reader) (x y : X) (taken text more : List ℕ) →
     PrefixCodeUpTo same Encodes → Encodes taken y → Takes old new taken → rest old ≡ text ++ more → Encodes text x →
     new.position ≡ old.position + length text
@@ -50,13 +45,11 @@ takes_known same Encodes old new x y taken text more code encodes takes parts kn
     ap (λ (r : Reader). r.position) takes.moved ∙
     ap (λ t. old.position + length t) (code taken text (rest new) more y x encodes known (sym takes.parts ∙ parts)).0
 
--- An error that is known from the bytes is the error that is returned.
 pub fault_known : {X : Type 0} (Fault : Message → Reader → ℕ → Type 0) (result : Result X Error) (r : Reader) (m : Message) (offset : ℕ) →
     DeterminesRefusal Fault → IfErr result (λ e. Fault e.message r e.offset) → Fault m r offset → IfErr result (λ e. (e.message ≡ m) × (e.offset ≡ offset))
 fault_known Fault (Ok x) r m offset determines is known = tt
 fault_known Fault (Err e) r m offset determines is known = determines e.message m r e.offset offset is known
 
--- The same, unless allocation fails.
 pub value_fault_known : {X : Type 0} (Fault : Message → Reader → ℕ → Type 0) (result : Result X Error) (r : Reader) (m : Message) (offset : ℕ) →
     DeterminesRefusal Fault → IfErr result (λ e. HasFault Fault e r) → Fault m r offset →
     IfErr result (λ e. e.message ≢ message.OutOfMemory → (e.message ≡ m) × (e.offset ≡ offset))

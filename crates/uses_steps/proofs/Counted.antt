@@ -1,4 +1,3 @@
--- What one visit of a tally says.
 use Rattle.std.proofs.Common.{Result, Ok, Err, IfOk, Some}
 use Rattle.wasm_operators.specs.below.bytes.error.Error.{Error}
 use Rattle.wasm_operators.specs.below.Source.{Reader}

@@ -1,4 +1,3 @@
--- The first local declaration of a body.
 use Rattle.std.proofs.Common.{Result, Ok, Err, IfOk, ◌++◌, ap, ◌∙◌}
 use Rattle.wasm_operators.specs.below.bytes.error.Error.{Error}
 use Rattle.wasm_operators.specs.below.Source.{Reader, rest}

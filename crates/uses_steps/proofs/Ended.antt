@@ -1,4 +1,5 @@
--- No operator follows an expression at the start of the bytes. So bytes start with no expression unless a read finds its end.
+-- No operator follows an expression at the start of the bytes. So bytes start with no expression
+-- unless a read finds its end.
 use Rattle.std.proofs.Common.{◌≡◌, ℕ, List, [], ◌∷◌, ◌++◌, Option, Some, None, sym, ap, subst, ◌∙◌, append-nil}
 use Rattle.std.specs.Option.{option_and_then}
 use Rattle.wasm_operators.specs.below.bytes.features.WasmFeatures.{WasmFeatures}
@@ -14,32 +15,27 @@ use Rattle.wasm_operators.specs.Reading.{State}
 use Rattle.uses_steps.specs.Begun.{BeginsExpression}
 use Rattle.uses_steps.specs.Input.{input}
 
--- The frames after operators, from these frames on.
 abbrev pub along : List FrameKind → Placed → Option (List FrameKind)
 along frames placed = frames_along frames (roles_of (operators placed))
 
--- The frames continue after the first step.
 stepped : (placed more : Placed) (mid : List FrameKind) → ((next : List FrameKind) → along next placed ≡ Some mid → along next (placed ++ more) ≡ along mid more) →
     (o : Option (List FrameKind)) → option_and_then (λ next. along next placed) o ≡ Some mid →
     option_and_then (λ next. along next (placed ++ more)) o ≡ along mid more
 stepped placed more mid each None h = absurd (cc h)
 stepped placed more mid each (Some next) h = each next h
 
--- They continue after all steps.
 followed : (placed more : Placed) (frames mid : List FrameKind) → along frames placed ≡ Some mid → along frames (placed ++ more) ≡ along mid more
 followed [] more frames mid h =
     let same : frames ≡ mid = cc h in
     ap (λ from. along from more) same
 followed (p ∷ ps) more frames mid h = stepped ps more mid (λ next. followed ps more next mid) (frames_after frames (role_of p.0)) h
 
--- If no frame is open, nothing follows.
 none_follows : (more : Placed) (frames : List FrameKind) → along [] more ≡ Some frames → frames ≡ []
 none_follows [] frames h =
     let same : [] ≡ frames = cc h in
     sym same
 none_follows (p ∷ ps) frames h = absurd (cc h)
 
--- If the longest prefix leaves a frame open, no expression is at the start of the bytes.
 pub begins_none : (features : WasmFeatures) (bytes text : List ℕ) (new : State) (longest : Placed) → BeginsLonger features → HasEncodings features →
     ((placed : Placed) → IsWalk (roles_of (operators placed)) → along (frame.Block ∷ []) placed ≡ Some []) →
     IsLongestOf IsAny [] (input features bytes) longest → Takes (reader_of features 0 bytes) new.reader text → LaidOut features 0 longest text →

@@ -1,4 +1,3 @@
--- The items of a section that are read so far.
 use Rattle.std.proofs.Common.{◌≡◌, ℕ, ◌+◌, ◌≤◌, Bool, List, [], ◌∷◌, ◌++◌, length, false, inl, inr, refl, sym, ap, subst, ◌∙◌, arith, append_assoc, append-nil, length-append}
 use Rattle.std.proofs.lemmas.Bool.{false≢true}
 use Rattle.std.proofs.lemmas.List.{append_cancel_left}
@@ -29,7 +28,6 @@ each_more Encodes text t [] x is encodes = (t, [], ap (λ s. s ++ t) is ∙ sym 
 each_more Encodes text t (y ∷ ys) x (first, after, parts, one, others) encodes =
     (first, after ++ t, ap (λ s. s ++ t) parts ∙ append_assoc first after t, one, each_more Encodes after t ys x others encodes)
 
--- Before the first item.
 pub reads_first : {X : Type 0} (Encodes : List ℕ → X → Type 0) (r : Reader) (s : Section) (number : List ℕ) → EncodesUnsigned 32 number s.count →
     rest r ≡ number ++ rest s.reader → HasRead Encodes r (items_of s) []
 reads_first Encodes r s number announces parts = record {
@@ -43,7 +41,6 @@ reads_first Encodes r s number announces parts = record {
   goes_on = refl;
 }
 
--- One more item.
 pub reads_on : {X : Type 0} (Encodes : List ℕ → X → Type 0) (r : Reader) (old new : SectionItems) (found : List X) (x : X) (t : List ℕ) →
     HasRead Encodes r old found → new.refused ≡ false → old.remaining ≡ new.remaining + 1 → Encodes t x → rest old.reader ≡ t ++ rest new.reader →
     HasRead Encodes r new (found ++ x ∷ [])
@@ -58,7 +55,6 @@ reads_on Encodes r old new found x t h goes_on less encodes takes = record {
   goes_on = goes_on;
 }
 
--- After the last item.
 pub reads_all : {X : Type 0} (Encodes : List ℕ → X → Type 0) (r : Reader) (items : SectionItems) (found : List X) → HasRead Encodes r items found →
     IsDone items → Then (EncodesUnsigned 32) (EncodesMany Encodes) (rest r) found
 reads_all Encodes r items found h (inl refused) = absurd (false≢true (sym h.goes_on ∙ refused))
@@ -71,7 +67,6 @@ reads_all Encodes r items found h (inr (none, nothing)) = (
   (omega (arith, h.all, none), h.each),
 )
 
--- If the bytes are a number and that many items, the number is not an error.
 pub number_there : {X : Type 0} (Encodes : List ℕ → X → Type 0) (r : Reader) (e : Error) (all : List X) → IsRefusal (EncodesUnsigned 32) e r →
     Then (EncodesUnsigned 32) (EncodesMany Encodes) (rest r) all → e.message ≡ message.OutOfMemory
 number_there Encodes r e all refusal (number, text, count, parts, announces, many) =
@@ -81,7 +76,6 @@ number_there Encodes r e all refusal (number, text, count, parts, announces, man
 abbrev pub IsLeft : {X : Type 0} → (List ℕ → X → Type 0) → SectionItems → Type 0
 IsLeft {X} Encodes items = (others : List X) × (length others ≡ items.remaining) × EncodesEach Encodes (rest items.reader) others
 
--- After the first items of a list, the others are encoded.
 others_there : {X : Type 0} (Encodes : List ℕ → X → Type 0) (found all : List X) (text whole left : List ℕ) → PrefixCode Encodes →
     EncodesEach Encodes text found → EncodesEach Encodes whole all → text ++ left ≡ whole → length found ≤ length all →
     (others : List X) × (length found + length others ≡ length all) × EncodesEach Encodes left others
@@ -96,7 +90,6 @@ others_there Encodes (x ∷ xs) (y ∷ ys) text whole left code (first, later, i
     let h = others_there Encodes xs ys later after left code found each on (omega arith) in
     (h.0, omega (arith, h.1), h.2)
 
--- If the bytes are such a list, the items that are left follow those that are read.
 pub left_there : {X : Type 0} (Encodes : List ℕ → X → Type 0) (r : Reader) (items : SectionItems) (found all : List X) → PrefixCode (EncodesUnsigned 32) →
     PrefixCode Encodes → HasRead Encodes r items found → Then (EncodesUnsigned 32) (EncodesMany Encodes) (rest r) all → IsLeft Encodes items
 left_there Encodes r items found all numbers code h (number, text, count, parts, announces, (size, each)) =
@@ -106,7 +99,6 @@ left_there Encodes r items found all numbers code h (number, text, count, parts,
     let others = others_there Encodes found all h.text text (rest items.reader) code h.each each there (omega (arith, h.all, same.1, size)) in
     (others.0, omega (arith, others.1, h.all, same.1, size), others.2)
 
--- Reading them can fail with `OutOfMemory` alone.
 pub stops_memory : {X : Type 0} (Encodes : List ℕ → X → Type 0) (Fault : Message → Reader → ℕ → Type 0) (takes_memory : Bool) (e : Error) (items : SectionItems) →
     IsLeft Encodes items → StopsSection Encodes Fault takes_memory e items → e.message ≡ message.OutOfMemory
 stops_memory Encodes Fault takes_memory e items ([], size, nothing) (inl (some, refused, fault)) = absurd (omega (arith, size, some))

@@ -1,4 +1,3 @@
--- The ends of the operators of a list.
 use Rattle.std.proofs.Common.{◌≡◌, ℕ, ◌+◌, ◌≤◌, List, [], ◌∷◌, ◌++◌, length, sym, ap, subst, ◌∙◌, arith, length-append}
 use Rattle.std.proofs.lemmas.List.{nil_from_length}
 use Rattle.wasm_operators.specs.below.bytes.features.WasmFeatures.{WasmFeatures}
@@ -7,7 +6,6 @@ use Rattle.wasm_operators.specs.Expression.{Placed, LaidOut, EndsAt}
 use Rattle.uses_steps.specs.Places.{IsRangeOf}
 use Rattle.uses_steps.proofs.Splits.{SplitsAt, SplitsInto}
 
--- The statement of the law `ranges`.
 abbrev pub EndsAtNext : WasmFeatures → Type 0
 EndsAtNext f = (offset : ℕ) (before after : Placed) (p q : Operator × ℕ) (bytes : List ℕ) → LaidOut f offset (before ++ p ∷ q ∷ after) bytes → EndsAt f p q.1
 
@@ -26,7 +24,6 @@ range_is f list before after p index start end parts place start_is ends = recor
   ends = subst (λ at. EndsAt f (p.0, at) end) (sym start_is) ends;
 }
 
--- The last operator.
 pub range_last : (f : WasmFeatures) (list : Placed) (p : Operator × ℕ) (index start end offset : ℕ) (bytes : List ℕ) → EndsAtLast f → SplitsAt list index p →
     start ≡ p.1 → length list ≤ index + 1 → LaidOut f offset list bytes → end ≡ offset + length bytes → IsRangeOf f list index start end
 range_last f list p index start end offset bytes law split start_is last laid end_is =
@@ -36,7 +33,6 @@ range_last f list p index start end offset bytes law split start_is last laid en
     let ends = law offset split.before p bytes (subst (λ l. LaidOut f offset l bytes) parts laid) in
     range_is f list split.before [] p index start end parts split.place start_is (subst (EndsAt f p) (sym end_is) ends)
 
--- Any other operator.
 pub range_next : (f : WasmFeatures) (list : Placed) (p q : Operator × ℕ) (index start end offset : ℕ) (bytes : List ℕ) → EndsAtNext f →
     SplitsInto list index p q → start ≡ p.1 → end ≡ q.1 → LaidOut f offset list bytes → IsRangeOf f list index start end
 range_next f list p q index start end offset bytes law split start_is end_is laid =

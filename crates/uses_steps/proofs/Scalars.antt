@@ -1,4 +1,3 @@
--- SIMD operators in prefixes of expressions.
 use Rattle.std.proofs.Common.{◌≡◌, ℕ, [], ◌∷◌, ◌++◌, ◌⊎◌, inl, inr, sym, ◌∙◌, append_assoc}
 use Rattle.wasm_operators.specs.below.Source.{Source}
 use Rattle.wasm_operators.specs.instr.declared.operator.Operator.{Operator}
@@ -7,11 +6,9 @@ use Rattle.wasm_operators.specs.Expression.{Placed, IsPrefixAfter, IsLongestAfte
 use Rattle.wasm_operators.specs.Laws.{BeginsLonger}
 use Rattle.wasm_operators.specs.Visiting.{IsScalar, scalar_beginning}
 
--- The statement of the law `scalar_beginnings`.
 abbrev pub HasNoVector : Type 0
 HasNoVector = (placed before after : Placed) (op : Operator) (at : ℕ) → scalar_beginning placed ≡ before ++ (op, at) ∷ after → ¬ IsVector op
 
--- If the longest prefix has no SIMD operator, no other prefix has one.
 pub none_in : (s : Source) (longest before after : Placed) (op : Operator) (at : ℕ) → BeginsLonger s.features → HasNoVector →
     IsLongestAfter [] s longest → IsScalar longest → IsPrefixAfter [] s (before ++ (op, at) ∷ after) → ¬ IsVector op
 none_in s longest before after op at layout none is scalar there =
@@ -20,7 +17,6 @@ none_in s longest before after op at layout none is scalar there =
     there.laid is.beginning.laid (sym there.parts ∙ is.beginning.parts) few in
     none longest before (after ++ part.0) op at (scalar ∙ part.1 ∙ append_assoc before ((op, at) ∷ after) part.0)
 
--- The same, if the longest prefix exists and a SIMD operator in it is impossible.
 pub none_at : (s : Source) (before after : Placed) (op : Operator) (at : ℕ) → BeginsLonger s.features → HasNoVector →
     ¬ ((placed : Placed) → ¬ IsLongestAfter [] s placed) → ((longest : Placed) → IsLongestAfter [] s longest → ¬ ¬ IsScalar longest) →
     IsPrefixAfter [] s (before ++ (op, at) ∷ after) → ¬ IsVector op

@@ -1,4 +1,3 @@
--- Lemmas about one read.
 use Rattle.std.proofs.Common.{◌≡◌, ◌≢◌, ℕ, ◌+◌, ◌<◌, List, [], ◌∷◌, ◌++◌, length, inl, inr, Some, Result, Ok, Err, IfOk, IfErr, refl, ap, subst, ◌∙◌, append-nil, arith}
 use Rattle.std.specs.Prelude.{is_some}
 use Rattle.std.specs.Result.{result_err}
@@ -26,7 +25,6 @@ use Rattle.uses_steps.specs.Input.{input}
 use Rattle.uses_steps.proofs.Codes.{may_follow}
 use Rattle.uses_steps.proofs.Ended.{along}
 
--- The fault of the bytes here, if a frame is open and allocation did not fail.
 pub fault_there : (e : Error) (s : State) (frame : FrameKind) → innermost s.frames ≡ Some frame → e.message ≢ message.OutOfMemory →
     StopsRead EncodesAllowed OperatorFault (NextMayAllocate EncodesAllowed) e s → OperatorFault s.reader.features frame e.message s.reader e.offset
 fault_there e s frame inner other (inl (closed, said, at)) =
@@ -41,13 +39,11 @@ list_leads : (s : State) → 0 < s.room → NextMayAllocate EncodesAllowed s →
 list_leads s some (inl (kind, inner, byte, begins, leads, none)) = absurd (omega arith)
 list_leads s some (inr (kind, inner, may)) = may.leads
 
--- If `finish` fails, the expression does not end here.
 pub ends_nowhere : (m : Message) (Closed : Type 0) (r : Reader) → StopsFinish m Closed r → ¬ (Closed × (rest r ≡ []))
 ends_nowhere message.FramesRemain Closed r stops (closed, all) = stops closed
 ends_nowhere message.UnexpectedData Closed r (there, left) (closed, all) = left all
 ends_nowhere _ Closed r stops both = stops
 
--- An operator, followed by the rest of the expression.
 pub first_then : (features : WasmFeatures) (bytes : List ℕ) (old mid : State) (op : Operator) (placed : Placed) → old.reader ≡ reader_of features 0 bytes →
     TakesOperator EncodesAllowed op old mid → EncodesRest (op ∷ []) (source_of mid.reader) placed →
     EncodesExpression (input features bytes) ((op, 0) ∷ placed)
@@ -59,19 +55,16 @@ first_then features bytes old mid op placed fresh taken (laid, walk) =
     let there = subst (λ o. LaidOut features o placed (rest mid.reader)) place (subst (λ f. LaidOut f (offset_of mid.reader) placed (rest mid.reader)) same laid) in
     ((refl, taken.text, rest mid.reader, takes.parts, encodes, there), walk)
 
--- The same fault at the position before the read.
 pub fault_before : (e : Error) (old new : State) (frame : FrameKind) → innermost old.frames ≡ Some frame → e.message ≢ message.OutOfMemory →
     StopsNext EncodesAllowed OperatorFault e old new → OperatorFault old.reader.features frame e.message old.reader e.offset
 fault_before e old new frame inner other (unchanged, stops) =
     let there = fault_there e new frame (ap innermost unchanged.1 ∙ inner) other stops in
     subst (λ (r : Reader). OperatorFault r.features frame e.message r e.offset) unchanged.0 there
 
--- The error of a read.
 pub refusal_of : (result : Result Operator Error) (old new : State) → ReadsNext result old new → IsRefusal (result_err result) old new
 refusal_of (Ok op) old new taken = (op, taken)
 refusal_of (Err e) old new stopped = stopped
 
--- The first operator that is read.
 pub first_read : (result : Result Operator Error) (r : Reader) (old new : State) → old.reader ≡ r → innermost old.frames ≡ Some frame_kind.Block →
     ReadsNext result old new →
     IfOk result (λ op. (text more : List ℕ) × (rest r ≡ text ++ more) × EncodesAllowed r.features frame_kind.Block text op)
@@ -82,7 +75,6 @@ first_read (Ok op) r old new same inner taken =
     (taken.text, rest new.reader, taken.takes.parts, encodes)
 first_read (Err e) r old new same inner stopped = tt
 
--- Unless allocation failed, no operator that the innermost frame allows is encoded here.
 none_there : (e : Error) (s : State) (frame : FrameKind) → innermost s.frames ≡ Some frame → e.message ≢ message.OutOfMemory →
     StopsRead EncodesAllowed OperatorFault (NextMayAllocate EncodesAllowed) e s → (op : Operator) (text more : List ℕ) →
     rest s.reader ≡ text ++ more → EncodesAllowed s.reader.features frame text op → ⊥
@@ -95,7 +87,6 @@ none_there e s frame inner other (inr (inl there)) op text more parts encodes =
     (append-nil (rest s.reader) ∙ parts)
 none_there e s frame inner other (inr (inr (memory, at, may))) op text more parts encodes = other memory
 
--- The same if the first read fails.
 pub first_refused : (result : Result Operator Error) (r : Reader) (old new : State) → old.reader ≡ r → innermost old.frames ≡ Some frame_kind.Block →
     ReadsNext result old new →
     IfErr result (λ e. e.message ≢ message.OutOfMemory → (op : Operator) (text more : List ℕ) → rest r ≡ text ++ more →
@@ -105,7 +96,6 @@ first_refused (Err e) r old new same inner (unchanged, stops) = λ other.
     subst (λ (z : Reader). (op : Operator) (text more : List ℕ) → rest z ≡ text ++ more → EncodesAllowed z.features frame_kind.Block text op → ⊥)
     (unchanged.0 ∙ same) (none_there e new frame_kind.Block (ap innermost unchanged.1 ∙ inner) other stops)
 
--- If no operator that the frame of an expression allows is encoded here, the bytes are not an expression.
 pub is_no_expression : (features : WasmFeatures) (bytes : List ℕ) (whole : Placed) →
     (IsWalk (roles_of (operators whole)) → along (frame_kind.Block ∷ []) whole ≡ Some []) →
     ((op : Operator) (text more : List ℕ) → bytes ≡ text ++ more → EncodesAllowed features frame_kind.Block text op → ⊥) →
@@ -115,12 +105,10 @@ is_no_expression features bytes (p ∷ ps) closes none ((at, text, more, parts, 
     let allowed = option_and_then_some (λ next. along next ps) (frames_after (frame_kind.Block ∷ []) (role_of p.0)) [] (closes walk) (λ next is on. ap is_some is) in
     none p.0 text more parts (encodes, allowed)
 
--- The statement of the law `memory_asked`.
 abbrev pub IsAsked : Type 0
 IsAsked = (e : Error) (s : State) → StopsRead EncodesAllowed OperatorFault (NextMayAllocate EncodesAllowed) e s → e.message ≡ message.OutOfMemory →
     NextMayAllocate EncodesAllowed s
 
--- With capacity for a frame, allocation can fail only for a list.
 pub first_memory : (result : Result Operator Error) (r : Reader) (old new : State) → IsAsked → old.reader ≡ r → 0 < old.room → ReadsNext result old new →
     IfErr result (λ e. e.message ≡ message.OutOfMemory → (byte : ℕ) × LeadsList byte × BeginsWith byte (rest r))
 first_memory (Ok op) r old new asked same some taken = tt

@@ -1,4 +1,3 @@
--- Operators that are skipped, one after another.
 use Rattle.std.proofs.Common.{◌≡◌, ℕ, ◌+◌, ◌-◌, ◌≤◌, [], ◌∷◌, ◌++◌, length, length-append, refl, ap, arith}
 use Rattle.wasm_operators.specs.below.Source.{Reader, offset_of}
 use Rattle.wasm_operators.specs.instr.declared.operator.Operator.{Operator}

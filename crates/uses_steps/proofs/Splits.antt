@@ -1,4 +1,3 @@
--- A list split at an index.
 use Rattle.std.proofs.Common.{◌≡◌, ℕ, zero, suc, ◌+◌, ◌<◌, List, [], ◌∷◌, ◌++◌, length, get_or, refl, sym, ap, ◌∙◌, arith}
 
 -- The element at index `i`, with the elements before and after it.

@@ -14,12 +14,12 @@ use Rattle.wasm_operators.specs.Iterating.{Iterating, HasEnded, iterating_over}
 use Rattle.wasm_operators.specs.Reading.{State, TakesOperator}
 use Rattle.uses_steps.specs.Iterated.{AreAllAllowed}
 
--- The statement of the law `one_operator`.
 abbrev pub ReadsOneMore : Type 0
 ReadsOneMore = (before : List Operator) (op : Operator) (old new : State) → TakesOperator EncodesAllowed op old new → ReadSoFar before old →
     ReadSoFar (before ++ op ∷ []) new
 
--- These operators were returned since the reader was opened, and are before the iterator's position.
+-- These operators were returned since the reader was opened, and are before the iterator's
+-- position.
 pub record HasGiven (r : Reader) (items : Iterating) (found : Placed) : Type 0 where
   pub text : List ℕ
   pub takes : Takes r items.reader.reader text
@@ -31,7 +31,6 @@ operators_more : (found : Placed) (op : Operator) (at : ℕ) → operators (foun
 operators_more [] op at = refl
 operators_more (p ∷ ps) op at = ap (λ ops. p.0 ∷ ops) (operators_more ps op at)
 
--- Before the first operator.
 pub gives_none : (r : Reader) (s : State) → s.reader ≡ r → ReadSoFar [] s → HasGiven r (iterating_over s) []
 gives_none r s same read_so_far =
     let place : r.position ≡ r.position + 0 = omega arith in
@@ -43,7 +42,6 @@ gives_none r s same read_so_far =
       goes_on = refl;
     }
 
--- One more operator.
 pub gives_one : (r : Reader) (old new : Iterating) (found : Placed) (op : Operator) (at : ℕ) → LaysOutBoth r.features → ReadsOneMore → HasGiven r old found →
     TakesOperator EncodesAllowed op old.reader new.reader → at ≡ offset_of old.reader.reader → new.refused ≡ false →
     HasGiven r new (found ++ (op, at) ∷ [])
@@ -69,7 +67,6 @@ gives_one r old new found op at joined occurs h taken is goes_on =
       goes_on = goes_on;
     }
 
--- After the last operator.
 pub gives_all : (r : Reader) (items : Iterating) (found : Placed) → HasGiven r items found → HasEnded items →
     frames_along (frame.Block ∷ []) (roles_of (operators found)) ≡ Some items.reader.frames → AreAllAllowed (source_of r) found
 gives_all r items found h (inl refused) along = absurd (false≢true (sym h.goes_on ∙ refused))

@@ -6,8 +6,8 @@ use Rattle.wasm_operators.specs.MainTheorem.{IsCut, IsCompletedByEnds}
 use Rattle.uses_steps.specs.declared.beginnings.Missing.{Missing}
 use Rattle.uses_steps.specs.declared.beginnings.Missing.TheVariants as missing
 
--- What the result claims: the bytes are an expression; some bytes 0x0b make them one; or no bytes make them one. If the rest of an operator is missing, it
--- claims nothing.
+-- The bytes are an expression; some bytes 0x0b make them one; the rest of an operator is missing
+-- (no claim); or no bytes make them one.
 abbrev pub IsMissing : Source → Missing → Type 0
 IsMissing s missing.Nothing = (placed : Placed) × EncodesExpression s placed
 IsMissing s missing.Ends = (n : ℕ) × IsCompletedByEnds [] s n

@@ -6,11 +6,9 @@ use Rattle.wasm_operators.specs.Body.{EncodesBody}
 use Rattle.wasm_operators.specs.Expression.{Placed}
 use Rattle.wasm_operators.specs.Locals.{Declaration, EncodesDeclaration}
 
--- The bytes are a body.
 abbrev pub IsBody : Source → Type 0
 IsBody s = (declarations : List Declaration) × (placed : Placed) × EncodesBody s declarations placed
 
--- The bytes start with a count, and then this declaration.
 pub record BeginsWithDeclaration (body : Reader) (d : Declaration) : Type 0 where
   pub count : ℕ
   pub number : List ℕ

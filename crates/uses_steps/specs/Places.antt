@@ -1,10 +1,9 @@
--- The range of an operator in a list.
 use Rattle.std.specs.Prelude.{◌≡◌, ℕ, ◌∷◌, ◌++◌, length}
 use Rattle.wasm_operators.specs.below.bytes.features.WasmFeatures.{WasmFeatures}
 use Rattle.wasm_operators.specs.instr.declared.operator.Operator.{Operator}
 use Rattle.wasm_operators.specs.Expression.{Placed, EndsAt}
 
--- The bytes of the operator at this index have the offsets from `start` up to, but not including, `end`.
+-- The operator at this index has the bytes from offset `start` up to `end`, exclusive.
 pub record IsRangeOf (features : WasmFeatures) (list : Placed) (index start end : ℕ) : Type 0 where
   pub before : Placed
   pub op : Operator

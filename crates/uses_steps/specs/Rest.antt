@@ -5,7 +5,7 @@ use Rattle.wasm_operators.specs.Expression.{Placed, operators, AreEncoded}
 use Rattle.wasm_operators.specs.MainTheorem.{ClosesFrom}
 use Rattle.wasm_operators.specs.Reading.{State}
 
--- The operators that were added encode all bytes that were left and close every frame, and each of them has an encoding.
+-- The added operators encode all bytes that were left, and close every frame.
 pub record AddsRest (old : State) (before after : Placed) : Type 0 where
   pub placed : Placed
   pub added : after ≡ before ++ placed

@@ -14,7 +14,6 @@ use wasm_operators::{
 /// What an expression that arrives in pieces still misses.
 #[derive(Clone, Copy, Debug, PartialEq, Eq)]
 pub enum Missing {
-    /// Nothing: the expression is whole.
     Nothing,
     /// Only `end`s, each the byte `0b`.
     Ends,
@@ -26,8 +25,8 @@ pub enum Missing {
 
 /// Returns what the bytes miss to be an expression.
 ///
-/// If more bytes would complete the expression, `read_all` fails only because the data ends: the
-/// clause `cut`. After `FramesRemain`, some `end`s complete it: the clause `completed`.
+/// If more bytes would complete it, `read_all` fails only because the data ends (clause `cut`), and
+/// after `FramesRemain` some `end`s complete it (clause `completed`).
 pub fn missing_after(alloc: Global, features: WasmFeatures, bytes: &[u8]) -> Result<Missing>
     ensures { IfOk result (λ what. IsMissing (input features bytes.now) what) }
 {
@@ -44,11 +43,8 @@ pub fn missing_after(alloc: Global, features: WasmFeatures, bytes: &[u8]) -> Res
     }
 }
 
-/// Returns as many operators from the start of the bytes as the open frames allow. Only allocation
-/// can fail.
-///
-/// The clause `flat` of `read_all` says so without trees, and the law `flat_beginnings` that the
-/// list is the longest prefix of an expression.
+/// Returns as many operators from the start of the bytes as the open frames allow (clause `flat` of
+/// `read_all`). By the law `flat_beginnings`, they are the longest prefix of an expression.
 pub fn allowed_operators<'a>(
     alloc: Global,
     features: WasmFeatures,
@@ -72,7 +68,7 @@ pub fn allowed_operators<'a>(
     }
 }
 
-/// Returns the number of operators in the longest prefix of an expression, and so in a whole one.
+/// Returns the number of operators in the longest prefix of an expression.
 ///
 /// By the laws `one_longest_beginning` and `one_expression`, a list that a caller knows is the list
 /// that was read.
@@ -96,13 +92,13 @@ pub fn beginning_len(alloc: Global, features: WasmFeatures, bytes: &[u8]) -> Res
     }
 }
 
-/// Returns how many bytes at the start of `bytes` are an expression, whatever follows them; `None`
-/// if there is no such number.
+/// Returns how many bytes at the start are an expression, whatever follows; `None` if there is no
+/// such number.
 ///
 /// By the law `run_messages`, the error is `OperatorsRemaining` if and only if no frame is open:
-/// the operators read are then an expression. Otherwise a frame is open after the longest prefix.
-/// An expression at the start of the bytes would be a prefix of that, by `one_layout`. Its frames
-/// would be closed, by `rules_accept_walks`, so that nothing could follow it.
+/// then the operators read are an expression. Otherwise an expression at the start would be a
+/// prefix of the longest prefix (`one_layout`) whose frames are closed (`rules_accept_walks`), so
+/// that nothing could follow it.
 pub fn expression_size(alloc: Global, features: WasmFeatures, bytes: &[u8]) -> Result<Option<usize>>
     ensures some { IfOk result (λ size. IfSome size (λ n. BeginsExpression (input features bytes.now) n)) }
     ensures none { IfOk result (λ size. IfNone size ((n : ℕ) → BeginsExpression (input features bytes.now) n → ⊥)) }
@@ -124,10 +120,8 @@ pub fn expression_size(alloc: Global, features: WasmFeatures, bytes: &[u8]) -> R
     }
 }
 
-/// Reads the bytes twice, and returns both errors: the same message at the same offset, unless an
-/// allocation failed. Returns `None` if one read succeeds; the bytes are then an expression.
-///
-/// The law `one_result` says so of the clauses `beginning` of both reads.
+/// Reads the bytes twice, and returns both errors, which are the same unless an allocation failed
+/// (law `one_result`). Returns `None` if one read succeeds; the bytes are then an expression.
 pub fn refused_twice(alloc: Global, features: WasmFeatures, bytes: &[u8]) -> Option<(Error, Error)>
     ensures again { IfSome result (λ both. both.0.message ≢ Message.OutOfMemory → both.1.message ≢ Message.OutOfMemory
         → (both.0.message ≡ both.1.message) × (both.0.offset ≡ both.1.offset)) }

@@ -1,4 +1,3 @@
-//! Bodies of functions.
 ghost use Rattle.std.specs.Prelude.{◌≡◌, ◌↔◌, List, length, IsTrue, IfOk};
 ghost use Rattle.wasm_operators.specs.Body.{EncodesBody};
 ghost use Rattle.wasm_operators.specs.Expression.{Placed};
@@ -13,8 +12,8 @@ use wasm_operators::{
 
 /// Returns whether the bytes are a body.
 ///
-/// If a reader opens and reads them to the end, they are a body: the law `opened_bodies`. If that
-/// fails, they are not: the laws `refused_locals` and `stopped_bodies`.
+/// They are if a reader reads them to the end (law `opened_bodies`); otherwise not
+/// (`refused_locals`, `stopped_bodies`).
 pub fn is_body(alloc: Global, features: WasmFeatures, bytes: &[u8]) -> Result<bool>
     ensures { IfOk result (λ outcome. IsTrue outcome ↔ IsBody (input features bytes.now)) }
 {
@@ -36,9 +35,8 @@ pub fn is_body(alloc: Global, features: WasmFeatures, bytes: &[u8]) -> Result<bo
     }
 }
 
-/// Returns the number of operators in a body.
-///
-/// By the law `one_body`, the bytes are no other body.
+/// Returns the number of operators in a body, which is the only one that the bytes encode (law
+/// `one_body`).
 pub fn body_len(alloc: Global, features: WasmFeatures, bytes: &[u8]) -> Result<usize>
     ensures { (declarations : List Declaration) (placed : Placed)
         → EncodesBody (input features bytes.now) declarations placed → IfOk result (λ count. count ≡ length placed) }
@@ -51,7 +49,6 @@ pub fn body_len(alloc: Global, features: WasmFeatures, bytes: &[u8]) -> Result<u
     Ok(found.len())
 }
 
-/// Returns the first local declaration of a body.
 pub fn first_declaration(body: &FunctionBody<'_>) -> Result<(u32, ValType)>
     ensures { IfOk result (λ declaration. BeginsWithDeclaration body.now declaration) }
 {

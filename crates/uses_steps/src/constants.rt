@@ -1,4 +1,3 @@
-//! Constant expressions.
 ghost use Rattle.std.specs.Prelude.{◌≡◌, ◌≢◌, ◌++◌, ℕ, List, length, IfOk, IfErr};
 ghost use Rattle.wasm_operators.specs.below.bytes.message.Message.{Message};
 ghost use Rattle.wasm_operators.specs.below.Source.{Reader, rest};
@@ -11,9 +10,8 @@ use wasm_operators::{BinaryReader, ConstExpr, Message, Result, constant_laws};
 /// Returns the length in bytes of the constant expression at the reader's position, without
 /// consuming it.
 ///
-/// By the law `constant_expressions`, no other prefix is a constant expression. By
-/// `constant_refusals`, an error that a caller can predict is the error that is returned. `read`
-/// says when allocation may fail.
+/// By the law `constant_expressions`, no other prefix is one. By `constant_refusals`, an error that
+/// a caller can predict is returned.
 pub fn constant_size(alloc: Global, reader: &BinaryReader<'_>) -> Result<usize>
     ensures size { (text more : List ℕ) (constant : Reader) → rest reader.now ≡ text ++ more
         → EncodesConstantReader reader.now.features text constant → IfOk result (λ size. size ≡ length text) }

@@ -4,7 +4,6 @@ ghost use Rattle.wasm_operators.specs.below.Source.{rest};
 
 use wasm_operators::{BinaryReader, FrameKind, FrameStack, ReadOperators};
 
-/// The innermost frame, if one is open.
 #[derive(Clone, Copy, Debug, PartialEq, Eq)]
 pub struct Inside {
     pub kind: Option<FrameKind>,
@@ -18,7 +17,6 @@ impl FrameStack for Inside {
     }
 }
 
-/// Returns whether an expression ends at the reader's position.
 pub fn is_over(reader: &BinaryReader<'_>, inside: &Inside) -> bool
     ensures { IsTrue result ↔ ((inside.now.kind ≡ None) × (rest reader.now ≡ [])) }
 {

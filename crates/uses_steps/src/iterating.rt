@@ -1,4 +1,3 @@
-//! Operators from an iterator.
 ghost use Rattle.std.specs.Prelude.{IfOk};
 ghost use Rattle.uses_steps.specs.Input.{input};
 ghost use Rattle.uses_steps.specs.Iterated.{AreAllAllowed};
@@ -9,11 +8,11 @@ use wasm_operators::{
     grammar_laws, run_laws,
 };
 
-/// Returns all operators that the bytes encode, each with the offset of its first byte. The open
-/// frames allow each of them. Frames may be open after the last.
+/// Returns all operators that the bytes encode, each with the offset of its first byte. Some frames
+/// may be open after the last.
 ///
-/// Each step of the iterator is one read. By the law `one_operator`, its operator is read before
-/// the next; `path_is_run` says the same by the frames.
+/// Each step of the iterator is one read, whose operator is read before the next (law
+/// `one_operator`); `path_is_run` says the same by the frames.
 pub fn iterated<'a>(
     alloc: Global,
     features: WasmFeatures,

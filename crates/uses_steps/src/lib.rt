@@ -1,6 +1,5 @@
-//! Proved callers of `wasm_operators` that read one operator, number or item at a time, and callers
-//! for whole expressions that `uses` does not cover. Each shows how a conclusion follows from
-//! public contracts and laws alone.
+//! Proved callers of `wasm_operators` that read one operator, number or item at a time, and others
+//! that `uses` does not have. They cite public contracts and laws only.
 //!
 //! A call that allocates may fail with `OutOfMemory`.
 #![tactic(auto)]

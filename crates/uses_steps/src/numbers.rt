@@ -1,4 +1,3 @@
-//! Numbers, types and immediates.
 ghost use Rattle.std.specs.Prelude.{◌≡◌, ◌≢◌, ◌++◌, ℕ, List, length, Ok, IfOk, IfErr};
 ghost use Rattle.std.specs.Int.{w64};
 ghost use Rattle.wasm_operators.specs.below.bytes.message.Message.{Message};
@@ -18,9 +17,8 @@ use wasm_operators::{
 
 /// Returns the number of 32 bits at the reader's position, without consuming it.
 ///
-/// By `Reads`, the number is read if one is encoded there. By the law `unsigned_numbers`, no other
-/// number is. By `number_refusals`, an error that a caller can predict is the error that is
-/// returned.
+/// By the law `unsigned_numbers`, no other number is encoded there. By `number_refusals`, an error
+/// that a caller can predict is returned.
 pub fn peek_index(reader: &BinaryReader<'_>) -> Result<u32>
     ensures reads { (n : ℕ) (text more : List ℕ) → rest reader.now ≡ text ++ more → EncodesUnsigned 32 text n
         → result ≡ Ok n }
@@ -46,11 +44,8 @@ pub fn read_limits(reader: &mut BinaryReader<'_>) -> Result<(u32, u32)>
     Ok((least, most))
 }
 
-/// Returns the length in bytes of the value of type `T` at the reader's position, without consuming
-/// it.
-///
-/// By the laws of `T`, no other prefix encodes a value. An error that a caller can predict is the
-/// error that is returned.
+/// Returns the length in bytes of the `T` at the reader's position, without consuming it. By the
+/// laws of `T`, no other prefix encodes a value.
 pub fn value_size<'a, T: FromReader<'a>>(alloc: Global, reader: &BinaryReader<'a>) -> Result<usize>
     ensures size { (value : T) (text more : List ℕ) → rest reader.now ≡ text ++ more
         → T.encodes reader.now.features text value → IfOk result (λ size. size ≡ length text) }
@@ -64,8 +59,8 @@ pub fn value_size<'a, T: FromReader<'a>>(alloc: Global, reader: &BinaryReader<'a
     Ok(ahead.current_position() - reader.current_position())
 }
 
-/// Returns the block type at the reader's position, without consuming it. The laws are
-/// `block_types` and `control_refusals`.
+/// Returns the block type at the reader's position, by the laws `block_types` and
+/// `control_refusals`.
 pub fn peek_block_type(reader: &BinaryReader<'_>) -> Result<BlockType>
     ensures reads { (ty : BlockType) (text more : List ℕ) → rest reader.now ≡ text ++ more → EncodesBlockType text ty
         → result ≡ Ok ty }
@@ -78,8 +73,8 @@ pub fn peek_block_type(reader: &BinaryReader<'_>) -> Result<BlockType>
     BlockType::read(&mut reader.clone())
 }
 
-/// Returns the memory argument of a plain access at the reader's position, without consuming it.
-/// The law is `memory_arguments`.
+/// Returns the memory argument of a plain access at the reader's position, by the law
+/// `memory_arguments`.
 pub fn peek_memory_argument(reader: &BinaryReader<'_>, max_align: u8) -> Result<MemArg>
     ensures reads { (argument : MemArg) (text more : List ℕ) → rest reader.now ≡ text ++ more
         → EncodesMemArg reader.now.features MemArgKind.Plain max_align text argument → result ≡ Ok argument }
@@ -90,8 +85,7 @@ pub fn peek_memory_argument(reader: &BinaryReader<'_>, max_align: u8) -> Result<
     MemArg::read(&mut reader.clone(), max_align, MemArgKind::Plain)
 }
 
-/// Returns the constant of an `f64.const` at the reader's position, without consuming it. The law
-/// is `fixed_numbers`.
+/// Returns the constant of an `f64.const` at the reader's position, by the law `fixed_numbers`.
 pub fn peek_f64(reader: &BinaryReader<'_>) -> Result<Ieee64>
     ensures reads { (bits : Ieee64) (text more : List ℕ) → rest reader.now ≡ text ++ more → EncodesFixed w64 text bits
         → result ≡ Ok bits }

@@ -1,4 +1,3 @@
-//! Operators as values.
 ghost use Rattle.std.specs.Prelude.{◌≡◌, ◌++◌, List, ℕ};
 ghost use Rattle.wasm_operators.specs.below.bytes.features.WasmFeatures.{WasmFeatures};
 ghost use Rattle.wasm_operators.specs.instr.Encoding.{EncodesOperator, EncodesOpcode};
@@ -7,8 +6,8 @@ ghost use Rattle.wasm_operators.specs.instr.Kinds.{HoldsList};
 use std::alloc::Global;
 use wasm_operators::Operator;
 
-/// Returns the prefix byte of an operator, if it has one, and its opcode or subopcode. Each
-/// encoding of the operator starts with them.
+/// Returns the prefix byte, if the operator has one, and the opcode or subopcode, with which each
+/// encoding starts.
 pub fn opcode(op: &Operator<'_>) -> (Option<u8>, u32)
     ensures { (features : WasmFeatures) (text : List ℕ) → EncodesOperator features op.now text
         → (head after : List ℕ) × (text ≡ head ++ after) × EncodesOpcode result.0 result.1 head }
@@ -17,7 +16,7 @@ pub fn opcode(op: &Operator<'_>) -> (Option<u8>, u32)
     (row.prefix, row.code)
 }
 
-/// Returns a copy of an operator that owns no list. It does not allocate, and always succeeds.
+/// Returns a copy of an operator that owns no list. Always succeeds.
 pub fn copy_without_list<'a>(alloc: Global, op: &Operator<'a>) -> Operator<'a>
     requires { ¬ HoldsList op.now }
     ensures { result ≡ op.now }

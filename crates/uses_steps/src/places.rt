@@ -15,11 +15,11 @@ use wasm_operators::{
     position_laws,
 };
 
-/// Reads the bytes as an expression. Returns the bytes before the offset of the error, with the
-/// error; or all bytes, if they are an expression.
+/// Reads the bytes as an expression. Returns the bytes before the error, with the error; or all
+/// bytes, if they are an expression.
 ///
 /// By the laws `refusals_ahead` and `taken_within`, the error's offset is at most the length of the
-/// bytes, so that they can be cut there.
+/// bytes.
 pub fn bytes_before_refusal<'a>(
     alloc: Global,
     features: WasmFeatures,
@@ -40,11 +40,11 @@ pub fn bytes_before_refusal<'a>(
     }
 }
 
-/// Returns the distance in bytes from the reader's position to the error of the next operator, or
-/// `None` if the operator is read.
+/// Returns the distance in bytes from the reader to the error of the next operator, or `None` if it
+/// is read.
 ///
-/// By the law `within`, a call, the reader's position is within its data. By `refusals_ahead`, the
-/// error's offset is at most the end of the data.
+/// By the law `within`, the reader's position is within its data, and by `refusals_ahead` the
+/// error's offset too.
 pub fn refusal_distance(operators: &mut OperatorsReader<'_>) -> Option<u64>
     ensures ahead { IfSome result (λ distance. distance ≤ length (rest operators.new.reader)) }
     ensures refused { IfSome result (λ distance. (e : Error) × IsRefusal (Some e) operators.old operators.new
@@ -60,9 +60,7 @@ pub fn refusal_distance(operators: &mut OperatorsReader<'_>) -> Option<u64>
 }
 
 /// Returns the offsets of the bytes of one operator, in a list that was read up to the offset
-/// `end`.
-///
-/// An operator ends where the next one starts, and the last one at `end`: the law `ranges`.
+/// `end`. It ends where the next one starts, or at `end` (law `ranges`).
 pub fn range_of(
     features: WasmFeatures,
     list: &[(Operator<'_>, u64)],
@@ -81,7 +79,6 @@ pub fn range_of(
     start..end
 }
 
-/// Reads the next operator, and returns it with the offsets of its bytes.
 pub fn read_ranged<'a>(operators: &mut OperatorsReader<'a>) -> Result<(Operator<'a>, Range<u64>)>
     ensures start { IfOk result (λ found. found.1.start ≡ offset_of operators.old.reader) }
     ensures end { IfOk result (λ found. EndsAt operators.old.reader.features (found.0, found.1.start) found.1.end) }

@@ -1,4 +1,4 @@
-//! A reader from elsewhere, of which nothing is known.
+//! A reader of unknown state.
 ghost use Rattle.std.specs.Prelude.{◌≡◌, ◌+◌, ◌*◌, ◌<◌, ◌≤◌, ◌⊎◌, length, IfOk, IfErr, vec_capacity, vec_len};
 ghost use Rattle.wasm_operators.specs.below.Source.{rest};
 ghost use Rattle.wasm_operators.specs.opcodes.Allowed.{EncodesAllowed};
@@ -7,9 +7,9 @@ ghost use Rattle.uses_steps.specs.Rest.{AddsRest};
 
 use wasm_operators::{Message, Operator, OperatorsReader, Result, expression_laws};
 
-/// Reads the rest of an expression that another function started to read, and adds it to the list.
+/// Reads the rest of an expression that another function started to read.
 ///
-/// The clause `runs` of `read_all` says which operators are read, and `depth` and `memory` how many
+/// The clause `runs` of `read_all` says which operators are read, `depth` and `memory` how many
 /// frames and how much memory they need. By the law `layouts`, each has an encoding.
 pub fn read_rest<'a>(
     operators: &mut OperatorsReader<'a>,

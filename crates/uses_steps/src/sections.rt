@@ -1,4 +1,3 @@
-//! Sections that contain a list.
 ghost use Rattle.std.specs.Prelude.{◌≡◌, ℕ, List, IfOk, IfErr};
 ghost use Rattle.wasm_operators.specs.below.Number.{EncodesUnsigned};
 ghost use Rattle.wasm_operators.specs.below.Sequence.{Then};
@@ -8,11 +7,8 @@ ghost use Rattle.wasm_operators.specs.imm.Lists.{EncodesMany};
 use std::alloc::Global;
 use wasm_operators::{BinaryReader, Error, Message, Result, SectionLimited, byte_laws};
 
-/// Reads the contents of a section that is a list of indices, such as the function section. If the
-/// bytes are such a list, only allocation can fail.
-///
-/// `SectionLimited::new` reads the count, each step of its iterator one index, and no byte may
-/// follow the last. By the law `unsigned_numbers`, the bytes encode no other list.
+/// Reads a section that is a list of indices, such as the function section. If the bytes are such a
+/// list, only allocation can fail. By the law `unsigned_numbers`, they encode no other list.
 pub fn read_indices(alloc: Global, reader: BinaryReader<'_>) -> Result<Vec<u32>>
     ensures found { IfOk result (λ indices. Then (EncodesUnsigned 32) (EncodesMany (EncodesUnsigned 32)) (rest reader.entry) indices.items) }
     ensures only { (indices : List ℕ) → Then (EncodesUnsigned 32) (EncodesMany (EncodesUnsigned 32)) (rest reader.entry) indices

@@ -23,18 +23,14 @@ use wasm_operators::{
     operator_laws, reading_laws, run_laws,
 };
 
-/// The reason why the next operator is not read.
 #[derive(Clone, Copy, Debug, PartialEq, Eq)]
 pub enum Complaint {
     /// The operator needs the feature of legacy exceptions, which is disabled.
     Feature,
-    /// The innermost frame does not allow the operator.
     Frame,
-    /// Any other reason.
     Other,
 }
 
-/// Reads the next operator, and returns only the error, if there is one.
 pub fn next_refusal(operators: &mut OperatorsReader<'_>) -> Option<Error>
     ensures { IsRefusal result operators.old operators.new }
 {
@@ -44,8 +40,8 @@ pub fn next_refusal(operators: &mut OperatorsReader<'_>) -> Option<Error>
 /// Returns why reading the next operator fails. Returns `None` if it succeeds, if no frame is open,
 /// or if allocation fails.
 ///
-/// The laws `features_required` and `wrong_frames` say which operators fail in these ways. By
-/// `operator_refusals`, an error that a caller can predict is the error that is returned.
+/// The laws `features_required` and `wrong_frames` say which operators fail so. By
+/// `operator_refusals`, an error that a caller can predict is returned.
 pub fn why_refused(operators: &mut OperatorsReader<'_>) -> Option<Complaint>
     ensures why { IfSome result (λ why. IsComplaint operators.old why) }
     ensures feature { (g : Guard) → BeginsGuarded g operators.old.reader → LacksFeature operators.old.reader.features g
@@ -71,10 +67,8 @@ pub fn why_refused(operators: &mut OperatorsReader<'_>) -> Option<Complaint>
     }
 }
 
-/// Reads the next operator twice if the first read fails, and returns both errors. Unless
-/// allocation failed, the second error equals the first.
-///
-/// By the law `not_taken`, the second call cannot succeed; `refused_again` says the rest.
+/// Reads the next operator twice if the first read fails, and returns both errors, which are equal
+/// unless allocation failed (laws `not_taken` and `refused_again`).
 pub fn asked_twice(operators: &mut OperatorsReader<'_>) -> Option<(Error, Error)>
     ensures again { IfSome result (λ both. both.1.message ≢ Message.OutOfMemory
         → (both.0.message ≡ both.1.message) × (both.0.offset ≡ both.1.offset)) }
@@ -95,10 +89,8 @@ pub fn asked_twice(operators: &mut OperatorsReader<'_>) -> Option<(Error, Error)
     }
 }
 
-/// Reads the next operator from two readers in the same state, such as a reader and its clone. Both
-/// return the same operator, and are in the same state after it.
-///
-/// The law `same_result` says so.
+/// Reads the next operator from two readers in the same state, which then return the same operator
+/// and have the same state (law `same_result`).
 pub fn read_in_step<'a>(
     first: &mut OperatorsReader<'a>,
     second: &mut OperatorsReader<'a>,
@@ -118,11 +110,9 @@ pub fn read_in_step<'a>(
     }
 }
 
-/// Reads the first operator of an expression, with capacity for the frame that it may open. So
-/// allocation can fail only for an operator that may own a list. On any other error, no operator
+/// Reads the first operator of an expression, with capacity for its frame. So allocation can fail
+/// only for an operator that may own a list (law `memory_asked`). After another error, no operator
 /// that an expression may begin with is encoded there.
-///
-/// The law `memory_asked` says when allocation may fail.
 pub fn first_operator<'a>(
     alloc: Global,
     reader: BinaryReader<'a>,
@@ -140,9 +130,8 @@ pub fn first_operator<'a>(
     OperatorsReader::new_with_allocs(alloc, reader, allocs).read()
 }
 
-/// Reads the next operator, and returns its length in bytes.
-///
-/// By the law `operators`, it is the only operator that a prefix of the bytes encodes.
+/// Reads the next operator, and returns its length in bytes. By the law `operators`, no other
+/// operator is encoded there.
 pub fn operator_size(operators: &mut OperatorsReader<'_>) -> Result<usize>
     ensures { (op : Operator) (text more : List ℕ) → rest operators.old.reader ≡ text ++ more
         → EncodesOperator operators.old.reader.features op text → IfOk result (λ size. size ≡ length text) }
@@ -153,7 +142,6 @@ pub fn operator_size(operators: &mut OperatorsReader<'_>) -> Result<usize>
     Ok(operators.get_binary_reader().current_position() - before.current_position())
 }
 
-/// Returns whether the whole expression was read.
 pub fn is_whole(operators: &OperatorsReader<'_>) -> bool
     ensures { IsTrue result ↔ ((operators.now.frames ≡ []) × (rest operators.now.reader ≡ [])) }
 {
@@ -166,10 +154,9 @@ pub fn is_whole(operators: &OperatorsReader<'_>) -> bool
 /// Reads the first operator of an expression, and then the others. If the bytes encode an
 /// expression, only allocation can fail.
 ///
-/// By the law `one_operator`, the first operator is then read before the others. So the contract of
-/// `read_all` is about the expression that it begins. By `single_reads`, the operator and what
-/// `read_all` read are one list, to which `read_to_the_end` applies. By `rules_accept_walks`, an
-/// expression begins with an operator that its frame allows.
+/// The law `one_operator` says that the first was read before the others, to which the contract of
+/// `read_all` then applies. By `single_reads`, all are one list, to which `read_to_the_end`
+/// applies. By `rules_accept_walks`, an expression begins with an operator that its frame allows.
 pub fn first_and_rest<'a>(
     alloc: Global,
     features: WasmFeatures,

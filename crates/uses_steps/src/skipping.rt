@@ -1,4 +1,3 @@
-//! Skipping operators.
 ghost use Rattle.std.specs.Prelude.{◌≡◌, ◌-◌, ◌<◌, length, IfOk, IfErr};
 ghost use Rattle.wasm_operators.specs.opcodes.Allowed.{EncodesAllowed};
 ghost use Rattle.wasm_operators.specs.opcodes.OperatorFaults.{OperatorFault};
@@ -9,11 +8,10 @@ ghost use Rattle.wasm_operators.specs.Reading.{GrowsLittle, TakesOperators, Stop
 
 use wasm_operators::{OperatorsReader, Result, run_laws};
 
-/// Skips `count` operators. Fails with the error of the first operator that cannot be read. Bounds
-/// the number of open frames and the growth of their memory.
+/// Skips `count` operators. Bounds the number of open frames and the growth of their memory.
 ///
-/// By the law `single_reads`, reads one after another are of a list; `one_depth` bounds the frames
-/// after one read, and `memory_adds_up` adds up the memory.
+/// By the law `single_reads`, the reads are of one list; `one_depth` bounds the frames after one
+/// read, and `memory_adds_up` adds up the memory.
 pub fn skip_operators(operators: &mut OperatorsReader<'_>, count: u32) -> Result<()>
     ensures skipped { IfOk result (λ done. (placed : Placed) × (length placed ≡ count)
         × TakesOperators operators.old operators.new placed) }

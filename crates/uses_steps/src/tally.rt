@@ -1,4 +1,3 @@
-//! Operators that are visited one at a time.
 ghost use Rattle.std.specs.Prelude.{◌≡◌, ◌+◌, ◌-◌, ◌^◌, ◌<◌, length, IfOk};
 ghost use Rattle.wasm_operators.specs.instr.Kinds.{IsVector};
 ghost use Rattle.uses_steps.specs.Tallies.{CountsOne, TakesOne};
@@ -10,7 +9,6 @@ use wasm_operators::{
     visit_owned_simd,
 };
 
-/// The number of operators that were visited.
 #[derive(Debug, Drop)]
 pub struct Tally {
     pub operators: u64,
@@ -19,7 +17,6 @@ pub struct Tally {
 impl Visitor for Tally {
     type Output = ();
 
-    // A visit adds one.
     ghost visits = { λ before op outcome after. CountsOne before.operators after.operators };
 
     fn visit_any(&mut self, _op: Operator<'static>) {
@@ -49,7 +46,6 @@ impl FrameStack for Tally {
     }
 }
 
-/// Counts the operator at the reader's position, which may be a SIMD operator.
 pub fn tally_next(alloc: Global, reader: &mut BinaryReader<'_>, tally: &mut Tally) -> Result<()>
     ensures taken { IfOk result (λ _. TakesOne reader.old reader.new) }
     ensures counted { IfOk result (λ _. CountsOne tally.old.operators tally.new.operators) }
@@ -69,14 +65,12 @@ pub fn tally_next_scalar(
     reader.visit_operator(alloc, tally)
 }
 
-/// Counts an operator.
 pub fn tally_owned(tally: &mut Tally, op: Operator<'_>)
     ensures { CountsOne tally.old.operators tally.new.operators }
 {
     visit_owned_simd(tally, op)
 }
 
-/// Counts an operator, unless it is a SIMD operator.
 pub fn tally_scalar(tally: &mut Tally, op: Operator<'_>)
     ensures vector { IsVector op.entry → tally.new ≡ tally.old }
     ensures scalar { ¬ IsVector op.entry → CountsOne tally.old.operators tally.new.operators }
@@ -87,7 +81,6 @@ pub fn tally_scalar(tally: &mut Tally, op: Operator<'_>)
     visit_owned(tally, op)
 }
 
-/// Counts the operators of a borrowed list.
 pub fn tally_list(alloc: Global, tally: &mut Tally, list: &[(Operator<'_>, u64)]) -> Result<()>
     ensures { IfOk result (λ _. tally.old.operators + length list.now < 2 ^ 64
         → tally.new.operators ≡ tally.old.operators + length list.now) }

@@ -14,9 +14,8 @@ use wasm_operators::{
 
 /// Returns whether an expression, up to its first error, has SIMD operators.
 ///
-/// By the clause `vector` of `visit_all`, the first SIMD operator of the longest prefix gets the
-/// error for SIMD operators. Without that error no prefix has one. A longest prefix exists (the law
-/// `longest_exists`), and it has no SIMD operator; the others are prefixes of it (`one_layout`).
+/// By the clause `vector` of `visit_all`, `UnexpectedSimd` is returned if the longest prefix has
+/// one. That prefix exists (law `longest_exists`); the others are prefixes of it (`one_layout`).
 pub fn has_vectors(alloc: Global, features: WasmFeatures, bytes: &[u8]) -> Result<bool>
     ensures found { (longest : Placed) → IsLongestBeginning (input features bytes.now) longest → ¬ IsScalar longest
         → IfOk result (λ has. has ≡ true) }
@@ -44,8 +43,8 @@ pub fn has_vectors(alloc: Global, features: WasmFeatures, bytes: &[u8]) -> Resul
 /// Returns how many operators precede the first SIMD operator of an expression, up to its first
 /// error.
 ///
-/// The clause `beginning` of `visit_all` says which list was visited. The law `scalar_longest`
-/// relates that list to the longest prefix.
+/// The clause `beginning` of `visit_all` says which list was visited, and the law `scalar_longest`
+/// relates it to the longest prefix.
 pub fn count_before_vectors(alloc: Global, features: WasmFeatures, bytes: &[u8]) -> Result<u64>
     ensures { (longest : Placed) → IsLongestBeginning (input features bytes.now) longest
         → IfOk result (λ count. count ≡ length (scalar_beginning longest)) }

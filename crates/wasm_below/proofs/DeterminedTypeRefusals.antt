@@ -1,4 +1,3 @@
--- A fault determines the message and the offset of an error.
 use Rattle.std.proofs.Common.{◌≡◌, ℕ, inl, inr, List, refl, sym, ap, ◌∙◌, arith}
 use Rattle.wasm_below_bytes.specs.declared.message.Message.TheVariants as message
 use Rattle.wasm_below_bytes.specs.declared.message.TypeName.{TypeName}

@@ -31,7 +31,6 @@ heap_byte_within ty.Array = (lit≤ tt, lit≤ tt)
 heap_byte_within ty.Exn = (lit≤ tt, lit≤ tt)
 heap_byte_within ty.Cont = (lit≤ tt, lit≤ tt)
 
--- the first byte of a short form
 pub short_leads : (b : ℕ) (tail : List ℕ) (h : HeapType) → EncodesShort (b ∷ tail) h → LeadsShort b
 short_leads b tail (heap.Abstract false t) e =
     let w = heap_byte_within t in
@@ -43,7 +42,6 @@ short_leads b tail (heap.Abstract true t) e =
 short_leads b tail (heap.Concrete _) e = absurd e
 short_leads b tail (heap.Exact _) e = absurd e
 
--- a number that is not negative starts with a byte below 64 or above 127
 pub index_leads : (width b : ℕ) (tail : List ℕ) (i : ℕ) → EncodesSigned width (b ∷ tail) (pos i) → 64 ≤ b → b < 128 → ⊥
 index_leads width b [] i (lt, same, fits) ge lt2 = negative b i ge lt2 same
   where
@@ -57,7 +55,6 @@ heap_empty (heap.Abstract true t) e = cc e
 heap_empty (heap.Concrete i) p = p.0
 heap_empty (heap.Exact i) p = (let e : [] ≡ 98 ∷ p.0 = p.1 in cc e)
 
--- a heap type by its first byte
 pub heap_short : (b : ℕ) → LeadsShort b → (tail : List ℕ) (h : HeapType) → EncodesHeapType (b ∷ tail) h → EncodesShort (b ∷ tail) h
 heap_short b l tail (heap.Abstract shared t) p = p
 heap_short b l tail (heap.Concrete i) p = absurd (index_leads 33 b tail i p.0 (omega arith) (omega arith))
@@ -88,7 +85,6 @@ concrete_heap text (heap.Abstract shared t) p = absurd p
 concrete_heap text (heap.Concrete i) p = p
 concrete_heap text (heap.Exact i) p = absurd p
 
--- a number that is not a type index
 pub no_concrete : (text after more : List ℕ) (n : ℤ) → EncodesSigned 33 text n → ((i : ℕ) → n ≡ pos i → i ≤ max_type_index → ⊥) →
     NoPrefix EncodesConcrete ((text ++ after) ++ more)
 no_concrete text after more n p over t2 more2 (heap.Abstract shared t) q e = q
@@ -104,7 +100,6 @@ no_exact text after more n p over t2 more2 (heap.Exact i) (later, prefix, q, wit
     cc (e, ap (λ z. z ++ more2) prefix))).1 in
     omega (arith, within)
 
--- after the byte 0x62
 pub exact_after : (tail : List ℕ) (h : HeapType) → EncodesExact (98 ∷ tail) h → (n : ℕ) × EncodesUnsigned 32 tail n
 exact_after tail (heap.Abstract shared t) p = absurd p
 exact_after tail (heap.Concrete i) p = absurd p
@@ -115,7 +110,6 @@ exact_empty (heap.Abstract shared t) p = p
 exact_empty (heap.Concrete i) p = p
 exact_empty (heap.Exact i) p = cc (p.1)
 
--- reference types by their first byte
 pub ref_empty : (r : Reference) → EncodesRefType [] r → ⊥
 ref_empty r (inl p) = heap_empty r.heap_type (short_heap [] r.heap_type p.1)
 ref_empty r (inr p) = cc (p.1)
@@ -152,7 +146,6 @@ pub ref_leads : (b : ℕ) (tail : List ℕ) (r : Reference) → EncodesRefType (
 ref_leads b tail r (inl p) = (let l = short_leads b tail r.heap_type p.1 in (omega (arith, l.0), l.1, l.2, l.3))
 ref_leads b tail r (inr p) = subst LeadsRefType (let e : ref_byte r.nullable ≡ b = cc (p.1) in e) (ref_byte_leads r.nullable).1
 
--- value types by their first byte
 pub value_empty : (v : ValType) → EncodesValType [] v → ⊥
 value_empty value.I32 e = cc e
 value_empty value.I64 e = cc e
@@ -197,7 +190,6 @@ value_is_ref b l tail (value.Ref r) p = (r, refl, p)
 pub value_ref : (b : ℕ) → LeadsRefType b → (tail : List ℕ) (v : ValType) → EncodesValType (b ∷ tail) v → (r : Reference) × EncodesRefType (b ∷ tail) r
 value_ref b l tail v p = (let s = value_is_ref b l tail v p in (s.0, s.2))
 
--- an error after the byte 0x63 or 0x64 is an error of the reference type
 pub long_fault : (result : Result Reference Error) (n : Bool) (r : Reader) → BeginsWith (ref_byte n) (rest r) →
     IfErr result (λ e. HeapTypeFault e.message (after_byte r) e.offset) → IfErr result (λ e. RefTypeFault e.message r e.offset)
 long_fault (Ok x) n r prefix h = tt

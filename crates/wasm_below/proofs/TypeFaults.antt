@@ -1,4 +1,3 @@
--- The error of a read.
 use Rattle.std.proofs.Common.{◌≡◌, ◌≢◌, ℕ, ◌+◌, inl, inr, List, [], ◌∷◌, sym, subst, ap, ◌∙◌, arith}
 use Rattle.wasm_below_bytes.specs.declared.error.Error.{Error}
 use Rattle.wasm_below_bytes.specs.declared.message.Message.{Message}
@@ -18,7 +17,6 @@ end_short name e r h = subst (λ m. ShortFault name m r e.offset) (sym h.0) (h.1
 pub end_byte : (name : TypeName) (e : Error) (r : Reader) → IsEndHere e r → ByteFault name e.message r e.offset
 end_byte name e r h = subst (λ m. ByteFault name m r e.offset) (sym h.0) (h.1 ∙ h.2, none_here r h.2)
 
--- a byte that cannot start a short form, and one after the byte 0x65 that cannot end it
 pub other_byte : (b : ℕ) (bytes after : List ℕ) → bytes ≡ b ∷ after → b ≢ 0x65 → IsCutShort bytes → ⊥
 other_byte b bytes after e x (inl f) = cc (e, f)
 other_byte b bytes after e x (inr f) = x (let g : b ≡ 0x65 = cc (e, f) in g)
@@ -27,13 +25,11 @@ pub two_bytes : (b c : ℕ) (bytes after : List ℕ) → bytes ≡ b ∷ c ∷ a
 two_bytes b c bytes after e (inl f) = cc (e, f)
 two_bytes b c bytes after e (inr f) = cc (e, f)
 
--- the data ends after the byte 0x65
 pub end_shared : (name : TypeName) (e : Error) (old mid : Reader) → Takes old mid (0x65 ∷ []) → IsEndHere e mid → ShortFault name e.message old e.offset
 end_shared name e old mid t h =
     let ends : end_of mid ≡ end_of old = ap end_of t.moved in
     subst (λ m. ShortFault name m old e.offset) (sym h.0) (h.1 ∙ h.2 ∙ ends, inr (t.parts ∙ ap (λ z. 0x65 ∷ z) (none_here mid h.2)))
 
--- the data ends at the start of a heap type
 pub end_heap : (e : Error) (r : Reader) → IsEndHere e r → HeapTypeFault e.message r e.offset
 end_heap e r h =
     let none : rest r ≡ [] = none_here r h.2 in
@@ -53,7 +49,6 @@ end_value e r h =
     let none : rest r ≡ [] = none_here r h.2 in
     inr (λ b l f. (let g : rest r ≡ b ∷ f.0 = f.1 in cc), end_byte type_name.ValueType e r h)
 
--- the error of a heap type is the error of the form that its first byte starts
 pub short_fault : (b : ℕ) (e : Error) (r : Reader) → BeginsWith b (rest r) → LeadsShort b → ShortFault type_name.HeapType e.message r e.offset →
     HeapTypeFault e.message r e.offset
 short_fault b e r prefix l h = inr (inl ((b, l, prefix), h))
@@ -70,7 +65,6 @@ concrete_fault b e r prefix l x h =
       h,
     ))
 
--- back at the start of a number that is not a type index
 pub no_index : (m : Message) (offset position : ℕ) (begin old mid : Reader) (text : List ℕ) → Takes old mid text → old.start ≡ begin.start →
     position ≡ begin.position → m ≡ message.InvalidType type_name.HeapType → offset ≡ mid.start + position → NoIndex begin m mid offset
 no_index m offset position begin old mid text t same at is e =

@@ -1,4 +1,3 @@
--- No encoding of a type is a proper prefix of another, and each encoding has one type.
 use Rattle.std.proofs.Common.{◌≡◌, ◌==◌, ℕ, ◌<◌, ◌≤◌, inl, inr, Bool, true, false, if◌then◌else◌, List, [], ◌∷◌, ◌++◌, refl, sym, subst, ap, ◌∙◌, arith, pos}
 use Rattle.wasm_below.specs.declared.types.AbstractHeapType.{AbstractHeapType}
 use Rattle.wasm_below.specs.declared.types.AbstractHeapType.TheVariants as ty
@@ -99,7 +98,6 @@ ref_byte_injective false false e = refl
 ref_byte_injective true false e = absurd (omega (arith, e))
 ref_byte_injective false true e = absurd (omega (arith, e))
 
--- a short form and a long form start with different bytes
 short_long : (a b x y : List ℕ) (r s : Reference) → EncodesShortRef a r → EncodesLongRef b s → a ++ x ≡ b ++ y → ⊥
 short_long [] b x y r s p q e = ref_empty r (inl p)
 short_long (c ∷ a) b x y r s p q e =

@@ -1,18 +1,17 @@
--- Reference types.
 use Rattle.std.specs.Prelude.{ℕ, ◌≤◌, Bool}
 use Rattle.wasm_below.specs.declared.types.HeapType.{HeapType}
 use Rattle.wasm_below.specs.declared.types.HeapType.TheVariants as heap
 
--- A reference type: whether it includes the null reference, and the type of what it refers to.
+-- Whether the type includes the null reference, and what it refers to.
 pub record Reference : Type 0 where
   pub nullable : Bool
   pub heap_type : HeapType
 
--- The greatest type index. It is a limit of this project, not of the specification.
+-- The greatest type index: a limit of this project, not of the specification.
 abbrev pub max_type_index : ℕ
 max_type_index = 1048575
 
--- A type index in this heap type is within the limit.
+-- A type index in this heap type is at most 1048575.
 abbrev pub IsIndexed : HeapType → Type 0
 IsIndexed (heap.Abstract shared ty) = Unit {0}
 IsIndexed (heap.Concrete index) = index ≤ max_type_index

@@ -12,13 +12,11 @@ heap_type_of (short.Abstract shared ty) = heap.Abstract shared ty
 heap_type_of (short.Concrete index) = heap.Concrete index
 heap_type_of (short.Exact index) = heap.Exact index
 
--- The stored form of a heap type.
 abbrev pub short_of : HeapType → ShortHeapType
 short_of (heap.Abstract shared ty) = short.Abstract shared ty
 short_of (heap.Concrete index) = short.Concrete index
 short_of (heap.Exact index) = short.Exact index
 
--- Converting a stored form to a heap type and back gives the same stored form.
 pub held_again : (t : ShortHeapType) → short_of (heap_type_of t) ≡ t
 held_again (short.Abstract shared ty) = refl
 held_again (short.Concrete index) = refl

@@ -1,7 +1,5 @@
--- Types as bytes.
--- WebAssembly Core Specification 3.0, Binary Format, Types: Heap Types, Reference Types, Value
--- Types. The bytes 0x62 (exact), 0x65 (shared), 0x68 (cont) and 0x75 (nocont) belong to proposals
--- beyond it.
+-- Types as bytes. Specification: Binary Format, Types; the bytes 0x62 (exact), 0x65 (shared), 0x68
+-- (cont) and 0x75 (nocont): proposals.
 use Rattle.std.specs.Prelude.{◌≡◌, ◌≢◌, ℕ, ◌+◌, ◌≤◌, ◌⊎◌, Bool, true, false, List, [], ◌∷◌, pos}
 use Rattle.wasm_below_bytes.specs.declared.message.Message.{Message}
 use Rattle.wasm_below_bytes.specs.declared.message.Message.TheVariants as message
@@ -18,7 +16,6 @@ use Rattle.wasm_below_bytes.specs.Number.{EncodesUnsigned, EncodesSigned}
 use Rattle.wasm_below_bytes.specs.Source.{Reader, rest, offset_of, end_of, at_position, BeginsWith, U32Fault, S33Fault}
 use Rattle.wasm_below_bytes.specs.Fault.{ThenFault}
 
--- The byte of an abstract heap type.
 abbrev pub heap_type_byte : AbstractHeapType → ℕ
 heap_type_byte ty.NoCont = 0x75
 heap_type_byte ty.NoExn = 0x74
@@ -35,7 +32,7 @@ heap_type_byte ty.Array = 0x6a
 heap_type_byte ty.Exn = 0x69
 heap_type_byte ty.Cont = 0x68
 
--- A short form: the byte of an abstract heap type, after the byte 0x65 if the type is shared.
+-- The byte of an abstract heap type, after the byte 0x65 if it is shared.
 --   absheaptype ::= 0x69 ⇒ exn | 0x6A ⇒ array | 0x6B ⇒ struct | 0x6C ⇒ i31 | 0x6D ⇒ eq | 0x6E ⇒ any | 0x6F ⇒ extern
 --                 | 0x70 ⇒ func | 0x71 ⇒ none | 0x72 ⇒ noextern | 0x73 ⇒ nofunc | 0x74 ⇒ noexn
 abbrev pub EncodesShort : List ℕ → HeapType → Type 0
@@ -48,39 +45,34 @@ abbrev pub EncodesConcrete : List ℕ → HeapType → Type 0
 EncodesConcrete text (heap.Concrete index) = EncodesSigned 33 text (pos index) × (index ≤ max_type_index)
 EncodesConcrete text _ = ⊥
 
--- The byte 0x62 and a type index within the limit.
 abbrev pub EncodesExact : List ℕ → HeapType → Type 0
 EncodesExact text (heap.Exact index) = (after : List ℕ) × (text ≡ 0x62 ∷ after) × EncodesUnsigned 32 after index × (index ≤ max_type_index)
 EncodesExact text _ = ⊥
 
--- A heap type: a short form, a type index, or the byte 0x62 and a type index. Heap Types.
+-- A short form, a type index, or the byte 0x62 and a type index.
 --   heaptype ::= absheaptype | x33:s33 ⇒ x33, if x33 ≥ 0
 abbrev pub EncodesHeapType : List ℕ → HeapType → Type 0
 EncodesHeapType text (heap.Abstract shared ty) = EncodesShort text (heap.Abstract shared ty)
 EncodesHeapType text (heap.Concrete index) = EncodesConcrete text (heap.Concrete index)
 EncodesHeapType text (heap.Exact index) = EncodesExact text (heap.Exact index)
 
--- The prefix byte of a heap type in a reference type: 0x63 if the reference type includes null,
--- otherwise 0x64.
+-- The first byte of a reference type: 0x63 if it includes null, otherwise 0x64.
 abbrev pub ref_byte : Bool → ℕ
 ref_byte true = 0x63
 ref_byte false = 0x64
 
--- A reference type in the short form, which includes null.
 abbrev pub EncodesShortRef : List ℕ → Reference → Type 0
 EncodesShortRef text r = (r.nullable ≡ true) × EncodesShort text r.heap_type
 
--- A heap type after the byte that says whether the reference type includes null.
 abbrev pub EncodesLongRef : List ℕ → Reference → Type 0
 EncodesLongRef text r = (after : List ℕ) × (text ≡ ref_byte r.nullable ∷ after) × EncodesHeapType after r.heap_type
 
--- A reference type: a short form, or a heap type after the byte 0x63 or 0x64. Reference Types.
+-- A short form, or a heap type after the byte 0x63 or 0x64.
 --   reftype ::= 0x63 ht:heaptype ⇒ ref null ht | 0x64 ht:heaptype ⇒ ref ht | ht:absheaptype ⇒ ref null ht
 abbrev pub EncodesRefType : List ℕ → Reference → Type 0
 EncodesRefType text r = EncodesShortRef text r ⊎ EncodesLongRef text r
 
--- A number type or a vector type. Number Types and Vector Types.
---   numtype ::= 0x7C ⇒ f64 | 0x7D ⇒ f32 | 0x7E ⇒ i64 | 0x7F ⇒ i32      vectype ::= 0x7B ⇒ v128
+-- numtype ::= 0x7C ⇒ f64 | 0x7D ⇒ f32 | 0x7E ⇒ i64 | 0x7F ⇒ i32 vectype ::= 0x7B ⇒ v128
 abbrev pub EncodesNumberType : List ℕ → ValType → Type 0
 EncodesNumberType text value.I32 = text ≡ 0x7f ∷ []
 EncodesNumberType text value.I64 = text ≡ 0x7e ∷ []
@@ -89,13 +81,12 @@ EncodesNumberType text value.F64 = text ≡ 0x7c ∷ []
 EncodesNumberType text value.V128 = text ≡ 0x7b ∷ []
 EncodesNumberType text (value.Ref r) = ⊥
 
--- A value type: a number type, a vector type or a reference type. Value Types.
+-- A number type, a vector type or a reference type.
 --   valtype ::= numtype | vectype | reftype
 abbrev pub EncodesValType : List ℕ → ValType → Type 0
 EncodesValType text (value.Ref r) = EncodesRefType text r
 EncodesValType text ty = EncodesNumberType text ty
 
--- The reader after its next byte.
 abbrev pub after_byte : Reader → Reader
 after_byte r = at_position r (r.position + 1)
 
@@ -107,52 +98,46 @@ LeadsShort byte = (0x65 ≤ byte) × (byte ≤ 0x75) × (byte ≢ 0x66) × (byte
 abbrev pub LeadsRefType : ℕ → Type 0
 LeadsRefType byte = (0x63 ≤ byte) × (byte ≤ 0x75) × (byte ≢ 0x66) × (byte ≢ 0x67)
 
--- A short form is incomplete: the bytes are empty, or only the byte 0x65 is left.
+-- A short form is incomplete: no byte, or only the byte 0x65 is left.
 abbrev pub IsCutShort : List ℕ → Type 0
 IsCutShort bytes = (bytes ≡ []) ⊎ (bytes ≡ 0x65 ∷ [])
 
--- The error of a short form. The data ends at its start or after the byte 0x65, or the bytes are
--- not a type of this name.
+-- The data ends at the start or after the byte 0x65, or the bytes are not a type of this name.
 abbrev pub ShortFault : TypeName → Message → Reader → ℕ → Type 0
 ShortFault name message.EndOfData r offset = (offset ≡ end_of r) × IsCutShort (rest r)
 ShortFault name (message.InvalidType what) r offset = (what ≡ name) × (offset ≡ offset_of r) × (¬ IsCutShort (rest r))
 ShortFault name _ r offset = ⊥
 
--- The error of a type of one byte: the data ends, or the byte is not a type of this name.
+-- The data ends, or the byte is not a type of this name.
 abbrev pub ByteFault : TypeName → Message → Reader → ℕ → Type 0
 ByteFault name message.EndOfData r offset = (offset ≡ end_of r) × (rest r ≡ [])
 ByteFault name (message.InvalidType what) r offset = (what ≡ name) × (offset ≡ offset_of r) × (rest r ≢ [])
 ByteFault name _ r offset = ⊥
 
--- The error of a number that is not an index of a heap type: `InvalidType` at the start of the heap
--- type, which is at the reader `begin`.
+-- The number is no index: `InvalidType` at the start of the heap type, the reader `begin`.
 abbrev pub NoIndex : Reader → Message → Reader → ℕ → Type 0
 NoIndex begin m r offset = (m ≡ message.InvalidType type_name.HeapType) × (offset ≡ offset_of begin)
 
--- The error of a type index after the byte 0x62 (`ExactFault`), and of one alone (`ConcreteFault`).
--- Either reading the number fails, or the number is not a type index.
+-- The error of a type index after the byte 0x62 (`ExactFault`) or alone (`ConcreteFault`): of the
+-- number, or it is no index.
 abbrev pub ExactFault : Message → Reader → ℕ → Type 0
 ExactFault m r offset = ThenFault (EncodesUnsigned 32) U32Fault (λ n. NoIndex r) m (after_byte r) offset
 
 abbrev pub ConcreteFault : Message → Reader → ℕ → Type 0
 ConcreteFault m r offset = ThenFault (EncodesSigned 33) S33Fault (λ n. NoIndex r) m r offset
 
--- The first byte is of this kind.
 abbrev pub LedBy : (ℕ → Type 0) → List ℕ → Type 0
 LedBy Leads bytes = (byte : ℕ) × Leads byte × BeginsWith byte bytes
 
--- The error of a heap type. After the byte 0x62 it is the error of an index. If the first byte
--- starts a short form, it is the error of the short form. Otherwise it is the error of an index
--- alone.
+-- The error of an index after the byte 0x62; of a short form, if the first byte starts one;
+-- otherwise of an index.
 abbrev pub HeapTypeFault : Message → Reader → ℕ → Type 0
 HeapTypeFault m r offset = (BeginsWith 0x62 (rest r) × ExactFault m r offset) ⊎ ((LedBy LeadsShort (rest r) × ShortFault type_name.HeapType m r offset) ⊎ ((¬ BeginsWith 0x62 (rest r)) × (¬ LedBy LeadsShort (rest r)) × ConcreteFault m r offset))
 
--- The error of a reference type. After the byte 0x63 or 0x64 it is the error of a heap type, and
--- otherwise the error of a short form.
+-- The error of a heap type after the byte 0x63 or 0x64, otherwise of a short form.
 abbrev pub RefTypeFault : Message → Reader → ℕ → Type 0
 RefTypeFault m r offset = ((nullable : Bool) × BeginsWith (ref_byte nullable) (rest r) × HeapTypeFault m (after_byte r) offset) ⊎ (((nullable : Bool) → BeginsWith (ref_byte nullable) (rest r) → ⊥) × ShortFault type_name.ReferenceType m r offset)
 
--- The error of a value type. If the first byte starts a reference type, it is the error of the
--- reference type. Otherwise it is the error of a type of one byte.
+-- The error of a reference type, if the first byte starts one, otherwise of a type of one byte.
 abbrev pub ValTypeFault : Message → Reader → ℕ → Type 0
 ValTypeFault m r offset = ((byte : ℕ) × LeadsRefType byte × BeginsWith byte (rest r) × RefTypeFault m r offset) ⊎ (((byte : ℕ) → LeadsRefType byte → BeginsWith byte (rest r) → ⊥) × ByteFault type_name.ValueType m r offset)

@@ -1,4 +1,3 @@
-//! Implementations of `FromReader` for types.
 ghost use Rattle.wasm_below.specs.TypeEncoding.{EncodesHeapType, EncodesRefType, EncodesValType, HeapTypeFault, RefTypeFault, ValTypeFault};
 
 use crate::types::{HeapType, RefType, ValType};

@@ -1,8 +1,4 @@
-//! Reading WebAssembly's binary format from the start of borrowed bytes: errors, features, a reader
-//! of bytes and numbers, and types.
-//!
-//! Bytes and numbers are in `wasm_below_bytes`, whose names this crate re-exports. Callers list
-//! only this crate. Reading a type does not allocate.
+//! Types, and all names of `wasm_below_bytes`. Reading a type does not allocate.
 #![tactic(auto)]
 
 mod from_reader;

@@ -1,4 +1,3 @@
-//! Value types, reference types and heap types.
 ghost use Rattle.std.specs.Prelude.{◌≡◌, ℕ, ◌≤◌, IsTrue, ◌↔◌, IsSome, IfSome, IfNone, IfOk, IfErr, codes};
 ghost use Rattle.wasm_below.specs.Reference.{IsIndexed};
 
@@ -10,10 +9,9 @@ mod short;
 
 use short::ShortHeapType;
 
-/// The greatest type index that is read.
 const MAX_TYPE_INDEX: u32 = 1048575;
 
-/// A value type. Types, Value Types.
+/// A value type. Specification: Types, Value Types.
 #[derive(Clone, Copy, Debug, PartialEq, Eq)]
 pub enum ValType {
     I32,
@@ -24,7 +22,7 @@ pub enum ValType {
     Ref(RefType),
 }
 
-/// A heap type that is not given by a type index. Types, Heap Types.
+/// A heap type without a type index. Specification: Types, Heap Types.
 #[derive(Clone, Copy, Debug, PartialEq, Eq)]
 pub enum AbstractHeapType {
     Func,
@@ -43,7 +41,7 @@ pub enum AbstractHeapType {
     NoCont,
 }
 
-/// The type of what a reference refers to. Types, Heap Types.
+/// The type of what a reference refers to. Specification: Types, Heap Types.
 #[derive(Clone, Copy, Debug, PartialEq, Eq)]
 pub enum HeapType {
     /// An abstract heap type, shared between threads or not.
@@ -54,9 +52,8 @@ pub enum HeapType {
     Exact(u32),
 }
 
-/// A reference type. A type index in it is at most 1048575. Types, Reference Types.
-///
-/// Its size is five bytes.
+/// A reference type, in five bytes. A type index is at most 1048575. Specification: Types,
+/// Reference Types.
 #[derive(Clone, Copy, PartialEq, Eq)]
 pub struct RefType {
     nullable: bool,
@@ -88,8 +85,8 @@ impl Debug for RefType {
 }
 
 impl RefType {
-    /// Creates the type of references to `heap_type`, which includes the null reference if
-    /// `nullable` is set. Returns `None` if a type index is above 1048575.
+    /// Creates the type of references to `heap_type`. Returns `None` if a type index is above
+    /// 1048575.
     pub fn new(nullable: bool, heap_type: HeapType) -> Option<RefType>
         ensures some { IsSome result ↔ IsIndexed heap_type }
         ensures value { IfSome result (λ r. (r.nullable ≡ nullable) × (r.heap_type ≡ heap_type)) }
@@ -101,7 +98,6 @@ impl RefType {
         }
     }
 
-    /// Creates a reference type from a heap type without an index above the limit.
     #[inline(always)]
     fn of(nullable: bool, heap_type: HeapType) -> RefType
         requires { IsIndexed heap_type }
@@ -114,7 +110,6 @@ impl RefType {
         }
     }
 
-    /// Returns whether the type includes the null reference.
     pub fn is_nullable(&self) -> bool
         ensures { result ≡ self.now.nullable }
     {
@@ -130,7 +125,6 @@ impl RefType {
     }
 }
 
-/// Returns whether a type index, if there is one, is within the limit.
 fn is_indexed(heap_type: HeapType) -> bool
     ensures { IsTrue result ↔ IsIndexed heap_type }
 {

@@ -1,4 +1,3 @@
--- Blocks of bytes, and counts with a limit.
 use Rattle.std.proofs.Common.{◌≡◌, ℕ, ◌+◌, ◌-◌, ◌<◌, ◌≤◌, List, [], ◌++◌, length, take, drop, Ok, refl, sym, subst, ap, ◌∙◌, append_assoc, length-append, length-drop, arith}
 use Rattle.std.proofs.lemmas.List.{take-append-drop, drop-drop, length-take-le, append-nil}
 use Rattle.wasm_below_bytes.specs.declared.error.Error.{Error}
@@ -11,7 +10,6 @@ use Rattle.wasm_below_bytes.specs.Source.{Reader, rest, offset_of, at_position, 
 use Rattle.wasm_below_bytes.proofs.TakesLemmas.{back}
 use Rattle.wasm_below_bytes.proofs.PrefixCode.{unsigned_prefix_code}
 
--- fewer bytes are left than each encoding has
 pub short_refused : {X : Type 0} (Encodes : List ℕ → X → Type 0) (n : ℕ) (e : Error) (r : Reader) →
     ((text : List ℕ) (x : X) → Encodes text x → length text ≡ n) → r.position ≤ length r.buffer → IsShort n e r → IsRefusal Encodes e r
 short_refused Encodes n e r sized le h =
@@ -30,7 +28,6 @@ short_refused Encodes n e r sized le h =
       ahead = (let at : e.offset ≡ offset_of r = h.1 in (omega arith, omega arith));
     }
 
--- this many bytes are taken
 pub takes_block : (old new : Reader) (n m : ℕ) → m ≡ n → n ≤ length (rest old) → new ≡ at_position old (old.position + n) →
     (length (take m (rest old)) ≡ n) × Takes old new (take m (rest old))
 takes_block old new n m same fits moved =
@@ -43,13 +40,11 @@ takes_block old new n m same fits moved =
       },
     )
 
--- a number above the limit is not a count
 no_size : (text after more : List ℕ) (limit n : ℕ) → EncodesUnsigned 32 text n → limit < n → NoPrefix (EncodesSize limit) ((text ++ after) ++ more)
 no_size text after more limit n p over t2 more2 k q e =
     let same : n ≡ k = (unsigned_prefix_code text t2 32 (after ++ more) more2 n k p q.0 (sym (append_assoc text after more) ∙ e)).1 in
     omega (arith, q.1)
 
--- back at the start of a number that is above the limit
 pub size_refused : (limit n : ℕ) (e : Error) (old mid new : Reader) (position : ℕ) → Reads (EncodesUnsigned 32) (Ok n) old mid → limit < n →
     position ≡ old.position → position ≤ length old.buffer → new ≡ at_position mid position → e.offset ≡ mid.start + position → IsReadFault e.message →
     (new ≡ old) × IsRefusal (EncodesSize limit) e old
@@ -63,7 +58,6 @@ size_refused limit n e old mid new position (text, p, takes) over same le went o
       },
     )
 
--- an error of the number is an error of the count
 pub count_fault : (m : Message) (name : SizeName) (limit : ℕ) (r : Reader) (offset : ℕ) → U32Fault m r offset →
     NoPrefix (EncodesUnsigned 32) (rest r) → CountFault name limit m r offset
 count_fault (message.SizeOutOfBounds _) name limit r offset h none = absurd h.0
@@ -74,6 +68,5 @@ ends_here message.EndOfData h = refl
 ends_here message.OutOfMemory h = absurd h
 ends_here m h = tt
 
--- if a read fails, no prefix of the rest encodes a value
 pub refused_now : {X : Type 0} (Encodes : List ℕ → X → Type 0) (e : Error) (r : Reader) → IsRefusal Encodes e r → NoPrefix Encodes (rest r)
 refused_now Encodes e r h = subst (NoPrefix Encodes) (append-nil (rest r)) (h.refuses [] (ends_here e.message h.fault))

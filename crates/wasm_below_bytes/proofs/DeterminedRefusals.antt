@@ -1,4 +1,3 @@
--- Faults determine their errors: of numbers, counts, bytes, and parts in sequence.
 use Rattle.std.proofs.Common.{◌≡◌, ℕ, ◌+◌, ◌<◌, ◌≤◌, inl, inr, List, length, Ok, refl, sym, subst, ap, ◌∙◌, arith, ◌≢◌, ◌⊎◌}
 use Rattle.wasm_below_bytes.specs.declared.message.Message.{Message}
 use Rattle.wasm_below_bytes.specs.declared.message.Message.TheVariants as message
@@ -46,7 +45,6 @@ s33_determines message.EndOfData _ r a b h k = absurd k.0
 s33_determines (message.IntegerTooLong u) _ r a b h k = absurd k.0
 s33_determines _ _ r a b h k = absurd h.0
 
--- a prefix cannot encode a number above the limit if no prefix encodes a number
 above_none : (limit : ℕ) (bytes : List ℕ) → BeginsAbove limit bytes → NoPrefix (EncodesUnsigned 32) bytes → ⊥
 above_none limit bytes (text, more, n, p, _, e) none = none text more n p e
 
@@ -57,7 +55,6 @@ size_determines limit name (message.SizeOutOfBounds u) k r a b h q = absurd (abo
 size_determines limit name m (message.SizeOutOfBounds v) r a b h q = absurd (above_none limit (rest r) q.0.1 h.0.1)
 size_determines limit name m k r a b h q = number_determines 32 number_name.VarU32 m k r a b (h.0.0, h.2) (q.0.0, q.2)
 
--- the reader after a first part
 first_prefix_code : {X : Type 0} (First : List ℕ → X → Type 0) → PrefixCode First → (r s t : Reader) (x y : X) → Reads First (Ok x) r s →
     Reads First (Ok y) r t → (x ≡ y) × (s ≡ t)
 first_prefix_code First prefix_code r s t x y (text, p, h) (other, q, k) =
@@ -77,7 +74,6 @@ pub reader_determines : DeterminesRefusal ReaderFault
 reader_determines = then_determines (EncodesUnsigned 32) U32Fault EndsWithin (λ a b x y m n p q e. unsigned_prefix_code a b 32 x y m n p q e) u32_determines
     (λ n m k r a b h q. (h.0 ∙ sym q.0, h.1 ∙ sym q.1))
 
--- one of two faults, depending on whether a fact holds
 pub either_determines : (Holds : Type 0) (Then Else : Message → Reader → ℕ → Type 0) → DeterminesRefusal Then → DeterminesRefusal Else →
     DeterminesRefusal (λ m r offset. (Holds × Then m r offset) ⊎ (¬ Holds × Else m r offset))
 either_determines Holds Then Else pt pe m k r a b (inl h) (inl q) = pt m k r a b h.1 q.1
@@ -85,7 +81,6 @@ either_determines Holds Then Else pt pe m k r a b (inl h) (inr q) = absurd (q.0 
 either_determines Holds Then Else pt pe m k r a b (inr h) (inl q) = absurd (h.0 q.0)
 either_determines Holds Then Else pt pe m k r a b (inr h) (inr q) = pe m k r a b h.1 q.1
 
--- a list has one first byte
 pub same_first_byte : (bytes : List ℕ) (c d : ℕ) → BeginsWith c bytes → BeginsWith d bytes → c ≡ d
 same_first_byte bytes c d (x, h) (y, q) = cc (h, q)
 
@@ -94,8 +89,6 @@ end_determines m k r a b h q = (h.0 ∙ sym q.0, h.1 ∙ sym q.1)
 
 pub count_determines : (name : SizeName) (limit : ℕ) → DeterminesRefusal (CountFault name limit)
 count_determines name limit = size_determines limit name
-
--- ---- short immediates
 
 pub checked_determines : (IsWrong : ℕ → Type 0) (refusal : ℕ → Message) (place : ℕ) → DeterminesRefusal (CheckedByteFault IsWrong refusal place)
 checked_determines IsWrong refusal place m k r a b (inl h) (inl q) = end_determines m k r a b h q

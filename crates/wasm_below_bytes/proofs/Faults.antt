@@ -11,16 +11,12 @@ pub if_err : {X : Type 0} (P Q : Error → Type 0) (result : Result X Error) →
 if_err P Q (Ok x) f h = tt
 if_err P Q (Err e) f h = f e h
 
--- reading the first of two parts fails
 pub first_fault : {X : Type 0} (First : List ℕ → X → Type 0) (FirstFault : Message → Reader → ℕ → Type 0) (After : X → Message → Reader → ℕ →
     Type 0) (e : Error) (r : Reader) → IsRefusal First e r → FirstFault e.message r e.offset → ThenFault First FirstFault After e.message r e.offset
 first_fault First FirstFault After e r h f = inl (refused_now First e r h, f)
 
--- nothing is left at the end of the data
 pub none_here : (r : Reader) → offset_of r ≡ end_of r → rest r ≡ []
 none_here r e = drop_all r.position r.buffer (omega arith)
-
--- ---- block types
 
 pub no_byte : (r : Reader) (byte : ℕ) → offset_of r ≡ end_of r → BeginsWith byte (rest r) → ⊥
 no_byte r byte same (more, prefix) =

@@ -10,8 +10,8 @@ use Rattle.wasm_below_bytes.specs.Source.{NoPrefix}
 use Rattle.wasm_below_bytes.proofs.Numbers.{unsigned_rest, unsigned_long}
 use Rattle.wasm_below_bytes.proofs.SignedNumbers.{signed_rest, signed_long}
 
--- An encoding of numbers by groups of seven bits. It says how a low group is joined to the number
--- after it, and which bytes are not a number.
+-- An encoding of numbers by groups of seven bits: how a low group is joined to the number after it,
+-- and which bytes are no number.
 pub record IsLeb128 {X : Type 0} (Encodes : ℕ → List ℕ → X → Type 0) (join : ℕ → X → X) : Type 0 where
   pub more : (width b : ℕ) (text : List ℕ) (high : X) → 7 < width → 128 ≤ b → b < 256 → Encodes (width - 7) text high →
       Encodes width (b ∷ text) (join (b - 128) high)
@@ -19,13 +19,11 @@ pub record IsLeb128 {X : Type 0} (Encodes : ℕ → List ℕ → X → Type 0) (
   pub after : (bytes after : List ℕ) (b width : ℕ) → bytes ≡ b ∷ after → 128 ≤ b → NoPrefix (Encodes (width - 7)) after → NoPrefix (Encodes width) bytes
   pub long : (bytes after : List ℕ) (b width : ℕ) → bytes ≡ b ∷ after → 128 ≤ b → width ≤ 7 → NoPrefix (Encodes width) bytes
 
--- the number after these groups, joined to them
 abbrev pub joined : {X : Type 0} → (ℕ → X → X) → List ℕ → X → X
 joined join [] x = x
 joined join (c ∷ text) x = join (c - 128) (joined join text x)
 
 module _ {X : Type 0} (Encodes : ℕ → List ℕ → X → Type 0) (join : ℕ → X → X) (leb128 : IsLeb128 Encodes join) where
-  -- continuation bytes and a last byte are a number
   pub continued : (text : List ℕ) (width last : ℕ) (x : X) → AllGoOn text → 7 * length text < width → Encodes (width - 7 * length text) (last ∷ []) x →
       Encodes width (text ++ last ∷ []) (joined join text x)
   continued [] width last x go lt p = subst (λ w. Encodes w (last ∷ []) x) (omega arith) p
@@ -33,7 +31,6 @@ module _ {X : Type 0} (Encodes : ℕ → List ℕ → X → Type 0) (join : ℕ 
       leb128.more width c (text ++ last ∷ []) (joined join text x) (omega arith) ge small
       (continued text (width - 7) last x go (omega arith) (subst (λ w. Encodes w (last ∷ []) x) (omega arith) p))
 
-  -- if no prefix is the rest of a number, continuation bytes before it do not make it one
   pub none_after : (text after : List ℕ) (width : ℕ) → AllGoOn text → NoPrefix (Encodes (width - 7 * length text)) after →
       NoPrefix (Encodes width) (text ++ after)
   none_after [] after width go none = subst (λ w. NoPrefix (Encodes w) after) (omega arith) none
@@ -65,14 +62,12 @@ signed_empty width (c ∷ text) after x p e = cc e
 pub signed_leb128 : IsLeb128 EncodesSigned (λ low high. (pos 128 *ℤ high) +ℤ pos low)
 signed_leb128 = record { more = signed_joins; empty = signed_empty; after = signed_rest; long = signed_long }
 
--- one more group of seven bits
 group_power : (n : ℕ) → 2 ^ (7 * n + 7) ≡ 128 * 2 ^ (7 * n)
 group_power n = let e : 7 * n + 7 ≡ 7 + 7 * n = omega arith in ap (λ k. 2 ^ k) e ∙ pow-add 2 7 (7 * n)
 
 suc_power : (n k : ℕ) → k ≡ 7 * n + 7 → 2 ^ k ≡ 128 * 2 ^ (7 * n)
 suc_power n k e = ap (λ k. 2 ^ k) e ∙ group_power n
 
--- continuation bytes have seven bits each
 pub low_below : (text : List ℕ) → AllGoOn text → low_bits text < 2 ^ (7 * length text)
 low_below [] go = omega arith
 low_below (c ∷ text) (ge, small, go) = omega (arith, low_below text go, suc_power (length text) (7 * length (c ∷ text)) (omega arith))
@@ -102,7 +97,7 @@ signed_joined (c ∷ text) b =
     step_value b (low_bits text) (2 ^ (7 * length text)) (2 ^ (7 * length (c ∷ text))) (c - 128)
     (suc_power (length text) (7 * length (c ∷ text)) (omega arith))
 
--- ---- groups that were read so far, from the position `start` up to `position`
+-- Groups that were read so far, from the position `start` up to `position`.
 pub record SoFar (buffer : List ℕ) (start position low shift count : ℕ) : Type 0 where
   pub text : List ℕ
   pub go_on : AllGoOn text
@@ -121,7 +116,6 @@ low_more (d ∷ text) c =
     let p = suc_power (length text) (7 * length (d ∷ text)) (omega arith) in
     omega (arith, low_more text c, ap (λ m. (c - 128) * m) p)
 
--- the byte at a position, after a text that ends there
 pub occurs_more : (buffer text : List ℕ) (start position : ℕ) → position < length buffer → OccursAt buffer start position text →
     OccursAt buffer start (position + 1) (text ++ get_or buffer position 0 ∷ [])
 occurs_more buffer text start position lt s =
@@ -156,7 +150,6 @@ low_so_far buffer start position low shift count s =
 power_below : (shift : ℕ) → shift < 57 → 128 * 2 ^ shift < 2 ^ 64
 power_below shift lt = let b = pow_below (7 + shift) 64 (omega arith) in omega (arith, pow-add 2 7 shift, b)
 
--- one more group fits 64 bits
 pub group_fits : (buffer : List ℕ) (start position low shift count width x : ℕ) → SoFar buffer start position low shift count → count < (width - 1) / 7 →
     width ≤ 64 → x < 128 → ((x * 2 ^ shift) % 2 ^ 64 ≡ x * 2 ^ shift) × (low + x * 2 ^ shift < 2 ^ 64)
 group_fits buffer start position low shift count width x s few wide small =
@@ -165,7 +158,6 @@ group_fits buffer start position low shift count width x s few wide small =
     let whole : x * 2 ^ shift ≤ 127 * 2 ^ shift = mul-le x (2 ^ shift) 127 (2 ^ shift) (omega arith) (omega arith) in
     (shl_whole x 7 shift 64 small (omega arith), omega (arith, power_below shift lt))
 
--- a last byte above the bits before it fits 64 bits
 pub unsigned_fits : (low shift last : ℕ) → shift < 64 → low < 2 ^ shift → last < 2 ^ (64 - shift) →
     ((last * 2 ^ shift) % 2 ^ 64 ≡ last * 2 ^ shift) × (low + last * 2 ^ shift < 2 ^ 64)
 unsigned_fits low shift last few lt fits =

@@ -1,4 +1,3 @@
--- Reading a number byte by byte.
 use Rattle.std.proofs.Common.{◌≡◌, ℕ, ◌+◌, ◌-◌, ◌*◌, ◌/◌, ◌<◌, ◌≤◌, ◌^◌, List, [], ◌∷◌, sym, ap, ◌∙◌, arith, inl, inr}
 use Rattle.std.proofs.lemmas.Nat.{pow-add, pow_pos, le-div}
 use Rattle.std.proofs.lemmas.Bool.{cases_lt}
@@ -18,13 +17,11 @@ unsigned_below (c ∷ d ∷ text) width n (wide, big, small, high, e, p) =
     let s = width_split width wide in
     omega (arith, s)
 
--- a continuation byte, if the width allows no further byte
 pub unsigned_long : (bytes after : List ℕ) (b width : ℕ) → bytes ≡ b ∷ after → 128 ≤ b → width ≤ 7 → NoPrefix (EncodesUnsigned width) bytes
 unsigned_long bytes after b width eb ge narrow [] rest x p e = p
 unsigned_long bytes after b width eb ge narrow (c ∷ []) rest x p e = let h : c ≡ b = cc (eb, e) in omega (arith, p.0)
 unsigned_long bytes after b width eb ge narrow (c ∷ d ∷ text) rest x p e = omega (arith, p.0)
 
--- the bytes after it are not a number
 pub unsigned_rest : (bytes after : List ℕ) (b width : ℕ) → bytes ≡ b ∷ after → 128 ≤ b → NoPrefix (EncodesUnsigned (width - 7)) after →
     NoPrefix (EncodesUnsigned width) bytes
 unsigned_rest bytes after b width eb ge none [] rest x p e = p

@@ -1,5 +1,4 @@
--- From the groups that were read to the number that they encode, or to the reason why there is
--- none.
+-- From the groups that were read to the number, or to the reason why there is none.
 use Rattle.std.proofs.Common.{◌≡◌, ℕ, ◌+◌, ◌-◌, ◌*◌, ◌/◌, ◌<◌, ◌≤◌, ◌^◌, List, [], ◌∷◌, ◌++◌, length, drop, get_or, refl, sym, subst, ap, ◌∙◌, append_assoc, length-append, length-drop, arith, inl, inr, ◌⊎◌, ℤ, pos, ◌+ℤ◌, ◌*ℤ◌}
 use Rattle.std.specs.Prelude.{slice_index}
 use Rattle.std.proofs.lemmas.List.{get_or-drop, append-nil}
@@ -15,7 +14,6 @@ use Rattle.wasm_below_bytes.proofs.Numbers.{wide_fits}
 use Rattle.wasm_below_bytes.proofs.SignedNumbers.{narrow, signed_large}
 use Rattle.wasm_below_bytes.proofs.Groups.{IsLeb128, joined, continued, none_after, unsigned_leb128, signed_leb128, unsigned_joined, signed_joined, low_below, occurs_more}
 
--- the byte after a text
 byte_after : (bytes text after : List ℕ) (c : ℕ) → bytes ≡ text ++ c ∷ after → slice_index bytes (length text) ≡ c
 byte_after bytes [] after c e = ap (λ z. slice_index z 0) e
 byte_after [] (d ∷ text) after c e = absurd (cc e)
@@ -28,7 +26,6 @@ last_byte buffer text after start c e =
     (omega arith, sym (get_or-drop start buffer (length text) 0) ∙ byte_after (drop start buffer) text after c e)
 
 module _ {X : Type 0} (Encodes : ℕ → List ℕ → X → Type 0) (join : ℕ → X → X) (leb128 : IsLeb128 Encodes join) where
-  -- after continuation bytes follows a byte that cannot end a number
   pub never : (buffer text after : List ℕ) (start c width : ℕ) → drop start buffer ≡ text ++ c ∷ after → AllGoOn text →
       ((more : List ℕ) → NoPrefix (Encodes (width - 7 * length text)) (c ∷ more)) → NeverBegins (Encodes width) (drop start buffer)
   never buffer text after start c width e go none more =
@@ -51,7 +48,6 @@ module _ {X : Type 0} (Encodes : ℕ → List ℕ → X → Type 0) (join : ℕ 
       )
   no_groups refusal.TooLarge width buffer start some h = absurd h
 
-  -- the last byte has a bit beyond the width
   pub too_large : (width : ℕ) (buffer : List ℕ) (start : ℕ) (g : Groups) → IsGroups buffer start width g → width - g.shift ≤ 7 →
       ((more : List ℕ) → NoPrefix (Encodes (width - g.shift)) (g.last ∷ more)) → NoNumber (Encodes width) refusal.TooLarge width buffer start
   too_large width buffer start g h narrow none =
@@ -109,7 +105,6 @@ last_within width buffer start g h wide lt =
     let more : 2 ^ (width - g.shift) ≤ 2 ^ (64 - g.shift) = pow-le-pow_right two le in
     omega (arith, lt, more)
 
--- a last byte that has a bit beyond the width
 pub unsigned_over : (width last : ℕ) → last < 128 → (last < 2 ^ width → ⊥) → (width ≤ 7) × ((more : List ℕ) → NoPrefix (EncodesUnsigned width) (last ∷ more))
 unsigned_over width last small over = (within (cases_lt 7 width), λ more text after x p e. none more text after x p e)
   where
@@ -127,7 +122,6 @@ pub signed_over : (width last : ℕ) → last < 128 → FitsWidth 7 (last_value 
 signed_over width last small seven over =
     (narrow width (last_value last) seven over, λ more. signed_large (last ∷ more) more last width (last_value last) refl small refl over)
 
--- two bytes, of which only the first is a continuation byte
 pub two_bytes_at : (width : ℕ) (buffer : List ℕ) (start n : ℕ) → 14 ≤ width → start + 1 < length buffer → 128 ≤ get_or buffer start 0 →
     get_or buffer start 0 < 256 → get_or buffer (start + 1) 0 < 128 → n ≡ get_or buffer start 0 - 128 + 128 * get_or buffer (start + 1) 0 →
     NumberAt (EncodesUnsigned width) buffer start n (start + 2)

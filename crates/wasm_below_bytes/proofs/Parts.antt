@@ -9,7 +9,6 @@ use Rattle.wasm_below_bytes.proofs.PrefixCode.{unsigned_prefix_code}
 use Rattle.wasm_below_bytes.proofs.TakesLemmas.{takes_then, back}
 use Rattle.wasm_below_bytes.proofs.Sequences.{then_second}
 
--- a number and as many bytes were read
 pub part_read : (old mid new : Reader) (n : ℕ) (block : Bor (List ℕ)) (offset : ℕ) → Reads (EncodesUnsigned 32) (Ok n) old mid →
     Reads (IsBlock n) (Ok block) mid new → Reads (EncodesReader old.features) (Ok (reader_of new.features offset block.now)) old new
 part_read old mid new n block offset (t1, p, k1) (t2, q, k2) = (
@@ -18,7 +17,6 @@ part_read old mid new n block offset (t1, p, k1) (t2, q, k2) = (
   takes_then old mid new t1 t2 k1 k2,
 )
 
--- a number was read and fewer bytes follow it
 pub part_refused : (old mid new : Reader) (n position : ℕ) (e : Error) → Reads (EncodesUnsigned 32) (Ok n) old mid → position ≡ old.position →
     new ≡ at_position mid position → IsRefusal (IsReaderOf old.features n) e mid → (new ≡ old) × IsRefusal (EncodesReader old.features) e old
 part_refused old mid new n position e r same went h = (

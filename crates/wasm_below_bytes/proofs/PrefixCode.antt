@@ -1,4 +1,3 @@
--- No encoding of a number or a byte is a proper prefix of another, and each encoding has one value.
 use Rattle.std.proofs.Common.{◌≡◌, ℕ, ◌-◌, ◌<◌, List, [], ◌∷◌, ◌++◌, length, ℤ, pos, ◌*ℤ◌, ◌+ℤ◌, sym, ap, ◌∙◌, arith, refl}
 use Rattle.wasm_below_bytes.specs.Number.{EncodesUnsigned, EncodesSigned, EncodesFixed, EncodesSize}
 use Rattle.std.specs.Int.{w32, w64, from_le_bytes}
@@ -31,12 +30,10 @@ signed_prefix_code (c ∷ c2 ∷ a) (d ∷ d2 ∷ b) width x y m n (_, _, _, hig
     let r = signed_prefix_code (c2 ∷ a) (d2 ∷ b) (width - 7) x y high high2 pr qr (cc e) in
     (cc (h, r.0), p ∙ ap (λ z. (pos 128 *ℤ z) +ℤ pos (c - 128)) r.1 ∙ ap (λ z. (pos 128 *ℤ high2) +ℤ pos (z - 128)) h ∙ sym q)
 
--- an encoding has a byte
 pub signed_some : (text : List ℕ) (width : ℕ) (n : ℤ) → EncodesSigned width text n → 0 < length text
 signed_some [] width n p = absurd p
 signed_some (c ∷ text) width n p = omega arith
 
--- prefixes of equal length of equal lists are equal
 prefixes : {A : Type 0} (a b x y : List A) → length a ≡ length b → a ++ x ≡ b ++ y → a ≡ b
 prefixes [] [] x y n e = refl
 prefixes [] (d ∷ b) x y n e = absurd (omega (arith, n))
@@ -59,7 +56,6 @@ fixed_prefix_code_64 a b x y m n p q e =
 pub size_prefix_code : (limit : ℕ) → PrefixCode (EncodesSize limit)
 size_prefix_code limit a b x y m n p q e = unsigned_prefix_code a b 32 x y m n p.0 q.0 e
 
--- one byte each
 pub first_byte : (a b x y : List ℕ) (c d : ℕ) → a ≡ c ∷ [] → b ≡ d ∷ [] → a ++ x ≡ b ++ y → c ≡ d
 first_byte a b x y c d ea eb e = let whole : c ∷ x ≡ d ∷ y = ap (λ z. z ++ x) (sym ea) ∙ e ∙ ap (λ z. z ++ y) eb in cc whole
 

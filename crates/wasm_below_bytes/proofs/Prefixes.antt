@@ -6,7 +6,6 @@ use Rattle.wasm_below_bytes.specs.Refusal.{IsReadFault}
 use Rattle.wasm_below_bytes.specs.Source.{Reader, rest, offset_of, end_of, at_position, Takes, NoPrefix, MayFollow, IsAhead, IsRefusal, Reads, BeginsWith, IsEndHere}
 use Rattle.wasm_below_bytes.proofs.TakesLemmas.{back, ahead_before}
 
--- the next byte was taken
 pub advanced : (old new : Reader) (b : ℕ) → BeginsWith b (rest old) → new ≡ at_position old (old.position + 1) → Takes old new (b ∷ [])
 advanced old new b (more, prefix) moved =
     record {
@@ -14,14 +13,12 @@ advanced old new b (more, prefix) moved =
       parts = prefix ∙ ap (λ z. b ∷ z) (sym (ap rest moved ∙ sym (drop-drop 1 old.position old.buffer) ∙ ap (drop 1) prefix));
     }
 
--- if a text was taken, the reader was within the data before
 pub ahead_here : (old mid : Reader) (text : List ℕ) (offset : ℕ) → Takes old mid text → 0 < length text → offset ≡ offset_of old → IsAhead old offset
 ahead_here old mid text offset t some at =
     let left : length old.buffer - old.position ≡ length text + length (rest mid) = sym (length-drop old.position old.buffer) ∙ ap length t.parts ∙
     length-append text (rest mid) in
     (omega arith, omega arith)
 
--- back at the start of a text that was read, with an error there
 pub refused_at : {X : Type 0} (Encodes : List ℕ → X → Type 0) (e : Error) (old mid new : Reader) (text : List ℕ) (position : ℕ) → Takes old mid text →
     0 < length text → position ≡ old.position → new ≡ at_position mid position → e.offset ≡ mid.start + position → IsReadFault e.message →
     ((more : List ℕ) → NoPrefix Encodes ((text ++ rest mid) ++ more)) → (new ≡ old) × IsRefusal Encodes e old
@@ -37,7 +34,6 @@ refused_at Encodes e old mid new text position t some same went offset fault non
       },
     )
 
--- no encoding at the end of the data
 pub end_refused : {X : Type 0} (Encodes : List ℕ → X → Type 0) (e : Error) (r : Reader) → ((x : X) → Encodes [] x → ⊥) → IsEndHere e r → IsRefusal Encodes e r
 end_refused Encodes e r empty h =
     record {
@@ -58,8 +54,6 @@ end_refused Encodes e r empty h =
     no_elements [] e = refl
     no_elements (c ∷ text) e = absurd (omega arith)
 
--- if each encoding of kind Q that starts with this byte is of kind P, an error of P is an error of
--- Q
 pub led_refused : {X Y : Type 0} (P : List ℕ → X → Type 0) (Q : List ℕ → Y → Type 0) (e : Error) (r : Reader) (b : ℕ) → BeginsWith b (rest r) →
     ((y : Y) → Q [] y → ⊥) → ((tail : List ℕ) (y : Y) → Q (b ∷ tail) y → (x : X) × P (b ∷ tail) x) → IsRefusal P e r → IsRefusal Q e r
 led_refused {X} {Y} P Q e r b (after, prefix) empty strip h =
@@ -72,15 +66,12 @@ led_refused {X} {Y} P Q e r b (after, prefix) empty strip h =
         let p = strip tail y (subst (λ z. Q (z ∷ tail) y) same q) in
         none (b ∷ tail) later p.0 p.1 (eq ∙ ap (λ z. z ∷ (tail ++ later)) same)
 
--- the same of a read, if each encoding of kind P is of kind Q
 pub led_reads : {X : Type 0} (P Q : List ℕ → X → Type 0) (result : Result X Error) (old new : Reader) (b : ℕ) → BeginsWith b (rest old) →
     ((text : List ℕ) (x : X) → P text x → Q text x) → ((x : X) → Q [] x → ⊥) → ((tail : List ℕ) (x : X) → Q (b ∷ tail) x → P (b ∷ tail) x) →
     Reads P result old new → Reads Q result old new
 led_reads P Q (Ok x) old new b prefix into empty strip (text, p, takes) = (text, into text x p, takes)
 led_reads P Q (Err e) old new b prefix into empty strip (same, h) = (same, led_refused P Q e old b prefix empty (λ tail x q. (x, strip tail x q)) h)
 
--- if after this byte each encoding is of kind P, an error of kind P after the byte is an error of
--- the whole
 pub after_refused : {X Y : Type 0} (P : List ℕ → X → Type 0) (Q : List ℕ → Y → Type 0) (e : Error) (old mid : Reader) (b : ℕ) → Takes old mid (b ∷ []) →
     ((y : Y) → Q [] y → ⊥) → ((tail : List ℕ) (y : Y) → Q (b ∷ tail) y → (x : X) × P tail x) → IsRefusal P e mid → IsRefusal Q e old
 after_refused {X} {Y} P Q e old mid b takes empty strip h =

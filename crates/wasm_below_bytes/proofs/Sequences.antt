@@ -1,16 +1,13 @@
--- Reading one encoding after another.
 use Rattle.std.proofs.Common.{◌≡◌, ℕ, List, ◌++◌, Ok, refl, sym, subst, ap, ◌∙◌, append_assoc}
 use Rattle.wasm_below_bytes.specs.declared.error.Error.{Error}
 use Rattle.wasm_below_bytes.specs.Source.{Reader, rest, NoPrefix, IsRefusal, Reads}
 use Rattle.wasm_below_bytes.specs.Sequence.{Then, PrefixCode}
 use Rattle.wasm_below_bytes.proofs.TakesLemmas.{takes_then, ahead_before, same_rest}
 
--- if no prefix is the first part, no prefix is the whole
 then_no_first : {X Y : Type 0} (P : List ℕ → X → Type 0) (Q : X → List ℕ → Y → Type 0) (bytes : List ℕ) → NoPrefix P bytes → NoPrefix (Then P Q) bytes
 then_no_first P Q bytes none text rest y (first, second, x, e, p, q) eq =
     none first (second ++ rest) x p (eq ∙ ap (λ z. z ++ rest) e ∙ append_assoc first second rest)
 
--- if after the first part no prefix is the second part, no prefix is the whole
 then_no_second : {X Y : Type 0} (P : List ℕ → X → Type 0) (Q : X → List ℕ → Y → Type 0) (text after more : List ℕ) (x : X) → PrefixCode P → P text x →
     NoPrefix (Q x) (after ++ more) → NoPrefix (Then P Q) ((text ++ after) ++ more)
 then_no_second P Q text after more x prefix_code p none t2 rest y (first, second, x2, e, p2, q) eq =
@@ -19,13 +16,11 @@ then_no_second P Q text after more x prefix_code p none t2 rest y (first, second
     let o = prefix_code text first (after ++ more) (second ++ rest) x x2 p p2 whole in
     none second rest y (subst (λ z. Q z second y) (sym o.1) q) (same_rest text first (after ++ more) (second ++ rest) o.0 whole)
 
--- an error of the first part is an error of the whole
 pub then_first : {X Y : Type 0} (P : List ℕ → X → Type 0) (Q : X → List ℕ → Y → Type 0) (e : Error) (old : Reader) → IsRefusal P e old →
     IsRefusal (Then P Q) e old
 then_first P Q e old h =
     record { refuses = λ more follow. then_no_first P Q (rest old ++ more) (h.refuses more follow); fault = h.fault; ahead = h.ahead }
 
--- if the first part was read, an error of the second part is an error of the whole
 pub then_second : {X Y : Type 0} (P : List ℕ → X → Type 0) (Q : X → List ℕ → Y → Type 0) (e : Error) (old mid : Reader) (x : X) → PrefixCode P →
     Reads P (Ok x) old mid → IsRefusal (Q x) e mid → IsRefusal (Then P Q) e old
 then_second P Q e old mid x prefix_code (text, p, takes) h =
@@ -36,7 +31,6 @@ then_second P Q e old mid x prefix_code (text, p, takes) h =
       ahead = ahead_before old mid text e.offset takes h.ahead;
     }
 
--- if both parts were read, the whole was read
 pub then_ok : {X Y : Type 0} (P : List ℕ → X → Type 0) (Q : X → List ℕ → Y → Type 0) (old mid new : Reader) (x : X) (y : Y) → Reads P (Ok x) old mid →
     Reads (Q x) (Ok y) mid new → Reads (Then P Q) (Ok y) old new
 then_ok P Q old mid new x y (t1, p, k1) (t2, q, k2) = (t1 ++ t2, (t1, t2, x, refl, p, q), takes_then old mid new t1 t2 k1 k2)
@@ -49,7 +43,6 @@ then_prefix_code P Q op oq a b x y m n (a1, a2, u, ea, pa, qa) (b1, b2, v, eb, p
     let t = oq u a2 b2 x y m n qa (subst (λ z. Q z b2 n) (sym o.1) qb) (same_rest a1 b1 (a2 ++ x) (b2 ++ y) o.0 whole) in
     (ea ∙ cc (o.0, t.0) ∙ sym eb, t.1)
 
--- if each encoding of kind Q is of kind P, an error of kind P is an error of kind Q
 pub refuses_by : {X Y : Type 0} (P : List ℕ → X → Type 0) (Q : List ℕ → Y → Type 0) (e : Error) (old : Reader) →
     ((text : List ℕ) (y : Y) → Q text y → (x : X) × P text x) → IsRefusal P e old → IsRefusal Q e old
 refuses_by P Q e old f h =

@@ -7,7 +7,6 @@ use mir.Val.{SFits}
 use Rattle.wasm_below_bytes.specs.Number.{FitsWidth, last_value, with_sign}
 use Rattle.wasm_below_bytes.specs.Leb128.{signed_value}
 
--- a negative number, shifted
 negative_up : (a m : ℕ) → 0 < a → 0 < m → a * m ≤ 2 ^ 63 → a ≤ 128 → ((2 ^ 64 - a) * m) % 2 ^ 64 ≡ 2 ^ 64 - a * m
 negative_up a m some more le few =
     let whole : (2 ^ 64 - a) * m + a * m ≡ 2 ^ 64 * m = go (2 ^ 64 - a) (omega arith) in
@@ -18,7 +17,6 @@ negative_up a m some more le few =
     go : (k : ℕ) → k + a ≡ 2 ^ 64 → k * m + a * m ≡ 2 ^ 64 * m
     go k e = omega (arith, ap (λ z. z * m) e)
 
--- the bits of a negative number
 negative_bits : (k n : ℕ) → 0 < k → k ≤ 2 ^ 63 → n ≡ 2 ^ 64 - k → to_z w64 n ≡ neg_ℤ (pos k)
 negative_bits zero n some le e = absurd (omega arith)
 negative_bits (suc j) n some le e = let fits : SFits w64 (negsuc j) = record { sfits = omega arith } in ap (to_z w64) e ∙ to_z-of_z w64 (negsuc j) fits
@@ -67,7 +65,6 @@ joined_by low m p last high room some lt small false f e =
     negative_fits (pos n) ge lt = record { sfits = omega (arith, ints, lt) }
     negative_fits (negsuc n) ge lt = record { sfits = omega (arith, ints, ge) }
 
--- a last byte above the bits before it, if both fit the width
 pub joined_bits : (low shift last : ℕ) (high : ℤ) → shift < 64 → low < 2 ^ shift → last < 128 → FitsWidth (64 - shift) (last_value last) →
     high ≡ last_value last → (to_z w64 low +ℤ to_z w64 ((of_z w64 high * 2 ^ shift) % 2 ^ 64) ≡ signed_value low (2 ^ shift) last) ×
     SFits w64 (signed_value low (2 ^ shift) last)

@@ -1,4 +1,3 @@
--- Reading a signed number byte by byte.
 use Rattle.std.proofs.Common.{◌≡◌, ℕ, ◌+◌, ◌-◌, ◌*◌, ◌<◌, ◌≤◌, ◌^◌, List, [], ◌∷◌, sym, subst, ap, ◌∙◌, arith, ℤ, pos, ◌+ℤ◌, ◌*ℤ◌, neg_ℤ, ◌≤ℤ◌, ◌<ℤ◌, inl, inr}
 use Rattle.std.proofs.lemmas.Bool.{cases_lt}
 use Rattle.std.proofs.lemmas.Int.{ints}
@@ -21,7 +20,6 @@ power_le i j le =
 pub fits_more : (i j : ℕ) (n : ℤ) → i ≤ j → FitsWidth i n → FitsWidth j n
 fits_more i j n le h = between n (2 ^ (i - 1)) (2 ^ (j - 1)) (power_le (i - 1) (j - 1) (omega arith)) h
 
--- a value of seven bits that does not fit a width has more bits than the width
 pub narrow : (width : ℕ) (n : ℤ) → FitsWidth 7 n → (FitsWidth width n → ⊥) → width ≤ 7
 narrow width n small over =
     elim (cases_lt 7 width) [
@@ -39,7 +37,6 @@ fits_join width high low wide lt h =
     let s : 128 * 2 ^ (width - 7 - 1) ≡ 2 ^ (width - 1) = sym (pow-add 2 7 (width - 7 - 1)) ∙ ap (λ k. 2 ^ k) e in
     subst (λ x. (neg_ℤ (pos x) ≤ℤ ((pos 128 *ℤ high) +ℤ pos low)) × (((pos 128 *ℤ high) +ℤ pos low) <ℤ pos x)) s (joined high (2 ^ (width - 7 - 1)) low lt h)
 
--- an encoded number fits its width
 pub signed_fits : (text : List ℕ) (width : ℕ) (n : ℤ) → EncodesSigned width text n → FitsWidth width n
 signed_fits [] width n p = absurd p
 signed_fits (c ∷ []) width n p = p.2

@@ -16,21 +16,18 @@ pub unsigned_some : (width : ℕ) (text : List ℕ) (n : ℕ) → EncodesUnsigne
 unsigned_some width [] n p = absurd p
 unsigned_some width (c ∷ text) n p = omega arith
 
--- a reader that has read something was within its data before
 pub began_within : (old mid : Reader) (text : List ℕ) → Takes old mid text → 0 < length text → offset_of old ≤ end_of old
 began_within old mid text t some =
     let whole : length old.buffer - old.position ≡ length text + length (rest mid) = sym (length-drop old.position old.buffer) ∙ ap length t.parts ∙
     length-append text (rest mid) in
     omega arith
 
--- the second part failed, and the call went back
 pub second_refused : {X Y : Type 0} (P : List ℕ → X → Type 0) (Q : X → List ℕ → Y → Type 0) (e : Error) (old mid mid2 new : Reader) (x : X) (position : ℕ) →
     PrefixCode P → Reads P (Ok x) old mid → (mid2 ≡ mid) × IsRefusal (Q x) e mid → position ≡ old.position → new ≡ at_position mid2 position →
     (new ≡ old) × IsRefusal (Then P Q) e old
 second_refused P Q e old mid mid2 new x position prefix_code r h at went =
     (back old mid new r.0 position r.2 at (went ∙ ap (λ (m : Reader). at_position m position) h.0), then_second P Q e old mid x prefix_code r h.1)
 
--- if after the first part no prefix is the second part, no prefix is the whole
 pub no_second : {X Y : Type 0} (P : List ℕ → X → Type 0) (Q : X → List ℕ → Y → Type 0) (text after more : List ℕ) (x : X) → PrefixCode P → P text x →
     NoPrefix (Q x) (after ++ more) → NoPrefix (Then P Q) ((text ++ after) ++ more)
 no_second P Q text after more x prefix_code p none t2 more2 y (first, second, x2, e, p2, q) eq =
@@ -39,7 +36,6 @@ no_second P Q text after more x prefix_code p none t2 more2 y (first, second, x2
     let o = prefix_code text first (after ++ more) (second ++ more2) x x2 p p2 whole in
     none second more2 y (subst (λ z. Q z second y) (sym o.1) q) (same_rest text first (after ++ more) (second ++ more2) o.0 whole)
 
--- the first part excludes the whole, and the call went back to it
 pub first_rules_out : {X Y : Type 0} (P : List ℕ → X → Type 0) (Q : X → List ℕ → Y → Type 0) (e : Error) (old mid new : Reader) (x : X) → PrefixCode P →
     ((text : List ℕ) → P text x → 0 < length text) → Reads P (Ok x) old mid → ((text : List ℕ) (y : Y) → ¬ Q x text y) → new ≡ old →
     e.offset ≡ offset_of old → IsReadFault e.message → (new ≡ old) × IsRefusal (Then P Q) e old

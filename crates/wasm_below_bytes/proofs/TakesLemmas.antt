@@ -7,7 +7,6 @@ use Rattle.wasm_below_bytes.specs.declared.error.Error.{Error}
 use Rattle.wasm_below_bytes.specs.Refusal.{IsReadFault}
 use Rattle.wasm_below_bytes.specs.Source.{Reader, rest, offset_of, at_position, byte_at, Takes, NoPrefix, IsAhead, IsRefusal, Reads, IsByte, IsEndHere, NumberFault, S33Fault}
 
--- two readers of one buffer differ only in their position
 pub rewound : (old new : Reader) (text : List ℕ) → Takes old new text → at_position new old.position ≡ old
 rewound old new text t = ap (λ r. at_position r old.position) t.moved
 
@@ -19,17 +18,14 @@ takes_then a b c x y p q =
       parts = p.parts ∙ ap (λ z. x ++ z) q.parts ∙ sym (append_assoc x y (rest c));
     }
 
--- nothing is taken
 pub takes_none : (r : Reader) → Takes r r []
 takes_none r = record { moved = ap (at_position r) (omega arith); parts = refl }
 
--- a byte before
 pub first_byte_read : (old mid : Reader) (b : ℕ) → Reads IsByte (Ok b) old mid → (rest old ≡ b ∷ rest mid) × (b < 256) × Takes old mid (b ∷ [])
 first_byte_read old mid b (text, is, takes) =
     let t : Takes old mid (b ∷ []) = subst (Takes old mid) is.0 takes in
     (t.parts, is.1, t)
 
--- a text that was taken lies in the buffer
 pub within_buffer : (old new : Reader) (text : List ℕ) → old.position ≤ length old.buffer → Takes old new text →
     old.position + length text + length (rest new) ≡ length old.buffer
 within_buffer old new text le t =
@@ -37,7 +33,6 @@ within_buffer old new text le t =
     length-append text (rest new) in
     omega arith
 
--- an offset ahead of a reader is ahead of where the reader was before
 pub ahead_before : (old mid : Reader) (text : List ℕ) (offset : ℕ) → Takes old mid text → IsAhead mid offset → IsAhead old offset
 ahead_before old mid text offset t h =
     let starts : mid.start ≡ old.start = ap (λ (r : Reader). r.start) t.moved in
@@ -45,7 +40,6 @@ ahead_before old mid text offset t h =
     let buffer : length mid.buffer ≡ length old.buffer = ap (λ (r : Reader). length r.buffer) t.moved in
     (omega (arith, h.0), omega (arith, h.1))
 
--- the byte that was read
 pub byte-prefix : (r : Reader) (b : ℕ) (after : List ℕ) → rest r ≡ b ∷ after → byte_at r (offset_of r) ≡ b
 byte-prefix r b after e =
     let zero : offset_of r - r.start ≡ r.position + 0 = omega arith in
@@ -57,25 +51,21 @@ none_left n xs left e le = (
   λ h. le-leb (length xs) n (let z : length xs - n ≡ 0 = sym (length-drop n xs) ∙ ap length (e ∙ h) in omega (arith, z)),
 )
 
--- after equal prefixes of one list the rests are equal
 pub same_rest : {A : Type 0} (a b x y : List A) → a ≡ b → a ++ x ≡ b ++ y → x ≡ y
 same_rest [] [] x y h e = e
 same_rest [] (c ∷ b) x y h e = absurd (cc h)
 same_rest (c ∷ a) [] x y h e = absurd (cc h)
 same_rest (c ∷ a) (d ∷ b) x y h e = same_rest a b x y (cc h) (cc e)
 
--- the data ends at the place of a byte
 pub end_fault : (e : Error) (r : Reader) → IsEndHere e r → (width : ℕ) → NumberFault e.message width r e.offset
 end_fault e r h width = subst (λ m. NumberFault m width r e.offset) (sym h.0) (h.1 ∙ h.2, omega (arith, h.2))
 
 pub end_too_long : (e : Error) (r : Reader) → IsEndHere e r → S33Fault e.message r e.offset
 end_too_long e r h = subst (λ m. S33Fault m r e.offset) (sym h.0) ((h.1 ∙ h.2, omega (arith, h.2)), tt)
 
--- back at the start of the call
 pub back : (old mid new : Reader) (text : List ℕ) (position : ℕ) → Takes old mid text → position ≡ old.position → new ≡ at_position mid position → new ≡ old
 back old mid new text position t same e = e ∙ ap (at_position mid) same ∙ rewound old mid text t
 
--- back at a byte that was read, with an error for what starts with it
 pub refused_back : {X : Type 0} (Encodes : List ℕ → X → Type 0) (e : Error) (old mid new : Reader) (b position : ℕ) → Reads IsByte (Ok b) old mid →
     position ≡ old.position → new ≡ at_position mid position → e.offset ≡ mid.start + position → IsReadFault e.message →
     ((more : List ℕ) → NoPrefix Encodes (rest old ++ more)) → (new ≡ old) × IsRefusal Encodes e old
@@ -87,7 +77,6 @@ refused_back Encodes e old mid new b position r same went offset fault none =
       record { refuses = λ more _. none more; fault = fault; ahead = (omega (arith, offset, same, start), omega (arith, offset, same, start)) },
     )
 
--- an error of what follows a text that was read
 pub refused_after : {X Y : Type 0} (After : List ℕ → X → Type 0) (Encodes : List ℕ → Y → Type 0) (e : Error) (old mid : Reader) (text : List ℕ) →
     Takes old mid text → IsRefusal After e mid → ((more : List ℕ) → NoPrefix After (rest mid ++ more) → NoPrefix Encodes (rest old ++ more)) →
     IsRefusal Encodes e old

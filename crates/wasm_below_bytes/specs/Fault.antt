@@ -14,8 +14,8 @@ HasFault Fault e r = e.message ≢ message.OutOfMemory → Fault e.message r e.o
 abbrev pub FaultAfter : {X : Type 0} → (List ℕ → X → Type 0) → (X → Message → Reader → ℕ → Type 0) → Message → Reader → ℕ → Type 0
 FaultAfter {X} First After m r offset = (x : X) × (new : Reader) × Reads First (Ok x) r new × After x m new offset
 
--- The fault of a sequence of parts. Either no prefix encodes the first part, and the first part has
--- its fault. Or the first part is read, and what follows it has the fault `After`.
+-- The fault of a sequence: the first part has its fault; or it is read, and the rest has the fault
+-- `After`.
 abbrev pub ThenFault : {X : Type 0} → (List ℕ → X → Type 0) → (Message → Reader → ℕ → Type 0) → (X → Message → Reader → ℕ → Type 0) → Message → Reader → ℕ → Type 0
 ThenFault First FirstFault After m r offset = (NoPrefix First (rest r) × FirstFault m r offset) ⊎ FaultAfter First After m r offset
 

@@ -1,4 +1,3 @@
--- Features as bits of a number.
 use Rattle.std.specs.Prelude.{ℕ, ◌==◌, IsTrue}
 use Rattle.std.specs.Int.RustNames.{bit_and}
 use Rattle.wasm_below_bytes.specs.declared.features.WasmFeatures.{WasmFeatures}

@@ -10,20 +10,18 @@ use Rattle.wasm_below_bytes.specs.Sequence.{Then}
 use Rattle.wasm_below_bytes.specs.Source.{Reader, rest, offset_of, Takes, Refuses, IsAhead, U32Fault, EndsWithin}
 
 -- An error of a call that began at this reader. Only a type that allocates fails with
--- `OutOfMemory`; then the offset is where the call began, and nothing is said of the bytes.
+-- `OutOfMemory`, at the reader's offset; then nothing is said of the bytes.
 pub record IsRefused {X : Type 0} (Encodes : List ℕ → X → Type 0) (takes_memory : Bool) (e : Error) (old : Reader) : Type 0 where
   pub refuses : Refuses Encodes (rest old) e.message
   pub ahead : IsAhead old e.offset
   pub memory : e.message ≡ message.OutOfMemory → (takes_memory ≡ true) × (e.offset ≡ offset_of old)
 
--- Unless allocation fails, the call returns `Ok` if and only if a prefix of the rest encodes a
--- value. It then returns that value and advances past that prefix. On `Err`, the reader is
--- unchanged.
+-- As `Reads`, unless allocation fails.
 abbrev pub ReadsValue : {X : Type 0} → (List ℕ → X → Type 0) → Bool → Result X Error → Reader → Reader → Type 0
 ReadsValue Encodes takes_memory (Ok x) old new = (text : List ℕ) × Encodes text x × Takes old new text
 ReadsValue Encodes takes_memory (Err e) old new = (new ≡ old) × IsRefused Encodes takes_memory e old
 
--- A new reader of these bytes, of which there are `n`. The offset of its first byte is left open.
+-- A new reader of these `n` bytes, from any offset.
 abbrev pub IsReaderOf : WasmFeatures → ℕ → List ℕ → Reader → Type 0
 IsReaderOf features n text r = (r.features ≡ features) × (r.buffer ≡ text) × (r.position ≡ 0) × (length text ≡ n)
 
@@ -31,19 +29,15 @@ IsReaderOf features n text r = (r.features ≡ features) × (r.buffer ≡ text) 
 abbrev pub EncodesReader : WasmFeatures → List ℕ → Reader → Type 0
 EncodesReader features = Then (EncodesUnsigned 32) (IsReaderOf features)
 
--- The readers have the same features, bytes and position. The offsets of their first bytes may
--- differ.
+-- The readers have the same features, bytes and position.
 abbrev pub SameReader : Reader → Reader → Type 0
 SameReader r s = (r.features ≡ s.features) × (r.buffer ≡ s.buffer) × (r.position ≡ s.position)
 
--- The error of reading a number and that many bytes: the error of the number, or `EndOfData` if
--- fewer bytes follow it.
+-- The error of the number, or `EndOfData` if fewer bytes follow it.
 abbrev pub ReaderFault : Message → Reader → ℕ → Type 0
 ReaderFault m r offset = ThenFault (EncodesUnsigned 32) U32Fault EndsWithin m r offset
 
--- A step of an iterator that has `before` items left before the step, and `after` items after it.
--- An item satisfies `Placed` as if it were read without the iterator. After an error no item is
--- left.
+-- A step of an iterator with `before` items left, and `after` items after it: none after an error.
 abbrev pub StepsItems : {X : Type 0} → (List ℕ → X → Type 0) → (Message → Reader → ℕ → Type 0) → (Reader → X → Reader → Type 0) → Bool → ℕ → ℕ →
     Option (Result X Error) → Reader → Reader → Type 0
 StepsItems Encodes Fault Placed takes_memory before after None old new = (before ≡ 0) × (after ≡ 0) × (new ≡ old)
@@ -52,8 +46,7 @@ StepsItems Encodes Fault Placed takes_memory before after (Some (Ok x)) old new 
 StepsItems Encodes Fault Placed takes_memory before after (Some (Err e)) old new =
     (0 < before) × (after ≡ 0) × ReadsValue Encodes takes_memory (Err e) old new × HasFault Fault e old
 
--- The effect of reading `n` values in order, up to the first error. Either `n` is 0, or one value
--- is read and the others after it, or reading the first value fails.
+-- The effect of reading `n` values in order, up to the first error.
 abbrev pub ReadsOn : {X : Type 0} → (List ℕ → X → Type 0) → Bool → ℕ → Reader → Reader → Type 0
 ReadsOn Encodes takes_memory zero old new = new ≡ old
 ReadsOn {X} Encodes takes_memory (suc n) old new = ((x : X) × (mid : Reader) × ReadsValue Encodes takes_memory (Ok x) old mid × ReadsOn Encodes takes_memory n mid new) ⊎ ((e : Error) × (new ≡ old) × IsRefused Encodes takes_memory e old)

@@ -19,12 +19,10 @@ abbrev pub low_bits : List ℕ → ℕ
 low_bits [] = 0
 low_bits (c ∷ text) = 128 * low_bits text + (c - 128)
 
--- The signed number with these low bits and this last byte. The lowest bit of the last byte counts
--- `unit`, and its highest bit is the sign.
+-- The signed number with these low bits and this last byte, whose lowest bit counts `unit`.
 abbrev pub signed_value : ℕ → ℕ → ℕ → ℤ
 signed_value low unit last = with_sign (ltb last 64) (low + last * unit) (128 * unit)
 
--- The buffer has the bytes `text` from position `start` up to position `after`.
 pub record OccursAt (buffer : List ℕ) (start after : ℕ) (text : List ℕ) : Type 0 where
   pub parts : drop start buffer ≡ text ++ drop after buffer
   pub ends : after ≡ start + length text
@@ -39,41 +37,35 @@ pub record IsGroups (buffer : List ℕ) (start width : ℕ) (groups : Groups) : 
   pub small : groups.last < 128
   pub occurs : OccursAt buffer start groups.after (text ++ groups.last ∷ [])
 
--- There are no such groups, for this reason.
--- `EndOfData`: all bytes up to the end of the data are continuation bytes, and the width allows
--- another byte.
--- `TooLong`: the last byte that the width allows is a continuation byte.
+-- Why there are no such groups: only continuation bytes are left, and the width allows another
+-- byte; or the last byte that it allows is a continuation byte.
 abbrev pub RefusesGroups : NumberRefusal → ℕ → List ℕ → ℕ → Type 0
 RefusesGroups refusal.EndOfData width buffer start = AllGoOn (drop start buffer) × (length (drop start buffer) ≤ (width - 1) / 7)
 RefusesGroups refusal.TooLong width buffer start = (text after : List ℕ) × (c : ℕ) × AllGoOn text × (128 ≤ c) × (length text ≡ (width - 1) / 7) × (drop start buffer ≡ text ++ c ∷ after)
 RefusesGroups refusal.TooLarge width buffer start = ⊥
 
--- The buffer has an encoding of x from position `start` up to position `after`.
 abbrev pub NumberAt : {X : Type 0} → (List ℕ → X → Type 0) → List ℕ → ℕ → X → ℕ → Type 0
 NumberAt Encodes buffer start x after = (text : List ℕ) × Encodes text x × OccursAt buffer start after text
 
--- No prefix of the bytes encodes a value, whatever bytes follow them.
 abbrev pub NeverBegins : {X : Type 0} → (List ℕ → X → Type 0) → List ℕ → Type 0
 NeverBegins Encodes bytes = (more : List ℕ) → NoPrefix Encodes (bytes ++ more)
 
--- The position of the last byte that a number of this many bits may have.
+-- The position of the last byte that the width allows.
 abbrev pub last_position : ℕ → ℕ → ℕ
 last_position width start = start + (width - 1) / 7
 
--- No number of this width is encoded at position `start`, for this reason.
+-- Why no number of this width is encoded at `start`.
 abbrev pub NoNumber : {X : Type 0} → (List ℕ → X → Type 0) → NumberRefusal → ℕ → List ℕ → ℕ → Type 0
 NoNumber Encodes refusal.EndOfData width buffer start = (length buffer ≤ last_position width start) × NoPrefix Encodes (drop start buffer)
 NoNumber Encodes refusal.TooLong width buffer start = (last_position width start < length buffer) × (128 ≤ slice_index buffer (last_position width start)) × NeverBegins Encodes (drop start buffer)
 NoNumber Encodes refusal.TooLarge width buffer start = (last_position width start < length buffer) × (slice_index buffer (last_position width start) < 128) × NeverBegins Encodes (drop start buffer)
 
--- The message for this reason.
 abbrev pub refusal_message : NumberRefusal → NumberName → Message
 refusal_message refusal.EndOfData name = message.EndOfData
 refusal_message refusal.TooLong name = message.IntegerTooLong name
 refusal_message refusal.TooLarge name = message.IntegerTooLarge name
 
--- The offset of the error, for a number at the offset `start` in data that ends at the offset
--- `end`. It is `end`, or the offset of the last byte that the width allows.
+-- The offset of the error: the end of the data, or the last byte that the width allows.
 abbrev pub refusal_offset : NumberRefusal → ℕ → ℕ → ℕ → ℕ
 refusal_offset refusal.EndOfData width start end = end
 refusal_offset _ width start end = last_position width start
@@ -83,7 +75,6 @@ abbrev pub HasPlace : NumberRefusal → ℕ → ℕ → ℕ → Type 0
 HasPlace refusal.EndOfData width start end = Unit {0}
 HasPlace _ width start end = last_position width start < end
 
--- The reason with this code.
 abbrev pub refusal_of_code : ℕ → NumberRefusal
 refusal_of_code zero = refusal.EndOfData
 refusal_of_code (suc zero) = refusal.TooLong

@@ -1,31 +1,28 @@
--- Integers as bytes: LEB128, seven bits a byte, the lowest first.
--- WebAssembly Core Specification 3.0, Binary Format, Values, Integers.
+-- Specification: Binary Format, Values, Integers.
 use Rattle.std.specs.Prelude.{◌≡◌, ℕ, ◌+◌, ◌-◌, ◌*◌, ◌<◌, ◌≤◌, ◌^◌, Bool, true, false, List, [], ◌∷◌, ℤ, pos, ◌+ℤ◌, ◌-ℤ◌, ◌*ℤ◌, neg_ℤ, ◌≤ℤ◌, ◌<ℤ◌, ltb}
 use Rattle.std.specs.Int.{Width, byte_len, to_le_bytes}
 
--- The bytes encode n, a number of at most `width` bits. A byte below 128 is the last byte. Any
--- other byte has the low seven bits, and the bytes after it encode the rest.
+-- The bytes encode n, a number of at most `width` bits: seven a byte, the lowest first. Only the
+-- last byte is below 128.
 --   uN ::= n:byte ⇒ n, if n < 2^7 and n < 2^N  |  n:byte m:u(N-7) ⇒ 2^7·m + (n - 2^7), if n ≥ 2^7 and N > 7
 abbrev pub EncodesUnsigned : ℕ → List ℕ → ℕ → Type 0
 EncodesUnsigned width [] n = ⊥
 EncodesUnsigned width (c ∷ []) n = (c < 128) × (n ≡ c) × (n < 2 ^ width)
 EncodesUnsigned width (c ∷ d ∷ bytes) n = (7 < width) × (128 ≤ c) × (c < 256) × (high : ℕ) × (n + 128 ≡ 128 * high + c) × EncodesUnsigned (width - 7) (d ∷ bytes) high
 
--- Bits as a signed number: n if it lies in the lower half, and otherwise n minus `whole`.
+-- Bits as a signed number: n in the lower half, otherwise n minus `whole`.
 abbrev pub with_sign : Bool → ℕ → ℕ → ℤ
 with_sign true n whole = pos n
 with_sign false n whole = pos n -ℤ pos whole
 
--- The seven bits of a last byte as a signed number: the highest bit is the sign.
+-- The highest of the seven bits is the sign.
 abbrev pub last_value : ℕ → ℤ
 last_value c = with_sign (ltb c 64) c 128
 
--- The signed integer n fits in `width` bits.
 abbrev pub FitsWidth : ℕ → ℤ → Type 0
 FitsWidth width n = (neg_ℤ (pos (2 ^ (width - 1))) ≤ℤ n) × (n <ℤ pos (2 ^ (width - 1)))
 
--- The bytes encode n, a signed number of at most `width` bits. The highest of the seven bits of the
--- last byte is the sign.
+-- As `EncodesUnsigned`, for a signed number: bit 6 of the last byte is the sign.
 --   sN ::= n:byte ⇒ n, if n < 2^6 and n < 2^(N-1)  |  n:byte ⇒ n - 2^7, if 2^6 ≤ n < 2^7 and n ≥ 2^7 - 2^(N-1)
 --        |  n:byte i:s(N-7) ⇒ 2^7·i + (n - 2^7), if n ≥ 2^7 and N > 7
 abbrev pub EncodesSigned : ℕ → List ℕ → ℤ → Type 0
@@ -37,7 +34,7 @@ EncodesSigned width (c ∷ d ∷ bytes) n = (7 < width) × (128 ≤ c) × (c < 2
 abbrev pub EncodesSize : ℕ → List ℕ → ℕ → Type 0
 EncodesSize limit text n = EncodesUnsigned 32 text n × (n ≤ limit)
 
--- All bytes of a number of this width, the lowest first: the bits of a float.
+-- The little-endian bytes of a number of this width.
 --   fN ::= b^(N/8):byte* ⇒ bytes_fN^-1(b*)
 abbrev pub EncodesFixed : Width → List ℕ → ℕ → Type 0
 EncodesFixed width text n = (text ≡ to_le_bytes width n) × (n < 2 ^ (8 * byte_len width))

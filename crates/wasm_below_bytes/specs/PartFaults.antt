@@ -1,17 +1,15 @@
--- Errors of parts of immediates: bytes, and bytes that are checked.
+-- Errors of one byte: it is missing, or wrong.
 use Rattle.std.specs.Prelude.{◌≡◌, ℕ, ◌≢◌, ◌⊎◌}
 use Rattle.wasm_below_bytes.specs.declared.message.Message.{Message}
 use Rattle.wasm_below_bytes.specs.declared.message.Message.TheVariants as message
 use Rattle.wasm_below_bytes.specs.Source.{Reader, rest, BeginsWith, EndFault}
 
--- The next byte is wrong: the error has the message `refusal byte` and the offset `place`.
+-- The next byte is wrong: the error has the message `refusal byte`, at `place`.
 abbrev pub WrongByteFault : (ℕ → Type 0) → (ℕ → Message) → ℕ → Message → Reader → ℕ → Type 0
 WrongByteFault IsWrong refusal place m r offset = (byte : ℕ) × BeginsWith byte (rest r) × IsWrong byte × (m ≡ refusal byte) × (offset ≡ place)
 
--- The error of a byte that is checked: the data ends, or the byte is wrong.
 abbrev pub CheckedByteFault : (ℕ → Type 0) → (ℕ → Message) → ℕ → Message → Reader → ℕ → Type 0
 CheckedByteFault IsWrong refusal place m r offset = EndFault m r offset ⊎ WrongByteFault IsWrong refusal place m r offset
 
--- The error of a byte that must be 0.
 abbrev pub ZeroFault : Message → ℕ → Message → Reader → ℕ → Type 0
 ZeroFault refusal place m r offset = CheckedByteFault (λ byte. byte ≢ 0) (λ byte. refusal) place m r offset

@@ -49,8 +49,8 @@ kind_of (message.FeatureRequired _) = kind.MissingFeature
 kind_of message.OutOfMemory = kind.OutOfMemory
 kind_of _ = kind.Other
 
--- A message that reading one value may return. Excluded are `OutOfMemory` and the errors of open
--- frames, of a whole body and of a section: E8 to E11, E23 and E25.
+-- A message of reading one value: not `OutOfMemory`, nor about open frames, a whole body or a
+-- section (E8 to E11, E23, E25).
 abbrev pub IsReadFault : Message → Type 0
 IsReadFault message.OutOfMemory = ⊥
 IsReadFault message.OperatorsRemaining = ⊥
@@ -61,7 +61,7 @@ IsReadFault message.TooManyLocals = ⊥
 IsReadFault message.DataAfterSection = ⊥
 IsReadFault _ = Unit {0}
 
--- The text that names a kind of number, in the two messages about an invalid number.
+-- The text of a name in messages.
 abbrev pub number_name_text : NumberName → List ℕ
 number_name_text number_name.VarU32 = codes "var_u32"
 number_name_text number_name.VarU64 = codes "var_u64"
@@ -69,14 +69,12 @@ number_name_text number_name.VarI32 = codes "var_i32"
 number_name_text number_name.VarS33 = codes "var_s33"
 number_name_text number_name.VarI64 = codes "var_i64"
 
--- The text that names a list, in the message about a count above its limit.
 abbrev pub size_name_text : SizeName → List ℕ
 size_name_text size_name.BrTable = codes "br_table"
 size_name_text size_name.SelectTypes = codes "select types"
 size_name_text size_name.Catches = codes "catches"
 size_name_text size_name.ResumeTable = codes "resume table"
 
--- The text that names an instruction of the legacy exceptions, or `else`.
 abbrev pub instruction_name_text : InstructionName → List ℕ
 instruction_name_text instruction_name.Else = codes "else"
 instruction_name_text instruction_name.Try = codes "try"
@@ -84,24 +82,21 @@ instruction_name_text instruction_name.Catch = codes "catch"
 instruction_name_text instruction_name.CatchAll = codes "catch_all"
 instruction_name_text instruction_name.Delegate = codes "delegate"
 
--- The text that names the construct whose leading byte is invalid.
 abbrev pub leading_byte_name_text : LeadingByteName → List ℕ
 leading_byte_name_text leading_name.Catch = codes "catch"
 leading_byte_name_text leading_name.OnClause = codes "on clause"
 
--- The text that names a kind of type.
 abbrev pub type_name_text : TypeName → List ℕ
 type_name_text type_name.ValueType = codes "value type"
 type_name_text type_name.ReferenceType = codes "reference type"
 type_name_text type_name.HeapType = codes "heap type"
 
--- If the message is about an invalid number, it names this kind of number.
+-- A message about an invalid number names this kind.
 abbrev pub NamesNumber : NumberName → Message → Type 0
 NamesNumber name (message.IntegerTooLong n) = n ≡ name
 NamesNumber name (message.IntegerTooLarge n) = n ≡ name
 NamesNumber name _ = Unit {0}
 
--- If the message is about a count above its limit, it names this list.
 abbrev pub NamesSize : SizeName → Message → Type 0
 NamesSize name (message.SizeOutOfBounds what) = what ≡ name
 NamesSize name m = Unit {0}

@@ -1,7 +1,6 @@
--- Encodings in sequence.
 use Rattle.std.specs.Prelude.{◌≡◌, ℕ, List, ◌++◌}
 
--- The bytes are an encoding of some x, followed by an encoding of y that depends on x.
+-- An encoding of some x, followed by an encoding of y that depends on x.
 abbrev pub Then : {X Y : Type 0} → (List ℕ → X → Type 0) → (X → List ℕ → Y → Type 0) → List ℕ → Y → Type 0
 Then {X} P Q text y = (first rest : List ℕ) × (x : X) × (text ≡ first ++ rest) × P first x × Q x rest y
 
@@ -9,7 +8,6 @@ Then {X} P Q text y = (first rest : List ℕ) × (x : X) × (text ≡ first ++ r
 abbrev pub PrefixCode : {X : Type 0} → (List ℕ → X → Type 0) → Type 0
 PrefixCode {X} P = (a b x y : List ℕ) (m n : X) → P a m → P b n → a ++ x ≡ b ++ y → (a ≡ b) × (m ≡ n)
 
--- No encoding is a proper prefix of another, and any two values of one encoding are related by
--- `same`.
+-- As `PrefixCode`, but the values of one encoding are related by `same`.
 abbrev pub PrefixCodeUpTo : {X : Type 0} → (X → X → Type 0) → (List ℕ → X → Type 0) → Type 0
 PrefixCodeUpTo {X} same P = (a b x y : List ℕ) (m n : X) → P a m → P b n → a ++ x ≡ b ++ y → (a ≡ b) × same m n

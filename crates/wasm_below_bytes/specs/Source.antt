@@ -1,5 +1,4 @@
--- The state of a reader, and the effect of a read call.
--- WebAssembly Core Specification 3.0, Binary Format, Instructions.
+-- Specification: Binary Format, Instructions.
 use Rattle.std.specs.Prelude.{◌≡◌, ℕ, ◌+◌, ◌-◌, ◌/◌, ◌<◌, ◌≤◌, List, [], ◌∷◌, ◌++◌, length, drop, Result, Ok, Err, slice_index}
 use Rattle.std.specs.Borrow.{Bor}
 use Rattle.wasm_below_bytes.specs.Number.{EncodesUnsigned}
@@ -17,8 +16,7 @@ pub record Source : Type 0 where
   pub offset : ℕ
   pub bytes : List ℕ
 
--- The state of a reader: its features, the offset of its first byte, all its bytes, and how many
--- bytes it has read.
+-- A reader: its features, the offset of its first byte, all its bytes, and how many it has read.
 pub record Reader : Type 0 where
   pub features : WasmFeatures
   pub start : ℕ
@@ -49,7 +47,7 @@ reader_of features offset bytes = record { features = features; start = offset; 
 abbrev pub at_position : Reader → ℕ → Reader
 at_position r position = record { features = r.features; start = r.start; buffer = r.buffer; position = position }
 
--- The call read the bytes `text` from the start of the rest, and changed only the position.
+-- The call read `text` from the start of the rest, and changed only the position.
 pub record Takes (old new : Reader) (text : List ℕ) : Type 0 where
   pub moved : new ≡ at_position old (old.position + length text)
   pub parts : rest old ≡ text ++ rest new
@@ -66,16 +64,15 @@ BeginsWith byte bytes = (more : List ℕ) × (bytes ≡ byte ∷ more)
 abbrev pub NoPrefix : {X : Type 0} → (List ℕ → X → Type 0) → List ℕ → Type 0
 NoPrefix {X} Encodes bytes = (text more : List ℕ) (x : X) → Encodes text x → bytes ≡ text ++ more → ⊥
 
--- The claim of a failed call holds also if `more` follows its data. After `EndOfData`, `more` is
--- empty; after `OutOfMemory`, there is no claim; after any other message, `more` is any list.
+-- These bytes may follow the data of a failed call: none after `EndOfData`, any after other
+-- messages, and no claim after `OutOfMemory`.
 abbrev pub MayFollow : Message → List ℕ → Type 0
 MayFollow message.EndOfData more = more ≡ []
 MayFollow message.OutOfMemory more = ⊥
 MayFollow _ more = Unit {0}
 
 -- No prefix of the bytes encodes a value. Unless the message is `EndOfData`, this holds whatever
--- bytes follow. Of `OutOfMemory` nothing is said. So for a proper prefix of an encoding the message
--- is `EndOfData`, unless allocation fails.
+-- bytes follow. Nothing is said of `OutOfMemory`.
 abbrev pub Refuses : {X : Type 0} → (List ℕ → X → Type 0) → List ℕ → Message → Type 0
 Refuses Encodes bytes m = (more : List ℕ) → MayFollow m more → NoPrefix Encodes (bytes ++ more)
 
@@ -83,14 +80,15 @@ Refuses Encodes bytes m = (more : List ℕ) → MayFollow m more → NoPrefix En
 abbrev pub IsAhead : Reader → ℕ → Type 0
 IsAhead r offset = (offset_of r ≤ offset) × (offset ≤ end_of r)
 
--- An error of a call that began at this reader.
+-- An error of a call from this reader: `Refuses` and `IsReadFault` hold for the message, and
+-- `IsAhead` for the offset.
 pub record IsRefusal {X : Type 0} (Encodes : List ℕ → X → Type 0) (e : Error) (old : Reader) : Type 0 where
   pub refuses : Refuses Encodes (rest old) e.message
   pub fault : IsReadFault e.message
   pub ahead : IsAhead old e.offset
 
--- The call returns `Ok` if and only if a prefix of the rest encodes a value. It then returns that
--- value and advances past that prefix. On `Err`, the reader is unchanged.
+-- `Ok` if and only if a prefix of the rest encodes a value. Then the call returns it and advances
+-- past that prefix. On `Err`, the reader is unchanged.
 abbrev pub Reads : {X : Type 0} → (List ℕ → X → Type 0) → Result X Error → Reader → Reader → Type 0
 Reads Encodes (Ok x) old new = (text : List ℕ) × Encodes text x × Takes old new text
 Reads Encodes (Err e) old new = (new ≡ old) × IsRefusal Encodes e old
@@ -103,47 +101,42 @@ IsByte text byte = (text ≡ byte ∷ []) × (byte < 256)
 abbrev pub IsBlock : ℕ → List ℕ → Bor (List ℕ) → Type 0
 IsBlock n text block = (block.now ≡ text) × (length text ≡ n)
 
--- The error at the end of the data: `EndOfData` at the offset of the reader. `EndFault` is about a
--- message and an offset, `IsEndHere` about an error.
+-- The data ends: `EndOfData` at the reader. `IsEndHere` is the same of an error.
 abbrev pub EndFault : Message → Reader → ℕ → Type 0
 EndFault m r offset = (m ≡ message.EndOfData) × (offset ≡ offset_of r) × (offset_of r ≡ end_of r)
 
 abbrev pub IsEndHere : Error → Reader → Type 0
 IsEndHere e r = EndFault e.message r e.offset
 
--- The error if fewer than `n` bytes are left: `EndOfData` at the offset of the reader. `EndsWithin`
--- is about a message and an offset, `IsShort` about an error.
+-- Fewer than `n` bytes are left: `EndOfData` at the reader. `IsShort` is the same of an error.
 abbrev pub EndsWithin : ℕ → Message → Reader → ℕ → Type 0
 EndsWithin n m r offset = (m ≡ message.EndOfData) × (offset ≡ offset_of r) × (end_of r < offset_of r + n)
 
 abbrev pub IsShort : ℕ → Error → Reader → Type 0
 IsShort n e r = EndsWithin n e.message r e.offset
 
--- The byte at this offset.
 abbrev pub byte_at : Reader → ℕ → ℕ
 byte_at r offset = slice_index r.buffer (offset - r.start)
 
--- The offset of the last byte that a number of this many bits may have.
+-- The offset of the last byte that the width allows.
 abbrev pub last_offset : ℕ → Reader → ℕ
 last_offset width r = offset_of r + (width - 1) / 7
 
--- The error of a number.
--- `EndOfData`: the data ends before the last byte that the width allows.
--- `IntegerTooLong`: that byte is a continuation byte.
--- `IntegerTooLarge`: that byte is below 128, but has a bit beyond the width.
+-- `EndOfData` before the last byte that the width allows, `IntegerTooLong` if that is a
+-- continuation byte, `IntegerTooLarge` if it has a bit beyond the width.
 abbrev pub NumberFault : Message → ℕ → Reader → ℕ → Type 0
 NumberFault message.EndOfData width r offset = (offset ≡ end_of r) × (end_of r ≤ last_offset width r)
 NumberFault (message.IntegerTooLong _) width r offset = (offset ≡ last_offset width r) × (128 ≤ byte_at r offset) × (offset < end_of r)
 NumberFault (message.IntegerTooLarge _) width r offset = (offset ≡ last_offset width r) × (byte_at r offset < 128) × (offset < end_of r)
 NumberFault _ width r offset = ⊥
 
--- The same for a number whose two faults have one message, `IntegerTooLong`.
+-- As `NumberFault`, with one message, `IntegerTooLong`, for both faults of the last byte.
 abbrev pub TooLongFault : Message → ℕ → Reader → ℕ → Type 0
 TooLongFault message.EndOfData width r offset = (offset ≡ end_of r) × (end_of r ≤ last_offset width r)
 TooLongFault (message.IntegerTooLong _) width r offset = (offset ≡ last_offset width r) × (offset < end_of r)
 TooLongFault _ width r offset = ⊥
 
--- The error of each kind of number, which names the kind.
+-- The error of a number, which names its kind.
 abbrev pub U32Fault : Message → Reader → ℕ → Type 0
 U32Fault m r offset = NumberFault m 32 r offset × NamesNumber number_name.VarU32 m
 
@@ -159,7 +152,7 @@ S33Fault m r offset = TooLongFault m 33 r offset × NamesNumber number_name.VarS
 abbrev pub I64Fault : Message → Reader → ℕ → Type 0
 I64Fault m r offset = NumberFault m 64 r offset × NamesNumber number_name.VarI64 m
 
--- The message with `IntegerTooLong` in place of `IntegerTooLarge`.
+-- Replaces `IntegerTooLarge` by `IntegerTooLong`.
 abbrev pub as_too_long : Message → Message
 as_too_long (message.IntegerTooLarge kind) = message.IntegerTooLong kind
 as_too_long m = m
@@ -168,12 +161,12 @@ as_too_long m = m
 abbrev pub BeginsAbove : ℕ → List ℕ → Type 0
 BeginsAbove limit bytes = (text more : List ℕ) × (n : ℕ) × EncodesUnsigned 32 text n × (limit < n) × (bytes ≡ text ++ more)
 
--- The error of a count: it is above the limit, or no prefix encodes a number.
+-- The count is above the limit, or no prefix encodes a number.
 abbrev pub SizeFault : Message → ℕ → Reader → ℕ → Type 0
 SizeFault (message.SizeOutOfBounds _) limit r offset = (offset ≡ offset_of r) × BeginsAbove limit (rest r)
 SizeFault m limit r offset = NumberFault m 32 r offset × NoPrefix (EncodesUnsigned 32) (rest r)
 
--- As `Reads`, for a call whose errors may lie before the reader, from the offset `start` on.
+-- As `Reads`, but errors may lie before the reader, from the offset `start` on.
 abbrev pub ReadsFrom : {X : Type 0} → ℕ → (List ℕ → X → Type 0) → Result X Error → Reader → Reader → Type 0
 ReadsFrom start Encodes (Ok x) old new = Reads Encodes (Ok x) old new
 ReadsFrom start Encodes (Err e) old new = (new ≡ old) × Refuses Encodes (rest old) e.message × IsReadFault e.message × (start ≤ e.offset) × (e.offset ≤ end_of old)

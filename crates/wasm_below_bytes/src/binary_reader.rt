@@ -1,4 +1,3 @@
-//! A reader of bytes and numbers.
 ghost use Rattle.std.specs.Prelude.{◌≡◌, ◌≢◌, ◌+◌, ◌-◌, ◌≤◌, ◌<◌, ◌^◌, length, IsTrue, ◌↔◌, [], ◌∷◌, IfOk, IfErr};
 ghost use Rattle.std.specs.Int.{w32, w64};
 ghost use Rattle.wasm_below_bytes.specs.Source.{Reads, IsByte, IsBlock, IsEndHere, IsShort, BeginsWith, CountFault, rest, offset_of, end_of, at_position, with_features, reader_of};
@@ -14,16 +13,14 @@ use std::ops::Range;
 
 mod leb128;
 
-/// The opcode of `end`.
 const END: u8 = 0x0b;
 
 /// Borrowed bytes that are read from the start.
 ///
 /// Offsets in errors count from the offset given for the first byte.
 ///
-/// A loop that holds a reader in a local variable keeps it in registers, unless a call that is not
-/// inlined borrows it. So the functions that create errors are inline, and a call that is not
-/// inlined borrows a copy.
+/// A loop keeps a local reader in registers unless a call that is not inlined borrows it. So the
+/// functions that create errors are inline, and other calls borrow a copy.
 #[derive(Debug, Drop)]
 pub struct BinaryReader<'a> {
     buffer: &'a [u8],
@@ -56,8 +53,8 @@ impl<'a> Clone for BinaryReader<'a> {
 }
 
 impl<'a> BinaryReader<'a> {
-    /// Creates a reader over `bytes`. `original_offset` is the offset of the first byte. All
-    /// features are enabled.
+    /// Creates a reader over `bytes` with all features. `original_offset` is the offset of the
+    /// first byte.
     pub fn new(bytes: &'a [u8], original_offset: u64) -> BinaryReader<'a>
         requires { original_offset + length bytes.now < 2 ^ 64 }
         ensures { result ≡ reader_of all_features original_offset bytes.now }
@@ -67,12 +64,6 @@ impl<'a> BinaryReader<'a> {
 
     /// Creates a reader over `bytes` with these features. `original_offset` is the offset of the
     /// first byte.
-    ///
-    /// # Examples
-    ///
-    /// ```
-    /// let reader = BinaryReader::new_features(bytes, 0, WasmFeatures::MEMORY64);
-    /// ```
     pub fn new_features(
         bytes: &'a [u8],
         original_offset: u64,
@@ -96,7 +87,6 @@ impl<'a> BinaryReader<'a> {
         (u64::MAX - original_offset) as usize
     }
 
-    /// Returns the enabled features.
     pub fn features(&self) -> WasmFeatures
         ensures { result ≡ self.now.features }
     {
@@ -127,7 +117,6 @@ impl<'a> BinaryReader<'a> {
         self.position >= self.buffer.len()
     }
 
-    /// Returns the number of bytes left.
     #[inline(always)]
     pub fn bytes_remaining(&self) -> usize
         ensures { result ≡ length (rest self.now) }
@@ -135,14 +124,13 @@ impl<'a> BinaryReader<'a> {
         self.buffer.len() - self.position
     }
 
-    /// Returns the bytes that are left.
     pub fn remaining_buffer(&self) -> &'a [u8]
         ensures { result.now ≡ rest self.now }
     {
         &self.buffer[self.position..]
     }
 
-    /// Returns the offsets of all the data: of the first byte, and of the end.
+    /// Returns the offsets of the first byte and of the end.
     pub fn range(&self) -> Range<u64>
         ensures start { result.start ≡ self.now.start }
         ensures end { result.end ≡ end_of self.now }
@@ -150,7 +138,7 @@ impl<'a> BinaryReader<'a> {
         self.original_offset..self.original_offset + self.buffer.len() as u64
     }
 
-    /// Returns the offsets of the bytes that are left: of the next byte, and of the end.
+    /// Returns the offsets of the next byte and of the end.
     pub fn remaining_range(&self) -> Range<u64>
         ensures start { result.start ≡ offset_of self.now }
         ensures end { result.end ≡ end_of self.now }
@@ -165,16 +153,13 @@ impl<'a> BinaryReader<'a> {
         matches!(self.remaining_buffer(), [END])
     }
 
-    /// Replaces the set of enabled features.
     pub fn set_features(&mut self, features: WasmFeatures)
         ensures { self.new ≡ with_features self.old features }
     {
         self.features = features;
     }
 
-    /// Returns the next byte without consuming it.
-    ///
-    /// Fails with `EndOfData` at the end of the data.
+    /// Returns the next byte without consuming it. Fails with `EndOfData`.
     #[inline(always)]
     pub fn peek(&self) -> Result<u8>
         ensures prefix { IfOk result (λ byte. BeginsWith byte (rest self.now)) }
@@ -186,7 +171,7 @@ impl<'a> BinaryReader<'a> {
         Ok(self.buffer[self.position])
     }
 
-    /// Returns a copy of the reader. Does not allocate.
+    /// Returns a copy of the reader.
     #[inline(always)]
     pub fn clone(&self) -> BinaryReader<'a>
         ensures { result ≡ self.now }
@@ -199,7 +184,7 @@ impl<'a> BinaryReader<'a> {
         }
     }
 
-    /// Goes back to an earlier position, given as a number of bytes read.
+    /// Goes back to an earlier position, a number of bytes read.
     #[inline(always)]
     pub fn rewind(&mut self, position: usize)
         requires { position ≤ self.old.position }
@@ -217,7 +202,6 @@ impl<'a> BinaryReader<'a> {
         self.position = to;
     }
 
-    /// Skips the next byte.
     #[inline(always)]
     pub fn advance(&mut self)
         requires { rest self.old ≢ [] }
@@ -226,9 +210,7 @@ impl<'a> BinaryReader<'a> {
         self.position += 1;
     }
 
-    /// Reads one byte.
-    ///
-    /// Fails with `EndOfData` at the end of the data.
+    /// Reads one byte. Fails with `EndOfData`.
     #[inline(always)]
     pub fn read_u8(&mut self) -> Result<u8>
         ensures reads { Reads IsByte result self.old self.new }
@@ -242,7 +224,6 @@ impl<'a> BinaryReader<'a> {
         Ok(byte)
     }
 
-    /// Returns the `EndOfData` error of a reader at the end of the data.
     #[inline(always)]
     fn end_of_data(&self) -> Error
         requires { offset_of self.now ≡ end_of self.now }
@@ -251,9 +232,7 @@ impl<'a> BinaryReader<'a> {
         Error::new(Message::EndOfData, self.original_position())
     }
 
-    /// Reads `n` bytes.
-    ///
-    /// Fails with `EndOfData` at the offset of the first of them.
+    /// Reads `n` bytes. Fails with `EndOfData` at the offset of the first.
     #[inline(always)]
     pub fn read_bytes(&mut self, n: usize) -> Result<&'a [u8]>
         ensures reads { Reads (IsBlock n) result self.old self.new }
@@ -267,7 +246,6 @@ impl<'a> BinaryReader<'a> {
         Ok(&self.buffer[start..start + n])
     }
 
-    /// Returns the `EndOfData` error for a block of `n` bytes, of which fewer are left.
     #[inline(always)]
     fn block_missing(&self, n: usize) -> Error
         requires { end_of self.now < offset_of self.now + n }
@@ -276,8 +254,7 @@ impl<'a> BinaryReader<'a> {
         Error::new(Message::EndOfData, self.original_position())
     }
 
-    /// Creates a reader over `bytes` with the same features. `offset` is the offset of the first
-    /// byte.
+    /// Creates a reader over `bytes` with the same features, from this offset.
     pub fn part(&self, bytes: &'a [u8], offset: u64) -> BinaryReader<'a>
         requires { offset + length bytes.now ≤ end_of self.now }
         ensures { result ≡ reader_of self.now.features offset bytes.now }
@@ -286,9 +263,7 @@ impl<'a> BinaryReader<'a> {
         BinaryReader::new_features(bytes, offset, self.features)
     }
 
-    /// Reads a number of four bytes, the lowest first.
-    ///
-    /// Fails with `EndOfData` at the offset of the first of them.
+    /// Reads a little-endian number. Fails with `EndOfData` at the offset of its first byte.
     #[inline(always)]
     pub fn read_u32(&mut self) -> Result<u32>
         ensures reads { Reads (EncodesFixed w32) result self.old self.new }
@@ -298,9 +273,7 @@ impl<'a> BinaryReader<'a> {
         Ok(u32::from_le_bytes([block[0], block[1], block[2], block[3]]))
     }
 
-    /// Reads a number of eight bytes, the lowest first.
-    ///
-    /// Fails with `EndOfData` at the offset of the first of them.
+    /// Reads a little-endian number. Fails with `EndOfData` at the offset of its first byte.
     #[inline(always)]
     pub fn read_u64(&mut self) -> Result<u64>
         ensures reads { Reads (EncodesFixed w64) result self.old self.new }
@@ -312,11 +285,10 @@ impl<'a> BinaryReader<'a> {
         ]))
     }
 
-    /// Reads the count of the list that `desc` names: an unsigned LEB128 number of 32 bits, at most
-    /// `limit`.
+    /// Reads the count of the list that `desc` names: an unsigned LEB128 number of 32 bits.
     ///
-    /// Fails with `SizeOutOfBounds` at the start of the number if it is above the limit, and
-    /// otherwise like `read_var_u32`.
+    /// Fails with `SizeOutOfBounds` at the start of the number if it is above `limit`, otherwise
+    /// like `read_var_u32`.
     pub fn read_size(&mut self, limit: usize, desc: SizeName) -> Result<usize>
         ensures reads { Reads (EncodesSize limit) result self.old self.new }
         ensures fault { IfErr result (λ e. CountFault desc limit e.message self.old e.offset) }
@@ -329,7 +301,7 @@ impl<'a> BinaryReader<'a> {
         Ok(size)
     }
 
-    /// Goes back to this position, and returns an error with the message and the offset there.
+    /// Goes back to this position, and returns an error there.
     #[inline(always)]
     pub fn refuse(&mut self, position: usize, message: Message) -> Error
         requires { position ≤ self.old.position }

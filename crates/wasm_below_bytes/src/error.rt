@@ -1,10 +1,9 @@
-//! Errors: a message and an offset.
 ghost use Rattle.std.specs.Prelude.{◌≡◌};
 ghost use Rattle.wasm_below_bytes.specs.Refusal.{kind_of};
 
 use crate::message::Message;
 
-/// What is wrong with the bytes, and the offset where it was found.
+/// What is wrong with the bytes, and where.
 #[derive(Clone, Copy, Debug, PartialEq, Eq)]
 pub struct Error {
     pub message: Message,
@@ -14,24 +13,20 @@ pub struct Error {
 /// The name of `Error` in wasmparser.
 pub type BinaryReaderError = Error;
 
-/// A `Result` with [`Error`] as its error.
 pub type Result<T> = std::result::Result<T, Error>;
 
 /// The kinds of errors that a caller may distinguish.
 #[derive(Clone, Copy, Debug, PartialEq, Eq)]
 pub enum ErrorKind {
-    /// The data ended. With more bytes the call might succeed.
+    /// With more bytes the call might succeed.
     EndOfData,
-    /// A feature is off.
     MissingFeature,
-    /// Allocation failed.
     OutOfMemory,
     /// Any other error. More bytes would not help.
     Other,
 }
 
 impl Error {
-    /// Creates an error from a message and an offset.
     pub fn new(message: Message, offset: u64) -> Error
         ensures message { result.message ≡ message }
         ensures offset { result.offset ≡ offset }
@@ -39,7 +34,6 @@ impl Error {
         Error { message, offset }
     }
 
-    /// Returns the kind of the error.
     pub fn kind(&self) -> ErrorKind
         ensures { result ≡ kind_of self.now.message }
     {
@@ -58,7 +52,6 @@ impl Error {
         self.offset
     }
 
-    /// Returns what is wrong.
     pub fn message(&self) -> Message
         ensures { result ≡ self.now.message }
     {

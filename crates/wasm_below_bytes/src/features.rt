@@ -1,10 +1,9 @@
-//! Features that change what is read.
 ghost use Rattle.std.specs.Prelude.{◌≡◌, ◌<◌, ⊤, [], ◌∷◌, codes, IsTrue, SomeIff, ◌↔◌};
 ghost use Rattle.wasm_below_bytes.specs.Features.{HasFeature, all_features, features_of};
 
 use bitflags::{Flag, Flags, bitflag_items};
 
-/// A set of the proposals that change what is read. `docs/ERRORS-AND-FEATURES.md` says how.
+/// A set of the proposals that change what is read, as `docs/ERRORS-AND-FEATURES.md` says.
 #[derive(Clone, Copy, Debug, PartialEq, Eq)]
 pub struct WasmFeatures(u32);
 
@@ -55,7 +54,6 @@ impl WasmFeatures {
         WasmFeatures(63)
     }
 
-    /// Returns the empty set.
     pub fn none() -> WasmFeatures
         ensures { result ≡ features_of 0 }
     {

@@ -1,4 +1,3 @@
-//! Types that `BinaryReader::read` reads, and lists of their values.
 ghost use Rattle.std.specs.Prelude.{◌≡◌, ℕ, ⊤, List, ◌++◌, IfOk, IfErr, IfSome, []};
 ghost use Rattle.wasm_below_bytes.specs.declared.features.WasmFeatures.{WasmFeatures};
 ghost use Rattle.wasm_below_bytes.specs.declared.message.Message.{Message};
@@ -26,10 +25,10 @@ pub trait FromReader<'a>: UsesMemory + Drop + Sized {
     // The error of a read, unless allocation fails.
     ghost fault: { Message → Reader → ℕ → Type 0 };
 
-    // The values are the same, except for the offset that a reader in them holds.
+    // Equality, except for the offset of a reader in the values.
     ghost same: { Self → Self → Type 0 } = { λ a b. a ≡ b };
 
-    // The place of the value that was read between these readers, if the value holds it.
+    // The place of the value between these readers, if the value holds it.
     ghost placed: { Reader → Self → Reader → Type 0 } = { λ old value new. ⊤ };
 
     /// Reads the value that a prefix of the rest encodes.
@@ -38,13 +37,11 @@ pub trait FromReader<'a>: UsesMemory + Drop + Sized {
         ensures placed { IfOk result (λ value. placed reader.old value reader.new) }
         ensures fault { IfErr result (λ e. HasFault fault e reader.old) };
 
-    /// States a law: no encoding is a proper prefix of another, and each encoding has one value.
-    /// The function does nothing; generic code calls it to use the law.
+    /// States that no encoding is a proper prefix of another, and that each has one value.
     fn is_prefix_code()
         ensures { (features : WasmFeatures) → PrefixCodeUpTo same (encodes features) };
 
-    /// States a law: the fault of a read determines the message and the offset of the error. The
-    /// function does nothing; generic code calls it to use the law.
+    /// States that the fault of a read determines the message and the offset of the error.
     fn determines_refusal()
         ensures { DeterminesRefusal fault };
 }
@@ -68,7 +65,7 @@ impl<'a> FromReader<'a> for u32 {
 }
 
 impl<'a> BinaryReader<'a> {
-    /// Reads a value of type `T`. Fails like `T::from_reader`.
+    /// Reads a `T`. Fails like `T::from_reader`.
     #[inline(always)]
     pub fn read<T: FromReader<'a>>(&mut self, alloc: Global) -> Result<T>
         ensures reads { ReadsValue (T.encodes self.old.features) T.Memory.TAKES result self.old self.new }
@@ -78,8 +75,8 @@ impl<'a> BinaryReader<'a> {
         T::from_reader(alloc, self)
     }
 
-    /// Reads a number of 32 bits and that many bytes, and returns the bytes as a reader. The reader
-    /// has the same features, and its first byte keeps its offset.
+    /// Reads a number of 32 bits and that many bytes, and returns the bytes as a reader with the
+    /// same features and offsets.
     ///
     /// Fails like `read_var_u32`, or with `EndOfData` at the offset of the first of the bytes.
     pub fn read_reader(&mut self) -> Result<BinaryReader<'a>>
@@ -100,9 +97,7 @@ impl<'a> BinaryReader<'a> {
     }
 
     /// Reads a count of at most `limit` of the list that `desc` names, and returns an iterator over
-    /// its items.
-    ///
-    /// Fails like `read_size`.
+    /// its items. Fails like `read_size`.
     pub fn read_iter<'r, T: FromReader<'a>>(
         &'r mut self,
         alloc: Global,
@@ -120,9 +115,8 @@ impl<'a> BinaryReader<'a> {
     }
 }
 
-/// An iterator over the items of a list.
-///
-/// Dropping it reads the items that are left, up to the first error.
+/// An iterator over the items of a list. Dropping it reads the items that are left, up to the first
+/// error.
 pub struct BinaryReaderIter<'a, 'r, T: FromReader<'a>> {
     remaining: usize,
     reader: &'r mut BinaryReader<'a>,
@@ -199,7 +193,6 @@ impl<'a, 'r, T: FromReader<'a>> Drop for BinaryReaderIter<'a, 'r, T> {
     }
 }
 
-/// Reads `count` values, up to the first error.
 fn read_on<'a, T: FromReader<'a>>(alloc: Global, reader: &mut BinaryReader<'a>, count: usize)
     ensures { ReadsOn (T.encodes reader.old.features) T.Memory.TAKES count reader.old reader.new }
 {

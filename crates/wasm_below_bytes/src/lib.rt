@@ -1,11 +1,10 @@
-//! Bytes: errors with their messages, features, and a reader of bytes and LEB128 numbers.
+//! Errors, features, and a reader of bytes and LEB128 numbers.
 //!
 //! A read call returns `Ok` if and only if a prefix of the rest encodes a value. It then returns
 //! the value and advances past that prefix. On `Err`, the reader is unchanged
 //! (`specs/Source.antt`).
 //!
-//! Every call that allocates may fail with `OutOfMemory` at the offset where the call began. The
-//! reader is then unchanged too.
+//! Every call that allocates may fail with `OutOfMemory` at the offset where it began.
 #![tactic(auto)]
 
 mod binary_reader;

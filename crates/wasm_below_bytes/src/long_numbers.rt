@@ -6,7 +6,6 @@ ghost use Rattle.wasm_below_bytes.specs.Leb128.{IsGroups, RefusesGroups, NumberA
 use crate::error::Error;
 use crate::message::{Message, NumberName};
 
-/// Why the bytes encode no number.
 #[derive(Clone, Copy)]
 pub enum NumberRefusal {
     /// The data ends before the last byte.
@@ -27,22 +26,20 @@ pub struct Groups {
     pub after: usize,
 }
 
-/// A number, and the position after it.
 #[derive(Clone, Copy)]
 pub struct Unsigned {
     pub value: u64,
     pub after: usize,
 }
 
-/// A signed number, and the position after it.
 #[derive(Clone, Copy)]
 pub struct Signed {
     pub value: i64,
     pub after: usize,
 }
 
-/// Returns the error of a number of at most this many bits. `start` is the offset of the number,
-/// `end` the offset of the end of the data.
+/// Returns the error of a number of at most `bits` bits. `start` and `end` are the offsets of the
+/// number and of the end of the data.
 #[cold]
 #[inline(never)]
 pub fn number_error(
@@ -91,7 +88,6 @@ pub fn two_bytes(buffer: &[u8], start: usize) -> Option<Unsigned>
     })
 }
 
-/// Reads the unsigned number of 32 bits at this position.
 #[inline(always)]
 pub fn u32_at(buffer: &[u8], start: usize) -> Result<Unsigned, NumberRefusal>
     ensures number { IfOk result (λ n. NumberAt (EncodesUnsigned 32) buffer.now start n.value n.after) }
@@ -101,7 +97,6 @@ pub fn u32_at(buffer: &[u8], start: usize) -> Result<Unsigned, NumberRefusal>
     read_unsigned(buffer, start, 32)
 }
 
-/// Reads the signed number of 32 bits at this position.
 pub fn long_i32(buffer: &[u8], start: usize) -> Result<Signed, NumberRefusal>
     ensures number { IfOk result (λ n. NumberAt (EncodesSigned 32) buffer.now start n.value n.after) }
     ensures within { IfOk result (λ n. FitsWidth 32 n.value) }
@@ -110,7 +105,6 @@ pub fn long_i32(buffer: &[u8], start: usize) -> Result<Signed, NumberRefusal>
     read_signed(buffer, start, 32)
 }
 
-/// Reads the signed number of 33 bits at this position.
 pub fn long_s33(buffer: &[u8], start: usize) -> Result<Signed, NumberRefusal>
     ensures number { IfOk result (λ n. NumberAt (EncodesSigned 33) buffer.now start n.value n.after) }
     ensures refused { IfErr result (λ r. NoNumber (EncodesSigned 33) r 33 buffer.now start) }
@@ -118,7 +112,6 @@ pub fn long_s33(buffer: &[u8], start: usize) -> Result<Signed, NumberRefusal>
     read_signed(buffer, start, 33)
 }
 
-/// Reads the unsigned number of at most this many bits at this position.
 #[inline(always)]
 pub fn read_unsigned(buffer: &[u8], start: usize, bits: u32) -> Result<Unsigned, NumberRefusal>
     requires low { 0 < bits }
@@ -140,7 +133,6 @@ pub fn read_unsigned(buffer: &[u8], start: usize, bits: u32) -> Result<Unsigned,
     })
 }
 
-/// Reads the signed number of at most this many bits at this position.
 #[inline(always)]
 pub fn read_signed(buffer: &[u8], start: usize, bits: u32) -> Result<Signed, NumberRefusal>
     requires low { 0 < bits }
@@ -162,7 +154,6 @@ pub fn read_signed(buffer: &[u8], start: usize, bits: u32) -> Result<Signed, Num
     })
 }
 
-/// Reads the groups of a number of at most this many bits.
 #[inline(always)]
 fn read_groups(buffer: &[u8], start: usize, bits: u32) -> Result<Groups, NumberRefusal>
     requires low { 0 < bits }
@@ -215,7 +206,6 @@ pub fn last_value(byte: u8) -> i64
     i64::from((byte + 64) % 128) - 64
 }
 
-/// Returns whether a signed value of seven bits fits in this many bits.
 #[inline(always)]
 fn fits_signed(value: i64, bits: u32) -> bool
     requires low { 0 < bits }
@@ -229,7 +219,6 @@ fn fits_signed(value: i64, bits: u32) -> bool
     -half <= value && value < half
 }
 
-/// Returns whether a last byte fits in this many bits.
 #[inline(always)]
 fn fits_unsigned(last: u8, bits: u32) -> bool
     requires { last < 128 }
@@ -241,7 +230,6 @@ fn fits_unsigned(last: u8, bits: u32) -> bool
     last >> bits == 0
 }
 
-/// Joins the last byte of a number and the `shift` bits before it.
 #[inline(always)]
 fn join_unsigned(low: u64, shift: u32, last: u8) -> u64
     requires shift { shift < 64 }
@@ -252,7 +240,6 @@ fn join_unsigned(low: u64, shift: u32, last: u8) -> u64
     low + (u64::from(last) << shift)
 }
 
-/// Joins the last byte of a signed number and the `shift` bits before it.
 #[inline(always)]
 fn join_signed(low: u64, shift: u32, last: u8) -> i64
     requires shift { shift < 64 }

@@ -1,4 +1,3 @@
-//! Messages of errors, and the names in their texts.
 ghost use Rattle.std.specs.Prelude.{◌≡◌};
 ghost use Rattle.wasm_below_bytes.specs.Refusal.{number_of, number_name_text, size_name_text, instruction_name_text, leading_byte_name_text, type_name_text};
 
@@ -7,9 +6,7 @@ use std::fmt;
 /// The kind of frame that an operator must occur in.
 #[derive(Clone, Copy, Debug, PartialEq, Eq)]
 pub enum FrameName {
-    /// The first body of an `if`.
     If,
-    /// The body of a legacy `try`.
     LegacyTry,
 }
 
@@ -22,23 +19,17 @@ impl fmt::Display for FrameName {
     }
 }
 
-/// The name of a kind of number, in the two messages about an invalid number.
+/// A kind of number, in a message about an invalid number.
 #[derive(Clone, Copy, Debug, PartialEq, Eq)]
 pub enum NumberName {
-    /// An unsigned LEB128 number of 32 bits.
     VarU32,
-    /// An unsigned LEB128 number of 64 bits.
     VarU64,
-    /// A signed LEB128 number of 32 bits.
     VarI32,
-    /// A signed LEB128 number of 33 bits.
     VarS33,
-    /// A signed LEB128 number of 64 bits.
     VarI64,
 }
 
 impl NumberName {
-    /// Returns the text of the name.
     pub fn text(self) -> &'static str
         ensures { result.now ≡ number_name_text self }
     {
@@ -58,21 +49,16 @@ impl fmt::Display for NumberName {
     }
 }
 
-/// The name of a list, in the message about a count above its limit.
+/// A list, in the message about a count above its limit.
 #[derive(Clone, Copy, Debug, PartialEq, Eq)]
 pub enum SizeName {
-    /// The targets of a branch table.
     BrTable,
-    /// The types of a `select`.
     SelectTypes,
-    /// The catches of a try table.
     Catches,
-    /// The clauses of a resume table.
     ResumeTable,
 }
 
 impl SizeName {
-    /// Returns the text of the name.
     pub fn text(self) -> &'static str
         ensures { result.now ≡ size_name_text self }
     {
@@ -91,7 +77,7 @@ impl fmt::Display for SizeName {
     }
 }
 
-/// The name of an instruction of the legacy exceptions, or `else`.
+/// An instruction of the legacy exceptions, or `else`.
 #[derive(Clone, Copy, Debug, PartialEq, Eq)]
 pub enum InstructionName {
     Else,
@@ -102,7 +88,6 @@ pub enum InstructionName {
 }
 
 impl InstructionName {
-    /// Returns the text of the name.
     pub fn text(self) -> &'static str
         ensures { result.now ≡ instruction_name_text self }
     {
@@ -122,17 +107,14 @@ impl fmt::Display for InstructionName {
     }
 }
 
-/// The name of the construct whose leading byte is invalid.
+/// A construct whose leading byte is invalid.
 #[derive(Clone, Copy, Debug, PartialEq, Eq)]
 pub enum LeadingByteName {
-    /// A catch of a try table.
     Catch,
-    /// A clause of a resume table.
     OnClause,
 }
 
 impl LeadingByteName {
-    /// Returns the text of the name.
     pub fn text(self) -> &'static str
         ensures { result.now ≡ leading_byte_name_text self }
     {
@@ -149,7 +131,7 @@ impl fmt::Display for LeadingByteName {
     }
 }
 
-/// The name of a kind of type.
+/// A kind of type.
 #[derive(Clone, Copy, Debug, PartialEq, Eq)]
 pub enum TypeName {
     ValueType,
@@ -158,7 +140,6 @@ pub enum TypeName {
 }
 
 impl TypeName {
-    /// Returns the text of the name.
     pub fn text(self) -> &'static str
         ensures { result.now ≡ type_name_text self }
     {
@@ -180,23 +161,18 @@ impl fmt::Display for TypeName {
 /// the offset of the error.
 #[derive(Clone, Copy, Debug, PartialEq, Eq)]
 pub enum Message {
-    /// The data ends too early.
     EndOfData,
-    /// The named instruction needs a feature that is off.
     FeatureRequired(InstructionName),
-    /// Allocation failed.
     OutOfMemory,
-    /// A number of the named kind has more bytes than its width allows.
+    /// The number has more bytes than its width allows.
     IntegerTooLong(NumberName),
-    /// A number of the named kind has a bit beyond its width.
+    /// The number has a bit beyond its width.
     IntegerTooLarge(NumberName),
-    /// The count of the named list is above its limit.
     SizeOutOfBounds(SizeName),
     /// The index of a block type is negative.
     InvalidFunctionType,
-    /// The named instruction occurs outside the frame that it needs.
+    /// The instruction occurs outside the frame that it needs.
     WrongFrame(InstructionName, FrameName),
-    /// No frame is open.
     OperatorsRemaining,
     /// Frames are open at the end of a body or an expression.
     FramesRemain,
@@ -204,31 +180,25 @@ pub enum Message {
     FramesRemainConst,
     /// Data is left after the last operator.
     UnexpectedData,
-    /// No operator has this opcode.
     IllegalOpcode(u8),
     /// No operator has this subopcode after this prefix byte.
     UnknownSubopcode(u8, u32),
     /// A SIMD operator, in a call that reads none.
     UnexpectedSimd,
-    /// A byte is not 0.
     ZeroByteExpected,
-    /// The byte of `atomic.fence` is not 0.
     NonzeroAfterFence,
     /// A memory argument has both a memory index and an array index.
     MemoryAndArray,
     /// The memory argument of an operator that is not atomic has an ordering.
     OrderingOnPlain,
-    /// A byte is not an ordering. If `hex` is set, the text has the byte in hexadecimal.
+    /// A byte is not an ordering. If `hex` is set, the text has it in hexadecimal.
     InvalidOrdering { byte: u8, hex: bool },
-    /// The flags of a memory argument have reserved bits.
     ReservedFlags,
     /// The flags of a cast are above 3.
     InvalidCastFlags(u8),
-    /// The named construct cannot start with this byte.
     InvalidLeadingByte(u8, LeadingByteName),
     /// More than 4294967295 locals.
     TooManyLocals,
-    /// The next bytes are not a type of the named kind.
     InvalidType(TypeName),
     /// Data is left after the items of a section.
     DataAfterSection,

@@ -1,7 +1,6 @@
-//! Long LEB128 numbers, read by calls that are not inlined. The result of such a call is two words,
-//! and so is returned in registers; a larger enum would go through memory. No number ends at
-//! position 0. So this position says that there is no number, and `value` is then the code of the
-//! reason.
+//! Long LEB128 numbers, read by calls that are not inlined. A result of two words is returned in
+//! registers; a larger enum would go through memory. Position 0, where no number ends, says that
+//! there is none; `value` is then the code of the reason.
 ghost use Rattle.std.specs.Prelude.{◌≡◌, ◌<◌, ◌^◌, unsigned_abs};
 ghost use Rattle.wasm_below_bytes.specs.Number.{EncodesUnsigned, EncodesSigned};
 ghost use Rattle.wasm_below_bytes.specs.Leb128.{NumberAt, NoNumber, HasPlace, refusal_of_code, refusal_message, refusal_offset};
@@ -12,7 +11,6 @@ use crate::long_numbers::{
 };
 use crate::message::NumberName;
 
-/// Reads the unsigned number of 32 bits at this position.
 #[inline(never)]
 pub fn long_u32(buffer: &[u8], start: usize) -> Unsigned
     ensures number { 0 < result.after → NumberAt (EncodesUnsigned 32) buffer.now start result.value result.after }
@@ -28,7 +26,6 @@ pub fn long_u32(buffer: &[u8], start: usize) -> Unsigned
     }
 }
 
-/// Reads the unsigned number of 64 bits at this position.
 #[inline(never)]
 pub fn long_u64(buffer: &[u8], start: usize) -> Unsigned
     ensures number { 0 < result.after → NumberAt (EncodesUnsigned 64) buffer.now start result.value result.after }
@@ -43,7 +40,6 @@ pub fn long_u64(buffer: &[u8], start: usize) -> Unsigned
     }
 }
 
-/// Reads the signed number of 64 bits at this position.
 #[inline(never)]
 pub fn long_i64(buffer: &[u8], start: usize) -> Signed
     ensures number { 0 < result.after → NumberAt (EncodesSigned 64) buffer.now start result.value result.after }
@@ -70,7 +66,6 @@ pub fn coded_error(code: u64, start: u64, end: u64, bits: u32, name: NumberName)
     number_error(refusal_of_code(code), start, end, bits, name)
 }
 
-/// Returns the code of a reason.
 #[inline(always)]
 fn refusal_code(refusal: NumberRefusal) -> u8
     ensures { refusal_of_code result ≡ refusal }
@@ -82,7 +77,6 @@ fn refusal_code(refusal: NumberRefusal) -> u8
     }
 }
 
-/// Returns the reason with this code.
 #[inline(always)]
 fn refusal_of_code(code: u64) -> NumberRefusal
     ensures { result ≡ refusal_of_code code }

@@ -11,7 +11,6 @@ use Rattle.wasm_operators_readers.specs.imm.Lists.{EncodesEach}
 use Rattle.wasm_operators_readers.proofs.of_imm.ListLemmas.{each_more}
 use Rattle.wasm_bench.specs.Sums.{IsSumOf}
 
--- A read that takes a byte leaves fewer bytes.
 pub less_left : (old new : Reader) (text : List ℕ) → 0 < length text → Takes old new text → length (rest new) < length (rest old)
 less_left old new text some t = omega (arith, ap length t.parts ∙ length-append text (rest new))
 
@@ -41,7 +40,6 @@ one_more Encodes counts first now new total total2 x s (text, p, t) e =
           ap (λ n. n % 2 ^ 64) (sym (sum_more counts s.done x));
     }
 
--- If values encode all bytes, the first of them are those that were read, and the others encode what is left.
 others : {X : Type 0} (Encodes : List ℕ → X → Type 0) → PrefixCode Encodes → ((text : List ℕ) (x : X) → Encodes text x → 0 < length text) →
     (text after : List ℕ) (done values : List X) → EncodesEach Encodes text done → EncodesEach Encodes (text ++ after) values →
     (more : List X) × (values ≡ done ++ more) × EncodesEach Encodes after more
@@ -59,7 +57,6 @@ none_of : {X : Type 0} (Encodes : List ℕ → X → Type 0) (counts : X → ℕ
     sum_by counts (done ++ more) ≡ sum_by counts done
 none_of Encodes counts done more e = ap (λ z. sum_by counts z) (ap (λ z. done ++ z) e ∙ append-nil done)
 
--- If no further value is encoded, the sum is that of all values.
 pub summed : {X : Type 0} (Encodes : List ℕ → X → Type 0) (counts : X → ℕ) → PrefixCode Encodes →
     ((text : List ℕ) (x : X) → Encodes text x → 0 < length text) → (bytes : List ℕ) (first now : Reader) (total : ℕ) → rest first ≡ bytes →
     SumSoFar Encodes counts first now total → NoPrefix Encodes (rest now) → IsSumOf Encodes counts bytes total
@@ -72,12 +69,10 @@ summed {X} Encodes counts code some bytes first now total at s none values p =
     go [] q = refl
     go (z ∷ more) (a, b, e, q, qs) = absurd (none a b z q e)
 
--- No value is encoded at the end of the data.
 pub none_at_end : {X : Type 0} (Encodes : List ℕ → X → Type 0) → ((text : List ℕ) (x : X) → Encodes text x → 0 < length text) → (bytes : List ℕ) →
     bytes ≡ [] → NoPrefix Encodes bytes
 none_at_end Encodes some bytes end text more x p e = absurd (omega (arith, some text x p, ap length (sym end ∙ e), length-append text more))
 
--- A text of two parts is not empty if the first part is not.
 pub then_some : {X Y : Type 0} (First : List ℕ → X → Type 0) (Second : X → List ℕ → Y → Type 0) → ((text : List ℕ) (x : X) → First text x → 0 < length text) →
     (text : List ℕ) (y : Y) → Then First Second text y → 0 < length text
 then_some First Second some text y (first, second, x, e, p, q) = omega (arith, some first x p, ap length e, length-append first second)

@@ -1,4 +1,3 @@
--- Sums over the values that bytes encode.
 use Rattle.std.specs.Prelude.{◌≡◌, ℕ, ◌+◌, ◌%◌, ◌^◌, List, sum_by}
 use Rattle.wasm_operators_readers.specs.imm.declared.memory_argument.MemArg.{MemArg}
 use Rattle.wasm_operators_readers.specs.imm.control.block_type.BlockType.{BlockType}
@@ -6,11 +5,11 @@ use Rattle.wasm_operators_readers.specs.imm.control.block_type.BlockType.TheVari
 use Rattle.wasm_operators_readers.specs.imm.BranchTables.{BranchTable}
 use Rattle.wasm_operators_readers.specs.imm.Lists.{EncodesEach}
 
--- If the bytes are encodings of values, one after another, `outcome` is the sum of what each value counts, in 64 bits.
+-- If the bytes encode values one after another, `outcome` is the sum of what each counts, in 64
+-- bits.
 abbrev pub IsSumOf : {X : Type 0} → (List ℕ → X → Type 0) → (X → ℕ) → List ℕ → ℕ → Type 0
 IsSumOf {X} Encodes counts bytes outcome = (values : List X) → EncodesEach Encodes bytes values → outcome ≡ sum_by counts values % 2 ^ 64
 
--- What a value of each kind counts.
 abbrev pub itself : ℕ → ℕ
 itself n = n
 

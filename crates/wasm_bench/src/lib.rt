@@ -1,6 +1,6 @@
-//! Readers of single numbers and immediates, as a static library that `tools/bench` measures. Each
-//! function reads its bytes to the end, with all features. It returns a sum of the values, so that
-//! the compiler can't remove a read. On an error, a function returns the sum so far.
+//! Readers of single numbers and immediates, which `tools/bench` measures. Each function reads its
+//! bytes to the end, or to an error, with all features. It returns a sum of the values, so that the
+//! compiler can't remove a read.
 #![tactic(auto)]
 
 ghost use Rattle.std.specs.Prelude.{◌≡◌};
@@ -20,7 +20,6 @@ use std::alloc::Global;
 use wasm_operators_readers::below::BinaryReader;
 use wasm_operators_readers::imm::{BlockType, BrTable, MemArg, MemArgKind};
 
-/// Returns the sum of the bytes.
 #[unsafe(no_mangle)]
 pub extern "C" fn wasm_bench_u8(_alloc: Global, bytes: &[u8]) -> u64
     ensures { IsSumOf IsByte itself bytes.now result }
@@ -36,7 +35,6 @@ pub extern "C" fn wasm_bench_u8(_alloc: Global, bytes: &[u8]) -> u64
     sum
 }
 
-/// Returns the sum of the unsigned numbers of 32 bits.
 #[unsafe(no_mangle)]
 pub extern "C" fn wasm_bench_u32(_alloc: Global, bytes: &[u8]) -> u64
     ensures { IsSumOf (EncodesUnsigned 32) itself bytes.now result }
@@ -52,7 +50,7 @@ pub extern "C" fn wasm_bench_u32(_alloc: Global, bytes: &[u8]) -> u64
     sum
 }
 
-/// Returns the sum of the signed numbers of 32 bits, each reinterpreted as unsigned.
+/// Returns the sum of signed numbers of 32 bits, each reinterpreted as unsigned.
 #[unsafe(no_mangle)]
 pub extern "C" fn wasm_bench_i32(_alloc: Global, bytes: &[u8]) -> u64
     ensures { IsSumOf (EncodesSigned 32) (cast_unsigned w32) bytes.now result }
@@ -68,7 +66,7 @@ pub extern "C" fn wasm_bench_i32(_alloc: Global, bytes: &[u8]) -> u64
     sum
 }
 
-/// Returns the sum of the signed numbers of 64 bits, each reinterpreted as unsigned.
+/// Returns the sum of signed numbers of 64 bits, each reinterpreted as unsigned.
 #[unsafe(no_mangle)]
 pub extern "C" fn wasm_bench_i64(_alloc: Global, bytes: &[u8]) -> u64
     ensures { IsSumOf (EncodesSigned 64) (cast_unsigned w64) bytes.now result }
@@ -138,7 +136,6 @@ pub extern "C" fn wasm_bench_br_table(_alloc: Global, bytes: &[u8]) -> u64
     sum
 }
 
-/// Returns what a block type adds to the sum.
 #[inline(always)]
 fn block_number(ty: BlockType) -> u64
     ensures { result ≡ block_counts ty }

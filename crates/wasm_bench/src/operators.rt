@@ -1,11 +1,10 @@
-//! The operators of a function body, visited and read.
 use crate::visitors::{CountAny, CountSome};
 use std::alloc::Global;
 use wasm_operators_readers::OperatorsReader;
 use wasm_operators_readers::below::{BinaryReader, ValType};
 use wasm_operators_readers::instr::Operator;
 
-/// Creates a reader of the operators after the locals of a body (section Code Section).
+/// Creates a reader of the operators after the locals (section Code Section).
 fn operators_of(alloc: Global, body: &[u8]) -> Option<OperatorsReader<'_>> {
     let mut reader = BinaryReader::new(body, 0);
     let count = reader.read_var_u32().ok()?;
@@ -16,7 +15,7 @@ fn operators_of(alloc: Global, body: &[u8]) -> Option<OperatorsReader<'_>> {
     Some(OperatorsReader::new(alloc, reader))
 }
 
-/// Returns the number of operators in a body, counted by a visitor that overrides no visit.
+/// Returns the number of operators, counted by a visitor that overrides no visit.
 #[unsafe(no_mangle)]
 pub extern "C" fn wasm_bench_count_any(alloc: Global, body: &[u8]) -> u64 {
     let mut count = CountAny { operators: 0 };
@@ -26,8 +25,8 @@ pub extern "C" fn wasm_bench_count_any(alloc: Global, body: &[u8]) -> u64 {
     count.operators
 }
 
-/// Returns the number of operators in a body, counted by a visitor that overrides four visits. The
-/// immediates of these are added up, so that the compiler can't remove a read.
+/// Returns the number of operators, counted by a visitor that overrides four visits and adds up
+/// their immediates.
 #[unsafe(no_mangle)]
 pub extern "C" fn wasm_bench_count_some(alloc: Global, body: &[u8]) -> u64 {
     let mut count = CountSome {
@@ -43,8 +42,8 @@ pub extern "C" fn wasm_bench_count_some(alloc: Global, body: &[u8]) -> u64 {
     count.operators
 }
 
-/// Returns a sum over the operators of a body: the index, constant or offset of four operators, and
-/// 1 for each other.
+/// Returns a sum over the operators: the index, constant or offset of four operators, and 1 for
+/// each other.
 #[unsafe(no_mangle)]
 pub extern "C" fn wasm_bench_read(alloc: Global, body: &[u8]) -> u64 {
     let Some(mut operators) = operators_of(alloc, body) else {
@@ -60,7 +59,6 @@ pub extern "C" fn wasm_bench_read(alloc: Global, body: &[u8]) -> u64 {
     sum
 }
 
-/// Returns the number of operators in a body, which are read into a list.
 #[unsafe(no_mangle)]
 pub extern "C" fn wasm_bench_read_vec(alloc: Global, body: &[u8]) -> u64 {
     let mut out = Vec::new(alloc);
@@ -70,7 +68,6 @@ pub extern "C" fn wasm_bench_read_vec(alloc: Global, body: &[u8]) -> u64 {
     out.len() as u64
 }
 
-/// Returns what an operator adds to the sum.
 #[inline(always)]
 fn number_of(op: &Operator<'_>) -> u64 {
     match op {

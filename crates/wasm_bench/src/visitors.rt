@@ -1,4 +1,4 @@
-//! The visitors that are measured.
+//! The visitors that are measured. `CountAny` has `visit_any` alone.
 ghost use Rattle.std.specs.Prelude.{◌≡◌, ◌+◌, ◌-◌, ◌^◌, ◌<◌};
 
 use std::alloc::Global;
@@ -9,7 +9,6 @@ use wasm_operators_readers::visitors::{
     VisitGroups, VisitOneByte, VisitOperator, VisitSimdOperator, Visitor, decode, dispatch,
 };
 
-/// A visitor that counts operators in `visit_any` alone.
 #[derive(Drop)]
 pub struct CountAny {
     pub operators: u64,
@@ -18,7 +17,6 @@ pub struct CountAny {
 impl Visitor for CountAny {
     type Output = ();
 
-    // A visit adds one.
     ghost visits = { λ before op outcome after. before.operators < 2 ^ 64 - 1 → after.operators ≡ before.operators + 1 };
 
     #[inline(always)]
@@ -38,7 +36,7 @@ impl<'a> VisitOperator<'a> for CountAny {
 
 impl VisitSimdOperator for CountAny {}
 
-/// A visitor that counts operators, and overrides four visits to add up their immediates.
+/// Counts operators, and overrides four visits to add up their immediates.
 #[derive(Drop)]
 pub struct CountSome {
     pub operators: u64,
@@ -48,7 +46,6 @@ pub struct CountSome {
 impl Visitor for CountSome {
     type Output = ();
 
-    // A visit adds one.
     ghost visits = { λ before op outcome after. before.operators < 2 ^ 64 - 1 → after.operators ≡ before.operators + 1 };
 
     #[inline(always)]
@@ -58,7 +55,6 @@ impl Visitor for CountSome {
 }
 
 impl CountSome {
-    /// Counts an operator and adds its immediate.
     #[inline(always)]
     fn add(&mut self, number: u64)
         ensures { self.old.operators < 2 ^ 64 - 1 → self.new.operators ≡ self.old.operators + 1 }

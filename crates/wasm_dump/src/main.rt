@@ -1,8 +1,7 @@
 //! Prints the operators of the function body on standard input: a line for each, with the offset of
 //! its first byte and its name.
 //!
-//! The main theorem is the contract of `run` of `wasm_listing`, which holds for any reader and
-//! writer.
+//! The main theorem is the contract of `run` of `wasm_listing`.
 #![tactic(auto)]
 
 use std::env::Env;
@@ -29,9 +28,8 @@ fn main(rt: HostRuntime) -> ExitCode {
     }
 }
 
-/// Returns the features that the program's argument names; at most one argument is allowed. Returns
-/// `None` if there are more, or if the argument is not UTF-8 or has a name that is no feature.
-/// Fails with `Memory` if allocation fails.
+/// Returns the features that the argument names. Returns `None` if there are more arguments, or if
+/// one is not UTF-8 or names no feature. Fails with `Memory`.
 fn read_features<R: Env + AllocGlobal>(rt: &R) -> Result<Option<WasmFeatures>, DumpFault> {
     let mut words = match env::args(rt) {
         Ok(words) => words,

@@ -29,7 +29,6 @@ one_own numbers fixed code whole t u a b =
       one_types numbers b.functions t.types u.types (subst (λ s. ListsTypes s t.types) functions a.types) b.types,
     )
 
--- The module names as many functions as were found.
 pub names_of_functions : PrefixCode (EncodesUnsigned 32) → PrefixCode (EncodesFixed w32) → PrefixCode EncodesImport → (whole : Reader) (t : ModuleFunctions) →
     DescribesFunctions whole t → (n : ℕ) → (section : Option Reader) × IsSection whole 2 section × CountsImports section n → (types : List ℕ) →
     (section : Option Reader) × IsSection whole 3 section × ListsTypes section types → (count : ℕ) → count ≡ length types →

@@ -12,7 +12,6 @@ pub item_more : {X : Type 0} (P : List ℕ → X → Type 0) (r : Reader) (xs : 
 item_more P r [] mid new x same reads = (new, subst (λ z. Reads P (Ok x) z new) same reads, refl)
 item_more P r (y ∷ ys) mid new x (next, first, others) reads = (next, first, item_more P next ys mid new x others reads)
 
--- All items are encoded.
 pub all_occur : {X : Type 0} (P : List ℕ → X → Type 0) (contents first end : Reader) (xs : List X) (n : ℕ) → Reads (EncodesUnsigned 32) (Ok n) contents first →
     ItemsOccur P first xs end → length xs ≡ n → IsList P contents xs
 all_occur P contents first end xs n counted occur all =

@@ -19,7 +19,6 @@ all_at {X} P xs y zs ys is all = at xs (subst (All P) is all)
     at [] h = All-head P y zs h
     at (x ∷ xs) h = at xs (All-tail P x (xs ++ y ∷ zs) h)
 
--- The same bytes are read as the same value, up to the same place.
 pub one_read : {X : Type 0} (P : List ℕ → X → Type 0) → PrefixCode P → (r a b : Reader) (x y : X) → Reads P (Ok x) r a → Reads P (Ok y) r b →
     (x ≡ y) × (a ≡ b)
 one_read P code r a b x y (text, is, takes) (other, is_other, takes_other) =
@@ -27,7 +26,6 @@ one_read P code r a b x y (text, is, takes) (other, is_other, takes_other) =
     (same.1, takes.moved ∙ ap (λ (z : List ℕ). at_position r (r.position + length z)) same.0 ∙ sym takes_other.moved)
 
 module _ {X : Type 0} (P : List ℕ → X → Type 0) (code : PrefixCode P) where
-  -- The same number of items of the same bytes are the same.
   pub same_items : (r : Reader) (xs ys : List X) (mid end : Reader) → ItemsOccur P r xs mid → ItemsOccur P r ys end → length xs ≡ length ys →
       (xs ≡ ys) × (mid ≡ end)
   same_items r [] [] mid end a b l = (refl, a ∙ sym b)
@@ -38,7 +36,6 @@ module _ {X : Type 0} (P : List ℕ → X → Type 0) (code : PrefixCode P) wher
       let more = same_items n xs ys mid end others (subst (λ z. ItemsOccur P z ys end) (sym first.1) others') (omega (arith, l)) in
       (ap (λ z. z ∷ xs) first.0 ∙ ap (λ zs. y ∷ zs) more.0, more.1)
 
-  -- After fewer items, one more item follows.
   pub more_items : (r : Reader) (xs ys : List X) (mid end : Reader) → ItemsOccur P r xs mid → ItemsOccur P r ys end → length xs < length ys →
       (y : X) × (zs : List X) × (next : Reader) × (ys ≡ xs ++ y ∷ zs) × Reads P (Ok y) mid next
   more_items r xs [] mid end a b l = absurd (omega (arith, l))
@@ -55,19 +52,16 @@ module _ {X : Type 0} (P : List ℕ → X → Type 0) (code : PrefixCode P) wher
       let same = one_read (EncodesUnsigned 32) numbers contents first list.first n (length ys) counted list.count in
       more_items first xs ys mid list.end occur (subst (λ z. ItemsOccur P z ys list.end) (sym same.1) list.occur) (subst (λ k. length xs < k) same.0 fewer)
 
-  -- A section has at most one list.
   pub one_list : PrefixCode (EncodesUnsigned 32) → (contents : Reader) (xs ys : List X) → IsList P contents xs → IsList P contents ys → xs ≡ ys
   one_list numbers contents xs ys a b =
       let same = one_read (EncodesUnsigned 32) numbers contents a.first b.first (length xs) (length ys) a.count b.count in
       (same_items a.first xs ys a.end b.end a.occur (subst (λ z. ItemsOccur P z ys b.end) (sym same.1) b.occur) same.0).0
 
-  -- So no item of it is in error.
   pub none_refused : PrefixCode (EncodesUnsigned 32) → (contents first mid : Reader) (n : ℕ) (xs ys : List X) (e : Error) →
       Reads (EncodesUnsigned 32) (Ok n) contents first → ItemsOccur P first xs mid → length xs < n → IsRefusal P e mid → IsList P contents ys → ⊥
   none_refused numbers contents first mid n xs ys e counted occur fewer refused list =
       let (y, zs, next, is, reads) = next_item numbers contents first mid n xs ys counted occur fewer list in not_both P e mid next y refused reads
 
--- If a recursive type starts, its start is not in error.
 abbrev read : Result ℕ Error → Type 0
 read (Ok n) = Unit {0}
 read (Err e) = ⊥

@@ -1,4 +1,3 @@
--- Sections, one after another, and one more.
 use Rattle.std.proofs.Common.{◌≡◌, ℕ, ◌+◌, ◌<◌, Bool, true, false, List, [], ◌∷◌, ◌++◌, length, Option, Some, Ok, refl, subst, ap, ◌∙◌, length-append, arith, cond}
 use Rattle.std.specs.Prelude.{◌==◌}
 use Rattle.wasm_module.specs.below.Source.{Reader, rest, offset_of, end_of, Reads}
@@ -8,14 +7,12 @@ use Rattle.wasm_functions.specs.Sections.{SectionsOccur, first_with, or_first}
 same_features : (s : SectionParts) (r mid : Reader) → Reads (EncodesSection r.features) (Ok s) r mid → mid.features ≡ r.features
 same_features s r mid (text, encodes, takes) = ap (λ (z : Reader). z.features) takes.moved
 
--- One more section.
 pub one_more : (r : Reader) (ss : List SectionParts) (mid new : Reader) (s : SectionParts) → SectionsOccur r ss mid →
     Reads (EncodesSection mid.features) (Ok s) mid new → end_of s.contents ≡ offset_of new → SectionsOccur r (ss ++ s ∷ []) new
 one_more r [] mid new s same reads placed =
     (new, subst (λ z. Reads (EncodesSection z.features) (Ok s) z new) same reads, placed, refl)
 one_more r (t ∷ ts) mid new s (next, first, occurs, others) reads placed = (next, first, occurs, one_more next ts mid new s others reads placed)
 
--- A section has at least one byte.
 pub shorter : (r new : Reader) (s : SectionParts) → Reads (EncodesSection r.features) (Ok s) r new → length (rest new) < length (rest r)
 shorter r new s (text, (a, b, parts, is, after), takes) =
     let long : length text ≡ length a + length b = ap length parts ∙ length-append a b in
@@ -23,7 +20,6 @@ shorter r new s (text, (a, b, parts, is, after), takes) =
     let left : length (rest r) ≡ length text + length (rest new) = ap length takes.parts ∙ length-append text (rest new) in
     omega (arith, long, one, left)
 
--- The first section with a number, and one more section.
 first_by : (b : Bool) (found next : Option Reader) (t s : SectionParts) (id : ℕ) → next ≡ or_first found s id →
     cond b (Some t.contents) next ≡ or_first (cond b (Some t.contents) found) s id
 first_by true found next t s id is = refl

@@ -1,4 +1,3 @@
--- Errors of the one section with a number.
 use Rattle.std.proofs.Common.{ℕ, Option, Some, Result, subst, inr}
 use Rattle.std.specs.Int.{w32}
 use Rattle.std.specs.Prelude.{IfErr}
@@ -28,7 +27,6 @@ module _ (numbers : PrefixCode (EncodesUnsigned 32)) (fixed : PrefixCode (Encode
       (λ fault. (section : Option Reader) → (y : Y) → (z : Z) → IsSection whole id section → P section y z → ⊥)
       (λ fault f section y z there is. f y z (subst (λ s. P s y z) (one_found numbers fixed whole id section (Some contents) there here) is)) refused
 
--- A fault of the contents is a fault of the section.
 pub fault_at : {X : Type 0} (Fault : ModuleFault → Reader → Type 0) (whole : Reader) (id : ℕ) (contents : Reader) (r : Result X ModuleFault) →
     IsSection whole id (Some contents) → IfErr r (λ fault. Fault fault contents) → IfErr r (λ fault. SectionFaultAt fault whole id Fault)
 fault_at Fault whole id contents r here refused =

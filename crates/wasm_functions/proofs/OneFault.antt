@@ -1,4 +1,3 @@
--- Bytes have at most one fault.
 use Rattle.std.proofs.Common.{◌≡◌, ℕ, List, [], ◌∷◌, sym, subst, ap, ◌∙◌, inl, inr}
 use Rattle.std.specs.Int.{w32}
 use Rattle.wasm_module.specs.below.bytes.error.Error.{Error}
@@ -24,7 +23,6 @@ pub one_error : (e f : Error) → (e.message ≡ f.message) × (e.offset ≡ f.o
 one_error e f same = ap (λ m. error_by m e.offset) same.0 ∙ ap (λ o. error_by f.message o) same.1
 
 module _ (numbers : PrefixCode (EncodesUnsigned 32)) where
-  -- Up to the section in error.
   one_next : (r : Reader) (ss ts : List SectionParts) (a b : Reader) (e f : Error) → SectionsOccur r ss a → SectionsOccur r ts b →
       IsRefusal (EncodesSection a.features) e a → IsRefusal (EncodesSection b.features) f b → a ≡ b
   one_next r [] [] a b e f p q x y = p ∙ sym q
@@ -36,12 +34,10 @@ module _ (numbers : PrefixCode (EncodesUnsigned 32)) where
       one_next n ss ts a b e f others (subst (λ z. SectionsOccur z ts b) (sym (one_step numbers r n n' s t reads reads').0) others') x y
 
 module _ (numbers : PrefixCode (EncodesUnsigned 32)) (fixed : PrefixCode (EncodesFixed w32)) where
-  -- A preamble of something else does not start a module.
   no_beginning : (said : PreambleKind) (whole after : Reader) → BeginsAs said whole → (said ≡ kind.Module → ⊥) → BeginsModule whole after → ⊥
   no_beginning said whole after (p, mid, reads, is) other begins =
       other (sym is ∙ (begins_as fixed whole mid after p reads begins).1)
 
-  -- Bytes with a fault are no module.
   pub fault_or_module : (whole : Reader) (f : ModuleFault) (sections : List SectionParts) → SectionsFault f whole → IsModule whole sections → ⊥
   fault_or_module whole (fault.NotModule said) sections (begins, other) h = no_beginning said whole h.after begins other h.begins
   fault_or_module whole (fault.Refused e) sections (inl p) h = no_preamble whole h.after e p.0 h.begins

@@ -1,4 +1,3 @@
--- A list is in error at one place at most, and with one error.
 use Rattle.std.proofs.Common.{◌≡◌, ◌<◌, ◌⊎◌, ℕ, zero, suc, List, length, Ok, refl, sym, subst, ap, inl, inr, arith}
 use Rattle.std.specs.List.{All}
 use Rattle.wasm_module.specs.below.bytes.error.Error.{Error}
@@ -15,7 +14,6 @@ use Rattle.wasm_functions.proofs.Named.{not_both}
 use Rattle.wasm_functions.proofs.Next.{all_at, one_read, same_items, more_items, next_item}
 use Rattle.wasm_functions.proofs.OneFault.{one_error}
 
--- Two faults are the same if their errors are.
 pub one_refusal : (P : Error → Type 0) → ((e f : Error) → P e → P f → e ≡ f) → (f g : ModuleFault) → RefusedWith P f → RefusedWith P g → f ≡ g
 one_refusal P one (fault.Refused e) (fault.Refused f) p q = ap (λ x. fault.Refused x) (one e f p q)
 one_refusal P one (fault.Refused e) (fault.NotModule said) p q = absurd q
@@ -34,7 +32,6 @@ no_refusal P none (fault.ImportKind byte offset) p = p
 no_refusal P none (fault.TypeKind byte offset) p = p
 no_refusal P none fault.Memory p = p
 
--- Which of two numbers is less.
 order_by : (n m : ℕ) → (n < m) ⊎ ((n ≡ m) ⊎ (m < n)) → (suc n < suc m) ⊎ ((suc n ≡ suc m) ⊎ (suc m < suc n))
 order_by n m (inl less) = inl (omega (arith, less))
 order_by n m (inr (inl same)) = inr (inl (ap suc same))
@@ -46,13 +43,11 @@ order zero (suc m) = inl (omega (arith))
 order (suc n) zero = inr (inr (omega (arith)))
 order (suc n) (suc m) = order_by n m (order n m)
 
--- If reading a value fails, none is encoded next.
 pub refused_there : {X : Type 0} (P : List ℕ → X → Type 0) (K : X → Type 0) (e : Error) (r : Reader) → IsRefusal P e r →
     (x : X) → (next : Reader) → Reads P (Ok x) r next → K x → ⊥
 refused_there P K e r refused x next reads known = not_both P e r next x refused reads
 
 module _ {X : Type 0} (P : List ℕ → X → Type 0) (code : PrefixCode P) (K : X → Type 0) where
-  -- After fewer known items, one more item follows.
   pub next_there : (r a b : Reader) (xs ys : List X) → ItemsOccur P r xs a → ItemsOccur P r ys b → All K ys → length xs < length ys →
       (y : X) × (next : Reader) × Reads P (Ok y) a next × K y
   next_there r a b xs ys occur occur' known less =
@@ -67,21 +62,18 @@ module _ {X : Type 0} (P : List ℕ → X → Type 0) (code : PrefixCode P) (K :
   place_by r a b xs ys occur occur' known known' stops stops' (inr (inr more)) =
       let (x, next, reads, is) = next_there r b a ys xs occur' occur known more in absurd (stops' x next reads is)
 
-  -- Known items are encoded up to one place, after which no known item is encoded.
   pub one_place : (r a b : Reader) (xs ys : List X) → ItemsOccur P r xs a → ItemsOccur P r ys b → All K xs → All K ys →
       ((x : X) → (next : Reader) → Reads P (Ok x) a next → K x → ⊥) → ((x : X) → (next : Reader) → Reads P (Ok x) b next → K x → ⊥) → a ≡ b
   one_place r a b xs ys occur occur' known known' stops stops' =
       place_by r a b xs ys occur occur' known known' stops stops' (order (length xs) (length ys))
 
   module _ (numbers : PrefixCode (EncodesUnsigned 32)) where
-    -- A list stops at one place.
     pub one_stop : (contents a b : Reader) → HasItemsTo P K contents a → HasItemsTo P K contents b →
         ((x : X) → (next : Reader) → Reads P (Ok x) a next → K x → ⊥) → ((x : X) → (next : Reader) → Reads P (Ok x) b next → K x → ⊥) → a ≡ b
     one_stop contents a b h k stops stops' =
         let same = (one_read (EncodesUnsigned 32) numbers contents h.first k.first h.announced k.announced h.count k.count).1 in
         one_place h.first a b h.items k.items h.occur (subst (λ z. ItemsOccur P z k.items b) (sym same) k.occur) h.known k.known stops stops'
 
-    -- A complete list does not stop.
     pub no_stop : (contents a : Reader) (ys : List X) → HasItemsTo P K contents a → IsList P contents ys → All K ys →
         ((x : X) → (next : Reader) → Reads P (Ok x) a next → K x → ⊥) → ⊥
     no_stop contents a ys h list known stops =
@@ -97,7 +89,6 @@ module _ {X : Type 0} (P : List ℕ → X → Type 0) (code : PrefixCode P) (K :
           let same = one_stop contents a b h k (refused_there P K e a p.0) (refused_there P K f b q.0) in
           one_error e f (determines e.message f.message b e.offset f.offset (subst (λ z. Fault e.message z e.offset) same p.1) q.1)
 
-    -- A complete list is not in error.
     pub no_list_fault : (Fault : Message → Reader → ℕ → Type 0) (e : Error) (contents : Reader) (ys : List X) → ListFault P Fault K e contents →
         IsList P contents ys → All K ys → ⊥
     no_list_fault Fault e contents ys (inl p) list known = not_both (EncodesUnsigned 32) e contents list.first (length ys) p.0 list.count

@@ -1,4 +1,3 @@
--- A type section has at most one fault, except `Memory`.
 use Rattle.std.proofs.Common.{◌≡◌, ◌<◌, ◌⊎◌, ℕ, List, [], ◌∷◌, length, Ok, refl, sym, subst, ap, ◌∙◌, inl, inr, arith}
 use Rattle.std.specs.List.{All}
 use Rattle.wasm_module.specs.below.bytes.error.Error.{Error}
@@ -27,7 +26,6 @@ byte_of (composite.Other byte) = byte
 byte_of _ = 0
 
 module _ (sub : PrefixCode EncodesSubType) where
-  -- A type of no known sort is no type of a known sort.
   other_there : (byte : ℕ) (r after : Reader) → Reads EncodesSubType (Ok (composite.Other byte)) r after →
       (x : CompositeType) → (next : Reader) → Reads EncodesSubType (Ok x) r next → IsKnownType x → ⊥
   other_there byte r after reads x next reads' known =
@@ -43,7 +41,6 @@ module _ (sub : PrefixCode EncodesSubType) where
       let same = sub_place n r a b h k (refused_there EncodesSubType IsKnownType e a p.0) (other_there byte b after q) in
       not_both EncodesSubType e b after (composite.Other byte) (subst (λ z. IsRefusal EncodesSubType e z) same p.0) q
 
-  -- Known sub types, as many as are declared, are not in error.
   no_sub_types : (f : ModuleFault) (n : ℕ) (r end : Reader) (types : List CompositeType) → SubTypesFault f n r → IsNotMemory f →
       ItemsOccur EncodesSubType r types end → length types ≡ n → AreKnownTypes types → ⊥
   no_sub_types (fault.Refused e) n r end types (a, h, p) other occur all known =
@@ -87,7 +84,6 @@ module _ (sub : PrefixCode EncodesSubType) where
     one_sub_fault n r (fault.NotModule said) g p q other other' = absurd p
     one_sub_fault n r (fault.ImportKind byte offset) g p q other other' = absurd p
 
--- A declared number is not in error.
 announced_there : (e : Error) (n : ℕ) (r first : Reader) → BeginsWith 0x4e (rest r) → IsRefusal EncodesRecTypeLength e r → Announces n r first → ⊥
 announced_there e n r first here refused (inl is) = not_both EncodesRecTypeLength e r first n refused is.1
 announced_there e n r first here refused (inr not) = not.0 here
@@ -103,7 +99,6 @@ one_announced_fault determines f g r p q =
     one_refusal P
     (λ e f (here, (refused, is)) (here', (refused', is')). one_error e f (determines e.message f.message r e.offset f.offset is is')) f g p q
 
--- An encoded number is not in error.
 no_length : (f : ModuleFault) (contents first : Reader) (n : ℕ) → TypesLengthFault f contents → Reads (EncodesUnsigned 32) (Ok n) contents first → ⊥
 no_length f contents first n p counted =
     no_refusal (λ e. IsRefusedAs (EncodesUnsigned 32) U32Fault e contents)
@@ -115,7 +110,6 @@ one_length_fault u32 f g contents p q =
     one_refusal P (λ e f p q. one_error e f (u32 e.message f.message contents e.offset f.offset p.1 q.1)) f g p q
 
 module _ (rec_type : PrefixCode EncodesRecTypeLength) (sub : PrefixCode EncodesSubType) where
-  -- A recursive type of known types is not in error.
   no_rec_type : (f : ModuleFault) (r : Reader) → RecTypeFault f r → IsNotMemory f → (types : List CompositeType) → (next : Reader) → RecTypeOccurs r types next →
       AreKnownTypes types → ⊥
   no_rec_type f r (inl p) other types next (first, announces, occur) known = no_announced f (length types) r first p announces
@@ -145,7 +139,6 @@ module _ (rec_type : PrefixCode EncodesRecTypeLength) (sub : PrefixCode EncodesS
   place_by r a b gs hs f g occur occur' known known' p q other other' (inr (inr more)) = absurd (no_more r b a hs gs g occur' occur known q other' more)
 
   module _ (numbers : PrefixCode (EncodesUnsigned 32)) where
-    -- Known types are not in error.
     pub no_types_fault : (f : ModuleFault) (contents : Reader) (gs : List (List CompositeType)) → TypesFault f contents → IsNotMemory f → AreTypes contents gs →
         All AreKnownTypes gs → ⊥
     no_types_fault f contents gs (inl p) other types known = no_length f contents types.first (length gs) p types.count

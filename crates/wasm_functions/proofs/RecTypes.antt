@@ -1,4 +1,3 @@
--- Recursive types, one after another, and one more.
 use Rattle.std.proofs.Common.{◌≡◌, ◌⊎◌, ℕ, Bool, true, false, List, [], ◌∷◌, ◌++◌, length, map, get_or, Result, Ok, Err, refl, sym, subst, ap, ◌∙◌, inl, inr, append_assoc, arith}
 use Rattle.std.specs.Prelude.{nat_eq}
 use Rattle.std.proofs.lemmas.Bool.{eqb-true, eqb-false}
@@ -16,24 +15,20 @@ pub rec_type_more : (r : Reader) (gs : List (List CompositeType)) (mid new : Rea
 rec_type_more r [] mid new g same occurs = (new, subst (λ z. RecTypeOccurs z g new) same occurs, refl)
 rec_type_more r (h ∷ hs) mid new g (next, first, others) occurs = (next, first, rec_type_more next hs mid new g others occurs)
 
--- The number of parameters of one more type, after those before.
 pub count_more : (before : List ℕ) (types : List CompositeType) (ty : CompositeType) →
     (before ++ map parameter_count types) ++ parameter_count ty ∷ [] ≡ before ++ map parameter_count (types ++ ty ∷ [])
 count_more before types ty =
     append_assoc before (map parameter_count types) (parameter_count ty ∷ []) ∙ ap (λ z. before ++ z) (sym (map-append parameter_count types (ty ∷ [])))
 
--- The numbers of parameters of one more recursive type.
 pub parameters_more : (rec_types : List (List CompositeType)) (types : List CompositeType) →
     parameters_in rec_types ++ map parameter_count types ≡ parameters_in (rec_types ++ types ∷ [])
 parameters_more rec_types types = flat_map_more (λ (g : List CompositeType). map parameter_count g) [] rec_types types
 
--- All types are encoded.
 pub all_types : (contents first end : Reader) (gs : List (List CompositeType)) (n : ℕ) → Reads (EncodesUnsigned 32) (Ok n) contents first →
     RecTypesOccur first gs end → length gs ≡ n → AreTypes contents gs
 all_types contents first end gs n counted occur all =
     record { first = first; count = subst (λ k. Reads (EncodesUnsigned 32) (Ok k) contents first) (sym all) counted; end = end; occur = occur }
 
--- Whether the byte is next.
 reported : (b : Bool) → (b ≡ true) ⊎ (b ≡ false)
 reported true = inl refl
 reported false = inr refl
@@ -58,12 +53,10 @@ announced_by : (n : ℕ) (r first : Reader) → (BeginsWith 0x4e (rest r) → Re
 announced_by n r first rec_type one (inl is) = inl (is, rec_type is)
 announced_by n r first rec_type one (inr not) = let o = one not in inr (not, ap value_or o.0, o.1)
 
--- What a call read of the start of a recursive type.
 pub rec_type_announced : (n : ℕ) (r first : Reader) → (BeginsWith 0x4e (rest r) → Reads EncodesRecTypeLength (Ok n) r first) →
     ((BeginsWith 0x4e (rest r) → ⊥) → (read n ≡ read 1) × (first ≡ r)) → Announces n r first
 rec_type_announced n r first rec_type one = announced_by n r first rec_type one (begins 0x4e (rest r))
 
--- A recursive type with as many sub types as it declares.
 pub rec_type_occurs : (n : ℕ) (r first end : Reader) (types : List CompositeType) → (BeginsWith 0x4e (rest r) → Reads EncodesRecTypeLength (Ok n) r first) →
     ((BeginsWith 0x4e (rest r) → ⊥) → (read n ≡ read 1) × (first ≡ r)) → length types ≡ n → ItemsOccur EncodesSubType first types end →
     RecTypeOccurs r types end

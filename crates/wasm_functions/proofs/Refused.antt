@@ -23,37 +23,30 @@ refused_by : (m : Message) (e : Error) → IsReadFault m → fault_by m e ≡ fa
 refused_by message.OutOfMemory e read = absurd read
 refused_by _ e read = refl
 
--- An error of bytes is reported as such.
 pub of_refusal : (P : ModuleFault → Type 0) (e : Error) (f : ModuleFault) → f ≡ fault_of e → IsReadFault e.message → P (fault.Refused e) → P f
 of_refusal P e f is read p = subst P (sym (is ∙ refused_by e.message e read)) p
 
--- Every item has the property that always holds.
 pub any_items : {X : Type 0} (xs : List X) → All IsAny xs
 any_items xs = λ k d few. tt
 
--- Items are encoded up to here, and more are declared.
 pub items_to : {X : Type 0} (P : List ℕ → X → Type 0) (K : X → Type 0) (contents first next : Reader) (n : ℕ) (xs : List X) →
     Reads (EncodesUnsigned 32) (Ok n) contents first → ItemsOccur P first xs next → length xs < n → All K xs → HasItemsTo P K contents next
 items_to P K contents first next n xs count occur fewer known =
     record { first = first; announced = n; count = count; items = xs; occur = occur; fewer = fewer; known = known }
 
--- Sections are encoded up to here, and more bytes follow.
 pub sections_to : (whole after next : Reader) (ss : List SectionParts) → BeginsModule whole after → SectionsOccur after ss next → (rest next ≡ [] → ⊥) →
     HasSectionsTo whole next
 sections_to whole after next ss begins occur more = record { after = after; begins = begins; sections = ss; occur = occur; more = more }
 
--- Sub types are encoded up to here, and more are declared.
 pub sub_types_to : (n : ℕ) (r next : Reader) (types : List CompositeType) → ItemsOccur EncodesSubType r types next → length types < n → AreKnownTypes types →
     HasSubTypesTo n r next
 sub_types_to n r next types occur fewer known = record { types = types; occur = occur; fewer = fewer; known = known }
 
--- Recursive types are encoded up to here, and more are declared.
 pub types_to : (contents first next : Reader) (n : ℕ) (rec_types : List (List CompositeType)) → Reads (EncodesUnsigned 32) (Ok n) contents first →
     RecTypesOccur first rec_types next → length rec_types < n → All AreKnownTypes rec_types → HasTypesTo contents next
 types_to contents first next n rec_types count occur fewer known =
     record { first = first; announced = n; count = count; rec_types = rec_types; occur = occur; fewer = fewer; known = known }
 
--- The start of a recursive type is in error only if there is one.
 abbrev IsRead : Result ℕ Error → Type 0
 IsRead (Ok n) = Unit {0}
 IsRead (Err e) = ⊥

@@ -1,4 +1,3 @@
--- Bytes are at most one module.
 use Rattle.std.proofs.Common.{◌≡◌, ℕ, ◌+◌, List, [], ◌∷◌, ◌++◌, length, get_or, drop, Option, Ok, refl, sym, subst, ap, ◌∙◌, append_assoc, arith}
 use Rattle.std.specs.Int.{w32}
 use Rattle.wasm_module.specs.below.bytes.error.Error.{Error}
@@ -57,7 +56,6 @@ module _ (numbers : PrefixCode (EncodesUnsigned 32)) where
       let same = section_text r.features a b (rest mid) (rest next) s t is is' (sym takes.parts ∙ takes'.parts) in
       (takes.moved ∙ ap (λ (z : List ℕ). at_position r (r.position + length z)) same.0 ∙ sym takes'.moved, same.1, same.2, same.3, same.4)
 
-  -- The sections that are left after some of them.
   sections_left : (r : Reader) (ss : List SectionParts) (mid : Reader) (ts : List SectionParts) (end : Reader) → SectionsOccur r ss mid →
       SectionsOccur r ts end → rest end ≡ [] → (us : List SectionParts) × SectionsOccur mid us end
   sections_left r [] mid ts end same all none = (ts, subst (λ z. SectionsOccur z ts end) (sym same) all)
@@ -115,7 +113,6 @@ module _ (fixed : PrefixCode (EncodesFixed w32)) where
         ap (λ z. kind_by z p.version) first.1 ∙ ap (λ z. kind_by q.magic z) second.1,
       )
 
-  -- A module starts with the preamble that was read.
   pub begins_as : (whole mid after : Reader) (p : Preamble) → Reads EncodesPreamble (Ok p) whole mid → BeginsModule whole after →
       (mid ≡ after) × (preamble_kind p ≡ kind.Module)
   begins_as whole mid after p (a, is, takes) h =
@@ -125,11 +122,9 @@ module _ (fixed : PrefixCode (EncodesFixed w32)) where
         same.1 ∙ h.is,
       )
 
--- Bytes whose preamble is in error are no module.
 pub no_preamble : (whole after : Reader) (e : Error) → IsRefusal EncodesPreamble e whole → BeginsModule whole after → ⊥
 no_preamble whole after e refused h = not_both EncodesPreamble e whole after h.preamble refused h.begins
 
--- Bytes of which a section is in error are no module.
 pub no_module : PrefixCode (EncodesUnsigned 32) → PrefixCode (EncodesFixed w32) → (whole after mid : Reader) (ss : List SectionParts) (e : Error) →
     BeginsModule whole after → SectionsOccur after ss mid → (rest mid ≡ [] → ⊥) → IsRefusal (EncodesSection mid.features) e mid →
     (sections : List SectionParts) → IsModule whole sections → ⊥
@@ -145,6 +140,5 @@ module _ (numbers : PrefixCode (EncodesUnsigned 32)) (fixed : PrefixCode (Encode
       let same = (begins_as fixed whole a.after b.after a.begins.preamble a.begins.begins b.begins).0 in
       same_sections numbers a.after ss ts a.end b.end a.occur (subst (λ z. SectionsOccur z ts b.end) (sym same) b.occur) a.all b.all
 
-  -- The first section of a module with a number is unique.
   pub one_found : (whole : Reader) (id : ℕ) (found other : Option Reader) → IsSection whole id found → IsSection whole id other → found ≡ other
   one_found whole id found other (ss, a, is) (ts, b, is') = is ∙ ap (first_with id) (one_module whole ss ts a b) ∙ sym is'

@@ -1,15 +1,14 @@
--- Sections that are a list of items.
--- WebAssembly Core Specification 3.0, Binary Format: Conventions, Lists.
+-- Specification: Binary Format, Lists.
 use Rattle.std.specs.Prelude.{◌≡◌, ℕ, List, [], ◌∷◌, length, Ok}
 use Rattle.wasm_module.specs.below.Number.{EncodesUnsigned}
 use Rattle.wasm_module.specs.below.Source.{Reader, Reads}
 
--- Between the two readers, the bytes encode these items, one after another.
+-- Between the two readers, the bytes encode these items, in order.
 abbrev pub ItemsOccur : {X : Type 0} → (List ℕ → X → Type 0) → Reader → List X → Reader → Type 0
 ItemsOccur Encodes r [] end = end ≡ r
 ItemsOccur Encodes r (x ∷ xs) end = (mid : Reader) × Reads Encodes (Ok x) r mid × ItemsOccur Encodes mid xs end
 
--- The contents of a section begin with a list of these items: their number, followed by the items.
+-- The contents of a section begin with the number of these items, and the items.
 pub record IsList {X : Type 0} (Encodes : List ℕ → X → Type 0) (contents : Reader) (items : List X) : Type 0 where
   pub first : Reader
   pub count : Reads (EncodesUnsigned 32) (Ok (length items)) contents first

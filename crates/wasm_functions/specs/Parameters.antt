@@ -1,5 +1,4 @@
--- The types of a type section, and the number of parameters of each.
--- WebAssembly Core Specification 3.0, Binary Format: Types, Recursive Types; Modules, Type Section.
+-- Specification: Binary Format, Types, Recursive Types; Modules, Type Section.
 use Rattle.std.specs.Prelude.{◌≡◌, ◌⊎◌, ℕ, List, [], ◌∷◌, length, map, Option, Some, None, Ok}
 use Rattle.std.specs.List.{All, flat_map}
 use Rattle.wasm_module.specs.below.Number.{EncodesUnsigned}
@@ -9,12 +8,10 @@ use Rattle.wasm_module.specs.declared.composite.CompositeType.{CompositeType}
 use Rattle.wasm_module.specs.declared.composite.CompositeType.TheVariants as composite
 use Rattle.wasm_functions.specs.Items.{ItemsOccur}
 
--- The number of parameters of a type: 0 if it is not a function type.
 abbrev pub parameter_count : CompositeType → ℕ
 parameter_count (composite.Function parameters results) = parameters
 parameter_count _ = 0
 
--- The type is of one of the three sorts.
 abbrev pub IsKnownType : CompositeType → Type 0
 IsKnownType (composite.Other kind) = ⊥
 IsKnownType _ = Unit {0}
@@ -22,7 +19,7 @@ IsKnownType _ = Unit {0}
 abbrev pub AreKnownTypes : List CompositeType → Type 0
 AreKnownTypes types = All IsKnownType types
 
--- The number of sub types of a recursive type: as the start of a list declares, or one if the next byte does not start a list.
+-- The number of sub types of a recursive type: one if the next byte starts no list.
 abbrev pub Announces : ℕ → Reader → Reader → Type 0
 Announces n r first = (BeginsWith 0x4e (rest r) × Reads EncodesRecTypeLength (Ok n) r first) ⊎ ((¬ BeginsWith 0x4e (rest r)) × (n ≡ 1) × (first ≡ r))
 
@@ -30,23 +27,20 @@ Announces n r first = (BeginsWith 0x4e (rest r) × Reads EncodesRecTypeLength (O
 abbrev pub RecTypeOccurs : Reader → List CompositeType → Reader → Type 0
 RecTypeOccurs r types end = (first : Reader) × Announces (length types) r first × ItemsOccur EncodesSubType first types end
 
--- Between the two readers, the bytes encode these recursive types, one after another.
 abbrev pub RecTypesOccur : Reader → List (List CompositeType) → Reader → Type 0
 RecTypesOccur r [] end = end ≡ r
 RecTypesOccur r (g ∷ gs) end = (mid : Reader) × RecTypeOccurs r g mid × RecTypesOccur mid gs end
 
--- The contents of a section begin with these recursive types: their number, followed by the types.
+-- The contents of a section begin with the number of these recursive types, and the types.
 pub record AreTypes (contents : Reader) (rec_types : List (List CompositeType)) : Type 0 where
   pub first : Reader
   pub count : Reads (EncodesUnsigned 32) (Ok (length rec_types)) contents first
   pub end : Reader
   pub occur : RecTypesOccur first rec_types end
 
--- The number of parameters of each type in these recursive types.
 abbrev pub parameters_in : List (List CompositeType) → List ℕ
 parameters_in = flat_map (λ types. map parameter_count types)
 
--- The numbers of parameters, if this is the type section.
 abbrev pub CountsParameters : Option Reader → List ℕ → Type 0
 CountsParameters None counts = counts ≡ []
 CountsParameters (Some contents) counts = (rec_types : List (List CompositeType)) × AreTypes contents rec_types × All AreKnownTypes rec_types × (counts ≡ parameters_in rec_types)

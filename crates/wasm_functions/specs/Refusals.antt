@@ -1,6 +1,4 @@
--- The faults of the functions of a module, with their messages and offsets.
--- WebAssembly Core Specification 3.0, Binary Format: Conventions, Lists; Types, Recursive Types; Modules, Sections, Type Section, Import Section, Function
--- Section, Export Section.
+-- Specification: Binary Format, Lists; Types, Recursive Types; Modules.
 use Rattle.std.specs.Prelude.{◌≡◌, ◌≢◌, ◌⊎◌, ◌<◌, ℕ, List, [], length, Option, Some, Ok}
 use Rattle.std.specs.List.{All}
 use Rattle.wasm_module.specs.below.bytes.error.Error.{Error}
@@ -23,7 +21,7 @@ use Rattle.wasm_functions.specs.ModuleFunctions.{IsKnownImport, CountsImports, L
 use Rattle.wasm_functions.specs.declared.fault.ModuleFault.{ModuleFault}
 use Rattle.wasm_functions.specs.declared.fault.ModuleFault.TheVariants as fault
 
--- Reading a value here fails with this error: no prefix of the rest encodes one, and the message and the offset are those of its fault.
+-- No prefix of the rest encodes a value, and the error has the fault.
 abbrev pub IsRefusedAs : {X : Type 0} → (List ℕ → X → Type 0) → (Message → Reader → ℕ → Type 0) → Error → Reader → Type 0
 IsRefusedAs Encodes Fault e r = IsRefusal Encodes e r × Fault e.message r e.offset
 
@@ -32,11 +30,12 @@ abbrev pub RefusedWith : (Error → Type 0) → ModuleFault → Type 0
 RefusedWith Holds (fault.Refused e) = Holds e
 RefusedWith Holds _ = ⊥
 
--- The bytes begin with a preamble that identifies this kind of binary.
+-- The preamble identifies this kind of binary.
 abbrev pub BeginsAs : PreambleKind → Reader → Type 0
 BeginsAs said whole = (preamble : Preamble) × (after : Reader) × Reads EncodesPreamble (Ok preamble) whole after × (preamble_kind preamble ≡ said)
 
--- The bytes up to the second reader encode the preamble of a module and sections, and more bytes follow.
+-- Up to the second reader, the bytes encode the preamble of a module and sections. More bytes
+-- follow.
 pub record HasSectionsTo (whole next : Reader) : Type 0 where
   pub after : Reader
   pub begins : BeginsModule whole after
@@ -44,8 +43,8 @@ pub record HasSectionsTo (whole next : Reader) : Type 0 where
   pub occur : SectionsOccur after sections next
   pub more : rest next ≢ []
 
--- The fault of bytes that are no module: the preamble identifies something else, or it is in error.
--- Or the next section after the preamble and some sections is in error.
+-- The preamble identifies something else or is in error, or the next section after some sections is
+-- in error.
 abbrev pub SectionsFault : ModuleFault → Reader → Type 0
 SectionsFault (fault.NotModule said) whole = BeginsAs said whole × (said ≢ kind.Module)
 SectionsFault (fault.Refused e) whole =
@@ -53,7 +52,7 @@ SectionsFault (fault.Refused e) whole =
     ((next : Reader) × HasSectionsTo whole next × IsRefusedAs (EncodesSection next.features) SectionFault e next)
 SectionsFault _ whole = ⊥
 
--- The contents of a section are a list that declares more items than are encoded up to the second reader, all of them known.
+-- A list declares more items than are encoded up to the second reader, all of them known.
 pub record HasItemsTo {X : Type 0} (Encodes : List ℕ → X → Type 0) (IsKnown : X → Type 0) (contents next : Reader) : Type 0 where
   pub first : Reader
   pub announced : ℕ
@@ -68,12 +67,10 @@ abbrev pub ListFault : {X : Type 0} → (List ℕ → X → Type 0) → (Message
 ListFault Encodes Fault IsKnown e contents =
     IsRefusedAs (EncodesUnsigned 32) U32Fault e contents ⊎ ((next : Reader) × HasItemsTo Encodes IsKnown contents next × IsRefusedAs Encodes Fault e next)
 
--- The property that every item has.
 abbrev pub IsAny : {X : Type 0} → X → Type 0
 IsAny x = Unit {0}
 
--- The fault of the contents of an import section: the error of the list, or an import of none of the five kinds.
--- The fault then has the byte of the kind and the import's offset.
+-- The list is in error, or an import is of none of the five kinds: its byte and offset.
 abbrev pub ImportsFault : ModuleFault → Reader → Type 0
 ImportsFault (fault.Refused e) contents = ListFault EncodesImport ImportFault IsKnownImport e contents
 ImportsFault (fault.ImportKind byte offset) contents =
@@ -81,25 +78,22 @@ ImportsFault (fault.ImportKind byte offset) contents =
     (import : ImportParts) × (after : Reader) × Reads EncodesImport (Ok import) next after × (import.kind ≡ byte) × (4 < byte)
 ImportsFault _ contents = ⊥
 
--- The fault of the contents of a function section.
 abbrev pub FunctionsFault : ModuleFault → Reader → Type 0
 FunctionsFault (fault.Refused e) contents = ListFault (EncodesUnsigned 32) U32Fault IsAny e contents
 FunctionsFault fault.Memory contents = Unit {0}
 FunctionsFault _ contents = ⊥
 
--- The fault of the contents of an export section.
 abbrev pub ExportsFault : ModuleFault → Reader → Type 0
 ExportsFault f contents = RefusedWith (λ e. ListFault EncodesExport ExportFault IsAny e contents) f
 
--- Fewer than this many sub types, all of known sorts, are encoded up to the second reader.
+-- Fewer than this many sub types, all known, are encoded up to the second reader.
 pub record HasSubTypesTo (n : ℕ) (r next : Reader) : Type 0 where
   pub types : List CompositeType
   pub occur : ItemsOccur EncodesSubType r types next
   pub fewer : length types < n
   pub known : AreKnownTypes types
 
--- The fault of this many sub types: the next one after some is in error, or it is of none of the three sorts.
--- The fault then has the type's byte and offset.
+-- The next sub type after some is in error, or of none of the three sorts: its byte and offset.
 abbrev pub SubTypesFault : ModuleFault → ℕ → Reader → Type 0
 SubTypesFault (fault.Refused e) n r = (next : Reader) × HasSubTypesTo n r next × IsRefusedAs EncodesSubType SubTypeFault e next
 SubTypesFault (fault.TypeKind byte offset) n r =
@@ -107,7 +101,6 @@ SubTypesFault (fault.TypeKind byte offset) n r =
 SubTypesFault fault.Memory n r = Unit {0}
 SubTypesFault _ n r = ⊥
 
--- The declared number of sub types of a recursive type is in error.
 abbrev pub AnnouncedFault : ModuleFault → Reader → Type 0
 AnnouncedFault f r = RefusedWith (λ e. BeginsWith 0x4e (rest r) × IsRefusedAs EncodesRecTypeLength RecTypeLengthFault e r) f
 
@@ -115,7 +108,8 @@ AnnouncedFault f r = RefusedWith (λ e. BeginsWith 0x4e (rest r) × IsRefusedAs 
 abbrev pub RecTypeFault : ModuleFault → Reader → Type 0
 RecTypeFault fault r = AnnouncedFault fault r ⊎ ((n : ℕ) × (first : Reader) × Announces n r first × SubTypesFault fault n first)
 
--- The contents of a section declare more recursive types than are encoded up to the second reader, and these have known types only.
+-- A section declares more recursive types than are encoded up to the second reader, all of them
+-- known.
 pub record HasTypesTo (contents next : Reader) : Type 0 where
   pub first : Reader
   pub announced : ℕ
@@ -125,19 +119,19 @@ pub record HasTypesTo (contents next : Reader) : Type 0 where
   pub fewer : length rec_types < announced
   pub known : All AreKnownTypes rec_types
 
--- The number of recursive types is in error.
 abbrev pub TypesLengthFault : ModuleFault → Reader → Type 0
 TypesLengthFault f contents = RefusedWith (λ e. IsRefusedAs (EncodesUnsigned 32) U32Fault e contents) f
 
--- The fault of the contents of a type section: their number is in error, or the next recursive type after some is.
+-- The number of recursive types is in error, or the next after some of them.
 abbrev pub TypesFault : ModuleFault → Reader → Type 0
 TypesFault fault contents = TypesLengthFault fault contents ⊎ ((next : Reader) × HasTypesTo contents next × RecTypeFault fault next)
 
--- There is a section with this number, and the property holds for the contents of the first one.
+-- The property holds for the contents of the first section with this number.
 abbrev pub OfSection : Reader → ℕ → (Reader → Type 0) → Type 0
 OfSection whole id P = (contents : Reader) × IsSection whole id (Some contents) × P contents
 
--- The first type section can be read; the same for the import and the function section.
+-- The first type section can be read. `HasImports` and `HasFunctions` are the same for other
+-- sections.
 abbrev pub HasTypes : Reader → Type 0
 HasTypes whole = (section : Option Reader) × (counts : List ℕ) × IsSection whole 1 section × CountsParameters section counts
 
@@ -147,16 +141,15 @@ HasImports whole = (section : Option Reader) × (n : ℕ) × IsSection whole 2 s
 abbrev pub HasFunctions : Reader → Type 0
 HasFunctions whole = (section : Option Reader) × (types : List ℕ) × IsSection whole 3 section × ListsTypes section types
 
--- The fault of finding and reading a section with a number: the fault of bytes that are no module, or of the section's contents.
+-- The bytes are no module, or the contents of the section are in error.
 abbrev pub SectionFaultAt : ModuleFault → Reader → ℕ → (ModuleFault → Reader → Type 0) → Type 0
 SectionFaultAt fault whole id Fault = SectionsFault fault whole ⊎ OfSection whole id (Fault fault)
 
--- The fault of the names of functions, or an allocation failure.
 abbrev pub NamesFault : ModuleFault → Reader → Type 0
 NamesFault f whole = (f ≡ fault.Memory) ⊎ SectionFaultAt f whole 7 ExportsFault
 
--- The fault of the functions of a module: the fault of bytes that are no module, or of the first section in error, in this order:
--- types, imports, functions, exports. Or allocation failed.
+-- The bytes are no module, or a section is in error (the first of types, imports, functions and
+-- exports), or allocation failed.
 abbrev pub ModuleFunctionsFault : ModuleFault → Reader → Type 0
 ModuleFunctionsFault fault whole =
     SectionFaultAt fault whole 1 TypesFault ⊎

@@ -1,12 +1,12 @@
--- The sections of a module, one after another, and the first section with a number.
--- WebAssembly Core Specification 3.0, Binary Format, Modules: Sections, Modules.
+-- Specification: Binary Format, Modules.
 use Rattle.std.specs.Prelude.{◌≡◌, ◌==◌, ℕ, List, [], ◌∷◌, Option, Some, None, Ok, if◌then◌else◌}
 use Rattle.wasm_module.specs.below.Source.{Reader, rest, offset_of, end_of, Reads}
 use Rattle.wasm_module.specs.Module.{EncodesPreamble, preamble_kind, SectionParts, EncodesSection}
 use Rattle.wasm_module.specs.declared.preamble.Preamble.{Preamble}
 use Rattle.wasm_module.specs.declared.preamble.PreambleKind.TheVariants as kind
 
--- Between the two readers, the bytes encode these sections, one after another. Their contents have the offsets of the module.
+-- Between the two readers, the bytes encode these sections, in order, whose contents have the
+-- offsets of the module.
 abbrev pub SectionsOccur : Reader → List SectionParts → Reader → Type 0
 SectionsOccur r [] end = end ≡ r
 SectionsOccur r (s ∷ ss) end = (mid : Reader) × Reads (EncodesSection r.features) (Ok s) r mid × (end_of s.contents ≡ offset_of mid) × SectionsOccur mid ss end
@@ -17,7 +17,7 @@ pub record BeginsModule (whole after : Reader) : Type 0 where
   pub begins : Reads EncodesPreamble (Ok preamble) whole after
   pub is : preamble_kind preamble ≡ kind.Module
 
--- The bytes are a module with these sections: its preamble, followed by the sections, up to the end.
+-- The bytes are the preamble of a module, and these sections, up to the end.
 pub record IsModule (whole : Reader) (sections : List SectionParts) : Type 0 where
   pub after : Reader
   pub begins : BeginsModule whole after
@@ -25,7 +25,6 @@ pub record IsModule (whole : Reader) (sections : List SectionParts) : Type 0 whe
   pub occur : SectionsOccur after sections end
   pub all : rest end ≡ []
 
--- The contents of the first section with this number, if there is one.
 abbrev pub first_with : ℕ → List SectionParts → Option Reader
 first_with id [] = None
 first_with id (s ∷ ss) = if s.id == id then Some s.contents else first_with id ss
@@ -34,7 +33,6 @@ first_with id (s ∷ ss) = if s.id == id then Some s.contents else first_with id
 abbrev pub IsSection : Reader → ℕ → Option Reader → Type 0
 IsSection whole id found = (sections : List SectionParts) × IsModule whole sections × (found ≡ first_with id sections)
 
--- The contents of the first section with this number, after one more section.
 abbrev pub or_first : Option Reader → SectionParts → ℕ → Option Reader
 or_first (Some found) s id = Some found
 or_first None s id = first_with id (s ∷ [])

@@ -1,4 +1,4 @@
-//! The reasons why the functions of a module are not known.
+//! Why the functions of a module are not known.
 ghost use Rattle.std.specs.Prelude.{◌≡◌};
 ghost use Rattle.wasm_functions.specs.Faults.{fault_of};
 
@@ -6,7 +6,6 @@ use std::fmt;
 use wasm_module::PreambleKind;
 use wasm_module::below::{Error, Message};
 
-/// The reason why the functions of a module are not known.
 #[derive(Clone, Copy, Debug, PartialEq, Eq)]
 pub enum ModuleFault {
     /// The bytes do not start with the preamble of a module.
@@ -17,14 +16,13 @@ pub enum ModuleFault {
     ImportKind(u8, u64),
     /// A type is of none of the three sorts: its byte, and its offset.
     TypeKind(u8, u64),
-    /// Allocation failed.
     Memory,
 }
 
 impl From<Error> for ModuleFault {
     ghost from_gives = { λ error fault. fault ≡ fault_of error };
 
-    /// Converts an error: to `Memory` if allocation failed, otherwise to `Refused`.
+    /// Converts an allocation failure to `Memory`, any other error to `Refused`.
     fn from(error: Error) -> ModuleFault {
         match error.message() {
             Message::OutOfMemory => ModuleFault::Memory,

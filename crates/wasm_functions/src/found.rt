@@ -17,21 +17,16 @@ use std::alloc::Global;
 use wasm_module::below::WasmFeatures;
 use wasm_module::below::byte_laws::{fixed_numbers, unsigned_numbers};
 
-/// The number of the type section.
 const TYPES: u8 = 1;
 
-/// The number of the import section.
 const IMPORTS: u8 = 2;
 
-/// The number of the function section.
 const FUNCTIONS: u8 = 3;
 
-/// The number of the export section.
 const EXPORTS: u8 = 7;
 
-/// Returns the number of parameters of each type.
-///
-/// Fails as `find_section` does, then as `parameter_counts` does for the section.
+/// Returns the number of parameters of each type. Fails as `find_section` and `parameter_counts`
+/// do.
 pub fn find_parameters(
     alloc: Global,
     features: WasmFeatures,
@@ -52,9 +47,7 @@ pub fn find_parameters(
     }
 }
 
-/// Returns the number of imported functions.
-///
-/// Fails as `find_section` does, then as `imported_functions` does for the section.
+/// Returns the number of imported functions. Fails as `find_section` and `imported_functions` do.
 pub fn find_imported(features: WasmFeatures, bytes: &[u8]) -> Result<u32, ModuleFault>
     ensures ok { IfOk result (λ n. (section : Option Reader) × IsSection (reader_of features 0 bytes.now) 2 section
         × CountsImports section n) }
@@ -71,9 +64,7 @@ pub fn find_imported(features: WasmFeatures, bytes: &[u8]) -> Result<u32, Module
     }
 }
 
-/// Returns the types of the functions.
-///
-/// Fails as `find_section` does, then as `function_types` does for the section.
+/// Returns the types of the functions. Fails as `find_section` and `function_types` do.
 pub fn find_types(
     alloc: Global,
     features: WasmFeatures,
@@ -94,9 +85,6 @@ pub fn find_types(
     }
 }
 
-/// Returns an empty name for each function.
-///
-/// Fails with `Memory` only.
 fn no_names<'a>(alloc: Global, count: usize) -> Result<Vec<&'a [u8]>, ModuleFault>
     ensures ok { IfOk result (λ names. bytes_of names.items ≡ replicate count []) }
     ensures memory { IfErr result (λ fault. fault ≡ ModuleFault.Memory) }
@@ -110,9 +98,7 @@ fn no_names<'a>(alloc: Global, count: usize) -> Result<Vec<&'a [u8]>, ModuleFaul
     Ok(names)
 }
 
-/// Sets the names of the functions that are exported.
-///
-/// Fails as `find_section` does, then as `name_exports` does for the section.
+/// Sets the names of exported functions. Fails as `find_section` and `name_exports` do.
 fn set_exports<'a>(
     features: WasmFeatures,
     bytes: &'a [u8],
@@ -134,9 +120,6 @@ fn set_exports<'a>(
     }
 }
 
-/// Sets the names of the functions that the last custom section `name` names.
-///
-/// Fails as `find_names` does.
 fn set_names<'a>(
     features: WasmFeatures,
     bytes: &'a [u8],
@@ -158,11 +141,10 @@ fn set_names<'a>(
     }
 }
 
-/// Returns the names of this many defined functions: the names of exports, replaced by the names of
-/// the custom section `name`.
+/// Returns the names of this many defined functions: those of exports, replaced by those of the
+/// custom section `name`.
 ///
-/// Fails with `Memory` if allocation fails; otherwise as finding or reading the export section
-/// does.
+/// Fails with `Memory`, otherwise as finding or reading the export section does.
 pub fn find_function_names<'a>(
     alloc: Global,
     features: WasmFeatures,

@@ -1,4 +1,3 @@
-//! Laws. Each is the contract of a function that does nothing.
 ghost use Rattle.std.specs.Prelude.{◌≡◌, ◌≢◌, ℕ, List, Option};
 ghost use Rattle.wasm_module.specs.below.Source.{Reader};
 ghost use Rattle.wasm_module.specs.Module.{SectionParts};
@@ -10,7 +9,7 @@ ghost use Rattle.wasm_functions.specs.ModuleFunctions.{ModuleFunctions, Describe
 use wasm_module::below::byte_laws::{fixed_numbers, number_refusals, unsigned_numbers};
 use wasm_module::module_laws;
 
-/// States that bytes are at most one module: its first section with a number is unique.
+/// States that bytes are at most one module.
 pub fn sections()
     ensures { (whole : Reader) → (id : ℕ) → (a b : Option Reader) → IsSection whole id a → IsSection whole id b → a ≡ b }
 {
@@ -18,7 +17,7 @@ pub fn sections()
     fixed_numbers();
 }
 
-/// States that bytes that are no module have at most one fault, and that a module has none.
+/// States that bytes that are no module have at most one fault, and a module has none.
 pub fn refusals()
     ensures one { (whole : Reader) → (a b : ModuleFault) → SectionsFault a whole → SectionsFault b whole → a ≡ b }
     ensures none { (whole : Reader) → (fault : ModuleFault) → (sections : List SectionParts) → SectionsFault fault whole → IsModule whole sections → ⊥ }
@@ -37,8 +36,8 @@ pub fn own_functions()
     module_laws::imports();
 }
 
-/// States that bytes have at most one fault in place of known functions, unless allocation fails.
-/// If the functions are known, the only fault is `Memory`.
+/// States that bytes have at most one fault in place of known functions, unless allocation fails,
+/// and none if the functions are known.
 pub fn faults()
     ensures one { (whole : Reader) → (a b : ModuleFault) → ModuleFunctionsFault a whole → ModuleFunctionsFault b whole
         → a ≢ ModuleFault.Memory → b ≢ ModuleFault.Memory → a ≡ b }

@@ -1,4 +1,3 @@
-//! The functions of a module.
 ghost use Rattle.std.specs.Prelude.{◌≡◌, ◌↔◌, [], List, IsTrue, IfOk, IfErr};
 ghost use Rattle.wasm_module.specs.below.Source.{reader_of};
 ghost use Rattle.wasm_module.specs.Module.{SectionParts};
@@ -17,7 +16,7 @@ use wasm_module::below::WasmFeatures;
 use wasm_module::below::byte_laws::{fixed_numbers, unsigned_numbers};
 use wasm_module::module_laws;
 
-/// The functions that a module defines, each by its ordinal after the imported functions.
+/// The functions that a module defines, by their ordinals after the imported functions.
 #[derive(Debug, Drop)]
 pub struct Functions<'a> {
     imported: u32,
@@ -40,12 +39,10 @@ impl<'a> Functions<'a> {
     /// replaces the name of an export; of two exports, the last names the function. After an error
     /// in the custom section, no more functions are named.
     ///
-    /// Fails with `NotModule` if the bytes do not start with the preamble of a module. Fails with
-    /// `Refused` if the preamble or a section is in error.
-    ///
-    /// Otherwise fails with the fault of the first of four sections that has one: types
-    /// (`TypeKind`, `Refused`), imports (`ImportKind`, `Refused`), functions and exports
-    /// (`Refused`). Fails with `Memory` if allocation fails.
+    /// Fails with `NotModule` if the bytes do not start with the preamble of a module, and with
+    /// `Refused` if the preamble or a section is in error. Otherwise fails with the fault of the
+    /// first section in error: types (`TypeKind`, `Refused`), imports (`ImportKind`, `Refused`),
+    /// functions, exports (`Refused`). Fails with `Memory` if allocation fails.
     pub fn new(
         alloc: Global,
         features: WasmFeatures,
@@ -83,7 +80,7 @@ impl<'a> Functions<'a> {
         })
     }
 
-    /// Returns the index of the function with this ordinal, at most 4294967295.
+    /// Returns the function's index, at most 4294967295.
     pub fn index(&self, ordinal: u32) -> u32
         ensures { result ≡ index_of self.now ordinal }
     {
@@ -108,7 +105,7 @@ impl<'a> Functions<'a> {
         }
     }
 
-    /// Returns the function's name, which is empty if it has none or if the name is not UTF-8.
+    /// Returns the function's name, or an empty one if it has none or if the name is not UTF-8.
     pub fn name(&self, ordinal: u32) -> &'a str
         ensures { result.now ≡ name_at self.now ordinal }
     {
@@ -120,7 +117,6 @@ impl<'a> Functions<'a> {
 }
 
 #[tactic(auto, using(crate::proofs::Texts::name_is_text, crate::proofs::Texts::name_is_none))]
-/// Returns the text of a name, which is empty if its bytes are not UTF-8.
 fn text_of<'a>(name: &'a [u8]) -> &'a str
     ensures { result.now ≡ text_of_name name.now }
 {
@@ -130,8 +126,8 @@ fn text_of<'a>(name: &'a [u8]) -> &'a str
     }
 }
 
-/// Returns the name of a module. It is empty if the module has none, if the name is not UTF-8, or
-/// if the bytes are no module.
+/// Returns the name of a module, or an empty one if it has none, if the name is not UTF-8, or if
+/// the bytes are no module.
 pub fn module_name<'a>(features: WasmFeatures, bytes: &'a [u8]) -> &'a str
     ensures names { (sections : List SectionParts) → IsModule (reader_of features 0 bytes.now) sections
         → NamesModule (reader_of features 0 bytes.now) result.now }

@@ -1,4 +1,3 @@
-//! The number of imported functions.
 ghost use Rattle.std.specs.Prelude.{ℕ, Some, IfOk, IfErr};
 ghost use Rattle.wasm_functions.specs.Refusals.{ImportsFault};
 ghost use Rattle.wasm_functions.specs.ModuleFunctions.{CountsImports};
@@ -8,7 +7,6 @@ use wasm_module::below::BinaryReader;
 use wasm_module::below::byte_laws::unsigned_numbers;
 use wasm_module::{Import, module_laws};
 
-/// The byte of the last kind, that of tags.
 const TAG: u8 = 4;
 
 /// Returns the number of functions among the imports of a section.

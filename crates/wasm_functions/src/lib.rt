@@ -1,5 +1,5 @@
-//! The functions of a module, except their bodies: the sections that describe them, the number of
-//! imported functions, the number of parameters of each, and its name.
+//! The functions of a module, except their bodies: how many are imported, the number of parameters
+//! of each, and its name.
 //!
 //! Every call that allocates may fail with `Memory`; it then returns no result.
 #![tactic(auto)]

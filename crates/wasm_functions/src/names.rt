@@ -1,4 +1,3 @@
-//! The names of functions: those of exports, and those of the custom section `name`.
 ghost use Rattle.std.specs.Prelude.{◌≡◌, ◌∷◌, [], List, Some, IfOk, IfErr};
 ghost use Rattle.wasm_module.specs.Exports.{ExportParts, EncodesExport};
 ghost use Rattle.wasm_module.specs.Names.{NameParts, EncodesNameAssociation};
@@ -11,16 +10,12 @@ use wasm_module::below::BinaryReader;
 use wasm_module::below::byte_laws::unsigned_numbers;
 use wasm_module::{Export, Name, NameAssociation, module_laws, read_section};
 
-/// The byte of the kind of functions.
 const FUNCTION: u8 = 0;
 
-/// The number of the subsection that names the module.
 const MODULE_NAME: u8 = 0;
 
-/// The number of the subsection that names functions.
 const FUNCTION_NAMES: u8 = 1;
 
-/// Sets the name of the function with this index, if the module defines it.
 fn set_name<'a>(names: &mut Vec<&'a [u8]>, imported: u32, index: u32, name: &'a [u8])
     ensures { bytes_of names.new.items ≡ with_name imported (bytes_of names.old.items) index name.now }
 {
@@ -33,7 +28,6 @@ fn set_name<'a>(names: &mut Vec<&'a [u8]>, imported: u32, index: u32, name: &'a 
     }
 }
 
-/// Sets the name of the exported function, if the export is a function.
 fn set_exported<'a>(names: &mut Vec<&'a [u8]>, imported: u32, export: &Export<'a>)
     ensures { bytes_of names.new.items ≡ with_exports imported (bytes_of names.old.items) (export.now ∷ []) }
 {

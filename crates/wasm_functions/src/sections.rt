@@ -1,4 +1,3 @@
-//! The sections of a module.
 ghost use Rattle.std.specs.Prelude.{◌≡◌, ◌++◌, ◌∷◌, [], List, IfOk, IfErr, MatchOption};
 ghost use Rattle.wasm_module.specs.below.Source.{Reader, reader_of};
 ghost use Rattle.wasm_module.specs.Module.{SectionParts};
@@ -33,7 +32,6 @@ fn open_module<'a>(features: WasmFeatures, bytes: &'a [u8]) -> Result<BinaryRead
     }
 }
 
-/// Returns what was found, or otherwise the contents of the section, if it has this number.
 fn or_first<'a>(
     found: Option<BinaryReader<'a>>,
     section: &Section<'a>,
@@ -53,8 +51,8 @@ fn or_first<'a>(
     }
 }
 
-/// Returns the contents of a module's first section with this number, if there is one. Skips all
-/// sections by their sizes.
+/// Returns the contents of a module's first section with this number. Skips all sections by their
+/// sizes.
 ///
 /// Fails with `NotModule` if the bytes do not start with the preamble of a module; otherwise as the
 /// preamble or the first section in error does.
@@ -84,7 +82,6 @@ pub fn find_section<'a>(
     Ok(found)
 }
 
-/// Returns the contents of a custom section after its name, if the name is `name`.
 fn names_of<'a>(section: &Section<'a>) -> Option<BinaryReader<'a>>
     ensures { MatchOption result ((contents : Reader) → IsNames section.now contents → ⊥) (λ contents. IsNames section.now contents) }
 {
@@ -104,7 +101,6 @@ fn names_of<'a>(section: &Section<'a>) -> Option<BinaryReader<'a>>
     }
 }
 
-/// Returns the contents of the section, if it is a custom section `name`; otherwise what was found.
 fn or_last<'a>(found: Option<BinaryReader<'a>>, section: &Section<'a>) -> Option<BinaryReader<'a>>
     ensures { (sections : List SectionParts) → LastNames sections found.entry → LastNames (sections ++ section.now ∷ []) result }
 {
@@ -114,9 +110,7 @@ fn or_last<'a>(found: Option<BinaryReader<'a>>, section: &Section<'a>) -> Option
     }
 }
 
-/// Returns the contents of a module's last custom section `name`, if there is one.
-///
-/// Fails as `find_section` does.
+/// Returns the contents of a module's last custom section `name`. Fails as `find_section` does.
 pub fn find_names<'a>(
     features: WasmFeatures,
     bytes: &'a [u8],

@@ -1,4 +1,3 @@
-//! The types of functions.
 ghost use Rattle.std.specs.Prelude.{◌≡◌, ◌++◌, ℕ, List, length, map, Some, IfOk, IfErr};
 ghost use Rattle.std.specs.List.{All};
 ghost use Rattle.wasm_module.specs.below.Number.{EncodesUnsigned};
@@ -15,7 +14,6 @@ use wasm_module::below::BinaryReader;
 use wasm_module::below::byte_laws::unsigned_numbers;
 use wasm_module::{CompositeType, module_laws, read_rec_type_len};
 
-/// Returns the number of parameters of a type, or 0 if it is not a function type.
 fn parameter_count(ty: CompositeType) -> u32
     ensures { result ≡ parameter_count ty }
 {
@@ -25,9 +23,8 @@ fn parameter_count(ty: CompositeType) -> u32
     }
 }
 
-/// Reads this many types and appends the number of parameters of each.
-///
-/// Fails with `TypeKind` at a type of none of the three sorts; otherwise as a type does.
+/// Reads this many types and appends the number of parameters of each. Fails with `TypeKind` at a
+/// type of none of the three sorts; otherwise as a type does.
 fn read_rec_type(
     reader: &mut BinaryReader<'_>,
     len: u32,
@@ -56,12 +53,10 @@ fn read_rec_type(
     Ok(())
 }
 
-/// Returns the number of parameters of each type of a section, which is 0 if it is not a function
-/// type.
+/// Returns the number of parameters of each type of a section: 0 if it is not a function type.
 ///
-/// Fails with `TypeKind` at a type of none of the three sorts; otherwise as the number of the
-/// recursive types, the number of the types of one, or one of these does. Fails with `Memory` if
-/// allocation fails.
+/// Fails with `TypeKind` at a type of none of the three sorts; otherwise as a number of types or a
+/// type does, or with `Memory`.
 pub fn parameter_counts(alloc: Global, contents: BinaryReader<'_>) -> Result<Vec<u32>, ModuleFault>
     ensures ok { IfOk result (λ counts. CountsParameters (Some contents.entry) counts.items) }
     ensures refused { IfErr result (λ fault. (counts : List ℕ) → CountsParameters (Some contents.entry) counts → fault ≡ ModuleFault.Memory) }
@@ -88,9 +83,9 @@ pub fn parameter_counts(alloc: Global, contents: BinaryReader<'_>) -> Result<Vec
     Ok(counts)
 }
 
-/// Returns the types of the functions of a section: an index for each.
+/// Returns the type index of each function of a section.
 ///
-/// Fails as the number of the functions or an index does. Fails with `Memory` if allocation fails.
+/// Fails as their number or an index does, or with `Memory`.
 pub fn function_types(alloc: Global, contents: BinaryReader<'_>) -> Result<Vec<u32>, ModuleFault>
     ensures ok { IfOk result (λ types. IsList (EncodesUnsigned 32) contents.entry types.items) }
     ensures refused { IfErr result (λ fault. (types : List ℕ) → IsList (EncodesUnsigned 32) contents.entry types → fault ≡ ModuleFault.Memory) }

@@ -7,7 +7,6 @@ use Rattle.wasm_grammar.specs.Role.{Role, plain, opens, opens_if, opens_try, tur
 use Rattle.wasm_grammar.specs.Tree.{Instruction, single, nest, if_one, if_two, try_handle, try_delegate, Instructions, nil, cons, Handlers, no_more, for_all, for_tag, walk_instruction, walk_instructions, walk_handlers, Expression, walk}
 use Rattle.wasm_grammar.specs.Frames.{kind_of_nest, replacement, frames_after, frames_along}
 
--- a role changes only the innermost frame
 pub frames_after_at : {A : Type 0} (outer : List FrameKind) (kind : FrameKind) (role : Role A) (next : List FrameKind) →
     replacement kind role ≡ Some next → frames_after (outer ++ kind ∷ []) role ≡ Some (outer ++ next)
 frames_after_at [] kind role next e = e
@@ -15,7 +14,6 @@ frames_after_at (first ∷ []) kind role next e = ap (option_map (λ (frames : L
 frames_after_at (first ∷ second ∷ outer) kind role next e =
     ap (option_map (λ (frames : List FrameKind). first ∷ frames)) (frames_after_at (second ∷ outer) kind role next e)
 
--- the same at the start of more roles
 pub run_role : {A : Type 0} (outer : List FrameKind) (kind : FrameKind) (role : Role A) (next : List FrameKind)
     (rest : List (Role A)) →
     replacement kind role ≡ Some next →
@@ -23,7 +21,6 @@ pub run_role : {A : Type 0} (outer : List FrameKind) (kind : FrameKind) (role : 
 run_role outer kind role next rest e =
     ap (option_and_then (λ frames. frames_along frames rest)) (frames_after_at outer kind role next e)
 
--- the same with one more frame around it
 pub run_inner_role : {A : Type 0} (outer : List FrameKind) (kind inner : FrameKind) (role : Role A)
     (next : List FrameKind) (rest : List (Role A)) →
     replacement inner role ≡ Some next →
@@ -32,7 +29,6 @@ run_inner_role outer kind inner role next rest e =
     ap (λ frames. frames_along frames (role ∷ rest)) (sym (append_assoc outer (kind ∷ []) (inner ∷ []))) ∙
     run_role (outer ++ kind ∷ []) inner role next rest e ∙ ap (λ frames. frames_along frames rest) (append_assoc outer (kind ∷ []) next)
 
--- the roles of a complete body leave the frames unchanged
 pub run_body : {A : Type 0} (outer : List FrameKind) (kind inner : FrameKind) (body close rest : List (Role A)) →
     frames_along ((outer ++ kind ∷ []) ++ inner ∷ []) (body ++ (close ++ rest)) ≡ frames_along ((outer ++ kind ∷ []) ++ inner ∷ []) (close ++ rest) →
     frames_along (outer ++ kind ∷ inner ∷ []) ((body ++ close) ++ rest) ≡ frames_along (outer ++ kind ∷ inner ∷ []) (close ++ rest)
@@ -42,7 +38,6 @@ run_body outer kind inner body close rest e =
     ∙ e
     ∙ ap (λ frames. frames_along frames (close ++ rest)) (append_assoc outer (kind ∷ []) (inner ∷ []))
 
--- a frame after whose body a handler may follow
 pub record Handles (A : Type 0) (inner : FrameKind) : Type 0 where
   pub tags : (tag : ℕ) → replacement {A = A} inner (turns_catch tag) ≡ Some (frame.LegacyCatch ∷ [])
   pub all : replacement {A = A} inner turns_catch_all ≡ Some (frame.LegacyCatchAll ∷ [])
@@ -111,6 +106,5 @@ mutual
       (run_instructions body (outer ++ kind ∷ []) frame.LegacyCatch (walk_handlers handlers ++ rest))
       ∙ run_handlers handlers outer kind frame.LegacyCatch rest (handles_catch A)
 
--- Starting with the frame of the expression, the walk of an expression closes all frames.
 pub run_walk : {A : Type 0} (tree : Expression A) → frames_along (frame.Block ∷ []) (walk tree) ≡ Some []
 run_walk tree = run_instructions tree [] frame.Block (ends ∷ [])

@@ -15,7 +15,6 @@ some x = Some x
 none_some : {X : Type 0} (x : X) → None ≡ Some x → ⊥
 none_some x e = cc
 
--- one more frame at the end
 pub innermost_in-push : (first : FrameKind) (inside : List FrameKind) (kind : FrameKind) →
     innermost_in first (inside ++ kind ∷ []) ≡ kind
 innermost_in-push first [] kind = refl
@@ -36,7 +35,6 @@ pub without_innermost-push : (frames : List FrameKind) (kind : FrameKind) →
 without_innermost-push [] kind = refl
 without_innermost-push (first ∷ inside) kind = without_innermost_in-push first inside kind
 
--- The frames without the innermost, followed by the innermost, are the whole list.
 pub whole_again : (kind : FrameKind) (inside : List FrameKind) →
     without_innermost_in kind inside ++ innermost_in kind inside ∷ [] ≡ kind ∷ inside
 whole_again kind [] = refl
@@ -48,7 +46,6 @@ whole_of_innermost [] kind e = absurd (cc e)
 whole_of_innermost (first ∷ inside) kind e =
     ap (λ (x : FrameKind). without_innermost_in first inside ++ x ∷ []) (sym (cc e)) ∙ whole_again first inside
 
--- There is an innermost frame if and only if some frame is open.
 pub innermost_not_empty : (frames : List FrameKind) (kind : FrameKind) → innermost frames ≡ Some kind → frames ≡ [] → ⊥
 innermost_not_empty [] kind e h = cc e
 innermost_not_empty (first ∷ inside) kind e h = cc h
@@ -57,7 +54,6 @@ pub empty_of_innermost : (frames : List FrameKind) → innermost frames ≡ None
 empty_of_innermost [] e = refl
 empty_of_innermost (first ∷ inside) e = absurd (cc e)
 
--- the frames without the innermost, followed by other frames
 abbrev after : FrameKind → List FrameKind → List FrameKind → List FrameKind
 after kind inside end = without_innermost_in kind inside ++ end
 
@@ -70,7 +66,6 @@ map_twice : {X Y Z : Type 0} (f : X → Y) (g : Y → Z) (o : Option X) →
 map_twice f g None = refl
 map_twice f g (Some x) = refl
 
--- A role changes only the innermost frame.
 pub step_by_innermost : {A : Type 0} (kind : FrameKind) (inside : List FrameKind) (role : Role A) →
     frames_after_in kind inside role ≡ option_map (λ (x : List FrameKind). without_innermost_in kind inside ++ x)
     (replacement (innermost_in kind inside) role)
@@ -79,7 +74,6 @@ step_by_innermost kind (next ∷ inside) role =
     ap (option_map (λ (x : List FrameKind). kind ∷ x)) (step_by_innermost next inside role) ∙
     map_twice (after next inside) (λ (x : List FrameKind). kind ∷ x) (replacement (innermost_in next inside) role)
 
--- The frames after a role, from the innermost frame and what replaces it.
 pub step_at : {A : Type 0} (frames : List FrameKind) (kind : FrameKind) (role : Role A) →
     innermost frames ≡ Some kind →
     frames_after frames role ≡ option_map (λ (x : List FrameKind). without_innermost frames ++ x) (replacement kind role)
@@ -96,7 +90,6 @@ is_some_before_map : {X Y : Type 0} (f : X → Y) (o : Option X) → IsSome (opt
 is_some_before_map f None h = absurd (cc h)
 is_some_before_map f (Some x) h = refl
 
--- There are frames after a role if and only if the innermost frame allows it.
 pub may_step : {A : Type 0} (frames : List FrameKind) (kind : FrameKind) (role : Role A) →
     innermost frames ≡ Some kind → Allows kind role → IsSome (frames_after frames role)
 may_step frames kind role e h =
@@ -112,7 +105,6 @@ pub may_not_step : {A : Type 0} (frames : List FrameKind) (kind : FrameKind) (ro
 may_not_step frames kind role e h =
     step_at frames kind role e ∙ ap (option_map (λ (x : List FrameKind). without_innermost frames ++ x)) h
 
--- the frames after a role that is allowed
 stepped : {A : Type 0} (kind : FrameKind) (inside : List FrameKind) (role : Role A) →
     IsSome (frames_after_in kind inside role) →
     (end : List FrameKind) × (replacement (innermost_in kind inside) role ≡ Some end) × (frames_after_in kind inside role ≡ Some (after kind inside end))
@@ -125,7 +117,6 @@ stepped kind inside role h = go (replacement (innermost_in kind inside) role) re
         absurd (none_some x.0 (sym (step_by_innermost kind inside role ∙ ap (option_map (after kind inside)) e) ∙ x.1))
     go (Some end) e = (end, e, step_by_innermost kind inside role ∙ ap (option_map (after kind inside)) e)
 
--- If a role opens a frame of this kind inside any frame, that frame is added.
 pub steps_open : {A : Type 0} (frames : List FrameKind) (role other : Role A) (kind : FrameKind) →
     role ≡ other → IsSome (frames_after frames role) → ((k : FrameKind) → replacement k other ≡ Some (k ∷ kind ∷ [])) →
     frames_after frames role ≡ Some (frames ++ kind ∷ [])
@@ -138,8 +129,6 @@ steps_open {A} (first ∷ inside) role other kind e h opening =
     ap some (sym (append_assoc (without_innermost_in first inside) (innermost_in first inside ∷ []) (kind ∷ [])) ∙
     ap (λ (x : List FrameKind). x ++ kind ∷ []) (whole_again first inside))
 
--- If a role replaces each frame that allows it by this frame, the innermost frame is replaced by
--- it.
 pub steps_turn : {A : Type 0} (frames : List FrameKind) (role other : Role A) (kind : FrameKind) →
     role ≡ other → IsSome (frames_after frames role) →
     ((k : FrameKind) (end : List FrameKind) → replacement k other ≡ Some end → end ≡ kind ∷ []) →
@@ -150,7 +139,6 @@ steps_turn {A} (first ∷ inside) role other kind e h turning =
     s.2 ∙ ap (λ (x : List FrameKind). some (after first inside x))
     (turning (innermost_in first inside) s.0 (sym (ap (λ (x : Role A). replacement (innermost_in first inside) x) e) ∙ s.1))
 
--- If a role closes each frame that allows it, the innermost frame is closed.
 pub steps_close : {A : Type 0} (frames : List FrameKind) (role other : Role A) →
     role ≡ other → IsSome (frames_after frames role) →
     ((k : FrameKind) (end : List FrameKind) → replacement k other ≡ Some end → end ≡ []) →
@@ -162,7 +150,6 @@ steps_close {A} (first ∷ inside) role other e h closing =
     (closing (innermost_in first inside) s.0 (sym (ap (λ (x : Role A). replacement (innermost_in first inside) x) e) ∙ s.1)) ∙
     ap some (append-nil (without_innermost_in first inside))
 
--- If a role is plain, the frames are unchanged.
 pub steps_stay : {A : Type 0} (frames : List FrameKind) (role : Role A) (a : A) →
     role ≡ plain a → IsSome (frames_after frames role) → frames_after frames role ≡ Some frames
 steps_stay [] role a e h = absurd (cc h)
@@ -171,7 +158,6 @@ steps_stay {A} (first ∷ inside) role a e h =
     let end_is : s.0 ≡ innermost_in first inside ∷ [] = cc (s.1, ap (λ (x : Role A). replacement (innermost_in first inside) x) e) in
     s.2 ∙ ap (λ (x : List FrameKind). some (after first inside x)) end_is ∙ ap some (whole_again first inside)
 
--- What replaces a frame that allows the role, for each role.
 pub turns_to_else : (A : Type 0) (kind : FrameKind) (end : List FrameKind) →
     replacement {A = A} kind turns_else ≡ Some end → end ≡ frame.Else ∷ []
 turns_to_else A frame.If end e = cc e
@@ -198,7 +184,6 @@ pub end_closes : (A : Type 0) (kind : FrameKind) (end : List FrameKind) →
     replacement {A = A} kind ends ≡ Some end → end ≡ []
 end_closes A kind end e = cc e
 
--- The frames after a role that is allowed, for each role.
 pub steps_opens : {A : Type 0} (frames : List FrameKind) (role : Role A) (n : Nest) (a : A) →
     role ≡ opens n a → IsSome (frames_after frames role) →
     frames_after frames role ≡ Some (frames ++ kind_of_nest n ∷ [])
@@ -239,8 +224,6 @@ pub steps_ends : {A : Type 0} (frames : List FrameKind) (role : Role A) →
     role ≡ ends → IsSome (frames_after frames role) → frames_after frames role ≡ Some (without_innermost frames)
 steps_ends {A} frames role e h = steps_close frames role ends e h (end_closes A)
 
--- A list of frames that is stored as the innermost frame, if there is one, and the frames around
--- it.
 pub innermost_view : (around : List FrameKind) (current : Option FrameKind) (frames : List FrameKind) →
     MatchOption current (around ≡ []) (λ _. ⊤) → around ++ option_to_list current ≡ frames → current ≡ innermost frames
 innermost_view around None frames h e = let none_open : frames ≡ [] = sym e ∙ ap (λ (x : List FrameKind). x ++ []) h in ap innermost (sym none_open)

@@ -12,7 +12,6 @@ use Rattle.wasm_grammar.proofs.Accepts.{run_role, run_inner_role, run_body, Hand
 abbrev some : {X : Type 0} → X → Option X
 some x = Some x
 
--- through complete handlers, and the role after them
 run_parts : {A : Type 0} (parts : Parts A) (outer : List FrameKind) (kind inner : FrameKind) (role : Role A)
     (next : FrameKind) (rest : List (Role A)) →
     Handles A inner → replacement inner role ≡ Some (next ∷ []) →
@@ -27,7 +26,6 @@ run_parts {A} (part ∷ parts) outer kind inner role next rest handles at_inner 
     (run_instructions part.1 (outer ++ kind ∷ []) frame.LegacyCatch (walk_parts parts ++ role ∷ rest))
     ∙ run_parts parts outer kind frame.LegacyCatch role next rest (handles_catch A) at_catch at_catch
 
--- the same, starting with the opener of the try
 run_tries : {A : Type 0} (a : A) (body : Instructions A) (parts : Parts A) (role : Role A) (next : FrameKind)
     (outer : List FrameKind) (kind : FrameKind) (rest : List (Role A)) →
     replacement frame.LegacyTry role ≡ Some (next ∷ []) → replacement frame.LegacyCatch role ≡ Some (next ∷ []) →
@@ -40,7 +38,6 @@ run_tries {A} a body parts role next outer kind rest at_try at_catch =
     ∙ ap (frames_along (outer ++ kind ∷ frame.LegacyTry ∷ [])) (append_assoc (walk_parts parts) (role ∷ []) rest)
     ∙ run_parts parts outer kind frame.LegacyTry role next rest (handles_try A) at_try at_catch
 
--- through the roles before an open body
 run_head : {A : Type 0} (head : Head A) (outer : List FrameKind) (kind : FrameKind) (rest : List (Role A)) →
     frames_along (outer ++ kind ∷ []) (walk_head head ++ rest) ≡ frames_along (outer ++ kind ∷ kind_of_head head ∷ []) rest
 run_head (of_nest n a) outer kind rest = run_role outer kind (opens n a) (kind ∷ kind_of_nest n ∷ []) rest refl
@@ -55,7 +52,6 @@ run_head (of_catch a body parts tag) outer kind rest =
 run_head (of_catch_all a body parts) outer kind rest =
     run_tries a body parts turns_catch_all frame.LegacyCatchAll outer kind rest refl refl
 
--- through an open path inside a frame
 run_in : {A : Type 0} (frames outer : List FrameKind) (kind : FrameKind) (roles : List (Role A)) →
     OpenPathIn roles frames → frames_along (outer ++ kind ∷ []) roles ≡ Some ((outer ++ kind ∷ []) ++ frames)
 run_in [] outer kind roles (whole, e) =
@@ -71,7 +67,6 @@ run_in (next ∷ frames) outer kind roles (whole, head, inner, kind_is, roles_ar
     ∙ run_in frames (outer ++ kind ∷ []) next inner path
     ∙ ap (λ (x : List FrameKind). some x) (append_assoc (outer ++ kind ∷ []) (next ∷ []) frames)
 
--- Starting with the frame of the expression, roles with an open path lead to its frames.
 pub run_path : {A : Type 0} (frames : List FrameKind) (roles : List (Role A)) →
     OpenPath roles frames → frames_along (frame.Block ∷ []) roles ≡ Some frames
 run_path [] roles (tree, e) = ap (frames_along (frame.Block ∷ [])) e ∙ run_walk tree
@@ -81,7 +76,6 @@ run_path (kind ∷ frames) roles (kind_is, path) =
 some_is : {X : Type 0} {x y : X} → Some x ≡ Some y → x ≡ y
 some_is e = cc
 
--- Roles have an open path to at most one list of frames.
 pub same_frames : {A : Type 0} (first second : List FrameKind) (roles : List (Role A)) →
     OpenPath roles first → OpenPath roles second → first ≡ second
 same_frames first second roles p q = some_is (sym (run_path first roles p) ∙ run_path second roles q)

@@ -15,13 +15,11 @@ use Rattle.wasm_grammar.proofs.Accepts.{run_walk}
 use Rattle.wasm_grammar.proofs.Steps.{path_step, path_start}
 use Rattle.wasm_grammar.proofs.Paths.{run_path}
 
--- If two steps give a value, there is a value between them.
 pub bound : {X Y : Type 0} (f : X → Option Y) (o : Option X) (y : Y) →
     option_and_then f o ≡ Some y → (x : X) × (o ≡ Some x) × (f x ≡ Some y)
 bound f None y e = absurd (cc e)
 bound f (Some x) y e = (x, refl, e)
 
--- An option that is some value.
 pub some_of : {X : Type 0} (o : Option X) → IsSome o → (x : X) × (o ≡ Some x)
 some_of None h = absurd (cc h)
 some_of (Some x) h = (x, refl)
@@ -42,8 +40,6 @@ frames_along-append frames (role ∷ roles) more =
     chained (λ next. frames_along next roles) (λ next. frames_along next more) (λ next. frames_along next (roles ++ more))
     (λ next. frames_along-append next roles more) (frames_after frames role)
 
--- If roles have an open path, and the frame rules lead on to other frames, all the roles have an
--- open path to those.
 pub path_run : {A : Type 0} (more : List (Role A)) (frames : List FrameKind) (roles : List (Role A))
     (next : List FrameKind) →
     OpenPath roles frames → frames_along frames more ≡ Some next → OpenPath (roles ++ more) next
@@ -54,13 +50,10 @@ path_run (role ∷ more) frames roles next path e =
     let longer = path_run more b.0 (roles ++ role ∷ []) next (path_step frames roles role b.0 path b.1) b.2 in
     subst (λ x. OpenPath x next) (append_assoc roles (role ∷ []) more) longer
 
--- If the frame rules lead from the frame of the expression to some frames, the roles have an open
--- path to them.
 pub path_of : {A : Type 0} (roles : List (Role A)) (frames : List FrameKind) →
     frames_along (frame.Block ∷ []) roles ≡ Some frames → OpenPath roles frames
 path_of roles frames e = path_run roles (frame.Block ∷ []) [] frames path_start e
 
--- Roles that close all frames are a walk.
 pub tree_of : {A : Type 0} (roles : List (Role A)) → frames_along (frame.Block ∷ []) roles ≡ Some [] → IsWalk roles
 tree_of roles e = path_of roles [] e
 
@@ -68,18 +61,15 @@ pub only_tree : {A : Type 0} (roles : List (Role A)) →
     frames_along (frame.Block ∷ []) roles ≡ Some [] → (tree : Expression A) × IsOnlyTree roles tree
 only_tree roles e = let t = tree_of roles e in (t.0, (t.1, λ other same. one_tree other t.0 (sym same ∙ t.1)))
 
--- A walk closes all frames.
 pub walk_runs_out : {A : Type 0} (roles : List (Role A)) (tree : Expression A) →
     roles ≡ walk tree → frames_along (frame.Block ∷ []) roles ≡ Some []
 walk_runs_out roles tree e = ap (frames_along (frame.Block ∷ [])) e ∙ run_walk tree
 
--- `end` closes one frame
 fewer : (A : Type 0) (kind : FrameKind) (inside : List FrameKind) →
     (next : List FrameKind) × (frames_after_in {A = A} kind inside ends ≡ Some next) × (length next ≡ length inside)
 fewer A kind [] = ([], refl, refl)
 fewer A kind (first ∷ inside) = let f = fewer A first inside in (kind ∷ f.0, ap (option_map (λ (x : List FrameKind). kind ∷ x)) f.1, ap suc f.2)
 
--- An `end` for each open frame closes them all.
 pub ends_close : (A : Type 0) (n : ℕ) (frames : List FrameKind) →
     length frames ≡ n → frames_along frames (replicate {A = Role A} n ends) ≡ Some []
 ends_close A zero [] e = refl
@@ -89,7 +79,6 @@ ends_close A (suc n) (kind ∷ inside) e =
     let f = fewer A kind inside in
     ap (option_and_then (λ next. frames_along next (replicate n ends))) f.1 ∙ ends_close A n f.0 (f.2 ∙ cc e)
 
--- With these after it, a list of roles that leads to some frames is a walk.
 pub ends_complete : {A : Type 0} (roles : List (Role A)) (frames : List FrameKind) →
     frames_along (frame.Block ∷ []) roles ≡ Some frames → IsWalk (roles ++ replicate (length frames) ends)
 ends_complete {A} roles frames e =
@@ -101,7 +90,6 @@ pub run_begins : {A : Type 0} (roles : List (Role A)) (frames : List FrameKind) 
     frames_along (frame.Block ∷ []) roles ≡ Some frames → BeginsWalk roles
 run_begins roles frames e = let t = ends_complete roles frames e in (replicate (length frames) ends, t.0, t.1)
 
--- The frame rules accept each prefix of a walk.
 pub beginning_runs : {A : Type 0} (roles : List (Role A)) →
     BeginsWalk roles → (frames : List FrameKind) × (frames_along (frame.Block ∷ []) roles ≡ Some frames)
 beginning_runs roles (more, tree, e) =
@@ -109,7 +97,6 @@ beginning_runs roles (more, tree, e) =
     walk_runs_out (roles ++ more) tree e) in
     (b.0, b.1)
 
--- If the frame rules lead to some frames, the roles are a prefix of a walk.
 pub begins_of_run : {A : Type 0} (roles : List (Role A)) →
     IsSome (frames_along (frame.Block ∷ []) roles) → BeginsWalk roles
 begins_of_run roles h = let s = some_of (frames_along (frame.Block ∷ []) roles) h in run_begins roles s.0 s.1
@@ -118,11 +105,9 @@ pub IsSome_of_begins : {A : Type 0} (roles : List (Role A)) →
     BeginsWalk roles → IsSome (frames_along (frame.Block ∷ []) roles)
 IsSome_of_begins roles begins = let r = beginning_runs roles begins in IsSome_of (frames_along (frame.Block ∷ []) roles) r.0 r.1
 
--- A prefix of a prefix of a walk is a prefix of a walk.
 pub begins_beginning : {A : Type 0} (roles more : List (Role A)) → BeginsWalk (roles ++ more) → BeginsWalk roles
 begins_beginning roles more (others, tree, e) = (more ++ others, tree, sym (append_assoc roles more others) ∙ e)
 
--- From the frames of an open path, the frame rules accept what extends it to a prefix of a walk.
 pub path_runs_on : {A : Type 0} (frames : List FrameKind) (roles more : List (Role A)) →
     OpenPath roles frames → BeginsWalk (roles ++ more) →
     (next : List FrameKind) × (frames_along frames more ≡ Some next)
@@ -133,7 +118,6 @@ path_runs_on frames roles more path begins =
           r.1,
     )
 
--- In particular, what completes an expression closes all frames.
 pub path_runs_out : {A : Type 0} (frames : List FrameKind) (roles more : List (Role A)) →
     OpenPath roles frames → IsWalk (roles ++ more) → frames_along frames more ≡ Some []
 path_runs_out frames roles more path (tree, e) =

@@ -9,7 +9,6 @@ use Rattle.wasm_grammar.specs.Tree.{Instruction, single, nest, if_one, if_two, t
 use Rattle.wasm_grammar.specs.Frames.{kind_of_nest, replacement, frames_after_in, frames_after}
 use Rattle.wasm_grammar.specs.OpenPath.{Parts, walk_parts, Head, of_nest, of_if, of_else, of_try, of_catch, of_catch_all, kind_of_head, walk_head, OpenPathIn, OpenPath}
 
--- instructions with one more at the end
 push : {A : Type 0} → Instructions A → Instruction A → Instructions A
 push nil last = cons last nil
 push (cons first more) last = cons first (push more last)
@@ -22,7 +21,6 @@ walk_instructions-push (cons first more) last =
     append_assoc (walk_instruction first) (walk_instructions more) (walk_instruction last)
     ∙ ap (λ roles. walk_instruction first ++ roles) (walk_instructions-push more last)
 
--- complete handlers, before others
 handlers_of : {A : Type 0} → Parts A → Handlers A → Handlers A
 handlers_of [] handlers = handlers
 handlers_of (part ∷ parts) handlers = for_tag part.0 part.1 (handlers_of parts handlers)
@@ -42,7 +40,6 @@ walk_parts-push (part ∷ parts) tag body =
     ap (λ roles. turns_catch part.0 ∷ roles) (append_assoc (walk_instructions part.1) (walk_parts parts) (turns_catch tag ∷ walk_instructions body) ∙
     ap (λ roles. walk_instructions part.1 ++ roles) (walk_parts-push parts tag body))
 
--- the instruction that an `end` completes after this head and body
 closed : {A : Type 0} → Head A → Instructions A → Instruction A
 closed (of_nest n a) body = nest n a body
 closed (of_if a) body = if_one a body
@@ -51,7 +48,6 @@ closed (of_try a) body = try_handle a body no_more
 closed (of_catch a before parts tag) body = try_handle a before (handlers_of parts (for_tag tag body no_more))
 closed (of_catch_all a before parts) body = try_handle a before (handlers_of parts (for_all body))
 
--- brackets moved to the right
 regroup : {B : Type 0} (w x : List B) (s : B) (y : List B) → (w ++ (x ++ s ∷ [])) ++ y ≡ w ++ (x ++ s ∷ y)
 regroup w x s y = append_assoc w (x ++ s ∷ []) y ∙ ap (λ z. w ++ z) (append_assoc x (s ∷ []) y)
 
@@ -70,7 +66,6 @@ walk-closed (of_catch_all a before parts) body =
     ap (λ roles. opens_try a ∷ roles) (regroup (walk_instructions before) (walk_parts parts) turns_catch_all (walk_instructions body ++ ends ∷ []) ∙
     ap (λ roles. walk_instructions before ++ roles) (walk-handlers_of parts (for_all body)))
 
--- complete instructions, a head, the body so far, and a role after it
 after : {A : Type 0} → Instructions A → Head A → Instructions A → Role A → List (Role A)
 after before head body role = (walk_instructions before ++ (walk_head head ++ walk_instructions body)) ++ role ∷ []
 
@@ -91,7 +86,6 @@ to_frames : {A : Type 0} (roles : List (Role A)) (frames next : List FrameKind) 
     Some frames ≡ Some next → OpenPathIn roles frames → OpenPathIn roles next
 to_frames roles frames next e path = subst (OpenPathIn roles) (some_is e) path
 
--- one more instruction in the open body
 longer_path : {A : Type 0} (before : Instructions A) (head : Head A) (body : Instructions A) (a : A) →
     OpenPathIn (after before head body (plain a)) (kind_of_head head ∷ [])
 longer_path before head body a = (
@@ -104,7 +98,6 @@ longer_path before head body a = (
   (push body (single a), refl),
 )
 
--- one more open body
 opened_path : {A : Type 0} (before : Instructions A) (head : Head A) (body : Instructions A) (role : Role A)
     (other : Head A) →
     walk_head other ≡ role ∷ [] →
@@ -119,7 +112,6 @@ opened_path before head body role other e = (
   (body, other, [], refl, refl, (nil, refl)),
 )
 
--- another body of the same construct is open
 turned_path : {A : Type 0} (before : Instructions A) (head : Head A) (body : Instructions A) (role : Role A)
     (other : Head A) →
     walk_head head ++ (walk_instructions body ++ role ∷ []) ≡ walk_head other →
@@ -133,7 +125,6 @@ turned_path before head body role other e = (
   (nil, refl),
 )
 
--- the construct is complete
 closed_path : {A : Type 0} (before : Instructions A) (head : Head A) (body : Instructions A) (role : Role A)
     (instruction : Instruction A) →
     walk_head head ++ (walk_instructions body ++ role ∷ []) ≡ walk_instruction instruction →
@@ -141,7 +132,6 @@ closed_path : {A : Type 0} (before : Instructions A) (head : Head A) (body : Ins
 closed_path before head body role instruction e =
     (push before instruction, after-is before head body role ∙ ap (λ roles. walk_instructions before ++ roles) e ∙ walk_instructions-push before instruction)
 
--- a handler is complete at the start of the next
 catch_head : {A : Type 0} (a : A) (before : Instructions A) (parts : Parts A) (tag : ℕ) (body : Instructions A)
     (role : Role A) →
     walk_head (of_catch a before parts tag) ++ (walk_instructions body ++ role ∷ []) ≡ opens_try
@@ -151,7 +141,6 @@ catch_head a before parts tag body role = ap (λ roles. opens_try a ∷ roles) (
     ∙ ap (λ roles. walk_instructions before ++ roles) (sym (append_assoc (walk_parts parts) (turns_catch tag ∷ walk_instructions body) (role ∷ [])) ∙
     ap (λ roles. roles ++ role ∷ []) (walk_parts-push parts tag body)))
 
--- a role that the frame of the open body allows
 step_innermost : {A : Type 0} (role : Role A) (before : Instructions A) (head : Head A) (body : Instructions A)
     (next : List FrameKind) →
     replacement (kind_of_head head) role ≡ Some next → OpenPathIn (after before head body role) next
@@ -191,13 +180,11 @@ step_innermost role before (of_nest loop a) body next e = absurd (cc e)
 step_innermost role before (of_nest try_table a) body next e = absurd (cc e)
 step_innermost _ before _ body next e = absurd (cc e)
 
--- if `option_map` gives a value, it was given one
 mapped : {X Y : Type 0} (f : X → Y) (o : Option X) (y : Y) →
     option_map f o ≡ Some y → (x : X) × (o ≡ Some x) × (f x ≡ y)
 mapped f None y e = absurd (cc e)
 mapped f (Some x) y e = (x, refl, some_is e)
 
--- a role in a body that is open
 step_inside : {A : Type 0} (frames : List FrameKind) (kind : FrameKind) (roles : List (Role A)) (role : Role A)
     (next : List FrameKind) →
     OpenPathIn roles (kind ∷ frames) → frames_after_in kind frames role ≡ Some next →
@@ -216,7 +203,6 @@ step_inside (inside ∷ frames) kind roles role next (before, head, inner, kind_
     ap (λ x. walk_instructions before ++ x) (append_assoc (walk_head head) inner (role ∷ [])) in
     subst (OpenPathIn (roles ++ role ∷ [])) m.2 (before, head, inner ++ role ∷ [], kind_is, same, deeper)
 
--- a role in the expression itself
 step_outermost : {A : Type 0} (role : Role A) (before : Instructions A) (next : List FrameKind) →
     replacement frame.Block role ≡ Some next → OpenPath (walk_instructions before ++ role ∷ []) next
 step_outermost (plain a) before next e =
@@ -230,7 +216,6 @@ step_outermost (opens_try a) before next e =
 step_outermost ends before next e = subst (OpenPath _) (some_is e) (before, refl)
 step_outermost _ before next e = absurd (cc e)
 
--- After a role that is allowed, there is an open path to the frames after the role.
 pub path_step : {A : Type 0} (frames : List FrameKind) (roles : List (Role A)) (role : Role A) (next : List FrameKind) →
     OpenPath roles frames → frames_after frames role ≡ Some next → OpenPath (roles ++ role ∷ []) next
 path_step [] roles role next path e = absurd (cc e)
@@ -241,6 +226,5 @@ path_step (kind ∷ inside ∷ frames) roles role next (kind_is, path) e =
     let m = mapped (λ (x : List FrameKind). kind ∷ x) (frames_after_in inside frames role) next e in
     subst (OpenPath (roles ++ role ∷ [])) m.2 (kind_is, step_inside frames inside roles role m.0 path m.1)
 
--- At the start only the frame of the expression is open.
 pub path_start : {A : Type 0} → OpenPath {A = A} [] (frame.Block ∷ [])
 path_start = (refl, (nil, refl))

@@ -3,7 +3,6 @@ use Rattle.std.proofs.Common.{◌≡◌, ℕ, List, [], ◌∷◌, ◌++◌, ref
 use Rattle.wasm_grammar.specs.Role.{Role, opens, opens_if, opens_try, turns_else, turns_catch, turns_catch_all, delegates, ends}
 use Rattle.wasm_grammar.specs.Tree.{Instruction, single, nest, if_one, if_two, try_handle, try_delegate, Instructions, nil, cons, Handlers, no_more, for_all, for_tag, walk_instruction, walk_instructions, walk_handlers, Expression, walk}
 
--- The first role ends a body.
 abbrev EndsBody : {A : Type 0} → List (Role A) → Type 0
 EndsBody [] = ⊥
 EndsBody (turns_else ∷ roles) = Unit {0}
@@ -13,27 +12,23 @@ EndsBody (delegates depth ∷ roles) = Unit {0}
 EndsBody (ends ∷ roles) = Unit {0}
 EndsBody (_ ∷ roles) = ⊥
 
--- equal lists from the body on, with the brackets moved to the right
 regrouped : {A : Type 0} (s t : Role A) (a b x y p q : List (Role A)) →
     s ∷ ((a ++ x) ++ p) ≡ t ∷ ((b ++ y) ++ q) → a ++ (x ++ p) ≡ b ++ (y ++ q)
 regrouped s t a b x y p q e =
     let tails : (a ++ x) ++ p ≡ (b ++ y) ++ q = cc in
     sym (append_assoc a x p) ∙ tails ∙ append_assoc b y q
 
--- handlers start with a role that ends a body
 handlers_end_body : {A : Type 0} (h : Handlers A) (p : List (Role A)) → EndsBody (walk_handlers h ++ p)
 handlers_end_body no_more p = tt
 handlers_end_body (for_all body) p = tt
 handlers_end_body (for_tag tag body more) p = tt
 
--- and not with `delegate`
 handlers_no_delegate : {A : Type 0} (h : Handlers A) (depth : ℕ) (p q : List (Role A)) →
     walk_handlers h ++ p ≡ delegates depth ∷ q → ⊥
 handlers_no_delegate no_more depth p q e = cc
 handlers_no_delegate (for_all body) depth p q e = cc
 handlers_no_delegate (for_tag tag body more) depth p q e = cc
 
--- no instruction starts with a role that ends a body
 no_instruction : {A : Type 0} (i : Instruction A) (p x : List (Role A)) → EndsBody p → p ≡ walk_instruction i ++ x → ⊥
 no_instruction (single a) p x ends_body e = subst EndsBody e ends_body
 no_instruction (nest n a is) p x ends_body e = subst EndsBody e ends_body
@@ -118,6 +113,5 @@ mutual
       (cc (e, x.0, y.0), y.1)
   same_handlers _ _ p q e = absurd (cc e)
 
--- Expressions with the same walk are equal.
 pub one_tree : {A : Type 0} (first second : Expression A) → walk first ≡ walk second → first ≡ second
 one_tree first second e = (same_instructions first second (ends ∷ []) (ends ∷ []) tt tt e).0

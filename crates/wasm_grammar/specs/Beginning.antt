@@ -1,6 +1,4 @@
--- Lists of roles that are an expression, or a prefix of one.
--- WebAssembly Core Specification 3.0: Structure, Instructions, Expressions; Binary Format,
--- Instructions, Expressions.
+-- Specification: Binary Format and Structure, Expressions.
 use Rattle.std.specs.Prelude.{◌≡◌, List, ◌++◌}
 use Rattle.wasm_grammar.specs.Role.{Role}
 use Rattle.wasm_grammar.specs.Tree.{Expression, walk}

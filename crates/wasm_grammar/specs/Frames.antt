@@ -1,21 +1,18 @@
--- The open frames, from the outermost to the innermost: which roles the innermost frame allows, and
--- which frames are open after a role.
--- WebAssembly Core Specification 3.0: Validation, Instructions, Control Instructions; Appendix,
--- Validation Algorithm, control frames.
--- The legacy exception handling proposal: the frames of try, catch and catch_all.
+-- Which roles the innermost frame allows, and the frames after a role, the outermost first.
+-- Specification: Validation, Control Instructions; Appendix, Validation Algorithm. Proposal legacy
+-- exception handling.
 use Rattle.std.specs.Prelude.{List, [], ◌∷◌, Option, Some, None, IsSome}
 use Rattle.std.specs.Option.{option_map, option_and_then}
 use Rattle.wasm_grammar.specs.declared.frame_kind.FrameKind.{FrameKind}
 use Rattle.wasm_grammar.specs.declared.frame_kind.FrameKind.TheVariants as frame
 use Rattle.wasm_grammar.specs.Role.{Nest, block, loop, try_table, Role, plain, opens, opens_if, opens_try, turns_else, turns_catch, turns_catch_all, delegates, ends}
 
--- The frame of a construct with one body.
 abbrev pub kind_of_nest : Nest → FrameKind
 kind_of_nest block = frame.Block
 kind_of_nest loop = frame.Loop
 kind_of_nest try_table = frame.TryTable
 
--- The frames that replace the innermost frame after a role, or None if it does not allow the role.
+-- What replaces the innermost frame after a role; None if it does not allow the role.
 abbrev pub replacement : {A : Type 0} → FrameKind → Role A → Option (List FrameKind)
 replacement kind (plain a) = Some (kind ∷ [])
 replacement kind (opens n a) = Some (kind ∷ kind_of_nest n ∷ [])
@@ -39,18 +36,16 @@ abbrev pub frames_after_in : {A : Type 0} → FrameKind → List FrameKind → R
 frames_after_in kind [] role = replacement kind role
 frames_after_in kind (next ∷ inside) role = option_map (λ frames. kind ∷ frames) (frames_after_in next inside role)
 
--- The frames after a role, or None if no frame is open or the innermost frame does not allow the
--- role.
+-- The frames after a role; None if no frame is open or the innermost does not allow it.
 abbrev pub frames_after : {A : Type 0} → List FrameKind → Role A → Option (List FrameKind)
 frames_after [] role = None
 frames_after (kind ∷ inside) role = frames_after_in kind inside role
 
--- The frames after several roles in order, or None if one of them is not allowed.
+-- The frames after several roles; None if one is not allowed.
 abbrev pub frames_along : {A : Type 0} → List FrameKind → List (Role A) → Option (List FrameKind)
 frames_along frames [] = Some frames
 frames_along frames (role ∷ roles) = option_and_then (λ next. frames_along next roles) (frames_after frames role)
 
--- The innermost of one frame and those inside it.
 abbrev pub innermost_in : FrameKind → List FrameKind → FrameKind
 innermost_in kind [] = kind
 innermost_in kind (next ∷ inside) = innermost_in next inside
@@ -60,7 +55,6 @@ abbrev pub innermost : List FrameKind → Option FrameKind
 innermost [] = None
 innermost (kind ∷ inside) = Some (innermost_in kind inside)
 
--- One frame and those inside it, without the innermost.
 abbrev pub without_innermost_in : FrameKind → List FrameKind → List FrameKind
 without_innermost_in kind [] = []
 without_innermost_in kind (next ∷ inside) = kind ∷ without_innermost_in next inside

@@ -1,8 +1,6 @@
 -- How far a list of roles has come in a tree: the complete instructions, and the path down to the
--- open body.
--- WebAssembly Core Specification 3.0: Structure, Instructions, Control Instructions and
--- Expressions; Appendix, Validation Algorithm, control frames.
--- The legacy exception handling proposal: try whose body or handlers are open.
+-- open body. Specification: Structure, Control Instructions and Expressions; Appendix, Validation
+-- Algorithm. Proposal legacy exception handling.
 use Rattle.std.specs.Prelude.{◌≡◌, ℕ, List, [], ◌∷◌, ◌++◌}
 use Rattle.wasm_grammar.specs.declared.frame_kind.FrameKind.{FrameKind}
 use Rattle.wasm_grammar.specs.declared.frame_kind.FrameKind.TheVariants as frame
@@ -19,7 +17,7 @@ abbrev pub walk_parts : {A : Type 0} → Parts A → List (Role A)
 walk_parts [] = []
 walk_parts (part ∷ parts) = turns_catch part.0 ∷ (walk_instructions part.1 ++ walk_parts parts)
 
--- An instruction up to its open body: which construct it is, and its complete bodies.
+-- An instruction up to its open body: the construct, and its complete bodies.
 pub data Head (A : Type 0) : Type 0 where
   of_nest : Nest → A → Head A
   of_if : A → Head A
@@ -28,7 +26,6 @@ pub data Head (A : Type 0) : Type 0 where
   of_catch : A → Instructions A → Parts A → ℕ → Head A
   of_catch_all : A → Instructions A → Parts A → Head A
 
--- The kind of the frame of the open body.
 abbrev pub kind_of_head : {A : Type 0} → Head A → FrameKind
 kind_of_head (of_nest n a) = kind_of_nest n
 kind_of_head (of_if a) = frame.If
@@ -37,7 +34,6 @@ kind_of_head (of_try a) = frame.LegacyTry
 kind_of_head (of_catch a body parts tag) = frame.LegacyCatch
 kind_of_head (of_catch_all a body parts) = frame.LegacyCatchAll
 
--- The roles before the open body.
 abbrev pub walk_head : {A : Type 0} → Head A → List (Role A)
 walk_head (of_nest n a) = opens n a ∷ []
 walk_head (of_if a) = opens_if a ∷ []
@@ -54,8 +50,8 @@ OpenPathIn {A} roles (kind ∷ frames) =
     (whole : Instructions A) × (head : Head A) × (inner : List (Role A)) × (kind_of_head head ≡ kind)
     × (roles ≡ walk_instructions whole ++ (walk_head head ++ inner)) × OpenPathIn inner frames
 
--- The roles lead into an expression in which these frames are open. The outermost frame is the
--- frame of the expression; if no frame is open, the expression is complete.
+-- The roles lead into an expression in which these frames are open, the outermost first; into a
+-- complete one if none is open.
 abbrev pub OpenPath : {A : Type 0} → List (Role A) → List FrameKind → Type 0
 OpenPath roles [] = IsWalk roles
 OpenPath roles (kind ∷ frames) = (kind ≡ frame.Block) × OpenPathIn roles frames

@@ -1,15 +1,13 @@
--- The roles of operators in the structure of an expression.
--- WebAssembly Core Specification 3.0: Structure, Instructions, Control Instructions; Binary Format,
--- Instructions, Control Instructions.
--- The legacy exception handling proposal: try, catch, catch_all and delegate.
+-- Specification: Binary Format and Structure, Control Instructions. Proposal legacy exception
+-- handling.
 use Rattle.std.specs.Prelude.{ℕ}
 
 -- A construct with one body, which an `end` closes.
 pub data Nest : Type 0 where
   block loop try_table : Nest
 
--- The role of an operator, with what else the operator carries as an A. A `catch` carries the index
--- of a tag, and a `delegate` a depth.
+-- The role of an operator, with what it carries as an A. A `catch` has the index of a tag, and a
+-- `delegate` a depth.
 pub data Role (A : Type 0) : Type 0 where
   plain : A → Role A
   opens : Nest → A → Role A

@@ -1,12 +1,11 @@
--- Instructions and expressions as trees, and the order of their operators.
--- WebAssembly Core Specification 3.0: Structure, Instructions, Control Instructions and
--- Expressions; Binary Format, Instructions, Control Instructions and Expressions.
--- The legacy exception handling proposal: try with its handlers, and try with delegate.
+-- Specification: Binary Format and Structure, Control Instructions and Expressions. Proposal legacy
+-- exception handling.
 use Rattle.std.specs.Prelude.{ℕ, List, [], ◌∷◌, ◌++◌}
 use Rattle.wasm_grammar.specs.Role.{Nest, Role, plain, opens, opens_if, opens_try, turns_else, turns_catch, turns_catch_all, delegates, ends}
 
 mutual
-  -- An instruction, with the instructions inside it. A is what its operator carries.
+  -- An instruction: a plain operator; a block, loop or try_table; an if with one or two bodies; a
+  -- try with handlers or a depth. A is what its operator carries.
   pub data Instruction (A : Type 0) : Type 0 where
     single : A → Instruction A
     nest : Nest → A → Instructions A → Instruction A
@@ -15,13 +14,11 @@ mutual
     try_handle : A → Instructions A → Handlers A → Instruction A
     try_delegate : A → Instructions A → ℕ → Instruction A
 
-  -- Instructions in order.
   pub data Instructions (A : Type 0) : Type 0 where
     nil : Instructions A
     cons : Instruction A → Instructions A → Instructions A
 
-  -- What follows the body of a try: bodies for one tag each, and then at most one body for all
-  -- tags.
+  -- What follows the body of a try: bodies for one tag each, then at most one for all tags.
   pub data Handlers (A : Type 0) : Type 0 where
     no_more : Handlers A
     for_all : Instructions A → Handlers A

@@ -1,4 +1,3 @@
--- The fault of lanes determines its error.
 use Rattle.std.proofs.Common.{sym, ◌∙◌}
 use Rattle.wasm_imm_control.specs.below.Fault.{DeterminesRefusal}
 use Rattle.wasm_imm.specs.Vectors.{LanesFault}

@@ -1,4 +1,3 @@
--- The fault of a memory argument determines its error.
 use Rattle.std.proofs.Common.{ℕ, inl, inr, true, sym, ◌∙◌}
 use Rattle.wasm_imm_control.specs.below.bytes.features.WasmFeatures.{WasmFeatures}
 use Rattle.wasm_imm_control.specs.below.bytes.message.Message.{Message}

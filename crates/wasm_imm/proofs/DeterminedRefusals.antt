@@ -1,4 +1,3 @@
--- The fault of an index, an ordering or a fence determines its error.
 use Rattle.std.proofs.Common.{◌≢◌, ℕ, false}
 use Rattle.wasm_imm_control.specs.below.bytes.features.WasmFeatures.{WasmFeatures}
 use Rattle.wasm_imm_control.specs.below.bytes.message.Message.TheVariants as message

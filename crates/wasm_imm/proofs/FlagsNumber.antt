@@ -23,13 +23,11 @@ use Rattle.wasm_imm.specs.declared.ordering.Ordering.TheVariants.{AcqRel, SeqCst
 use Rattle.wasm_imm.specs.MemoryArgument.{ordering_byte, rmw_byte, IsOrderingByte, EncodesTarget, EncodesOrdering, EncodesOffset, EncodesAfterFlags, EncodesMemArg}
 use Rattle.wasm_imm.specs.FlagsNumber.{NamesBoth, OrdersPlain, Announces, IsReserved, IsTarget, IsOrdering}
 
--- what a target adds to the flags number
 pub part_of_target : (f : WasmFeatures) (part : ℕ) (text : List ℕ) (t : MemArgTarget) → EncodesTarget f part text t → (part ≡ 0) ⊎ (part ≡ 32) ⊎ (part ≡ 64)
 part_of_target f part text (target.Array i) s = inr (inl s.1)
 part_of_target f part text (target.Memory i) (inl s) = inr (inr s.1)
 part_of_target f part text (target.Memory i) (inr s) = inl s.0
 
--- what an ordering adds to it
 pub part_of_ordering : (f : WasmFeatures) (k : MemArgKind) (part : ℕ) (text : List ℕ) (o : Option MemArgOrdering) → EncodesOrdering f k part text o →
     (part ≡ 0) ⊎ (part ≡ 16)
 part_of_ordering f k part text None s = inl s.0
@@ -47,7 +45,6 @@ ordering_is : (f : WasmFeatures) (k : MemArgKind) (flags align po j : ℕ) (text
 ordering_is f k flags align po j text None (part, nil) sum al = (λ h. absurd (omega (arith, h.1)), nil)
 ordering_is f k flags align po j text (Some o) (has, part, byte, e, is) sum al = ((has, omega arith), byte, e, is)
 
--- the sum of the parts, each at most once
 halves : (part : ℕ) → (part ≡ 0) ⊎ (part ≡ 32) ⊎ (part ≡ 64) → (j : ℕ) × (part ≡ 32 * j) × (j ≤ 2)
 halves part (inl e) = (0, omega arith, omega arith)
 halves part (inr (inl e)) = (1, omega arith, omega arith)
@@ -64,11 +61,9 @@ sixteens part (inr e) = (1, omega arith)
 low : (flags align po j : ℕ) → flags ≡ align + po + 32 * j → align ≤ 15 → (i : ℕ) × (po ≡ 16 * i) → align ≡ flags % 16
 low flags align po j sum al (i, e) = omega arith
 
--- the memory argument with these parts
 abbrev pub argument_of : ℕ → ℕ → ℕ → MemArgTarget → Option MemArgOrdering → MemArg
 argument_of align max offset t o = record { align = align; max_align = max; offset = offset; target = t; ordering = o }
 
--- what follows the flags number, in the order in which it is read
 abbrev pub Last : WasmFeatures → ℕ → ℕ → MemArgTarget → Option MemArgOrdering → List ℕ → MemArg → Type 0
 Last f max flags t o text m = EncodesOffset f text m.offset × (m ≡ argument_of (flags % 16) max m.offset t o)
 
@@ -152,7 +147,6 @@ last_prefix_code f max flags t o a b x y m n p q e =
     let h = offset_prefix_code f a b x y m.offset n.offset p.0 q.0 e in
     (h.0, p.1 ∙ ap (λ z. argument_of (flags % 16) max z t o) h.1 ∙ sym q.1)
 
--- the encodings of memory arguments are a prefix code
 pub memarg_prefix_code : (f : WasmFeatures) (k : MemArgKind) (max : ℕ) → PrefixCode (EncodesMemArg f k max)
 memarg_prefix_code f k max =
     then_prefix_code (EncodesUnsigned 32) (EncodesAfterFlags f k max) (number_prefix_code 32)
@@ -161,8 +155,6 @@ memarg_prefix_code f k max =
     stages : (flags : ℕ) → PrefixCode (Stages f k max flags)
     stages flags = then_prefix_code (IsTarget f flags) (λ t. Then (IsOrdering f k flags) (Last f max flags t)) (target_prefix_code f flags)
         (λ t. then_prefix_code (IsOrdering f k flags) (Last f max flags t) (ordering_prefix_code f k flags) (last_prefix_code f max flags t))
-
----- flags numbers that cannot start a memory argument
 
 abbrev pub NotAfterFlags : WasmFeatures → MemArgKind → ℕ → ℕ → Type 0
 NotAfterFlags f k max flags = (text : List ℕ) (m : MemArg) → ¬ EncodesAfterFlags f k max flags text m
@@ -211,8 +203,6 @@ reserved_ruled_out f k max flags h text m b =
     by_case pt po align j sum al pl is jl hm ha ho (inr (inl r)) = r.1 (hm (omega (arith, r.0)))
     by_case pt po align j sum al pl is jl hm ha ho (inr (inr (inl r))) = r.1 (ha (omega (arith, r.0)))
     by_case pt po align j sum al pl is jl hm ha ho (inr (inr (inr r))) = r.1 (ho (λ e. absurd (omega (arith, r.0))))
-
----- flags numbers that can start one
 
 no_bit : (f feature : WasmFeatures) (bit : Type 0) → ¬ (bit × ¬ HasFeature feature f) → ¬ (HasFeature feature f × bit) → ¬ bit
 no_bit f feature bit meant unset h = meant (h, λ has. unset (has, h))
@@ -270,8 +260,6 @@ after_ok f k max flags index byte after t o offset ht ho hb nr nb =
       offset = hb;
     }
 
----- the results of a read
-
 module _ (f : WasmFeatures) (k : MemArgKind) (max flags : ℕ) (old mid : Reader) (flagged : Reads (EncodesUnsigned 32) (Ok flags) old mid) where
   pub ruled_out : (e : Error) (now new : Reader) (text : List ℕ) (position : ℕ) → Takes old now text → position ≡ old.position →
       new ≡ at_position now position → e.offset ≡ now.start + position → IsReadFault e.message → NotAfterFlags f k max flags →
@@ -327,8 +315,6 @@ module _ (f : WasmFeatures) (k : MemArgKind) (max flags : ℕ) (old mid : Reader
     takes_then old mid new flagged.0 (rt.0 ++ (ro.0 ++ rb.0)) flagged.2
         (takes_then mid now new rt.0 (ro.0 ++ rb.0) rt.2 (takes_then now last new ro.0 rb.0 ro.2 rb.2)),
   )
-
--- ---- the short form: nothing is announced
 
 none_announced : (f feature : WasmFeatures) (flags bit : ℕ) → flags / bit % 2 ≡ 0 → ¬ Announces f feature flags bit
 none_announced f feature flags bit zero h = absurd (omega (arith, h.1))

@@ -1,5 +1,3 @@
--- No encoding of immediates is a proper prefix of another of the same kinds, and each encoding has
--- one list of immediates.
 use Rattle.std.proofs.Common.{◌≡◌, ℕ, List, [], ◌∷◌, ◌++◌, map, refl, sym, ap, subst, ◌∙◌, append_assoc}
 use Rattle.wasm_imm_control.specs.below.bytes.features.WasmFeatures.{WasmFeatures}
 use Rattle.wasm_imm_control.specs.below.Features.{multi_memory, call_indirect_overlong}

@@ -100,7 +100,6 @@ written (x0 ∷ x1 ∷ x2 ∷ x3 ∷ x4 ∷ x5 ∷ x6 ∷ x7 ∷ x8 ∷ x9 ∷ x
 written (x0 ∷ x1 ∷ x2 ∷ x3 ∷ x4 ∷ x5 ∷ x6 ∷ x7 ∷ x8 ∷ x9 ∷ x10 ∷ x11 ∷ x12 ∷ x13 ∷ x14 ∷ x15 ∷ []) l = refl
 written (x0 ∷ x1 ∷ x2 ∷ x3 ∷ x4 ∷ x5 ∷ x6 ∷ x7 ∷ x8 ∷ x9 ∷ x10 ∷ x11 ∷ x12 ∷ x13 ∷ x14 ∷ x15 ∷ x16 ∷ bs) l = absurd (omega arith)
 
--- the bytes of the number of sixteen bytes
 pub bytes_restored : (bs : List ℕ) → length bs ≡ 16 → All (λ b. b < 256) bs → to_le_bytes w128 (from_le_bytes w128 bs) ≡ bs
 bytes_restored bs l all =
     let small : (i : ℕ) → i < 16 → get_or bs i 0 < 256 = λ i h. All-get_or (λ b. b < 256) bs i 0 (omega arith) all in

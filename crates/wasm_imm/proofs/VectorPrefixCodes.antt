@@ -1,10 +1,8 @@
--- The encodings of sixteen bytes and of vectors are prefix codes.
 use Rattle.std.proofs.Common.{◌≡◌, ℕ, List, [], ◌∷◌, ◌++◌, length, refl, sym, ap, ◌∙◌, arith}
 use Rattle.wasm_imm.specs.declared.constants.V128.{V128}
 use Rattle.wasm_imm_control.specs.below.Sequence.{PrefixCode}
 use Rattle.wasm_imm.specs.Vectors.{EncodesSixteen, EncodesVector}
 
--- two prefixes of one list that have the same length are equal
 same_length : (a b x y : List ℕ) → length a ≡ length b → a ++ x ≡ b ++ y → a ≡ b
 same_length [] [] x y l e = refl
 same_length [] (d ∷ b) x y l e = absurd (omega arith)

@@ -1,4 +1,3 @@
--- The parts of the flags number of a memory argument.
 use Rattle.std.specs.Prelude.{◌≡◌, ℕ, ◌/◌, ◌%◌, ◌≤◌, ◌⊎◌, List, [], ◌∷◌, Option, Some, None}
 use Rattle.wasm_imm_control.specs.below.bytes.features.WasmFeatures.{WasmFeatures}
 use Rattle.wasm_imm_control.specs.below.Features.{HasFeature, multi_memory, acquire_release_atomics, multibyte_array_access}
@@ -26,13 +25,12 @@ NamesBoth f flags = Announces f multibyte_array_access flags 32 × (flags / 64 %
 abbrev pub OrdersPlain : WasmFeatures → MemArgKind → ℕ → Type 0
 OrdersPlain f k flags = (k ≡ kind.Plain) × Announces f acquire_release_atomics flags 16
 
--- The announced index, as the code looks for it: first of a memory, then of an array type. If none
--- is announced, the target is memory 0.
+-- The announced index, as the code looks for it: of a memory, else of an array type; otherwise, the
+-- target is memory 0.
 abbrev pub IsTarget : WasmFeatures → ℕ → List ℕ → MemArgTarget → Type 0
 IsTarget f flags text (target.Array i) = ¬ Announces f multi_memory flags 64 × Announces f multibyte_array_access flags 32 × EncodesUnsigned 32 text i
 IsTarget f flags text (target.Memory i) = (Announces f multi_memory flags 64 × EncodesUnsigned 32 text i) ⊎ (¬ Announces f multi_memory flags 64 × ¬ Announces f multibyte_array_access flags 32 × (text ≡ []) × (i ≡ 0))
 
--- The ordering, if the flags number announces one.
 abbrev pub IsOrdering : WasmFeatures → MemArgKind → ℕ → List ℕ → Option MemArgOrdering → Type 0
 IsOrdering f k flags text None = ¬ Announces f acquire_release_atomics flags 16 × (text ≡ [])
 IsOrdering f k flags text (Some o) = Announces f acquire_release_atomics flags 16 × (byte : ℕ) × (text ≡ byte ∷ []) × IsOrderingByte k byte o

@@ -1,5 +1,4 @@
--- Immediates with their values, and their encodings in sequence.
--- WebAssembly Core Specification 3.0, Binary Format, Instructions.
+-- Specification: Binary Format, Instructions.
 use Rattle.std.specs.Prelude.{◌≡◌, ℕ, ℤ, List, [], ◌∷◌, ◌++◌}
 use Rattle.std.specs.Int.{w32, w64}
 use Rattle.wasm_imm_control.specs.below.bytes.features.WasmFeatures.{WasmFeatures}
@@ -25,8 +24,8 @@ use Rattle.wasm_imm.specs.Orderings.{EncodesOrderingByte, EncodesFence}
 use Rattle.wasm_imm.specs.Vectors.{EncodesSixteen, EncodesVector}
 use Rattle.wasm_imm.specs.MemoryArgument.{EncodesMemArg}
 
--- An immediate with its value. A memory argument also has the kind of its operator and the
--- operator's natural alignment.
+-- An immediate with its value. A memory argument also has the kind of its operator and the natural
+-- alignment.
 pub data Immediate : Type 0 where
   unsigned_32 : ℕ → Immediate
   signed_32 : ℤ → Immediate

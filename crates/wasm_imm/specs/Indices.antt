@@ -1,5 +1,4 @@
--- Indices of memories and tables, which depend on a feature, and their errors.
--- WebAssembly Core Specification 3.0, Binary Format, Instructions, Memory and Table Instructions.
+-- Specification: Binary Format, Memory and Table Instructions.
 use Rattle.std.specs.Prelude.{◌≡◌, ℕ, ◌⊎◌, List, [], ◌∷◌}
 use Rattle.wasm_imm_control.specs.below.bytes.features.WasmFeatures.{WasmFeatures}
 use Rattle.wasm_imm_control.specs.below.Features.{HasFeature, multi_memory, call_indirect_overlong}
@@ -9,20 +8,21 @@ use Rattle.wasm_imm_control.specs.below.bytes.message.Message.{Message}
 use Rattle.wasm_imm_control.specs.below.bytes.message.Message.TheVariants as message
 use Rattle.wasm_imm_control.specs.below.PartFaults.{ZeroFault}
 
--- An index is a number of 32 bits with this feature, and the byte 0 without it.
+-- A number of 32 bits with this feature, and the byte 0 without it.
 abbrev pub EncodesIndex : WasmFeatures → WasmFeatures → List ℕ → ℕ → Type 0
 EncodesIndex feature f text n = (HasFeature feature f × EncodesUnsigned 32 text n) ⊎ (¬ HasFeature feature f × (text ≡ 0x00 ∷ []) × (n ≡ 0))
 
--- The memory index of `memory.size` and `memory.grow`. Proposal multi-memory.
+-- The memory index of `memory.size` and `memory.grow`: a u32 with multi_memory, the byte 0 without
+-- it. Proposal multi-memory.
 abbrev pub EncodesMemoryIndex : WasmFeatures → List ℕ → ℕ → Type 0
 EncodesMemoryIndex = EncodesIndex multi_memory
 
--- The table index of `call_indirect`.
+-- The table index of `call_indirect`: a u32 with call_indirect_overlong, the byte 0 without it.
 abbrev pub EncodesTableIndex : WasmFeatures → List ℕ → ℕ → Type 0
 EncodesTableIndex = EncodesIndex call_indirect_overlong
 
--- The error of an index. With this feature it is the error of its number. Without it, the data
--- ends, or `ZeroByteExpected` is at a byte that is not 0.
+-- The error of an index: of its number with this feature; otherwise the data ends, or the byte is
+-- not 0.
 abbrev pub IndexFault : WasmFeatures → WasmFeatures → Message → Reader → ℕ → Type 0
 IndexFault feature f m r offset = (HasFeature feature f × U32Fault m r offset) ⊎ (¬ HasFeature feature f × ZeroFault message.ZeroByteExpected (offset_of r) m r offset)
 

@@ -1,7 +1,5 @@
--- Memory arguments: the flags number, the index and the ordering that it announces, and the offset.
--- WebAssembly Core Specification 3.0, Binary Format, Instructions, Memory Instructions. Bit 6
--- belongs to the proposal multi-memory, bit 5 to multibyte array access, bit 4 to acquire-release
--- atomics.
+-- Specification: Binary Format, Memory Instructions. Bit 6 belongs to the proposal multi-memory,
+-- bit 5 to multibyte array access, bit 4 to acquire-release atomics.
 use Rattle.std.specs.Prelude.{◌≡◌, ℕ, ◌+◌, ◌≤◌, ◌⊎◌, List, [], ◌∷◌, ◌++◌, Option, Some, None}
 use Rattle.wasm_imm_control.specs.below.bytes.features.WasmFeatures.{WasmFeatures}
 use Rattle.wasm_imm_control.specs.below.Features.{HasFeature, multi_memory, memory64, acquire_release_atomics, multibyte_array_access}
@@ -22,35 +20,33 @@ abbrev pub ordering_byte : Ordering → ℕ
 ordering_byte SeqCst = 0x00
 ordering_byte AcqRel = 0x01
 
--- The byte of the two orderings of a read-modify-write. The low four bits are the ordering of the
--- read, the high four bits the ordering of the write.
+-- The low four bits are for the read, the high four for the write.
 abbrev pub rmw_byte : Ordering → ℕ
 rmw_byte SeqCst = 0x00
 rmw_byte AcqRel = 0x11
 
--- The byte of an ordering in an argument of this kind. An argument of kind `Plain` has no ordering.
+-- The byte of an ordering in an argument of this kind.
 abbrev pub IsOrderingByte : MemArgKind → ℕ → MemArgOrdering → Type 0
 IsOrderingByte k byte (ordering.Op o) = (k ≡ kind.Op) × (byte ≡ ordering_byte o)
 IsOrderingByte k byte (ordering.Rmw o) = (k ≡ kind.Rmw) × (byte ≡ rmw_byte o)
 
--- What a target adds to the flags number, and the encoding of its index. An array always has the
--- index of its type. A memory has its index if the number announces it, and otherwise is memory 0.
+-- What a target adds to the flags number, and the encoding of its index. A memory without an index
+-- is memory 0.
 abbrev pub EncodesTarget : WasmFeatures → ℕ → List ℕ → MemArgTarget → Type 0
 EncodesTarget f part text (target.Array i) = HasFeature multibyte_array_access f × (part ≡ 32) × EncodesUnsigned 32 text i
 EncodesTarget f part text (target.Memory i) = (HasFeature multi_memory f × (part ≡ 64) × EncodesUnsigned 32 text i) ⊎ ((part ≡ 0) × (text ≡ []) × (i ≡ 0))
 
--- What an ordering adds to the flags number, and the byte of the ordering.
+-- What an ordering adds to the flags number, and its byte.
 abbrev pub EncodesOrdering : WasmFeatures → MemArgKind → ℕ → List ℕ → Option MemArgOrdering → Type 0
 EncodesOrdering f k part text None = (part ≡ 0) × (text ≡ [])
 EncodesOrdering f k part text (Some o) = HasFeature acquire_release_atomics f × (part ≡ 16) × (byte : ℕ) × (text ≡ byte ∷ []) × IsOrderingByte k byte o
 
--- An offset is a number of 64 bits with memory64, and of 32 bits without it.
+-- A number of 64 bits with memory64, and of 32 bits without it.
 abbrev pub EncodesOffset : WasmFeatures → List ℕ → ℕ → Type 0
 EncodesOffset f text n = (HasFeature memory64 f × EncodesUnsigned 64 text n) ⊎ (¬ HasFeature memory64 f × EncodesUnsigned 32 text n)
 
--- The part of a memory argument after the flags number: the index, the ordering and the offset. The
--- flags number is the sum of the alignment, at most 15, and of what the ordering and the target
--- add.
+-- What follows the flags number, which is the sum of the alignment, at most 15, and of what
+-- ordering and target add.
 pub record EncodesAfterFlags (f : WasmFeatures) (k : MemArgKind) (max : ℕ) (flags : ℕ) (text : List ℕ) (m : MemArg) : Type 0 where
   pub of_ordering : ℕ
   pub of_target : ℕ
@@ -65,8 +61,8 @@ pub record EncodesAfterFlags (f : WasmFeatures) (k : MemArgKind) (max : ℕ) (fl
   pub ordering : EncodesOrdering f k of_ordering byte m.ordering
   pub offset : EncodesOffset f after m.offset
 
--- A memory argument of an operator of this kind. `max` is the operator's natural alignment, as the
--- exponent of a power of two.
+-- A memory argument of an operator of this kind, with the natural alignment `max`, an exponent of
+-- two.
 --   memarg ::= n:u32 m:u64 ⇒ (0, {align n, offset m}), if n < 2^6  |  n:u32 x:memidx m:u64 ⇒ (x, {align n - 2^6, offset m}), if 2^6 ≤ n < 2^7
 abbrev pub EncodesMemArg : WasmFeatures → MemArgKind → ℕ → List ℕ → MemArg → Type 0
 EncodesMemArg f k max = Then (EncodesUnsigned 32) (EncodesAfterFlags f k max)

@@ -1,6 +1,5 @@
--- Errors of memory arguments: errors of the parts and of the checks of the flags number, in the
--- order of the checks. A check that fails has the offset of the flags number.
--- WebAssembly Core Specification 3.0, Binary Format, Instructions, Memory Instructions.
+-- Errors of memory arguments, in the order of the checks. Specification: Binary Format, Memory
+-- Instructions.
 use Rattle.std.specs.Prelude.{◌≡◌, ℕ, ◌⊎◌, true}
 use Rattle.wasm_imm_control.specs.below.bytes.features.WasmFeatures.{WasmFeatures}
 use Rattle.wasm_imm_control.specs.below.bytes.message.Message.{Message}
@@ -15,49 +14,41 @@ use Rattle.wasm_imm.specs.MemoryArgument.{IsOrderingByte}
 use Rattle.wasm_imm.specs.FlagsNumber.{Announces, NamesBoth, OrdersPlain, IsReserved, IsTarget, IsOrdering}
 use Rattle.wasm_imm_control.specs.below.PartFaults.{CheckedByteFault}
 
--- The error of a check before more is read. If `IsWrong` holds, the error is `refusal` at the
--- offset `place`; otherwise it is an error of what is read later.
+-- The error of a check: `refusal` at `place` if `IsWrong` holds, otherwise an error of what is read
+-- later.
 abbrev pub CheckFault : Type 0 → Message → ℕ → (Message → Reader → ℕ → Type 0) → Message → Reader → ℕ → Type 0
 CheckFault IsWrong refusal place Later m r offset = (IsWrong × (m ≡ refusal) × (offset ≡ place)) ⊎ (¬ IsWrong × Later m r offset)
 
--- The flags number announces an index, of a memory or of an array type.
 abbrev pub AnnouncesIndex : WasmFeatures → ℕ → Type 0
 AnnouncesIndex f flags = Announces f multi_memory flags 64 ⊎ Announces f multibyte_array_access flags 32
 
--- The error of an announced index is the error of its number.
 abbrev pub TargetFault : WasmFeatures → ℕ → Message → Reader → ℕ → Type 0
 TargetFault f flags m r offset = AnnouncesIndex f flags × U32Fault m r offset
 
--- The byte is not an ordering in an argument of this kind.
 abbrev pub IsNoOrdering : MemArgKind → ℕ → Type 0
 IsNoOrdering k byte = (o : MemArgOrdering) → ¬ IsOrderingByte k byte o
 
--- The error of an announced ordering, at the offset of its byte: the data ends, or the byte is not
--- an ordering.
+-- The data ends at the announced ordering, or the byte is not an ordering.
 abbrev pub OrderingFault : WasmFeatures → MemArgKind → ℕ → Message → Reader → ℕ → Type 0
 OrderingFault f k flags m r offset = Announces f acquire_release_atomics flags 16 × CheckedByteFault (IsNoOrdering k) (λ byte. message.InvalidOrdering byte true) (offset_of r) m r offset
 
--- The error of an offset is the error of its number, of 64 bits with memory64 and of 32 bits
--- without it.
 abbrev pub OffsetFault : WasmFeatures → Message → Reader → ℕ → Type 0
 OffsetFault f m r offset = (HasFeature memory64 f × U64Fault m r offset) ⊎ (¬ HasFeature memory64 f × U32Fault m r offset)
 
--- The error after the ordering: `ReservedFlags` if a bit of the flags number has no meaning, and
--- otherwise the error of the offset.
+-- `ReservedFlags` if a bit of the flags number has no meaning, otherwise the error of the offset.
 abbrev pub FaultAfterOrdering : WasmFeatures → ℕ → ℕ → Message → Reader → ℕ → Type 0
 FaultAfterOrdering f flags start = CheckFault (IsReserved f flags) message.ReservedFlags start (OffsetFault f)
 
--- The error after the index: `OrderingOnPlain` if an argument of kind `Plain` announces an
--- ordering, and otherwise the error of the ordering or of what follows it.
+-- `OrderingOnPlain` if a `Plain` argument announces an ordering, otherwise the error of the
+-- ordering or of what follows.
 abbrev pub FaultAfterTarget : WasmFeatures → MemArgKind → ℕ → ℕ → Message → Reader → ℕ → Type 0
 FaultAfterTarget f k flags start = CheckFault (OrdersPlain f k flags) message.OrderingOnPlain start (ThenFault (IsOrdering f k flags) (OrderingFault f k flags) (λ o. FaultAfterOrdering f flags start))
 
--- The error after a flags number that starts at the offset `start`: `MemoryAndArray` if it has both
--- bits, and otherwise the error of the index or of what follows it.
+-- `MemoryAndArray` if the flags number, at `start`, has both bits, otherwise the error of the index
+-- or of what follows.
 abbrev pub FlagsFault : WasmFeatures → MemArgKind → ℕ → ℕ → Message → Reader → ℕ → Type 0
 FlagsFault f k flags start = CheckFault (NamesBoth f flags) message.MemoryAndArray start (ThenFault (IsTarget f flags) (TargetFault f flags) (λ t. FaultAfterTarget f k flags start))
 
--- The error of a memory argument of an operator of this kind: the error of the flags number, or of
--- what follows it.
+-- The error of the flags number, or of what follows.
 abbrev pub MemArgFault : WasmFeatures → MemArgKind → Message → Reader → ℕ → Type 0
 MemArgFault f k m r offset = ThenFault (EncodesUnsigned 32) U32Fault (λ flags. FlagsFault f k flags (offset_of r)) m r offset

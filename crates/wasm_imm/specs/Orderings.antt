@@ -21,13 +21,11 @@ EncodesOrderingByte text o = text ≡ ordering_byte o ∷ []
 abbrev pub EncodesFence : WasmFeatures → List ℕ → Ordering → Type 0
 EncodesFence f text o = (HasFeature acquire_release_atomics f × EncodesOrderingByte text o) ⊎ (¬ HasFeature acquire_release_atomics f × (text ≡ 0x00 ∷ []) × (o ≡ SeqCst))
 
--- The error of an ordering alone, at the offset of its byte: the data ends, or the byte is not an
--- ordering.
+-- The data ends, or the byte is not an ordering.
 abbrev pub OrderingByteFault : Message → Reader → ℕ → Type 0
 OrderingByteFault m r offset = CheckedByteFault (λ byte. (o : Ordering) → byte ≢ ordering_byte o) (λ byte. message.InvalidOrdering byte false) (offset_of r) m r offset
 
--- The error of the byte of an `atomic.fence` that starts at the offset `start`. With
--- acquire_release_atomics it is the error of an ordering. Without it, a byte other than 0 is
--- `NonzeroAfterFence` at `start`.
+-- The error of the byte of an `atomic.fence` at `start`: with acquire_release_atomics, of an
+-- ordering; otherwise the data ends, or the byte is not 0.
 abbrev pub FenceFault : WasmFeatures → ℕ → Message → Reader → ℕ → Type 0
 FenceFault f start m r offset = (HasFeature acquire_release_atomics f × OrderingByteFault m r offset) ⊎ (¬ HasFeature acquire_release_atomics f × ZeroFault message.NonzeroAfterFence start m r offset)

@@ -1,5 +1,4 @@
--- Vectors and the lanes of a shuffle, and the error of lanes.
--- WebAssembly Core Specification 3.0, Binary Format, Instructions, Vector Instructions.
+-- Specification: Binary Format, Vector Instructions.
 use Rattle.std.specs.Prelude.{◌≡◌, ℕ, List, length, ◌+◌, ◌<◌}
 use Rattle.wasm_imm_control.specs.below.Source.{Reader, end_of, offset_of}
 use Rattle.wasm_imm.specs.declared.constants.V128.{V128}
@@ -14,7 +13,6 @@ EncodesSixteen text bytes = (text ≡ bytes) × (length bytes ≡ 16)
 abbrev pub EncodesVector : List ℕ → V128 → Type 0
 EncodesVector text v = EncodesSixteen text v.0
 
--- The error of the lanes of a shuffle: fewer than sixteen bytes are left, and the offset is the end
--- of the data.
+-- Fewer than sixteen bytes are left: `EndOfData` at the end of the data.
 abbrev pub LanesFault : Message → Reader → ℕ → Type 0
 LanesFault m r offset = (m ≡ message.EndOfData) × (offset ≡ end_of r) × (end_of r < offset_of r + 16)

@@ -1,7 +1,3 @@
-//! Laws of constants and lanes, each the contract of a function that does nothing.
-//!
-//! `PrefixCode` says that no encoding is a proper prefix of another, and that each encoding has one
-//! value. `DeterminesRefusal` says that a fault determines the message and the offset of an error.
 ghost use Rattle.std.specs.Prelude.{◌≡◌, ◌<◌, ℕ, List, length, All};
 ghost use Rattle.std.specs.Int.{w128, to_le_bytes, from_le_bytes, cast_signed, cast_unsigned};
 ghost use Rattle.wasm_imm_control.specs.below.Fault.{DeterminesRefusal};
@@ -20,18 +16,18 @@ pub fn lane_refusals()
     ensures { DeterminesRefusal LanesFault }
 {}
 
-/// States that converting a number to a vector and back gives the same number.
+/// States that converting a number to a vector and back restores it.
 pub fn number_restored(value: u128)
     ensures { from_le_bytes w128 (to_le_bytes w128 value) ≡ value }
 {}
 
-/// States that converting a signed number to a vector and back gives the same number.
+/// States that converting a signed number to a vector and back restores it.
 pub fn signed_number_restored(value: i128)
     ensures { cast_signed w128 (from_le_bytes w128 (to_le_bytes w128 (cast_unsigned w128 value)))
         ≡ value }
 {}
 
-/// States that converting a vector to a number and back gives the same vector.
+/// States that converting a vector to a number and back restores it.
 pub fn vector_restored()
     ensures { (bytes : List ℕ)
         → length bytes ≡ 16
@@ -39,7 +35,7 @@ pub fn vector_restored()
         → to_le_bytes w128 (from_le_bytes w128 bytes) ≡ bytes }
 {}
 
-/// States that converting a vector to a signed number and back gives the same vector.
+/// States that converting a vector to a signed number and back restores it.
 pub fn vector_restored_signed()
     ensures { (bytes : List ℕ)
         → length bytes ≡ 16

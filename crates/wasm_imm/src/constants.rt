@@ -1,4 +1,3 @@
-//! Floating-point constants and vectors, as their bits.
 ghost use Rattle.std.specs.Prelude.{◌≡◌, ℕ, List, IfErr};
 ghost use Rattle.wasm_imm_control.specs.below.Source.{Reads, IsShort};
 ghost use Rattle.wasm_imm.specs.Vectors.{EncodesVector};
@@ -8,7 +7,7 @@ use crate::lanes::read_sixteen;
 use std::marker::Model;
 use wasm_imm_control::below::{BinaryReader, Result};
 
-/// The bits of a number in the binary32 format of IEEE 754. Every pattern is allowed.
+/// The bits of an IEEE 754 binary32 number. Every pattern is allowed.
 #[derive(Clone, Copy, Debug, PartialEq, Eq, Hash)]
 pub struct Ieee32(u32);
 
@@ -21,14 +20,12 @@ impl Model for Ieee32 {
 }
 
 impl Ieee32 {
-    /// Creates the number from its bits.
     pub fn from_bits(bits: u32) -> Ieee32
         ensures { result ≡ bits }
     {
         Ieee32(bits)
     }
 
-    /// Returns the bits.
     pub fn bits(self) -> u32
         ensures { result ≡ self }
     {
@@ -37,7 +34,7 @@ impl Ieee32 {
     }
 }
 
-/// The bits of a number in the binary64 format of IEEE 754. Every pattern is allowed.
+/// The bits of an IEEE 754 binary64 number. Every pattern is allowed.
 #[derive(Clone, Copy, Debug, PartialEq, Eq, Hash)]
 pub struct Ieee64(u64);
 
@@ -50,14 +47,12 @@ impl Model for Ieee64 {
 }
 
 impl Ieee64 {
-    /// Creates the number from its bits.
     pub fn from_bits(bits: u64) -> Ieee64
         ensures { result ≡ bits }
     {
         Ieee64(bits)
     }
 
-    /// Returns the bits.
     pub fn bits(self) -> u64
         ensures { result ≡ self }
     {
@@ -71,9 +66,8 @@ impl Ieee64 {
 pub struct V128(pub [u8; 16]);
 
 impl V128 {
-    /// Reads the constant of `v128.const`: sixteen bytes, the lowest first. Vector Instructions.
-    ///
-    /// Fails with `EndOfData` at the offset of the first byte.
+    /// Reads the constant of `v128.const`. Specification: Vector Instructions. Fails with
+    /// `EndOfData` at the offset of the first byte.
     #[inline(always)]
     pub fn read(reader: &mut BinaryReader<'_>) -> Result<V128>
         ensures reads { Reads EncodesVector result reader.old reader.new }

@@ -1,4 +1,3 @@
-//! Indices of memories and tables, which depend on a feature.
 ghost use Rattle.std.specs.Prelude.{IfErr};
 ghost use Rattle.wasm_imm_control.specs.below.Source.{Reads};
 ghost use Rattle.wasm_imm.specs.Indices.{EncodesIndex, EncodesMemoryIndex, EncodesTableIndex};
@@ -6,10 +5,10 @@ ghost use Rattle.wasm_imm.specs.Indices.{IndexFault, MemoryIndexFault, TableInde
 
 use wasm_imm_control::below::{BinaryReader, Message, Result, WasmFeatures};
 
-/// Reads the memory index of `memory.size` or `memory.grow`. Memory Instructions.
+/// Reads the memory index of `memory.size` or `memory.grow`. Specification: Memory Instructions.
 ///
-/// With multi_memory, fails like `read_var_u32`. Without it, fails with `EndOfData` at the end of
-/// the data, or with `ZeroByteExpected` at a byte that is not 0.
+/// With multi_memory, fails like `read_var_u32`; without it, with `EndOfData`, or with
+/// `ZeroByteExpected` at a byte that is not 0.
 #[inline(never)]
 pub fn read_memory_index(reader: &mut BinaryReader<'_>) -> Result<u32>
     ensures reads { Reads (EncodesMemoryIndex reader.old.features) result reader.old reader.new }
@@ -19,10 +18,10 @@ pub fn read_memory_index(reader: &mut BinaryReader<'_>) -> Result<u32>
     read_index(reader, WasmFeatures::MULTI_MEMORY)
 }
 
-/// Reads the table index of `call_indirect`. Control Instructions.
+/// Reads the table index of `call_indirect`. Specification: Control Instructions.
 ///
-/// With call_indirect_overlong, fails like `read_var_u32`. Without it, fails with `EndOfData` at
-/// the end of the data, or with `ZeroByteExpected` at a byte that is not 0.
+/// With call_indirect_overlong, fails like `read_var_u32`; without it, with `EndOfData`, or with
+/// `ZeroByteExpected` at a byte that is not 0.
 #[inline(never)]
 pub fn read_table_index(reader: &mut BinaryReader<'_>) -> Result<u32>
     ensures reads { Reads (EncodesTableIndex reader.old.features) result reader.old reader.new }
@@ -32,7 +31,6 @@ pub fn read_table_index(reader: &mut BinaryReader<'_>) -> Result<u32>
     read_index(reader, WasmFeatures::CALL_INDIRECT_OVERLONG)
 }
 
-/// Reads a number of 32 bits with this feature, and the byte 0 without it.
 #[inline(always)]
 fn read_index(reader: &mut BinaryReader<'_>, feature: WasmFeatures) -> Result<u32>
     ensures reads { Reads (EncodesIndex feature reader.old.features) result reader.old reader.new }

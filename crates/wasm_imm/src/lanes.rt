@@ -1,4 +1,3 @@
-//! Lanes of vectors.
 ghost use Rattle.std.specs.Prelude.{IfErr};
 ghost use Rattle.wasm_imm_control.specs.below.Source.{Reads, IsByte, IsEndHere, IsShort};
 ghost use Rattle.wasm_imm.specs.Vectors.{EncodesSixteen};
@@ -6,9 +5,8 @@ ghost use Rattle.wasm_imm.specs.Vectors.{LanesFault};
 
 use wasm_imm_control::below::{BinaryReader, Error, Message, Result};
 
-/// Reads the number of a lane, of any value. Vector Instructions.
-///
-/// Fails with `EndOfData` at the end of the data.
+/// Reads the number of a lane, of any value. Specification: Vector Instructions. Fails with
+/// `EndOfData`.
 #[inline(always)]
 pub fn read_lane(reader: &mut BinaryReader<'_>) -> Result<u8>
     ensures reads { Reads IsByte result reader.old reader.new }
@@ -17,9 +15,8 @@ pub fn read_lane(reader: &mut BinaryReader<'_>) -> Result<u8>
     reader.read_u8()
 }
 
-/// Reads the sixteen lanes of a shuffle. Vector Instructions.
-///
-/// Fails with `EndOfData` at the end of the data if fewer than sixteen bytes are left.
+/// Reads the sixteen lanes of a shuffle. Specification: Vector Instructions. Fails with `EndOfData`
+/// at the end of the data.
 #[inline(never)]
 pub fn read_lanes(reader: &mut BinaryReader<'_>) -> Result<[u8; 16]>
     ensures reads { Reads EncodesSixteen result reader.old reader.new }
@@ -31,9 +28,6 @@ pub fn read_lanes(reader: &mut BinaryReader<'_>) -> Result<[u8; 16]>
     }
 }
 
-/// Reads sixteen bytes.
-///
-/// Fails with `EndOfData` at the offset of the first byte.
 #[inline(always)]
 pub fn read_sixteen(reader: &mut BinaryReader<'_>) -> Result<[u8; 16]>
     ensures reads { Reads EncodesSixteen result reader.old reader.new }

@@ -1,10 +1,9 @@
-//! The immediates of WebAssembly's operators: the values after the opcode of an operator.
+//! The immediates of operators: the values after an opcode.
 //!
 //! A read call returns `Ok` if and only if a prefix of the rest encodes a value (`specs/`). It then
 //! returns the value and advances past that prefix. On `Err`, the reader is unchanged.
 //!
-//! The immediates of control operators are in `wasm_imm_control`, whose names this crate
-//! re-exports. Only calls of that crate allocate. Callers list only this crate.
+//! This crate re-exports the names of `wasm_imm_control`. Only calls of that crate allocate.
 #![tactic(auto)]
 
 pub mod constant_laws;

@@ -1,4 +1,3 @@
-//! Memory arguments.
 ghost use Rattle.std.specs.Prelude.{◌≡◌, ◌+◌, ◌/◌, ◌%◌, ◌<◌, ◌≤◌, ◌↔◌, IsTrue, IfSome, IfNone, IfErr};
 ghost use Rattle.wasm_imm_control.specs.below.Source.{Reads, at_position, offset_of};
 ghost use Rattle.wasm_imm_control.specs.below.Number.{EncodesUnsigned};
@@ -10,20 +9,17 @@ use crate::ordering::Ordering;
 use std::fmt::{self, Debug, Formatter};
 use wasm_imm_control::below::{BinaryReader, Error, Message, Result, WasmFeatures};
 
-/// The memory argument of a load, a store or an atomic access: its alignment, its static offset,
-/// and what it accesses. Memory Instructions.
+/// The memory argument of a load, a store or an atomic access. Specification: Memory Instructions.
 ///
 /// Wide fields come first, so that the size is 24 bytes.
 #[derive(Clone, Copy, PartialEq, Eq)]
 pub struct MemArg {
     /// The static offset in bytes, added to the address.
     pub offset: u64,
-    /// The memory or the array that is accessed.
     pub target: MemArgTarget,
-    /// The alignment of the argument, as the exponent of a power of two, at most 15.
+    /// The alignment of the argument, as an exponent of two, at most 15.
     pub align: u8,
-    /// The operator's natural alignment, as the exponent of a power of two. It is not read from the
-    /// bytes.
+    /// The operator's natural alignment, as an exponent of two. It is not read from the bytes.
     pub max_align: u8,
     /// The memory ordering, if the argument announces one.
     pub ordering: Option<MemArgOrdering>,
@@ -45,7 +41,6 @@ impl Debug for MemArg {
 /// What a memory operator accesses.
 #[derive(Clone, Copy, Debug, PartialEq, Eq, Hash)]
 pub enum MemArgTarget {
-    /// The memory with this index.
     Memory(u32),
     /// An array whose type has this index.
     Array(u32),
@@ -62,14 +57,11 @@ impl Default for MemArgTarget {
 /// The ordering of a memory argument.
 #[derive(Clone, Copy, Debug, PartialEq, Eq, Hash)]
 pub enum MemArgOrdering {
-    /// The ordering of an atomic load or store.
     Op(Ordering),
-    /// The ordering of an atomic read-modify-write.
     Rmw(Ordering),
 }
 
-/// The kind of operator that a memory argument belongs to. It decides which orderings the argument
-/// may have.
+/// The kind of operator, which decides which orderings its memory argument may have.
 #[derive(Clone, Copy, Debug, PartialEq, Eq)]
 pub enum MemArgKind {
     /// Not atomic: no ordering.
@@ -88,8 +80,8 @@ const ARRAY_INDEX: u32 = 32;
 const MEMORY_INDEX: u32 = 64;
 
 impl MemArg {
-    /// Reads the memory argument of an operator of this kind. `max_align` is the operator's natural
-    /// alignment, as the exponent of a power of two. Binary Format, Memory Instructions.
+    /// Reads the memory argument of an operator of this kind. `max_align` is the natural alignment,
+    /// as an exponent of two. Specification: Memory Instructions.
     ///
     /// Fails with the first of these errors that applies:
     ///
@@ -134,8 +126,7 @@ impl MemArg {
     }
 }
 
-/// Reads the rest of a memory argument that starts at `start` and whose flags number announces
-/// something. The call that is not inlined borrows a copy of the reader.
+/// Reads the rest of a memory argument that starts at `start` and announces something.
 #[inline(always)]
 fn read_announced(
     reader: &mut BinaryReader<'_>,
@@ -158,11 +149,8 @@ fn read_announced(
     outcome
 }
 
-/// Reads the rest of a memory argument that starts at `start` and whose flags number announces
-/// something.
-///
-/// The code of `read_rest` occurs twice in the built code. In the copy for a memory index alone,
-/// the compiler drops the checks of everything else.
+/// Reads the same. The code of `read_rest` occurs twice: in the copy for a memory index alone, the
+/// compiler drops all other checks.
 fn read_announced_out_of_line(
     reader: &mut BinaryReader<'_>,
     start: usize,
@@ -187,7 +175,6 @@ fn read_announced_out_of_line(
     }
 }
 
-/// Reads the rest of a memory argument that announces anything else.
 #[inline(never)]
 fn read_other(
     reader: &mut BinaryReader<'_>,
@@ -207,8 +194,7 @@ fn read_other(
     read_rest(reader, start, flags, max_align, kind)
 }
 
-/// Reads the rest of a memory argument after its flags number: the index, the ordering and the
-/// offset.
+/// Reads the index, the ordering and the offset after the flags number.
 #[inline(always)]
 fn read_rest(
     reader: &mut BinaryReader<'_>,
@@ -264,7 +250,6 @@ fn read_rest(
     }
 }
 
-/// Returns whether the flags number has this bit, and the feature that gives it a meaning is on.
 #[inline(always)]
 fn announces(features: WasmFeatures, feature: WasmFeatures, flags: u32, bit: u32) -> bool
     requires { 0 < bit }
@@ -273,13 +258,11 @@ fn announces(features: WasmFeatures, feature: WasmFeatures, flags: u32, bit: u32
     features.contains(feature) && flags / bit % 2 == 1
 }
 
-/// Returns whether the flags number announces a memory index and nothing else.
 #[inline(always)]
 fn names_memory_alone(features: WasmFeatures, flags: u32) -> bool {
     flags / ORDERING == MEMORY_INDEX / ORDERING && features.contains(WasmFeatures::MULTI_MEMORY)
 }
 
-/// Returns whether the flags number has the bits of both an array index and a memory index.
 #[inline(always)]
 fn names_both(features: WasmFeatures, flags: u32) -> bool
     ensures { IsTrue result ↔ NamesBoth features flags }
@@ -292,7 +275,6 @@ fn names_both(features: WasmFeatures, flags: u32) -> bool
     ) && flags / MEMORY_INDEX % 2 == 1
 }
 
-/// Returns whether a memory argument that may have no ordering announces one.
 #[inline(always)]
 fn orders_plain(features: WasmFeatures, kind: MemArgKind, flags: u32) -> bool
     ensures { IsTrue result ↔ OrdersPlain features kind flags }
@@ -306,7 +288,6 @@ fn orders_plain(features: WasmFeatures, kind: MemArgKind, flags: u32) -> bool
         )
 }
 
-/// Returns whether a bit is set that has no meaning with these features.
 #[inline(always)]
 fn is_reserved(features: WasmFeatures, flags: u32) -> bool
     ensures { IsTrue result ↔ IsReserved features flags }
@@ -317,7 +298,6 @@ fn is_reserved(features: WasmFeatures, flags: u32) -> bool
         || flags / ORDERING % 2 == 1 && !features.contains(WasmFeatures::ACQUIRE_RELEASE_ATOMICS)
 }
 
-/// Reads the index that the flags number announces, and returns what is accessed.
 #[inline(always)]
 fn read_target(
     reader: &mut BinaryReader<'_>,
@@ -348,9 +328,8 @@ fn read_target(
     Ok(MemArgTarget::Memory(0))
 }
 
-/// Reads the ordering, if the flags number announces one.
-///
-/// Fails with `EndOfData` or `InvalidOrdering` at its byte.
+/// Reads the ordering, if the flags number announces one. Fails with `EndOfData` or
+/// `InvalidOrdering` at its byte.
 #[inline(always)]
 fn read_ordering(
     reader: &mut BinaryReader<'_>,
@@ -382,7 +361,6 @@ fn read_ordering(
     }
 }
 
-/// Returns the ordering with this byte in an argument of this kind, if there is one.
 fn ordering_of(kind: MemArgKind, byte: u8) -> Option<MemArgOrdering>
     ensures some { IfSome result (IsOrderingByte kind byte) }
     ensures none { IfNone result ((o : _) → ¬ IsOrderingByte kind byte o) }
@@ -396,7 +374,7 @@ fn ordering_of(kind: MemArgKind, byte: u8) -> Option<MemArgOrdering>
     }
 }
 
-/// Reads an offset: a number of 64 bits with memory64, and of 32 bits without it.
+/// Reads a number of 64 bits with memory64, and of 32 bits without it.
 #[inline(always)]
 fn read_offset(reader: &mut BinaryReader<'_>) -> Result<u64>
     ensures reads { Reads (EncodesOffset reader.old.features) result reader.old reader.new }

@@ -1,8 +1,3 @@
-//! Laws of memory arguments, indices and orderings, each the contract of a function that does
-//! nothing.
-//!
-//! `PrefixCode` says that no encoding is a proper prefix of another, and that each encoding has one
-//! value. `DeterminesRefusal` says that a fault determines the message and the offset of an error.
 ghost use Rattle.std.specs.Prelude.{ℕ};
 ghost use Rattle.wasm_imm_control.specs.below.bytes.features.WasmFeatures.{WasmFeatures};
 ghost use Rattle.wasm_imm_control.specs.below.Fault.{DeterminesRefusal};
@@ -32,8 +27,7 @@ pub fn orderings(features: WasmFeatures)
     ensures fence { PrefixCode (EncodesFence features) }
 {}
 
-/// States that the fault determines the error: of an index, an ordering, and the byte of a fence
-/// that starts at any offset.
+/// States that the faults of an index, an ordering and the byte of a fence determine their errors.
 pub fn short_refusals(features: WasmFeatures)
     ensures memory { DeterminesRefusal (MemoryIndexFault features) }
     ensures table { DeterminesRefusal (TableIndexFault features) }

@@ -1,5 +1,3 @@
-//! The row of an operator, as `info` returns it.
-
 /// The row of an operator in the table of all operators.
 #[derive(Clone, Copy, Debug, PartialEq, Eq)]
 pub struct OperatorInfo {
@@ -7,7 +5,6 @@ pub struct OperatorInfo {
     pub proposal: &'static str,
     /// The name of the operator's variant.
     pub name: &'static str,
-    /// The prefix byte, if there is one.
     pub prefix: Option<u8>,
     /// The opcode, or the subopcode after a prefix byte.
     pub code: u32,

@@ -1,4 +1,3 @@
-//! Orderings of atomic operators.
 ghost use Rattle.std.specs.Prelude.{◌≡◌, ◌≤◌, IfErr};
 ghost use Rattle.wasm_imm_control.specs.below.Source.{Reads, offset_of};
 ghost use Rattle.wasm_imm.specs.Orderings.{EncodesOrderingByte, EncodesFence};
@@ -17,9 +16,8 @@ pub enum Ordering {
 }
 
 impl Ordering {
-    /// Reads an ordering byte. Proposal shared-everything threads.
-    ///
-    /// Fails with `EndOfData` at the end of the data, or with `InvalidOrdering` at the byte.
+    /// Reads an ordering byte. Proposal shared-everything threads. Fails with `EndOfData`, or with
+    /// `InvalidOrdering` at the byte.
     #[inline(never)]
     pub fn read(reader: &mut BinaryReader<'_>) -> Result<Ordering>
         ensures reads { Reads EncodesOrderingByte result reader.old reader.new }
@@ -36,9 +34,8 @@ impl Ordering {
 
     /// Reads the byte of an `atomic.fence` that starts at the offset `start`. Proposal threads.
     ///
-    /// With acquire-release atomics, reads an ordering byte and fails like `read`. Without them,
-    /// reads the byte 0, and fails with `NonzeroAfterFence` at `start` if the byte is not 0. Fails
-    /// with `EndOfData` at the end of the data.
+    /// With acquire-release atomics, reads like `read`. Without them, reads the byte 0, and fails
+    /// with `EndOfData`, or with `NonzeroAfterFence` at `start`.
     #[inline(never)]
     pub fn read_fence(reader: &mut BinaryReader<'_>, start: u64) -> Result<Ordering>
         requires { start ≤ offset_of reader.old }

@@ -1,4 +1,3 @@
-//! Reading floating-point constants.
 ghost use Rattle.std.specs.Prelude.{IfErr};
 ghost use Rattle.std.specs.Int.{w32, w64};
 ghost use Rattle.wasm_imm_control.specs.below.Source.{Reader, Reads, IsShort};
@@ -7,21 +6,17 @@ ghost use Rattle.wasm_imm_control.specs.below.Number.{EncodesFixed};
 use crate::constants::{Ieee32, Ieee64};
 use wasm_imm_control::below::{BinaryReader, Result};
 
-/// Methods of a reader of bytes that read floating-point constants.
 pub trait ReadImmediates {
     // The state of the reader of bytes.
     ghost reader: { Self → Reader };
 
-    /// Reads the constant of `f32.const`: four bytes, the lowest first. Values, Floating-Point.
-    ///
-    /// Fails with `EndOfData` at the offset of the first byte.
+    /// Reads four bytes, the lowest first. Specification: Values, Floating-Point. Fails with
+    /// `EndOfData` at the offset of the first byte.
     fn read_f32(&mut self) -> Result<Ieee32>
         ensures reads { Reads (EncodesFixed w32) result (reader self.old) (reader self.new) }
         ensures end { IfErr result (λ e. IsShort 4 e (reader self.old)) };
 
-    /// Reads the constant of `f64.const`: eight bytes, the lowest first. Values, Floating-Point.
-    ///
-    /// Fails with `EndOfData` at the offset of the first byte.
+    /// Reads eight bytes in the same way.
     fn read_f64(&mut self) -> Result<Ieee64>
         ensures reads { Reads (EncodesFixed w64) result (reader self.old) (reader self.new) }
         ensures end { IfErr result (λ e. IsShort 8 e (reader self.old)) };

@@ -1,4 +1,3 @@
--- Block types.
 use Rattle.std.proofs.Common.{◌≡◌, ℕ, ◌+◌, ◌-◌, ◌≤◌, List, [], ◌∷◌, ◌++◌, length, ℤ, pos, Ok, refl, sym, subst, ap, ◌∙◌, append_assoc, length-append, length-drop, arith, negsuc, Fits, w32, false, ◌<◌}
 use Rattle.std.proofs.lemmas.Bool.{lt-ltb}
 use Rattle.std.proofs.lemmas.Int.{ints}
@@ -21,7 +20,6 @@ use Rattle.wasm_imm_control.specs.declared.block_type.BlockType.{BlockType}
 use Rattle.wasm_imm_control.specs.declared.block_type.BlockType.TheVariants as block
 use Rattle.wasm_imm_control.specs.BlockTypes.{EncodesBlockType, EncodesFunctionType}
 
--- a byte that is an index of one byte
 pub short_index : (byte : ℕ) → byte < 64 → EncodesSigned 33 (byte ∷ []) (pos byte)
 short_index byte lt = (omega arith, ap (λ t. with_sign t byte 128) (sym (lt-ltb byte 64 lt)), (omega (arith, ints), omega (arith, ints)))
 
@@ -38,13 +36,11 @@ value_within b tail value.F64 p = let e : b ≡ 124 = cc p in (omega arith, omeg
 value_within b tail value.V128 p = let e : b ≡ 123 = cc p in (omega arith, omega arith)
 value_within b tail (value.Ref r) p = let l = ref_leads b tail r p in (omega (arith, l.0), omega (arith, l.1))
 
--- if a value type starts here
 pub value_block : (b : ℕ) → 65 ≤ b → b ≤ 127 → (tail : List ℕ) (t : BlockType) → EncodesBlockType (b ∷ tail) t → (v : ValType) × EncodesValType (b ∷ tail) v
 value_block b low high tail block.Empty p = let e : b ≡ 64 = cc p in absurd (omega arith)
 value_block b low high tail (block.Value v) p = (v, p)
 value_block b low high tail (block.FuncType i) p = absurd (index_leads 33 b tail i p (omega arith) (omega arith))
 
--- if the first byte starts no value type and is not 0x40
 pub function_block : (b : ℕ) → ((64 ≤ b) × (b ≤ 127) → ⊥) → (tail : List ℕ) (t : BlockType) → EncodesBlockType (b ∷ tail) t → EncodesFunctionType (b ∷ tail) t
 function_block b far tail block.Empty p = let e : b ≡ 64 = cc p in absurd (far (omega arith, omega arith))
 function_block b far tail (block.Value v) p = let w = value_within b tail v p in absurd (far (omega (arith, w.0), w.1))
@@ -62,7 +58,6 @@ no_function text after more n p over t2 more2 (block.Value v) q e = q
 no_function text after more n p over t2 more2 (block.FuncType i) q e =
     over i (signed_prefix_code text t2 33 (after ++ more) more2 n (pos i) p q (sym (append_assoc text after more) ∙ e)).1
 
--- back at the start of a negative number, with the error after it
 pub negative_refused : (e : Error) (old mid new : Reader) (n : ℤ) (position : ℕ) → Reads (EncodesSigned 33) (Ok n) old mid → ((i : ℕ) → n ≡ pos i → ⊥) →
     position ≡ old.position → new ≡ at_position mid position → e.offset ≡ offset_of mid → IsReadFault e.message →
     (new ≡ old) × IsRefusal EncodesFunctionType e old
@@ -80,7 +75,6 @@ negative_refused e old mid new n position (text, p, t) over at went offset fault
       },
     )
 
--- the encodings of block types are a prefix code
 pub block_prefix_code : PrefixCode EncodesBlockType
 block_prefix_code [] b x y m n p q e = absurd (block_empty m p)
 block_prefix_code (c ∷ a) [] x y m n p q e = absurd (block_empty n q)
@@ -102,7 +96,6 @@ block_prefix_code (c ∷ a) (d ∷ b) x y (block.FuncType i) (block.Value w) p q
 block_prefix_code (c ∷ a) (d ∷ b) x y (block.FuncType i) (block.FuncType j) p q e = let o = signed_prefix_code (c ∷ a) (d ∷ b) 33 x y (pos i) (pos j) p q e in
     (o.0, ap block.FuncType (cc (o.1)))
 
--- a number of 33 bits that is not negative has 32
 pub cast_fits : (z : ℤ) → lt_z z (pos 0) ≡ false → FitsWidth 33 z → T (non_neg z) × Fits w32 (nat_abs z)
 cast_fits (pos n) h f = (tt, omega (arith, ints, f.1))
 cast_fits (negsuc n) h f = absurd (cc h)

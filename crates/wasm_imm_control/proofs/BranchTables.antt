@@ -1,4 +1,3 @@
--- Branch tables, and the numbers that their bytes encode.
 use Rattle.std.proofs.Common.{◌≡◌, ℕ, suc, ◌+◌, ◌-◌, ◌*◌, ◌<◌, ◌≤◌, List, [], ◌∷◌, ◌++◌, length, refl, sym, subst, ap, ◌∙◌, append_assoc, arith, true}
 use Rattle.std.specs.Prelude.{map, take, Result, Ok, Err, nat_eq}
 use Rattle.std.proofs.Math.Seq.{take-append_seam}
@@ -42,7 +41,6 @@ numbers_are text (n ∷ numbers) (first, after, e, p, ps) =
 pub targets_encoded : (count : ℕ) (bytes : List ℕ) → AreTargets count bytes → EncodesMany (EncodesUnsigned 32) count bytes (numbers_of bytes)
 targets_encoded count bytes (numbers, h) = subst (EncodesMany (EncodesUnsigned 32) count bytes) (sym (numbers_are bytes numbers h.1)) h
 
--- one target is read: it is `Ok`, and the others are left
 pub next_target : (old new : Reader) (result : Result ℕ Error) (count : ℕ) → Reads (EncodesUnsigned 32) result old new → AreTargets count (rest old) →
     0 < count → AreTargets (count - 1) (rest new) × (map Ok (numbers_of (rest old)) ≡ result ∷ map Ok (numbers_of (rest new))) ×
     (length (numbers_of (rest old)) ≡ suc (length (numbers_of (rest new))))
@@ -58,11 +56,8 @@ next_target old new (Ok n) count (text, p, takes) (m ∷ ms, (l, (first, after, 
 next_target old new (Err e) count h ([], (l, nil)) some = absurd (omega (arith, l))
 next_target old new (Err e) count h (m ∷ ms, (l, (first, after, eq, q, qs))) some = absurd (refused_now (EncodesUnsigned 32) e old h.1 first after m q eq)
 
--- as many targets as the count says
 pub as_many : (count : ℕ) (bytes : List ℕ) → AreTargets count bytes → length (numbers_of bytes) ≡ count
 as_many count bytes h = (targets_encoded count bytes h).0
-
--- ---- tables
 
 pub targets_prefix_code : (count : ℕ) → PrefixCode (EncodesTargets count)
 targets_prefix_code count a b x y m n (lm, (p, ps)) (ln, (q, qs)) e =
@@ -128,7 +123,6 @@ same_parts : (s t : BranchTable) → s.count ≡ t.count → s.default ≡ t.def
 unfolding table_of
 same_parts s t c d ts = ap (λ z. table_of z s.default s.targets) c ∙ ap (λ z. table_of t.count z s.targets) d ∙ ap (λ z. table_of t.count t.default z) ts
 
--- the encodings of branch tables are a prefix code
 pub table_prefix_code : PrefixCode EncodesBranchTable
 table_prefix_code a b x y s t (c1, d1, ea, pc, (m, pm), pd) (c2, d2, eb, qc, (n, qm), qd) e =
     let whole : c1 ++ (s.targets ++ (d1 ++ x)) ≡ c2 ++ (t.targets ++ (d2 ++ y)) = sym (three c1 s.targets d1 x) ∙ ap (λ z. z ++ x) (sym ea) ∙ e ∙
@@ -143,7 +137,6 @@ table_prefix_code a b x y s t (c1, d1, ea, pc, (m, pm), pd) (c2, d2, eb, qc, (n,
     three : (p q r z : List ℕ) → (p ++ (q ++ r)) ++ z ≡ p ++ (q ++ (r ++ z))
     three p q r z = append_assoc p (q ++ r) z ∙ ap (λ w. p ++ w) (append_assoc q r z)
 
--- an error of a target is an error of all targets
 pub target_refused : (e : Error) (old now now2 new : Reader) (text : List ℕ) (done : List ℕ) (read count position : ℕ) →
     EncodesMany (EncodesUnsigned 32) read text done → read < count → Takes old now text → (now2 ≡ now) × IsRefusal (EncodesUnsigned 32) e now →
     position ≡ old.position → new ≡ at_position now2 position → (new ≡ old) × IsRefusal (EncodesTargets count) e old
@@ -153,7 +146,6 @@ target_refused e old now now2 new text done read count position d l t h at went 
       (many_refused (EncodesUnsigned 32) e old now text done read count (λ a b x y m n p q e. (number_prefix_code 32 a b x y m n p q e).0) d l t h.1),
 )
 
--- equal tables have the same targets
 pub equal_targets : (s t : BranchTable) (m n : List ℕ) → same_table s t ≡ true → EncodesMany (EncodesUnsigned 32) s.count s.targets m →
     EncodesMany (EncodesUnsigned 32) t.count t.targets n → (m ≡ n) × (s.default ≡ t.default)
 equal_targets s t m n e p q =

@@ -1,4 +1,3 @@
--- Casts.
 use Rattle.std.proofs.Common.{◌≡◌, ℕ, zero, suc, ◌≤◌, Bool, true, false, List, [], ◌∷◌, ◌++◌, Ok, refl, sym, ap, ◌∙◌, arith}
 use Rattle.wasm_below.specs.bytes.error.Error.{Error}
 use Rattle.wasm_below.specs.declared.types.HeapType.{HeapType}
@@ -53,7 +52,6 @@ flags_restored (suc (suc (suc (suc n)))) le = absurd (omega arith)
 abbrev pub cast_of : ℕ → Reference → Reference → Cast
 cast_of depth from to = record { relative_depth = depth; from = from; to = to }
 
--- the parts in the order in which they are read
 abbrev pub Third : ℕ → ℕ → Reference → List ℕ → Cast → Type 0
 Third flags depth from text c = EncodesReference (second_null flags) text c.to × (c ≡ cast_of depth from c.to)
 
@@ -100,7 +98,6 @@ third_prefix_code flags depth from a b x y c d p q e =
     let o = reference_prefix_code (second_null flags) a b x y c.to d.to p.0 q.0 e in
     (o.0, p.1 ∙ ap (cast_of depth from) o.1 ∙ sym q.1)
 
--- the encodings of casts are a prefix code
 pub cast_prefix_code : PrefixCode EncodesCast
 cast_prefix_code a b x y c d p q e = parts a b x y c d (to_parts a c p) (to_parts b d q) e
   where

@@ -1,4 +1,3 @@
--- The fault of an immediate of a control operator determines its error.
 use Rattle.std.proofs.Common.{ℕ, zero, suc, inl, inr, List, sym, ap, ◌∙◌, ℤ, arith}
 use Rattle.wasm_below.specs.bytes.message.Message.{Message}
 use Rattle.wasm_below.specs.bytes.message.Message.TheVariants as message
@@ -32,8 +31,6 @@ use Rattle.wasm_below.proofs.DeterminedRefusals.{same_first_byte}
 use Rattle.wasm_below.proofs.DeterminedRefusals.{end_determines}
 use Rattle.wasm_below.proofs.DeterminedRefusals.{count_determines}
 
--- ---- lists
-
 pub many_determines : {X : Type 0} (Encodes : List ℕ → X → Type 0) (Fault : Message → Reader → ℕ → Type 0) → PrefixCode Encodes → DeterminesRefusal Fault →
     (count : ℕ) → DeterminesRefusal (ManyFault Encodes Fault count)
 many_determines Encodes Fault prefix_code determines zero m k r a b h q = absurd h
@@ -54,8 +51,6 @@ branch_determines = then_determines (EncodesSize max_targets) (CountFault size_n
 
 pub select_determines : DeterminesRefusal SelectFault
 select_determines = list_determines size_name.SelectTypes max_select_types EncodesValType ValTypeFault value_prefix_code value_determines
-
--- ---- block types and casts
 
 negative_determines : (index : ℤ) → DeterminesRefusal (NegativeFault index)
 negative_determines index m k r a b h q = (h.1 ∙ sym q.1, h.2 ∙ sym q.2)
@@ -82,8 +77,6 @@ cast_determines m k r a b h q =
     then_determines IsByte EndFault (λ flags. ThenFault (EncodesUnsigned 32) U32Fault (λ label. CastTypesFault (offset_of r) flags)) byte_prefix_code
     end_determines (λ flags. then_determines (EncodesUnsigned 32) U32Fault (λ label. CastTypesFault (offset_of r) flags) (number_prefix_code 32)
     u32_determines (λ label. cast_types_determines (offset_of r) flags)) m k r a b h q
-
--- ---- catches and clauses
 
 leading_prefix_code : (highest : ℕ) → PrefixCode (IsLeading highest)
 leading_prefix_code highest a b x y m n p q e = byte_prefix_code a b x y m n p.0 q.0 e

@@ -26,11 +26,9 @@ ends_here message.EndOfData some = refl
 ends_here message.OutOfMemory some = absurd (some refl)
 ends_here m some = tt
 
--- if a read fails, no prefix of the rest encodes a value, unless allocation fails
 pub none_here : {X : Type 0} (P : List ℕ → X → Type 0) (m : Message) (r : Reader) → m ≢ message.OutOfMemory → Refuses P (rest r) m → NoPrefix P (rest r)
 none_here P m r some h = subst (NoPrefix P) (append-nil (rest r)) (h [] (ends_here m some))
 
--- a text of two parts is taken part by part
 split_takes : (old now : Reader) (a b : List ℕ) → Takes old now (a ++ b) → (mid : Reader) × Takes old mid a × Takes mid now b
 split_takes old now a b t =
     let mid = at_position old (old.position + length a) in
@@ -41,7 +39,6 @@ split_takes old now a b t =
     ap (at_position old) (let n : length (a ++ b) ≡ length a + length b = length-append a b in omega arith) in
     (mid, record { moved = refl; parts = whole ∙ ap (λ z. a ++ z) (sym left) }, record { moved = goes; parts = left })
 
--- after the members that were read, reading a member fails
 pub many_fault : {X : Type 0} (P : List ℕ → X → Type 0) (F : Message → Reader → ℕ →
     Type 0) (count : ℕ) (done : List X) (text : List ℕ) (old now : Reader) (m : Message) (offset : ℕ) → length done < count → EncodesEach P text done →
     Takes old now text → NoPrefix P (rest now) → F m now offset → ManyFault P F count m old offset
@@ -53,39 +50,29 @@ many_fault P F (suc n) (x ∷ done) text old now m offset l (first, after, e, p,
     let s = split_takes old now first after (subst (Takes old now) e t) in
     inr (x, s.0, (first, p, s.1), many_fault P F n done after s.0 now m offset (omega (arith, l)) ps s.2 none f)
 
--- an error of some members is an error of more members
 pub many_wider : {X : Type 0} (P : List ℕ → X → Type 0) (F : Message → Reader → ℕ → Type 0) (count : ℕ) (m : Message) (old : Reader) (offset : ℕ) →
     ManyFault P F count m old offset → ManyFault P F (suc count) m old offset
 many_wider P F zero m old offset h = absurd h
 many_wider P F (suc n) m old offset (inl h) = inl h
 many_wider P F (suc n) m old offset (inr (x, new, r, b)) = inr (x, new, r, many_wider P F n m new offset b)
 
--- an error other than `OutOfMemory` is unchanged
 pub kept_fault : (F : Message → ℕ → Type 0) (e f : Error) (offset : ℕ) → IsRefusedFrom offset e f → (e.message ≢ message.OutOfMemory → F e.message e.offset) →
     f.message ≢ message.OutOfMemory → F f.message f.offset
 kept_fault F e f offset (kept, inl s) h some = absurd (some s.0)
 kept_fault F e f offset (kept, inr s) h some = subst (λ o. F f.message o) (sym s.1) (subst (λ m. F m e.offset) (sym kept) (h s.0))
 
--- ---- leading bytes
-
--- the data ends at the leading byte
 pub leading_ended : (name : LeadingByteName) (highest : ℕ) (e : Error) (r : Reader) → IsRefusal IsByte e r → IsEndHere e r →
     NoPrefix (IsLeading highest) (rest r) × LeadingFault name highest e.message r e.offset
 leading_ended name highest e r h end = let none = refused_now IsByte e r h in (λ text more byte p eq. none text more byte p.0 eq, inl end)
 
--- ---- casts
-
--- if no prefix is a reference type of this kind, no prefix is a heap type
 pub no_heap_type : (nullable : Bool) (e : Error) (r : Reader) → IsRefusal (EncodesReference nullable) e r → NoPrefix EncodesHeapType (rest r)
 no_heap_type nullable e r h text more ty p eq =
     refused_now (EncodesReference nullable) e r h text more (record { nullable = nullable; heap_type = ty }) (refl, p) eq
 
--- if a reference type was read, its heap type was read
 pub heap_type_read : (nullable : Bool) (reference : Reference) (old new : Reader) → Reads (EncodesReference nullable) (Ok reference) old new →
     Reads EncodesHeapType (Ok reference.heap_type) old new
 heap_type_read nullable reference old new (text, p, takes) = (text, p.1, takes)
 
--- the data ends at the block type
 pub block_ended : (e : Error) (r : Reader) → IsEndHere e r → BlockTypeFault e.message r e.offset
 block_ended e r h =
     let same = h.2 in
@@ -93,7 +80,6 @@ block_ended e r h =
     let fault : S33Fault e.message r e.offset = subst (λ m. S33Fault m r e.offset) (sym h.0) ((h.1 ∙ h.2, near), tt) in
     inr (λ byte lead prefix. no_byte r byte h.2 prefix, inl (refused_now (EncodesSigned 33) e r (end_refused (EncodesSigned 33) e r (λ x p. p) h), fault))
 
--- if no value type starts here, the error is the error of the index
 pub index_fault : (result : Result BlockType Error) (r : Reader) (b : ℕ) → BeginsWith b (rest r) → (LeadsValType b → ⊥) →
     IfErr result (λ e. FunctionTypeFault e.message r e.offset) → IfErr result (λ e. BlockTypeFault e.message r e.offset)
 index_fault (Ok t) r b prefix far h = tt

@@ -1,4 +1,3 @@
--- Catches and clauses.
 use Rattle.std.proofs.Common.{◌≡◌, ℕ, ◌≤◌, List, ◌∷◌, ◌++◌, Ok, refl, sym, ap, ◌∙◌, append_assoc, arith}
 use Rattle.wasm_below.specs.bytes.error.Error.{Error}
 use Rattle.wasm_below.specs.Number.{EncodesUnsigned}
@@ -38,8 +37,6 @@ pub pair_read : (old mid new : Reader) (first second : ℕ) → Reads (EncodesUn
     Reads EncodesPair (Ok (first, second)) old new
 pair_read old mid new first second (a, p, s) (b, q, t) = (a ++ b, (a, b, refl, p, q), takes_then old mid new a b s t)
 
--- ---- catches
-
 catch_indices_prefix_code : (a b x y : List ℕ) (m n : Catch) → EncodesCatchIndices a m → EncodesCatchIndices b n → catch_byte m ≡ catch_byte n →
     a ++ x ≡ b ++ y → (a ≡ b) × (m ≡ n)
 catch_indices_prefix_code a b x y (clause.One m1 m2) (clause.One n1 n2) p q same e = let o = pair_prefix_code a b x y (m1, m2) (n1, n2) p q e in
@@ -69,14 +66,11 @@ catch_prefix_code a b x y m n (a2, ea, p) (b2, eb, q) e =
     let o = catch_indices_prefix_code a2 b2 x y m n p q same (cc whole) in
     (ea ∙ cc (same, o.0) ∙ sym eb, o.1)
 
--- the first two kinds have a tag and a label
 pub catch_pair : (byte : ℕ) → byte ≤ 1 → (text : List ℕ) (c : Catch) → IsCatchAfterByte byte text c → (p : ℕ × ℕ) × EncodesPair text p
 catch_pair byte le text (clause.One tag label) h = ((tag, label), h.1)
 catch_pair byte le text (clause.OneRef tag label) h = ((tag, label), h.1)
 catch_pair byte le text (clause.All label) h = absurd (omega (arith, h.0))
 catch_pair byte le text (clause.AllRef label) h = absurd (omega (arith, h.0))
-
--- ---- clauses
 
 handle_indices_prefix_code : (a b x y : List ℕ) (m n : Handle) → EncodesHandleIndices a m → EncodesHandleIndices b n → handle_byte m ≡ handle_byte n →
     a ++ x ≡ b ++ y → (a ≡ b) × (m ≡ n)
@@ -94,7 +88,6 @@ handle_prefix_code a b x y m n (a2, ea, p) (b2, eb, q) e =
     let o = handle_indices_prefix_code a2 b2 x y m n p q same (cc whole) in
     (ea ∙ cc (same, o.0) ∙ sym eb, o.1)
 
--- the first kind has a tag and a label
 pub handle_pair : (byte : ℕ) → byte ≡ 0 → (text : List ℕ) (h : Handle) → IsHandleAfterByte byte text h → (p : ℕ × ℕ) × EncodesPair text p
 handle_pair byte none text (handle.OnLabel tag label) h = ((tag, label), h.1)
 handle_pair byte none text (handle.OnSwitch tag) h = absurd (omega (arith, h.0))

@@ -1,4 +1,3 @@
--- Try tables, resume tables and the types of a select.
 use Rattle.std.proofs.Common.{◌≡◌, ◌≢◌, ℕ, ◌+◌, ◌<◌, true, List, [], ◌∷◌, ◌++◌, length, Ok, refl, sym, ap, ◌∙◌, append_assoc, arith}
 use Rattle.wasm_below.specs.bytes.error.Error.{Error}
 use Rattle.wasm_below.specs.declared.types.ValType.{ValType}
@@ -54,7 +53,6 @@ block_some (c ∷ text) t p = omega arith
 abbrev after_type : BlockType → List ℕ → TryTable → Type 0
 after_type ty text t = EncodesList max_catches EncodesCatch text t.catches
 
--- an error of the catches is an error of the table
 pub catches_refused : (e f : Error) (old mid mid2 new : Reader) (ty : BlockType) (position : ℕ) → Reads EncodesBlockType (Ok ty) old mid →
     (mid2 ≡ mid) × IsRefused (EncodesList max_catches EncodesCatch) true e mid → position ≡ old.position → new ≡ at_position mid2 position →
     IsRefusedFrom (mid2.start + position) e f → (new ≡ old) × IsRefused EncodesTryTable true f old
@@ -64,8 +62,6 @@ catches_refused e f old mid mid2 new ty position r h at went begun =
       refused_by (EncodesList max_catches EncodesCatch) (after_type ty) true e mid (λ text t q. (t.catches, q)) h.1,
     ) at went begun in
     (s.0, refused_by (Then EncodesBlockType after_type) EncodesTryTable true f old (λ text t (a, b, ab, pa, pb). (t, (a, b, t.ty, ab, pa, pb))) s.1)
-
--- ---- the types of a select
 
 types_of : Select → List ValType
 types_of (select.One ty) = ty ∷ []
@@ -87,7 +83,6 @@ select_prefix_code a b x y (select.Multi ts) (select.One u) p q e = let o =
 select_prefix_code a b x y (select.Multi ts) (select.Multi us) p q e = let o =
     list_prefix_code max_select_types EncodesValType value_prefix_code a b x y ts us p.0 q.0 e in (o.0, ap select.Multi o.1)
 
--- an error of the types is an error of the select
 pub types_refused : (e f : Error) (old mid mid2 new : Reader) (count position : ℕ) → Reads (EncodesSize max_select_types) (Ok count) old mid →
     (mid2 ≡ mid) × IsRefused (EncodesMany EncodesValType count) true e mid → position ≡ old.position → new ≡ at_position mid2 position →
     IsRefusedFrom (mid2.start + position) e f → (new ≡ old) × IsRefused EncodesSelect true f old
@@ -96,7 +91,6 @@ types_refused e f old mid mid2 new count position r h at went begun =
     (λ text p. unsigned_some 32 text count p.0) r h at went begun in
     (s.0, refused_by (EncodesList max_select_types EncodesValType) EncodesSelect true f old (λ text t p. (types_of t, select_types text t p)) s.1)
 
--- an error of the single type is an error of the select
 pub type_refused : (e : Error) (old mid mid2 new : Reader) (count position : ℕ) → count ≡ 1 → Reads (EncodesSize max_select_types) (Ok count) old mid →
     (mid2 ≡ mid) × IsRefusal EncodesValType e mid → position ≡ old.position → new ≡ at_position mid2 position →
     (new ≡ old) × IsRefused EncodesSelect true e old
@@ -121,7 +115,6 @@ type_refused e old mid mid2 new count position one r h at went =
     lone bytes text after (ty ∷ tys) l (first, later, e, p, ps) none eq =
         none first (later ++ after) ty p (eq ∙ ap (λ z. z ++ after) e ∙ append_assoc first later after)
 
--- the first number is not 1
 pub not_one : (old mid : Reader) (count : ℕ) → Reads (EncodesSize max_select_types) (Ok count) old mid → count ≢ 1 → NoPrefix EncodesOne (rest old)
 not_one old mid count (text, p, t) other first after n q eq =
     other ((unsigned_prefix_code text first 32 (rest mid) after count n p.0 q.0 (sym t.parts ∙ eq)).1 ∙ q.1)

@@ -1,4 +1,3 @@
--- Encodings of many members in sequence.
 use Rattle.std.proofs.Common.{◌≡◌, ℕ, ◌+◌, ◌<◌, List, [], ◌∷◌, ◌++◌, length, refl, sym, subst, ap, ◌∙◌, append_assoc, length-append, arith}
 use Rattle.std.proofs.lemmas.List.{append-nil}
 use Rattle.wasm_below.specs.bytes.error.Error.{Error}
@@ -25,18 +24,15 @@ each_prefix_code P prefix_code a b x y (u ∷ m) (v ∷ n) l (a1, a2, ea, pa, qa
 pub many_prefix_code : {X : Type 0} (P : List ℕ → X → Type 0) → PrefixCode P → (count : ℕ) → PrefixCode (EncodesMany P count)
 many_prefix_code P prefix_code count a b x y m n p q e = each_prefix_code P prefix_code a b x y m n (p.0 ∙ sym q.0) p.1 q.1 e
 
--- the encodings of lists are a prefix code
 pub list_prefix_code : {X : Type 0} (limit : ℕ) (P : List ℕ → X → Type 0) → PrefixCode P → PrefixCode (EncodesList limit P)
 list_prefix_code limit P prefix_code = then_prefix_code (EncodesSize limit) (EncodesMany P) (size_prefix_code limit) (many_prefix_code P prefix_code)
 
--- members after members
 pub each_both : {X : Type 0} (P : List ℕ → X → Type 0) (text more : List ℕ) (xs ys : List X) → EncodesEach P text xs → EncodesEach P more ys →
     EncodesEach P (text ++ more) (xs ++ ys)
 each_both P text more [] ys p q = subst (λ z. EncodesEach P (z ++ more) ys) (sym p) q
 each_both P text more (x ∷ xs) ys (first, after, e, p, ps) q =
     (first, after ++ more, ap (λ z. z ++ more) e ∙ append_assoc first after more, p, each_both P after more xs ys ps q)
 
--- one member more
 pub each_more : {X : Type 0} (P : List ℕ → X → Type 0) (text more : List ℕ) (xs : List X) (x : X) → EncodesEach P text xs → P more x →
     EncodesEach P (text ++ more) (xs ++ x ∷ [])
 each_more P text more xs x p q = each_both P text more xs (x ∷ []) p (more, [], sym (append-nil more), q, refl)
@@ -49,7 +45,6 @@ many_more P count text more xs x h q = (length-append xs (x ∷ []) ∙ ap (λ n
 abbrev pub PrefixAlone : {X : Type 0} → (List ℕ → X → Type 0) → Type 0
 PrefixAlone {X} P = (a b x y : List ℕ) (m n : X) → P a m → P b n → a ++ x ≡ b ++ y → a ≡ b
 
--- after the members that were read no prefix is a member
 each_no_prefix : {X : Type 0} (P : List ℕ → X → Type 0) → PrefixAlone P → (done xs : List X) (text after t2 more : List ℕ) → EncodesEach P text done →
     EncodesEach P t2 xs → length done < length xs → text ++ after ≡ t2 ++ more → NoPrefix P after → ⊥
 each_no_prefix P prefix_code [] [] text after t2 more p q l e none = absurd (omega (arith, l))
@@ -62,7 +57,6 @@ each_no_prefix P prefix_code (u ∷ done) (v ∷ xs) text after t2 more (a1, a2,
     let o = prefix_code a1 b1 (a2 ++ after) (b2 ++ more) u v pa pb whole in
     each_no_prefix P prefix_code done xs a2 after b2 more qa qb (omega (arith, l)) (same_rest a1 b1 (a2 ++ after) (b2 ++ more) o whole) none
 
--- if no prefix is a further member, no prefix is all members
 pub many_none : {X : Type 0} (P : List ℕ → X → Type 0) (old now : Reader) (text : List ℕ) (done : List X) (read count : ℕ) → PrefixAlone P →
     EncodesMany P read text done → read < count → Takes old now text → (more : List ℕ) → NoPrefix P (rest now ++ more) →
     NoPrefix (EncodesMany P count) (rest old ++ more)
@@ -70,7 +64,6 @@ many_none P old now text done read count prefix_code d l t more none t2 more2 xs
     let whole : text ++ (rest now ++ more) ≡ t2 ++ more2 = sym (append_assoc text (rest now) more) ∙ ap (λ z. z ++ more) (sym t.parts) ∙ eq in
     each_no_prefix P prefix_code done xs text (rest now ++ more) t2 more2 d.1 q.1 (omega (arith, d.0, q.0, l)) whole none
 
--- an error of a member is an error of all members
 pub many_refused : {X : Type 0} (P : List ℕ → X → Type 0) (e : Error) (old now : Reader) (text : List ℕ) (done : List X) (read count : ℕ) → PrefixAlone P →
     EncodesMany P read text done → read < count → Takes old now text → IsRefusal P e now → IsRefusal (EncodesMany P count) e old
 many_refused P e old now text done read count prefix_code d l t h =

@@ -13,23 +13,18 @@ use Rattle.wasm_imm_control.specs.OutOfMemory.{IsOutOfMemoryAt, IsRefusedFrom}
 use Rattle.wasm_below.proofs.Steps.{began_within, no_second}
 use Rattle.wasm_imm_control.proofs.ListLemmas.{PrefixAlone, many_none}
 
--- an error other than `OutOfMemory`
 pub as_refused : {X : Type 0} (P : List ℕ → X → Type 0) (takes : Bool) (e : Error) (old : Reader) → IsRefusal P e old → IsRefused P takes e old
 as_refused P takes e old h = record { refuses = h.refuses; ahead = h.ahead; memory = λ m. absurd (subst IsReadFault m h.fault) }
 
--- if each encoding of kind Q is of kind P, an error of kind P is an error of kind Q
 pub refused_by : {X Y : Type 0} (P : List ℕ → X → Type 0) (Q : List ℕ → Y → Type 0) (takes : Bool) (e : Error) (old : Reader) →
     ((text : List ℕ) (y : Y) → Q text y → (x : X) × P text x) → IsRefused P takes e old → IsRefused Q takes e old
 refused_by P Q takes e old f h =
     record { refuses = λ more follow text rest y q eq. let p = f text y q in h.refuses more follow text rest p.0 p.1 eq; ahead = h.ahead; memory = h.memory }
 
--- the first part failed
 pub first_refused : {X Y : Type 0} (P : List ℕ → X → Type 0) (Q : X → List ℕ → Y → Type 0) (takes : Bool) (e : Error) (old : Reader) → IsRefusal P e old →
     IsRefused (Then P Q) takes e old
 first_refused P Q takes e old h = as_refused (Then P Q) takes e old (then_first P Q e old h)
 
--- the second part failed, the call went back, and `OutOfMemory` gets the offset where the call
--- began
 pub begun_refused : {X Y : Type 0} (P : List ℕ → X → Type 0) (Q : X → List ℕ → Y → Type 0) (e f : Error) (old mid mid2 new : Reader) (x : X) (position : ℕ) →
     PrefixCode P → ((text : List ℕ) → P text x → 0 < length text) → Reads P (Ok x) old mid → (mid2 ≡ mid) × IsRefused (Q x) true e mid →
     position ≡ old.position → new ≡ at_position mid2 position → IsRefusedFrom (mid2.start + position) e f → (new ≡ old) × IsRefused (Then P Q) true f old
@@ -57,7 +52,6 @@ begun_refused P Q e f old mid mid2 new x position prefix_code some (text, p, t) 
     begun (inl s) m here = s.1 ∙ here
     begun (inr s) m here = absurd (s.0 (sym kept ∙ m))
 
--- a member failed, and the call went back
 pub member_refused : {X : Type 0} (P : List ℕ → X →
     Type 0) (takes : Bool) (e : Error) (old now now2 new : Reader) (text : List ℕ) (done : List X) (read count position : ℕ) → takes ≡ false → PrefixAlone P →
     EncodesMany P read text done → read < count → Takes old now text → (now2 ≡ now) × IsRefused P takes e now → position ≡ old.position →

@@ -1,4 +1,3 @@
--- Targets in bytes, in sequence.
 use Rattle.std.proofs.Common.{◌≡◌, ℕ, ◌+◌, ◌-◌, ◌*◌, ◌<◌, ◌≤◌, ◌^◌, List, [], ◌∷◌, ◌++◌, length, drop, get_or, refl, sym, subst, ap, ◌∙◌, append_assoc, length-append, length-drop, add-one, arith}
 use Rattle.std.proofs.Math.Seq.{drop-cons}
 use Rattle.std.proofs.lemmas.Nat.{le_or_l, le_or_r}
@@ -9,7 +8,6 @@ use Rattle.wasm_below.proofs.Numbers.{wide_fits}
 use Rattle.wasm_imm_control.specs.BranchTables.{HasTargets}
 use Rattle.wasm_imm_control.proofs.ListLemmas.{each_both}
 
--- targets after targets
 pub targets_after : (n m : ℕ) (bytes : List ℕ) (start middle after : ℕ) → HasTargets n bytes start middle → HasTargets m bytes middle after →
     HasTargets (n + m) bytes start after
 targets_after n m bytes start middle after a b =
@@ -26,7 +24,6 @@ targets_after n m bytes start middle after a b =
       ends = omega (arith, a.ends, b.ends, length-append a.text b.text);
     }
 
--- they lie in the bytes
 pub targets_within : (n : ℕ) (bytes : List ℕ) (start after : ℕ) → start ≤ length bytes → HasTargets n bytes start after → after ≤ length bytes
 targets_within n bytes start after le h =
     let whole : length bytes - start ≡ length h.text + length (drop after bytes) = sym (length-drop start bytes) ∙ ap length h.parts ∙
@@ -44,7 +41,6 @@ pub record HasNumber (width : ℕ) (bytes : List ℕ) (start after : ℕ) : Type
 byte_first : (bytes : List ℕ) (start : ℕ) → start < length bytes → drop start bytes ≡ get_or bytes start 0 ∷ drop (start + 1) bytes
 byte_first bytes start lt = drop-cons bytes start 0 lt ∙ ap (λ k. get_or bytes start 0 ∷ drop k bytes) (sym (add-one start))
 
--- its last byte
 pub last_byte : (width : ℕ) (bytes : List ℕ) (start : ℕ) → start < length bytes → get_or bytes start 0 < 128 → get_or bytes start 0 < 2 ^ width →
     HasNumber width bytes start (start + 1)
 last_byte width bytes start lt small fits =
@@ -61,7 +57,6 @@ byte_before : (width byte : ℕ) (text : List ℕ) (high : ℕ) → 7 < width �
 byte_before width byte [] high wide more small p = absurd p
 byte_before width byte (c ∷ text) high wide more small p = (wide, more, small, high, omega arith, p)
 
--- a continuation byte before it
 pub more_bytes : (width : ℕ) (bytes : List ℕ) (start next after : ℕ) → 7 < width → start < length bytes → 128 ≤ get_or bytes start 0 →
     get_or bytes start 0 < 256 → next ≡ start + 1 → HasNumber (width - 7) bytes next after → HasNumber width bytes start after
 more_bytes width bytes start next after wide lt more small e h =
@@ -82,12 +77,10 @@ is_target bytes start after end e h =
       ends = h.ends;
     })
 
--- a last byte, if the width allows seven bits
 pub short_byte : (width : ℕ) (bytes : List ℕ) (start : ℕ) → 7 ≤ width → start < length bytes → get_or bytes start 0 < 128 →
     HasNumber width bytes start (start + 1)
 short_byte width bytes start wide lt small = last_byte width bytes start lt small (wide_fits (get_or bytes start 0) width small wide)
 
--- one more target of one byte, if the bits of all of them mark no continuation byte
 pub short_more : (bytes : List ℕ) (start at bits : ℕ) → start ≤ at → at < length bytes → (bits < 128 → HasTargets (at - start) bytes start at) →
     bit_or bits (get_or bytes at 0) < 128 → HasTargets (at + 1 - start) bytes start (at + 1)
 short_more bytes start at bits le lt before small =

@@ -1,20 +1,17 @@
--- Block types.
--- WebAssembly Core Specification 3.0, Binary Format, Instructions, Control Instructions.
+-- Specification: Binary Format, Control Instructions.
 use Rattle.std.specs.Prelude.{◌≡◌, ℕ, List, [], ◌∷◌, pos}
 use Rattle.wasm_below.specs.Number.{EncodesSigned}
 use Rattle.wasm_below.specs.TypeEncoding.{EncodesValType}
 use Rattle.wasm_imm_control.specs.declared.block_type.BlockType.{BlockType}
 use Rattle.wasm_imm_control.specs.declared.block_type.BlockType.TheVariants as block
 
--- A block type: the byte 0x40; a value type; or the index of a function type, as a signed number
--- that is not negative.
+-- The byte 0x40; a value type; or the index of a function type, as a signed number.
 --   blocktype ::= 0x40 ⇒ ε | t:valtype ⇒ t | i:s33 ⇒ i, if i ≥ 0
 abbrev pub EncodesBlockType : List ℕ → BlockType → Type 0
 EncodesBlockType text block.Empty = text ≡ 0x40 ∷ []
 EncodesBlockType text (block.Value ty) = EncodesValType text ty
 EncodesBlockType text (block.FuncType index) = EncodesSigned 33 text (pos index)
 
--- A block type that is the index of a function type.
 abbrev pub EncodesFunctionType : List ℕ → BlockType → Type 0
 EncodesFunctionType text (block.FuncType index) = EncodesSigned 33 text (pos index)
 EncodesFunctionType text _ = ⊥

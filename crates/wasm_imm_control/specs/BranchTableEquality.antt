@@ -1,4 +1,3 @@
--- Equality of branch tables.
 use Rattle.std.specs.Prelude.{Bool, nat_eq}
 use Rattle.std.specs.Ordering.{on, eq_of_both}
 use Rattle.std.specs.Cmp.{IsPartialEquivalence, IsEquivalence, partial_equiv_from_equiv, and_equiv, on_equiv, nat_eq_equiv}

@@ -1,4 +1,3 @@
--- The error of a branch table.
 use Rattle.std.specs.Prelude.{ℕ, suc}
 use Rattle.wasm_below.specs.bytes.message.Message.{Message}
 use Rattle.wasm_below.specs.bytes.message.SizeName.TheVariants as size_name
@@ -7,7 +6,6 @@ use Rattle.wasm_below.specs.Number.{EncodesUnsigned, EncodesSize}
 use Rattle.wasm_below.specs.Source.{Reader, U32Fault, CountFault}
 use Rattle.wasm_imm_control.specs.BranchTables.{max_targets}
 
--- The error of a branch table: the error of its count, or of a target or the default target after
--- it.
+-- The error of the count, or of a target after it.
 abbrev pub BranchTableFault : Message → Reader → ℕ → Type 0
 BranchTableFault = ThenFault (EncodesSize max_targets) (CountFault size_name.BrTable max_targets) (λ count. ManyFault (EncodesUnsigned 32) U32Fault (suc count))

@@ -1,53 +1,47 @@
--- Branch tables: the labels of `br_table`.
--- WebAssembly Core Specification 3.0, Binary Format, Instructions, Control Instructions.
+-- Specification: Binary Format, Control Instructions.
 use Rattle.std.specs.Prelude.{◌≡◌, ℕ, ◌+◌, ◌-◌, ◌*◌, ltb, Bool, true, false, List, [], ◌∷◌, ◌++◌, length, drop}
 use Rattle.wasm_below.specs.Number.{EncodesUnsigned, EncodesSize}
 use Rattle.wasm_imm_control.specs.Lists.{EncodesMany}
 
--- A stored branch table: the number of its targets, their bytes, and the default target.
+-- The number of targets of a branch table, their bytes, and the default target.
 pub record BranchTable : Type 0 where
   pub count : ℕ
   pub targets : List ℕ
   pub default : ℕ
 
--- The bytes are this many numbers of 32 bits.
 abbrev pub AreTargets : ℕ → List ℕ → Type 0
 AreTargets count bytes = (numbers : List ℕ) × EncodesMany (EncodesUnsigned 32) count bytes numbers
 
--- The bytes from position `start` up to position `after` are `count` targets.
+-- The bytes from position `start` up to `after` are `count` targets.
 pub record HasTargets (count : ℕ) (bytes : List ℕ) (start after : ℕ) : Type 0 where
   pub text : List ℕ
   pub targets : AreTargets count text
   pub parts : drop start bytes ≡ text ++ drop after bytes
   pub ends : after ≡ start + length text
 
--- The bytes are `count` targets, and `size` is their number of bytes.
+-- The bytes are `count` targets, and `size` is their length.
 abbrev pub EncodesTargets : ℕ → List ℕ → ℕ → Type 0
 EncodesTargets count bytes size = (size ≡ length bytes) × AreTargets count bytes
 
--- The greatest number of targets of a table. It is a limit of this project, not of the
--- specification.
+-- A limit of this project, not of the specification.
 abbrev pub max_targets : ℕ
 max_targets = 7654321
 
--- A branch table: the count, the targets and the default target.
+-- The count, the targets and the default target.
 --   0x0E l*:list(labelidx) l_N:labelidx ⇒ br_table l* l_N
 abbrev pub EncodesBranchTable : List ℕ → BranchTable → Type 0
 EncodesBranchTable text t = (count default : List ℕ) × (text ≡ count ++ (t.targets ++ default)) × EncodesSize max_targets count t.count × AreTargets t.count t.targets × EncodesUnsigned 32 default t.default
 
--- A byte and the number n after it, before other numbers: two numbers, or one number with the byte
--- as its low seven bits.
+-- A byte before the number n: a number, or the low seven bits of one.
 abbrev pub before_number : Bool → ℕ → ℕ → List ℕ → List ℕ
 before_number true byte n numbers = byte ∷ n ∷ numbers
 before_number false byte n numbers = (128 * n + (byte - 128)) ∷ numbers
 
--- A byte before numbers. Below 128 it is a number of one byte. Otherwise it is the low seven bits
--- of the first number.
+-- A byte before numbers: a number below 128, otherwise the low seven bits of the first.
 abbrev pub with_byte : ℕ → List ℕ → List ℕ
 with_byte byte [] = byte ∷ []
 with_byte byte (n ∷ numbers) = before_number (ltb byte 128) byte n numbers
 
--- The numbers that the bytes encode, in order.
 abbrev pub numbers_of : List ℕ → List ℕ
 numbers_of [] = []
 numbers_of (byte ∷ bytes) = with_byte byte (numbers_of bytes)

@@ -1,4 +1,3 @@
--- The error of a cast.
 use Rattle.std.specs.Prelude.{◌≡◌, ℕ, ◌≤◌, ◌<◌, ◌⊎◌}
 use Rattle.wasm_below.specs.bytes.message.Message.{Message}
 use Rattle.wasm_below.specs.bytes.message.Message.TheVariants as message
@@ -7,12 +6,10 @@ use Rattle.wasm_below.specs.Number.{EncodesUnsigned}
 use Rattle.wasm_below.specs.Source.{Reader, offset_of, IsByte, U32Fault, EndFault}
 use Rattle.wasm_below.specs.TypeEncoding.{EncodesHeapType, HeapTypeFault}
 
--- The error after the label: the flags, at the offset `start`, are above 3, or one of the two heap
--- types has an error.
+-- The flags, at the offset `start`, are above 3, or a heap type is in error.
 abbrev pub CastTypesFault : ℕ → ℕ → Message → Reader → ℕ → Type 0
 CastTypesFault start flags m r offset = ((3 < flags) × (m ≡ message.InvalidCastFlags flags) × (offset ≡ start)) ⊎ ((flags ≤ 3) × ThenFault EncodesHeapType HeapTypeFault (λ first. HeapTypeFault) m r offset)
 
--- The error of a cast: the error of the byte of the flags, of the label, or of what follows the
--- label.
+-- The error of the flags, of the label, or of what follows.
 abbrev pub CastFault : Message → Reader → ℕ → Type 0
 CastFault m r offset = ThenFault IsByte EndFault (λ flags. ThenFault (EncodesUnsigned 32) U32Fault (λ label. CastTypesFault (offset_of r) flags)) m r offset

@@ -1,30 +1,27 @@
--- Casts: the immediates of `br_on_cast`, `br_on_cast_fail`, `br_on_cast_desc_eq` and
--- `br_on_cast_desc_eq_fail`.
--- WebAssembly Core Specification 3.0, Binary Format, Instructions, Control Instructions.
+-- Casts: the immediates of `br_on_cast` and its variants. Specification: Binary Format, Control
+-- Instructions.
 use Rattle.std.specs.Prelude.{◌≡◌, ◌==◌, ℕ, ◌/◌, ◌%◌, Bool, true, false, List, ◌∷◌, ◌++◌}
 use Rattle.wasm_below.specs.Number.{EncodesUnsigned}
 use Rattle.wasm_below.specs.Reference.{Reference}
 use Rattle.wasm_below.specs.TypeEncoding.{EncodesHeapType}
 use Rattle.wasm_imm_control.specs.declared.cast.Cast.{Cast}
 
--- The flags: bit 0 is set if the first type includes null, bit 1 if the second type does.
+-- Bit 0 is set if the first type includes null, bit 1 if the second does.
 abbrev pub cast_flags : Bool → Bool → ℕ
 cast_flags false false = 0
 cast_flags true false = 1
 cast_flags false true = 2
 cast_flags true true = 3
 
--- A cast: the flags, the label, and the heap types of the two reference types.
+-- The flags, the label, and the heap types of the two reference types.
 --   castop ::= 0x00 ⇒ (ε, ε) | 0x01 ⇒ (null, ε) | 0x02 ⇒ (ε, null) | 0x03 ⇒ (null, null)
 --   0xFB 24:u32 (null1?, null2?):castop l:labelidx ht1:heaptype ht2:heaptype ⇒ br_on_cast l (ref null1? ht1) (ref null2? ht2)
 abbrev pub EncodesCast : List ℕ → Cast → Type 0
 EncodesCast text c = (label first second : List ℕ) × (text ≡ cast_flags c.from.nullable c.to.nullable ∷ (label ++ (first ++ second))) × EncodesUnsigned 32 label c.relative_depth × EncodesHeapType first c.from.heap_type × EncodesHeapType second c.to.heap_type
 
--- The heap type of a reference type that includes null if `nullable` is set.
 abbrev pub EncodesReference : Bool → List ℕ → Reference → Type 0
 EncodesReference nullable text r = (r.nullable ≡ nullable) × EncodesHeapType text r.heap_type
 
--- The two bits of the flags.
 abbrev pub first_null : ℕ → Bool
 first_null flags = flags % 2 == 1
 

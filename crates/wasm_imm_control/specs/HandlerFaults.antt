@@ -1,4 +1,3 @@
--- Errors of catches and clauses.
 use Rattle.std.specs.Prelude.{◌≡◌, ℕ, ◌≤◌, ◌<◌, ◌⊎◌, List}
 use Rattle.wasm_below.specs.bytes.message.Message.{Message}
 use Rattle.wasm_below.specs.bytes.message.Message.TheVariants as message
@@ -8,28 +7,24 @@ use Rattle.wasm_below.specs.Fault.{ThenFault}
 use Rattle.wasm_below.specs.Number.{EncodesUnsigned}
 use Rattle.wasm_below.specs.Source.{Reader, rest, offset_of, BeginsWith, IsByte, U32Fault, EndFault}
 
--- A leading byte of at most `highest`.
 abbrev pub IsLeading : ℕ → List ℕ → ℕ → Type 0
 IsLeading highest text byte = IsByte text byte × (byte ≤ highest)
 
--- The error of a leading byte, at its offset: the data ends, or the byte is above `highest`. In the
--- latter case the message has the byte and the name of the construct.
+-- The error of a leading byte: the data ends, or the byte is above `highest`. Then the message has
+-- the byte and the name.
 abbrev pub LeadingFault : LeadingByteName → ℕ → Message → Reader → ℕ → Type 0
 LeadingFault name highest m r offset = EndFault m r offset ⊎ ((byte : ℕ) × BeginsWith byte (rest r) × (highest < byte) × (m ≡ message.InvalidLeadingByte byte name) × (offset ≡ offset_of r))
 
--- The error of a tag and a label.
 abbrev pub PairFault : Message → Reader → ℕ → Type 0
 PairFault = ThenFault (EncodesUnsigned 32) U32Fault (λ tag. U32Fault)
 
--- The error after a leading byte: of a tag and a label if the byte is at most `last`, and otherwise
--- of one index.
+-- The error after a leading byte: of a tag and a label up to `last`, otherwise of one index.
 abbrev pub IndicesFault : ℕ → ℕ → Message → Reader → ℕ → Type 0
 IndicesFault last byte m r offset = ((byte ≤ last) × PairFault m r offset) ⊎ ((last < byte) × U32Fault m r offset)
 
--- The error of a catch: the error of its leading byte, or of an index after it.
+-- The error of the leading byte, or of an index after it.
 abbrev pub CatchFault : Message → Reader → ℕ → Type 0
 CatchFault = ThenFault (IsLeading 3) (LeadingFault leading_name.Catch 3) (IndicesFault 1)
 
--- The error of a clause: the error of its leading byte, or of an index after it.
 abbrev pub HandleFault : Message → Reader → ℕ → Type 0
 HandleFault = ThenFault (IsLeading 1) (LeadingFault leading_name.OnClause 1) (IndicesFault 0)

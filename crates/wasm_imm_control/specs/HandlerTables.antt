@@ -1,6 +1,4 @@
--- Try tables, resume tables and the types of a select.
--- WebAssembly Core Specification 3.0, Binary Format, Instructions, Control Instructions and
--- Parametric Instructions; proposal stack switching (resume tables).
+-- Specification: Binary Format, Control and Parametric Instructions; proposal stack switching.
 use Rattle.std.specs.Prelude.{◌≡◌, ◌≢◌, ℕ, List, [], ◌∷◌, ◌++◌, length}
 use Rattle.wasm_below.specs.Number.{EncodesUnsigned}
 use Rattle.wasm_below.specs.TypeEncoding.{EncodesValType}
@@ -12,8 +10,7 @@ use Rattle.wasm_imm_control.specs.BlockTypes.{EncodesBlockType}
 use Rattle.wasm_imm_control.specs.Handlers.{EncodesCatch, EncodesHandle}
 use Rattle.wasm_imm_control.specs.Lists.{EncodesList}
 
--- The greatest numbers of members of these lists. They are limits of this project, not of the
--- specification.
+-- Limits of this project, not of the specification.
 abbrev pub max_catches : ℕ
 max_catches = 10000
 
@@ -23,16 +20,16 @@ max_handlers = 10000
 abbrev pub max_select_types : ℕ
 max_select_types = 10
 
--- A try table: a block type and a list of catches.
+-- A block type and a list of catches.
 --   0x1F bt:blocktype c*:list(catch) .. ⇒ try_table bt c* ..
 abbrev pub EncodesTryTable : List ℕ → TryTable → Type 0
 EncodesTryTable text t = (ty catches : List ℕ) × (text ≡ ty ++ catches) × EncodesBlockType ty t.ty × EncodesList max_catches EncodesCatch catches t.catches
 
--- A resume table: a list of clauses.
+-- A list of clauses.
 abbrev pub EncodesResumeTable : List ℕ → ResumeTable → Type 0
 EncodesResumeTable text t = EncodesList max_handlers EncodesHandle text t.handlers
 
--- The types of a select: a list of value types. A single type is `One`.
+-- A list of value types. A single type is `One`.
 abbrev pub EncodesSelect : List ℕ → Select → Type 0
 EncodesSelect text (select.One ty) = EncodesList max_select_types EncodesValType text (ty ∷ [])
 EncodesSelect text (select.Multi tys) = EncodesList max_select_types EncodesValType text tys × (length tys ≢ 1)

@@ -1,6 +1,4 @@
--- Catches of try tables, and clauses of resume tables.
--- WebAssembly Core Specification 3.0, Binary Format, Instructions, Control Instructions (try
--- tables); proposal stack switching (resume tables).
+-- Specification: Binary Format, Control Instructions; proposal stack switching.
 use Rattle.std.specs.Prelude.{◌≡◌, ℕ, List, ◌∷◌, ◌++◌}
 use Rattle.wasm_below.specs.Number.{EncodesUnsigned}
 use Rattle.wasm_imm_control.specs.declared.handlers.Catch.{Catch}
@@ -8,41 +6,35 @@ use Rattle.wasm_imm_control.specs.declared.handlers.Catch.TheVariants as clause
 use Rattle.wasm_imm_control.specs.declared.handlers.Handle.{Handle}
 use Rattle.wasm_imm_control.specs.declared.handlers.Handle.TheVariants as handle
 
--- Two indices in sequence.
 abbrev pub EncodesPair : List ℕ → ℕ × ℕ → Type 0
 EncodesPair text p = (first second : List ℕ) × (text ≡ first ++ second) × EncodesUnsigned 32 first p.0 × EncodesUnsigned 32 second p.1
 
--- The first byte of a catch.
 abbrev pub catch_byte : Catch → ℕ
 catch_byte (clause.One tag label) = 0x00
 catch_byte (clause.OneRef tag label) = 0x01
 catch_byte (clause.All label) = 0x02
 catch_byte (clause.AllRef label) = 0x03
 
--- The indices after the first byte of a catch.
 abbrev pub EncodesCatchIndices : List ℕ → Catch → Type 0
 EncodesCatchIndices text (clause.One tag label) = EncodesPair text (tag, label)
 EncodesCatchIndices text (clause.OneRef tag label) = EncodesPair text (tag, label)
 EncodesCatchIndices text (clause.All label) = EncodesUnsigned 32 text label
 EncodesCatchIndices text (clause.AllRef label) = EncodesUnsigned 32 text label
 
--- A catch: its first byte and its indices. Control Instructions.
+-- A catch: its first byte and its indices.
 --   catch ::= 0x00 x:tagidx l:labelidx | 0x01 x:tagidx l:labelidx | 0x02 l:labelidx | 0x03 l:labelidx
 abbrev pub EncodesCatch : List ℕ → Catch → Type 0
 EncodesCatch text c = (after : List ℕ) × (text ≡ catch_byte c ∷ after) × EncodesCatchIndices after c
 
--- The first byte of a clause.
 abbrev pub handle_byte : Handle → ℕ
 handle_byte (handle.OnLabel tag label) = 0x00
 handle_byte (handle.OnSwitch tag) = 0x01
 
--- The indices after the first byte of a clause.
 abbrev pub EncodesHandleIndices : List ℕ → Handle → Type 0
 EncodesHandleIndices text (handle.OnLabel tag label) = EncodesPair text (tag, label)
 EncodesHandleIndices text (handle.OnSwitch tag) = EncodesUnsigned 32 text tag
 
--- A clause: its first byte and its indices, a tag and a label or a tag alone. Proposal stack
--- switching.
+-- A clause: its first byte, a tag and perhaps a label.
 abbrev pub EncodesHandle : List ℕ → Handle → Type 0
 EncodesHandle text h = (after : List ℕ) × (text ≡ handle_byte h ∷ after) × EncodesHandleIndices after h
 

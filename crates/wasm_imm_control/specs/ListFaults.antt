@@ -1,4 +1,3 @@
--- Errors of lists, and of immediates that consist of lists.
 use Rattle.std.specs.Prelude.{ℕ, List}
 use Rattle.wasm_below.specs.bytes.message.Message.{Message}
 use Rattle.wasm_below.specs.bytes.message.SizeName.{SizeName}
@@ -13,15 +12,15 @@ use Rattle.wasm_imm_control.specs.Handlers.{EncodesCatch, EncodesHandle}
 use Rattle.wasm_imm_control.specs.HandlerFaults.{CatchFault, HandleFault}
 use Rattle.wasm_imm_control.specs.HandlerTables.{max_catches, max_handlers, max_select_types}
 
--- The error of a list of this name: the error of its count, or of a member after it.
+-- The error of the count of a list of this name, or of a member.
 abbrev pub ListFault : {X : Type 0} → SizeName → ℕ → (List ℕ → X → Type 0) → (Message → Reader → ℕ → Type 0) → Message → Reader → ℕ → Type 0
 ListFault name limit Encodes Fault = ThenFault (EncodesSize limit) (CountFault name limit) (ManyFault Encodes Fault)
 
--- The error of a try table: the error of its block type, or of the catches after it.
+-- The error of the block type, or of the catches after it.
 abbrev pub TryTableFault : Message → Reader → ℕ → Type 0
 TryTableFault = ThenFault EncodesBlockType BlockTypeFault (λ ty. ListFault size_name.Catches max_catches EncodesCatch CatchFault)
 
--- The error of a resume table: the error of its clauses.
+-- The error of a resume table.
 abbrev pub ResumeTableFault : Message → Reader → ℕ → Type 0
 ResumeTableFault = ListFault size_name.ResumeTable max_handlers EncodesHandle HandleFault
 

@@ -1,5 +1,4 @@
--- Lists: a count, and that many members in sequence.
--- WebAssembly Core Specification 3.0, Binary Format, Conventions, Lists.
+-- Specification: Binary Format, Lists.
 use Rattle.std.specs.Prelude.{◌≡◌, ℕ, List, [], ◌∷◌, ◌++◌, length}
 use Rattle.wasm_below.specs.Number.{EncodesSize}
 use Rattle.wasm_below.specs.Sequence.{Then}
@@ -13,7 +12,7 @@ EncodesEach Encodes text (x ∷ xs) = (first rest : List ℕ) × (text ≡ first
 abbrev pub EncodesMany : {X : Type 0} → (List ℕ → X → Type 0) → ℕ → List ℕ → List X → Type 0
 EncodesMany Encodes count text xs = (length xs ≡ count) × EncodesEach Encodes text xs
 
--- A list: the count, which is at most `limit`, and the members.
+-- The count, which is at most `limit`, and the members.
 --   list(X) ::= n:u32 (el:X)^n ⇒ el^n
 abbrev pub EncodesList : {X : Type 0} → ℕ → (List ℕ → X → Type 0) → List ℕ → List X → Type 0
 EncodesList limit Encodes = Then (EncodesSize limit) (EncodesMany Encodes)

@@ -1,4 +1,3 @@
--- Allocation failure.
 use Rattle.std.specs.Prelude.{◌≡◌, ◌≢◌, ℕ, ◌⊎◌}
 use Rattle.wasm_below.specs.bytes.error.Error.{Error}
 use Rattle.wasm_below.specs.bytes.message.Message.TheVariants as message
@@ -7,7 +6,7 @@ use Rattle.wasm_below.specs.bytes.message.Message.TheVariants as message
 abbrev pub IsOutOfMemoryAt : ℕ → Error → Type 0
 IsOutOfMemoryAt offset e = (e.message ≡ message.OutOfMemory) × (e.offset ≡ offset)
 
--- The error f of a call that began at this offset, from the error e of one of its parts.
--- `OutOfMemory` gets this offset, and any other error is unchanged.
+-- The error f of a call from this offset, from the error e of a part: `OutOfMemory` gets this
+-- offset.
 abbrev pub IsRefusedFrom : ℕ → Error → Error → Type 0
 IsRefusedFrom offset e f = (f.message ≡ e.message) × ((IsOutOfMemoryAt offset f) ⊎ ((e.message ≢ message.OutOfMemory) × (f.offset ≡ e.offset)))

@@ -1,4 +1,3 @@
-//! Block types.
 ghost use Rattle.std.specs.Prelude.{◌≤◌, [], ◌∷◌, IfErr};
 ghost use Rattle.wasm_below.specs.Source.{Reads};
 ghost use Rattle.wasm_below.specs.TypeEncoding.{EncodesValType};
@@ -7,19 +6,19 @@ ghost use Rattle.wasm_imm_control.specs.BlockTypes.{EncodesBlockType, EncodesFun
 
 use wasm_below::{BinaryReader, Error, Message, Result, ValType};
 
-/// The type of a block: its parameters and results. Control Instructions.
+/// The parameters and results of a block. Specification: Control Instructions.
 #[derive(Clone, Copy, Debug, PartialEq, Eq)]
 pub enum BlockType {
     /// No parameters and no results.
     Empty,
-    /// No parameters, and one result of this type.
+    /// No parameters, and one result.
     Value(ValType),
     /// The parameters and results of the function type with this index.
     FuncType(u32),
 }
 
 impl BlockType {
-    /// Reads a block type. Control Instructions.
+    /// Reads a block type. Specification: Control Instructions.
     ///
     /// If the first byte is from 0x41 to 0x7f, fails like `ValType::read`. Otherwise fails like
     /// `read_var_s33`, or with `InvalidFunctionType` after a negative number.
@@ -46,7 +45,6 @@ impl BlockType {
     }
 }
 
-/// Returns the number or vector type with this byte.
 #[inline(always)]
 fn short_value_type(byte: u8) -> ValType
     requires low { 0x7b ≤ byte }
@@ -62,7 +60,7 @@ fn short_value_type(byte: u8) -> ValType
     }
 }
 
-/// Reads a block type of any form. The call that is not inlined borrows a copy of the reader.
+/// Reads a block type of any form.
 #[inline(always)]
 fn read_by_copy(reader: &mut BinaryReader<'_>) -> Result<BlockType>
     ensures reads { Reads EncodesBlockType result reader.old reader.new }
@@ -74,7 +72,6 @@ fn read_by_copy(reader: &mut BinaryReader<'_>) -> Result<BlockType>
     outcome
 }
 
-/// Reads a block type of any form.
 #[inline(never)]
 fn read_other(reader: &mut BinaryReader<'_>) -> Result<BlockType>
     ensures reads { Reads EncodesBlockType result reader.old reader.new }
@@ -97,7 +94,6 @@ fn read_other(reader: &mut BinaryReader<'_>) -> Result<BlockType>
     }
 }
 
-/// Reads the index of a function type.
 fn read_function_type(reader: &mut BinaryReader<'_>) -> Result<BlockType>
     ensures reads { Reads EncodesFunctionType result reader.old reader.new }
     ensures fault { IfErr result (λ e. FunctionTypeFault e.message reader.old e.offset) }

@@ -1,4 +1,3 @@
-//! Branch tables, whose targets stay in the bytes that were read.
 ghost use Rattle.std.specs.Prelude.{◌≡◌, ◌↔◌, ◌+◌, ◌≤◌, ℕ, List, map, length, IsTrue, IfErr, IfSome, Ok};
 ghost use Rattle.std.specs.Iterator.{YieldsFirst, at_most, UpTo};
 ghost use Rattle.std.specs.Iterator.SizeHint.{IsWithinCount};
@@ -14,13 +13,12 @@ use std::alloc::AllocError;
 use std::marker::Model;
 use wasm_below::{BinaryReader, Error, Result, SizeName};
 
-/// The greatest number of targets of a table.
 const MAX_TARGETS: usize = 7654321;
 
 /// The labels of `br_table`: the targets, and a default target for all other values.
 ///
-/// The targets stay in the bytes that were read. Two tables are equal if and only if their counts,
-/// the bytes of their targets and their default targets are equal.
+/// The targets stay in the bytes that were read. Tables are equal if and only if their counts,
+/// default targets and target bytes are.
 #[derive(Debug, Drop)]
 pub struct BrTable<'a> {
     count: u32,
@@ -39,11 +37,10 @@ impl<'a> Model for BrTable<'a> {
 }
 
 impl<'a> BrTable<'a> {
-    /// Reads a branch table. Control Instructions.
+    /// Reads a branch table. Specification: Control Instructions.
     ///
     /// Fails with `SizeOutOfBounds` of `br_table` at the start of the count if it is above 7654321.
-    /// Otherwise fails like `read_size` at the count, or like `read_var_u32` at a target or the
-    /// default target.
+    /// Otherwise fails like `read_size` at the count, or like `read_var_u32` at a target.
     pub fn read(reader: &mut BinaryReader<'a>) -> Result<BrTable<'a>>
         ensures reads { Reads EncodesBranchTable result reader.old reader.new }
         ensures fault { IfErr result (λ e. BranchTableFault e.message reader.old e.offset) }
@@ -71,21 +68,18 @@ impl<'a> BrTable<'a> {
         }
     }
 
-    /// Returns the number of targets, without the default target.
     pub fn len(&self) -> u32
         ensures { result ≡ self.now.count }
     {
         self.count
     }
 
-    /// Returns whether the default target is the only one.
     pub fn is_empty(&self) -> bool
         ensures { IsTrue result ↔ (self.now.count ≡ 0) }
     {
         self.count == 0
     }
 
-    /// Returns the target for all values that have no other target.
     pub fn default(&self) -> u32
         ensures { result ≡ self.now.default }
     {
@@ -132,12 +126,12 @@ struct Passed {
     position: usize,
 }
 
-/// Skips targets, at most `count`. It skips four at a time as long as each has one byte. Then it
-/// skips one at a time as long as five bytes are left, the greatest size of a target. So it need
-/// not check for the end of the data at each byte.
+/// Skips targets, at most `count`: four at a time as long as each has one byte, then one at a time
+/// as long as five bytes are left, the greatest size of a target. So it need not check for the end
+/// of the data at each byte.
 ///
-/// How many it skips matters only for speed, since the caller reads the others. The function is not
-/// inlined, to keep the caller small; its result is two words.
+/// The caller reads the targets that are left. The function is not inlined, to keep the caller
+/// small; its result is two words.
 #[inline(never)]
 fn pass_targets(bytes: &[u8], count: usize) -> Passed
     ensures most { result.targets ≤ count }
@@ -170,7 +164,6 @@ fn pass_short_targets(bytes: &[u8], count: usize) -> usize
     position
 }
 
-/// Returns whether each of the next four bytes is a target.
 #[inline(always)]
 fn are_four_short(bytes: &[u8], position: usize) -> bool
     requires { position + 4 ≤ length bytes.now }
@@ -183,7 +176,6 @@ fn are_four_short(bytes: &[u8], position: usize) -> bool
     bits < 128
 }
 
-/// Returns the size in bytes of the target at this position, if there is one.
 #[inline(always)]
 fn target_size(bytes: &[u8], position: usize) -> Option<usize>
     requires { position + 5 ≤ length bytes.now }

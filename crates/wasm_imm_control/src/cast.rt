@@ -1,4 +1,3 @@
-//! Casts.
 ghost use Rattle.std.specs.Prelude.{IfErr};
 ghost use Rattle.wasm_below.specs.Source.{Reads};
 ghost use Rattle.wasm_below.specs.TypeEncoding.{HeapTypeFault};
@@ -12,18 +11,17 @@ use wasm_below::{BinaryReader, HeapType, Message, RefType, Result};
 pub struct Cast {
     /// The label, counted outwards from the innermost block.
     pub relative_depth: u32,
-    /// The type of the reference.
     pub from: RefType,
     /// The type that the reference is tested for.
     pub to: RefType,
 }
 
 impl Cast {
-    /// Reads the flags, the label and the two heap types of a cast. Control Instructions.
+    /// Reads the flags, the label and the two heap types of a cast. Specification: Control
+    /// Instructions.
     ///
-    /// Fails with `EndOfData` at the flags, or like `read_var_u32` at the label. After the label,
-    /// fails with `InvalidCastFlags` at the flags if they are above 3. Then fails like
-    /// `HeapType::read` at either heap type.
+    /// Fails with `EndOfData` at the flags, or like `read_var_u32` at the label; then with
+    /// `InvalidCastFlags` at the flags if they are above 3; then like `HeapType::read`.
     #[inline(never)]
     pub fn read(reader: &mut BinaryReader<'_>) -> Result<Cast>
         ensures reads { Reads EncodesCast result reader.old reader.new }
@@ -65,7 +63,6 @@ impl Cast {
     }
 }
 
-/// Reads a heap type, and returns the reference type with or without null.
 fn read_reference(reader: &mut BinaryReader<'_>, nullable: bool) -> Result<RefType>
     ensures reads { Reads (EncodesReference nullable) result reader.old reader.new }
     ensures fault { IfErr result (λ e. HeapTypeFault e.message reader.old e.offset) }

@@ -1,4 +1,3 @@
-//! Try tables and resume tables.
 ghost use Rattle.std.specs.Prelude.{◌≡◌, length, true, IfOk, IfErr};
 ghost use Rattle.wasm_imm_control.specs.HandlerTables.{EncodesTryTable, EncodesResumeTable};
 ghost use Rattle.wasm_imm_control.specs.ListFaults.{TryTableFault, ResumeTableFault};
@@ -11,23 +10,19 @@ use crate::members::{Catches, Handles};
 use std::alloc::Global;
 use wasm_below::{BinaryReader, FromReader, May, MemoryUse, Result, SizeName, UsesMemory};
 
-/// The greatest number of catches of a try table.
 const MAX_CATCHES: usize = 10000;
 
-/// The greatest number of clauses of a resume table.
 const MAX_HANDLERS: usize = 10000;
 
 /// The immediates of `try_table`: a block type, and the exceptions that are caught in the block.
 #[derive(Debug, PartialEq, Eq, Drop)]
 pub struct TryTable {
-    /// The type of the block.
     pub ty: BlockType,
     /// The catches. The first that matches is taken.
     pub catches: Catches,
 }
 
 impl TryTable {
-    /// Returns a copy that owns its memory.
     pub fn clone(&self, alloc: Global) -> Result<TryTable>
         ensures ok { IfOk result (λ copy. copy ≡ self.now) }
         ensures err { IfErr result (λ e. IsOutOfMemoryAt 0 e) }
@@ -51,11 +46,10 @@ impl<'a> FromReader<'a> for TryTable {
 
     ghost fault = { λ m r offset. TryTableFault m r offset };
 
-    /// Reads a block type and catches. Control Instructions.
+    /// Reads a block type and catches. Specification: Control Instructions.
     ///
-    /// Fails like `BlockType::read`. Then fails with `SizeOutOfBounds` of `catches` at the start of
-    /// the count if it is above 10000, or like `read_size`. Then fails like `Catch::read` at a
-    /// catch.
+    /// Fails like `BlockType::read`; then with `SizeOutOfBounds` of `catches` at the start of the
+    /// count if it is above 10000, or like `read_size`; then like `Catch::read`.
     fn from_reader(alloc: Global, reader: &mut BinaryReader<'a>) -> Result<TryTable> {
         let start = reader.current_position();
         let ty = match BlockType::read(reader) {
@@ -81,14 +75,12 @@ pub struct ResumeTable {
 }
 
 impl ResumeTable {
-    /// Returns the number of clauses.
     pub fn len(&self) -> usize
         ensures { result ≡ length self.now.handlers }
     {
         self.handlers.len()
     }
 
-    /// Returns a copy that owns its memory.
     pub fn clone(&self, alloc: Global) -> Result<ResumeTable>
         ensures ok { IfOk result (λ copy. copy ≡ self.now) }
         ensures err { IfErr result (λ e. IsOutOfMemoryAt 0 e) }
@@ -112,7 +104,7 @@ impl<'a> FromReader<'a> for ResumeTable {
     /// Reads clauses. Proposal stack switching.
     ///
     /// Fails with `SizeOutOfBounds` of `resume table` at the start of the count if it is above
-    /// 10000, or like `read_size`. Then fails like `Handle::read` at a clause.
+    /// 10000, or like `read_size`; then like `Handle::read`.
     fn from_reader(alloc: Global, reader: &mut BinaryReader<'a>) -> Result<ResumeTable> {
         match read_list::<Handle>(alloc, reader, MAX_HANDLERS, SizeName::ResumeTable) {
             Ok(handlers) => Ok(ResumeTable { handlers }),

@@ -1,4 +1,3 @@
-//! Catches, and clauses of resume tables.
 ghost use Rattle.std.specs.Prelude.{◌<◌, ◌≤◌, ◌≡◌, false, IfErr};
 ghost use Rattle.wasm_below.specs.Source.{Reads};
 ghost use Rattle.wasm_imm_control.specs.HandlerFaults.{PairFault, IndicesFault, CatchFault, HandleFault};
@@ -14,8 +13,7 @@ use wasm_below::{
 pub enum Catch {
     /// Exceptions with this tag branch to this label, with their values.
     One { tag: u32, label: u32 },
-    /// Exceptions with this tag branch to this label, with their values and a reference to the
-    /// exception.
+    /// The same, with a reference to the exception too.
     OneRef { tag: u32, label: u32 },
     /// All exceptions branch to this label.
     All { label: u32 },
@@ -24,10 +22,10 @@ pub enum Catch {
 }
 
 impl Catch {
-    /// Reads a catch. Control Instructions.
+    /// Reads a catch. Specification: Control Instructions.
     ///
     /// Fails with `EndOfData` at the first byte, or with `InvalidLeadingByte` of `catch` there if
-    /// it is above 3. Otherwise fails like `read_var_u32` at the tag or the label.
+    /// it is above 3; then like `read_var_u32`.
     #[inline(always)]
     pub fn read(reader: &mut BinaryReader<'_>) -> Result<Catch>
         ensures reads { Reads EncodesCatch result reader.old reader.new }
@@ -53,7 +51,6 @@ impl Catch {
         }
     }
 
-    /// Reads the rest of a catch whose first byte is `byte`.
     #[inline(always)]
     fn read_after_byte(reader: &mut BinaryReader<'_>, byte: u8) -> Result<Catch>
         requires { byte ≤ 3 }
@@ -112,7 +109,7 @@ impl Handle {
     /// Reads a clause. Proposal stack switching.
     ///
     /// Fails with `EndOfData` at the first byte, or with `InvalidLeadingByte` of `on clause` there
-    /// if it is above 1. Otherwise fails like `read_var_u32` at the tag or the label.
+    /// if it is above 1; then like `read_var_u32`.
     #[inline(always)]
     pub fn read(reader: &mut BinaryReader<'_>) -> Result<Handle>
         ensures reads { Reads EncodesHandle result reader.old reader.new }
@@ -138,7 +135,6 @@ impl Handle {
         }
     }
 
-    /// Reads the rest of a clause whose first byte is `byte`.
     #[inline(always)]
     fn read_after_byte(reader: &mut BinaryReader<'_>, byte: u8) -> Result<Handle>
         requires { byte ≤ 1 }
@@ -176,7 +172,6 @@ impl<'a> FromReader<'a> for Handle {
     fn determines_refusal() {}
 }
 
-/// Reads two indices.
 #[inline(always)]
 fn read_pair(reader: &mut BinaryReader<'_>) -> Result<(u32, u32)>
     ensures reads { Reads EncodesPair result reader.old reader.new }

@@ -1,7 +1,5 @@
-//! Laws of the immediates of control operators, each the contract of a function that does nothing.
-//!
-//! `PrefixCode` says that no encoding is a proper prefix of another, and that each encoding has one
-//! value. `DeterminesRefusal` says that a fault determines the message and the offset of an error.
+//! Laws of the immediates of control operators: encodings are prefix codes, and faults determine
+//! their errors.
 ghost use Rattle.std.specs.Prelude.{◌≡◌, ◌<◌, ℕ, List, true};
 ghost use Rattle.wasm_below.specs.bytes.features.WasmFeatures.{WasmFeatures};
 ghost use Rattle.wasm_below.specs.bytes.message.SizeName.{SizeName};
@@ -23,41 +21,34 @@ ghost use Rattle.wasm_imm_control.specs.BranchTableEquality.{same_table};
 
 use wasm_below::FromReader;
 
-/// States that the encodings of block types are a prefix code.
 pub fn block_types()
     ensures { PrefixCode EncodesBlockType }
 {}
 
-/// States that the encodings of branch tables are a prefix code.
 pub fn branch_tables()
     ensures { PrefixCode EncodesBranchTable }
 {}
 
-/// States that the encodings of casts are a prefix code.
 pub fn casts()
     ensures { PrefixCode EncodesCast }
 {}
 
-/// States that the encodings of the types of a `select` are a prefix code.
 pub fn select_types()
     ensures { PrefixCode EncodesSelect }
 {}
 
-/// States that the encodings of catches, and of clauses, are prefix codes.
 pub fn handlers()
     ensures catches { PrefixCode EncodesCatch }
     ensures clauses { PrefixCode EncodesHandle }
 {}
 
-/// States that the encodings of try tables, and of resume tables, are prefix codes.
 pub fn handler_tables()
     ensures catches { PrefixCode EncodesTryTable }
     ensures clauses { PrefixCode EncodesResumeTable }
 {}
 
-/// States that the fault of a list determines its error, for any name and limit. It requires that
-/// the encodings of the members are a prefix code, and that the fault of a member determines its
-/// error.
+/// States that the fault of a list determines its error, for any name and limit, if the members are
+/// a prefix code and their faults determine their errors.
 pub fn list_refusals<'a, T: FromReader<'a>>()
     ensures { (name : SizeName) (limit : ℕ) (features : WasmFeatures)
         → PrefixCode (T.encodes features)
@@ -65,8 +56,8 @@ pub fn list_refusals<'a, T: FromReader<'a>>()
         → DeterminesRefusal (ListFault name limit (T.encodes features) T.fault) }
 {}
 
-/// States that the fault determines the error: of a block type, a branch table, a cast, and the
-/// types of a `select`.
+/// States that the faults of block types, branch tables, casts and the types of a `select`
+/// determine their errors.
 pub fn control_refusals()
     ensures block { DeterminesRefusal BlockTypeFault }
     ensures table { DeterminesRefusal BranchTableFault }
@@ -74,8 +65,7 @@ pub fn control_refusals()
     ensures select { DeterminesRefusal SelectFault }
 {}
 
-/// States that the fault determines the error: of a catch, a clause, a try table and a resume
-/// table.
+/// States that the faults of catches, clauses, try tables and resume tables determine their errors.
 pub fn handler_refusals()
     ensures catches { DeterminesRefusal CatchFault }
     ensures clauses { DeterminesRefusal HandleFault }
@@ -83,7 +73,7 @@ pub fn handler_refusals()
     ensures resume_table { DeterminesRefusal ResumeTableFault }
 {}
 
-/// States that equal branch tables have the same targets and the same default target.
+/// States that equal branch tables have the same targets.
 pub fn equal_tables()
     ensures { (s t : BranchTable) (m n : List ℕ)
         → same_table s t ≡ true

@@ -1,8 +1,8 @@
 //! Immediates of control operators: block types, branch tables, casts, the types of a `select`, try
 //! tables and resume tables.
 //!
-//! Every call that allocates may fail with `OutOfMemory`. The offset is where the call began, and
-//! the reader is unchanged. In a `clone`, which reads nothing, the offset is 0.
+//! Every call that allocates may fail with `OutOfMemory`, at the offset where the call began; a
+//! `clone`, at offset 0.
 #![tactic(auto)]
 
 mod block_type;

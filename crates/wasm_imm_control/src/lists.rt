@@ -1,4 +1,3 @@
-//! Lists: a count, and that many members.
 ghost use Rattle.std.specs.Prelude.{◌≡◌, ◌+◌, ◌≤◌, false, true, IfErr};
 ghost use Rattle.wasm_below.specs.Fault.{HasFault, ManyFault};
 ghost use Rattle.wasm_below.specs.FromReader.{ReadsValue};
@@ -14,7 +13,7 @@ use wasm_below::{BinaryReader, Error, FromReader, Message, Result, SizeName};
 /// Reads a count of at most `limit`, and that many members. Allocates once.
 ///
 /// Fails with `SizeOutOfBounds` of `desc` at the start of the count if it is above `limit`, or like
-/// `read_size`. Then fails like `T::from_reader` at a member.
+/// `read_size`; then like `T::from_reader`.
 pub fn read_list<'a, T: FromReader<'a>>(
     alloc: Global,
     reader: &mut BinaryReader<'a>,
@@ -38,9 +37,7 @@ pub fn read_list<'a, T: FromReader<'a>>(
     }
 }
 
-/// Reads `count` members.
-///
-/// Fails like `T::from_reader` at a member.
+/// Reads `count` members. Fails like `T::from_reader`.
 pub fn read_members<'a, T: FromReader<'a>>(
     alloc: Global,
     reader: &mut BinaryReader<'a>,
@@ -71,8 +68,8 @@ pub fn read_members<'a, T: FromReader<'a>>(
     Ok(Members::from_vec(items))
 }
 
-/// Goes back to the position where a call began. Returns `OutOfMemory` with the offset there, and
-/// any other error unchanged.
+/// Goes back to where a call began. Returns `OutOfMemory` with the offset there, and any other
+/// error unchanged.
 #[cold]
 #[inline(never)]
 pub fn refuse_from(reader: &mut BinaryReader<'_>, position: usize, e: Error) -> Error

@@ -1,4 +1,3 @@
-//! Lists that own their memory.
 ghost use Rattle.std.specs.Prelude.{◌≡◌, ◌↔◌, [], length, IsTrue, IfOk, IfErr, Ok, option_copied, slice_get};
 ghost use Rattle.std.specs.Slice.Iter.{iter_rest};
 ghost use Rattle.std.specs.Iterator.Adapters.{IterYieldsInOrder};
@@ -16,13 +15,10 @@ pub struct Members<T> {
     items: Vec<T>,
 }
 
-/// The types of a `select`.
 pub type SelectTypes = Members<ValType>;
 
-/// The catches of a try table.
 pub type Catches = Members<Catch>;
 
-/// The clauses of a resume table.
 pub type Handles = Members<Handle>;
 
 impl<T> Model for Members<T> {
@@ -49,28 +45,24 @@ impl<T> Members<T> {
         items
     }
 
-    /// Returns the members as a slice.
     pub fn as_slice(&self) -> &[T]
         ensures { result.now ≡ self.now }
     {
         self.items.as_slice()
     }
 
-    /// Returns the number of members.
     pub fn len(&self) -> usize
         ensures { result ≡ length self.now }
     {
         self.items.len()
     }
 
-    /// Returns the member at this index, counted from 0.
     pub fn get(&self, index: usize) -> Option<&T>
         ensures { option_copied result ≡ slice_get self.now index }
     {
         self.items.as_slice().get(index)
     }
 
-    /// Returns an iterator over the members, in order.
     pub fn iter(&self) -> Iter<'_, T>
         ensures rest { iter_rest result ≡ self.now }
         ensures runs { IterYieldsInOrder T }
@@ -78,7 +70,6 @@ impl<T> Members<T> {
         self.items.as_slice().iter()
     }
 
-    /// Returns whether the list is empty.
     pub fn is_empty(&self) -> bool
         ensures { IsTrue result ↔ (self.now ≡ []) }
     {
@@ -87,7 +78,6 @@ impl<T> Members<T> {
 }
 
 impl<T: Copy + Drop> Members<T> {
-    /// Returns a copy that owns its memory.
     pub fn clone(&self, alloc: Global) -> Result<Members<T>>
         ensures ok { IfOk result (λ copy. copy ≡ self.now) }
         ensures err { IfErr result (λ e. IsOutOfMemoryAt 0 e) }

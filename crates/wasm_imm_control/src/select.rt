@@ -1,4 +1,3 @@
-//! The types of a `select`.
 ghost use Rattle.std.specs.Prelude.{◌≡◌, true, IfErr};
 ghost use Rattle.wasm_below.specs.Fault.{HasFault};
 ghost use Rattle.wasm_below.specs.FromReader.{ReadsValue};
@@ -11,24 +10,22 @@ use crate::members::SelectTypes;
 use std::alloc::Global;
 use wasm_below::{BinaryReader, Message, Result, SizeName, ValType};
 
-/// The greatest number of types of a `select`.
 const MAX_SELECT_TYPES: usize = 10;
 
-/// The types of a `select`.
 #[derive(Debug, PartialEq, Eq, Drop)]
 pub enum Select {
-    /// A single type. It is stored without an allocation.
+    /// A single type, which needs no allocation.
     One { ty: ValType },
     /// No type, or several.
     Multi { tys: SelectTypes },
 }
 
 impl Select {
-    /// Reads the types of a `select`. Parametric Instructions.
+    /// Reads the types of a `select`. Specification: Parametric Instructions. A single type does
+    /// not allocate.
     ///
     /// Fails with `SizeOutOfBounds` of `select types` at the start of the count if it is above 10,
-    /// or like `read_size`. Then fails like `ValType::read` at a type. A single type does not
-    /// allocate.
+    /// or like `read_size`; then like `ValType::read`.
     #[inline(never)]
     pub fn read(alloc: Global, reader: &mut BinaryReader<'_>) -> Result<Select>
         ensures reads { ReadsValue EncodesSelect true result reader.old reader.new }

@@ -1,4 +1,3 @@
--- Under one set of features no encoding of an operator is a proper prefix of another, and an encoding has one operator.
 use Rattle.std.proofs.Common.{◌≡◌, ℕ, Bool, true, false, cond, eqb, ltb, List, [], ◌∷◌, ◌++◌, Option, Some, None, map, refl, sym, ap, subst, ◌∙◌, append_assoc}
 use Rattle.wasm_instr_ops.specs.below.bytes.features.WasmFeatures.{WasmFeatures}
 use Rattle.wasm_instr_ops.specs.below.Number.{EncodesUnsigned}
@@ -18,7 +17,6 @@ use Rattle.wasm_instr.specs.Row.{prefix_of, opcode_of, immediates_of}
 use Rattle.wasm_instr.specs.Encoding.{EncodesOpcode, EncodesOperator}
 use Rattle.wasm_instr.proofs.ByOpcode.{own_at}
 
--- The operator with a prefix byte, an opcode or subopcode, and immediates.
 abbrev pub operator_at : Option ℕ → ℕ → List Immediate → Operator
 operator_at None code is = cond (is_numeric code) (operator.Numeric (numeric_at code is)) (own_at code is)
 operator_at (Some prefix) code is =
@@ -36,7 +34,6 @@ again (operator.Simd op) = ap operator.Simd (simd_by_opcode op)
 again (operator.Atomic op) = ap operator.Atomic (atomic_by_opcode op)
 again op = refl
 
--- The kinds of the immediates after an opcode or a subopcode.
 abbrev kinds_at : Option ℕ → ℕ → List Kind
 kinds_at prefix code = map kind_of (immediates_of (operator_at prefix code []))
 
@@ -50,7 +47,6 @@ kinds_by_opcode (operator.Simd op) = simd_kinds op
 kinds_by_opcode (operator.Atomic op) = atomic_kinds op
 kinds_by_opcode op = refl
 
--- No opcode of an operator of one byte is a prefix byte.
 abbrev IsInRange : Option ℕ → ℕ → Type 0
 IsInRange None code = ltb code 0xfb ≡ true
 IsInRange (Some prefix) code = ltb prefix 0xfb ≡ false

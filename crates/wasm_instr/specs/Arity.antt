@@ -1,6 +1,7 @@
--- The arity of an operator: its numbers of operands and results.
--- WebAssembly Core Specification 3.0: Validation, Instructions; Appendix, Validation Algorithm. Proposals legacy exception handling, stack switching and custom descriptors.
--- An operator that opens a construct takes its parameters and passes them to its body. An `end` takes and returns the results. An operator that does not fall through has no results.
+-- Specification: Validation, Instructions; Appendix, Validation Algorithm. Proposals legacy
+-- exception handling, stack switching and custom descriptors. An operator that opens a construct
+-- takes its parameters and passes them to its body. An `end` takes and returns the results. An
+-- operator that does not fall through has no results.
 use Rattle.std.specs.Prelude.{ℕ, ◌+◌, ◌-◌, ◌*◌, ◌^◌, ◌==◌, nat_lt, if◌then◌else◌, Option, Some, None, length}
 use Rattle.std.specs.Option.{option_map, option_and_then}
 use Rattle.wasm_grammar.specs.declared.frame_kind.FrameKind.{FrameKind}
@@ -14,7 +15,6 @@ use Rattle.wasm_instr.specs.declared.operator.Operator.TheVariants as operator
 use Rattle.wasm_instr.specs.ModuleFacts.{ModuleFacts}
 use Rattle.wasm_instr.specs.FixedArity.{fixed_arity, gc_pair}
 
--- The numbers of operands and results, if they are defined.
 abbrev pub Arity : Type 0
 Arity = Option (ℕ × ℕ)
 
@@ -22,77 +22,74 @@ Arity = Option (ℕ × ℕ)
 abbrev pub sum_within : ℕ → ℕ → Option ℕ
 sum_within n by = if nat_lt (n + by) (2 ^ 32) then Some (n + by) else None
 
--- The arity with this many more operands.
 abbrev pub taking_more : ℕ → ℕ × ℕ → Arity
 taking_more by a = option_map (λ takes. (takes, a.1)) (sum_within a.0 by)
 
--- The numbers of parameters and results of a block type.
 abbrev pub arity_of_block : ModuleFacts → BlockType → Arity
 arity_of_block m block.Empty = Some (0, 0)
 arity_of_block m (block.Value _) = Some (0, 1)
 arity_of_block m (block.FuncType i) = m.func_type_arity i
 
--- The numbers of parameters and results of the block of the frame at a depth. The innermost frame has depth 0.
+-- The innermost frame has depth 0.
 abbrev pub arity_of_frame : ModuleFacts → ℕ → Arity
 arity_of_frame m depth = option_and_then (λ b. arity_of_block m b.0) (m.label_block depth)
 
--- The number of values that a branch to a frame carries: the parameters of a loop, or the results of another construct.
+-- A branch to a loop carries its parameters, to another construct its results.
 abbrev pub carried : FrameKind → ℕ × ℕ → ℕ
 carried frame.Loop a = a.0
 carried _ a = a.1
 
--- The number of values that a branch to the frame at a depth carries.
 abbrev pub arity_of_label : ModuleFacts → ℕ → Option ℕ
 arity_of_label m depth = option_and_then (λ b. option_map (carried b.1) (arity_of_block m b.0)) (m.label_block depth)
 
--- The numbers of parameters and results of a function, and of the function type of a continuation type.
+-- The parameters and results of a function, and of the function type of a continuation type.
 abbrev pub arity_of_function : ModuleFacts → ℕ → Arity
 arity_of_function m i = option_and_then m.func_type_arity (m.type_index_of_function i)
 
 abbrev pub arity_of_continuation : ModuleFacts → ℕ → Arity
 arity_of_continuation m i = option_and_then m.func_type_arity (m.cont_type_func i)
 
--- The arity of block, loop, try and try_table.
+-- block, loop, try and try_table.
 abbrev pub arity_of_entry : ModuleFacts → BlockType → Arity
 arity_of_entry m ty = option_map (λ a. (a.0, a.0)) (arity_of_block m ty)
 
--- The arity of if: it takes the parameters of its block and the condition, and passes the parameters to its body.
+-- if takes the parameters and the condition, and passes the parameters to its body.
 abbrev pub arity_of_if : ModuleFacts → BlockType → Arity
 arity_of_if m ty = option_and_then (taking_more 1) (arity_of_entry m ty)
 
--- The arity of else: it takes the results of the first list, and passes the parameters to the second list.
+-- else takes the results of the first list, and passes the parameters to the second.
 abbrev pub arity_of_else : ModuleFacts → Arity
 arity_of_else m = option_map (λ a. (a.1, a.0)) (arity_of_frame m 0)
 
--- The arity of the legacy catch: it takes the results of the list before it, and passes on the parameters of its tag.
+-- catch takes the results of the list before it, and passes on the parameters of its tag.
 abbrev pub arity_of_catch : ModuleFacts → ℕ → Arity
 arity_of_catch m tag = option_and_then (λ a. option_map (λ t. (a.1, t.0)) (m.tag_type_arity tag)) (arity_of_frame m 0)
 
--- The arity of the legacy catch_all: it takes the results of the list before it, and passes nothing.
+-- catch_all takes the results of the list before it, and passes nothing.
 abbrev pub arity_of_catch_all : ModuleFacts → Arity
 arity_of_catch_all m = option_map (λ a. (a.1, 0)) (arity_of_frame m 0)
 
--- The arity of end and delegate.
+-- end and delegate.
 abbrev pub arity_of_end : ModuleFacts → Arity
 arity_of_end m = option_map (λ a. (a.1, a.1)) (arity_of_frame m 0)
 
--- The arity of return: it takes the results of the outermost frame, if one is open.
+-- return takes the results of the outermost frame, if one is open.
 abbrev pub arity_of_return : ModuleFacts → Arity
 arity_of_return m = if m.control_stack_height == 0 then None else option_map (λ a. (a.1, 0)) (arity_of_frame m (m.control_stack_height - 1))
 
--- The arity without results, of an operator that does not fall through.
+-- The operator does not fall through.
 abbrev pub leaving : Arity → Arity
 leaving a = option_map (λ p. (p.0, 0)) a
 
--- The arity of a branch that may fall through: the values that it carries stay on the stack.
+-- The values that the branch carries stay on the stack if it falls through.
 abbrev pub arity_of_branch : ModuleFacts → ℕ → Arity
 arity_of_branch m depth = option_map (λ n. (n, n)) (arity_of_label m depth)
 
--- The arity of a branch with a condition: it takes one more operand.
+-- A branch with a condition, one more operand.
 abbrev pub arity_of_branch_if : ModuleFacts → ℕ → Arity
 arity_of_branch_if m depth = option_and_then (taking_more 1) (arity_of_branch m depth)
 
--- The arity of br_on_null: the values that the branch carries and the reference, all of which stay if it falls through.
+-- If the branch falls through, the values that it carries and the reference stay.
 abbrev pub arity_of_branch_on_null : ModuleFacts → ℕ → Arity
 arity_of_branch_on_null m depth = option_and_then (λ n. option_map (λ one_more. (one_more, one_more)) (sum_within n 1)) (arity_of_label m depth)
 
@@ -100,51 +97,55 @@ arity_of_branch_on_null m depth = option_and_then (λ n. option_map (λ one_more
 abbrev pub less_one : ℕ → Arity
 less_one n = if n == 0 then None else Some (n, n - 1)
 
--- The arity of br_on_non_null: the values that the branch carries, of which the reference is dropped if it falls through.
+-- If the branch falls through, the values that it carries stay, except the reference.
 abbrev pub arity_of_branch_on_non_null : ModuleFacts → ℕ → Arity
 arity_of_branch_on_non_null m depth = option_and_then less_one (arity_of_label m depth)
 
--- The arity of a call through a table or a reference.
 abbrev pub arity_of_type_call : ModuleFacts → ℕ → Arity
 arity_of_type_call m i = option_and_then (taking_more 1) (m.func_type_arity i)
 
--- The arity of a select with this many types: it takes two values of each type and the condition.
+-- A select with n types takes two values of each and the condition.
 abbrev pub arity_of_select : ℕ → Arity
 arity_of_select n = if nat_lt (2 * n + 1) (2 ^ 32) then Some (2 * n + 1, n) else None
 
--- The arity of cont.bind, for continuation types with p and q parameters: it takes p - q parameters and the continuation.
+-- cont.bind, for continuation types with p and q parameters, takes p - q parameters and the
+-- continuation.
 abbrev pub bound_within : ℕ → ℕ → Arity
 bound_within p q = if nat_lt p q then None else option_map (λ takes. (takes, 1)) (sum_within (p - q) 1)
 
--- The arity of cont.bind from one continuation type to another.
+-- cont.bind from one continuation type to another.
 abbrev pub arity_of_bind : ModuleFacts → ℕ → ℕ → Arity
 arity_of_bind m from to = option_and_then (λ a. option_and_then (λ b. bound_within a.0 b.0) (arity_of_continuation m to)) (arity_of_continuation m from)
 
--- The arity of resume: it takes the parameters of the continuation type and the continuation, and returns the results.
+-- resume takes the parameters of the continuation type and the continuation, and returns the
+-- results.
 abbrev pub arity_of_resume : ModuleFacts → ℕ → Arity
 arity_of_resume m i = option_and_then (taking_more 1) (arity_of_continuation m i)
 
--- The arity of resume_throw: it takes the parameters of the tag and the continuation, and returns the results of the continuation type.
+-- resume_throw takes the parameters of the tag and the continuation, and returns the results of the
+-- continuation type.
 abbrev pub arity_of_resume_throw : ModuleFacts → ℕ → ℕ → Arity
 arity_of_resume_throw m i tag = option_and_then (λ t. option_and_then (λ a. taking_more 1 (t.0, a.1)) (arity_of_continuation m i)) (m.tag_type_arity tag)
 
--- The arity of resume_throw_ref: it takes the exception and the continuation, and returns the results of the continuation type.
+-- resume_throw_ref takes the exception and the continuation, and returns the results of the
+-- continuation type.
 abbrev pub arity_of_resume_throw_ref : ModuleFacts → ℕ → Arity
 arity_of_resume_throw_ref m i = option_map (λ a. (2, a.1)) (arity_of_continuation m i)
 
--- The numbers of parameters and results of the continuation that a switch resumes: the last parameter of its type refers to it.
+-- The parameters and results of the continuation that a switch resumes: the last parameter of its
+-- type refers to it.
 abbrev pub arity_of_switched : ModuleFacts → ℕ → Arity
 arity_of_switched m i = option_and_then (arity_of_continuation m) (option_and_then m.cont_type_of_last_param (m.cont_type_func i))
 
--- The arity of switch: the number of parameters of the continuation type, and of the continuation type that its last parameter refers to.
+-- switch: the parameters of the continuation type, and of the continuation type that its last
+-- parameter refers to.
 abbrev pub arity_of_switch : ModuleFacts → ℕ → Arity
 arity_of_switch m i = option_and_then (λ a. option_map (λ b. (a.0, b.0)) (arity_of_switched m i)) (arity_of_continuation m i)
 
--- The arity of struct.new: it takes a value for each field, and returns the structure.
+-- struct.new takes a value for each field, and returns the structure.
 abbrev pub arity_of_struct : ModuleFacts → ℕ → Arity
 arity_of_struct m i = option_map (λ n. (n, 1)) (m.struct_type_fields i)
 
--- The arity of an operator with the prefix byte 0xfb.
 abbrev pub gc_arity_of : ModuleFacts → GcOperator → Arity
 gc_arity_of m (gc.StructNew i) = arity_of_struct m i
 gc_arity_of m (gc.StructNewDesc i) = option_and_then (taking_more 1) (arity_of_struct m i)
@@ -155,7 +156,8 @@ gc_arity_of m (gc.BrOnCastDescEq depth _ _) = arity_of_branch_if m depth
 gc_arity_of m (gc.BrOnCastDescEqFail depth _ _) = arity_of_branch_if m depth
 gc_arity_of m op = gc_pair op
 
--- The numbers of operands and results of an operator in a module. `None` if the module has no answer that is needed, or if a number does not fit in 32 bits.
+-- The numbers of operands and results of an operator; `None` if the module does not determine them,
+-- or if one does not fit in 32 bits.
 abbrev pub arity_of : ModuleFacts → Operator → Arity
 arity_of m (operator.Block ty) = arity_of_entry m ty
 arity_of m (operator.Loop ty) = arity_of_entry m ty

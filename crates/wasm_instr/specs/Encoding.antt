@@ -1,5 +1,4 @@
--- The encodings of operators.
--- WebAssembly Core Specification 3.0, Binary Format, Instructions; proposal legacy exception handling.
+-- Specification: Binary Format, Instructions; proposal legacy exception handling.
 use Rattle.std.specs.Prelude.{◌≡◌, ℕ, List, [], ◌∷◌, ◌++◌, Option, Some, None}
 use Rattle.wasm_instr_ops.specs.below.bytes.features.WasmFeatures.{WasmFeatures}
 use Rattle.wasm_instr_ops.specs.below.Features.{HasFeature, legacy_exceptions}
@@ -21,7 +20,7 @@ IsEnabled f (operator.Catch _) = HasFeature legacy_exceptions f
 IsEnabled f operator.CatchAll = HasFeature legacy_exceptions f
 IsEnabled f _ = Unit {0}
 
--- Under these features the bytes encode the operator: its opcode, followed by its immediates in order.
+-- Under these features the bytes encode the opcode and the immediates of the operator.
 pub record EncodesOperator (f : WasmFeatures) (op : Operator) (bytes : List ℕ) : Type 0 where
   pub head : List ℕ
   pub after : List ℕ

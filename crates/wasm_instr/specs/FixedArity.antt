@@ -1,6 +1,6 @@
 -- Written by tools/lists.py from tools/operators.tsv.
 -- The numbers of operands and results of the operators for which they are fixed.
--- WebAssembly Core Specification 3.0: Appendix, Index of Instructions. An access to an array also takes the array: proposal multibyte array access.
+-- Specification: Appendix, Index of Instructions. An access to an array also takes the array: proposal multibyte array access.
 use Rattle.std.specs.Prelude.{ℕ, ◌+◌, Option, Some, None}
 use Rattle.wasm_instr_ops.specs.imm.declared.memory_argument.MemArg.{MemArg}
 use Rattle.wasm_instr_ops.specs.imm.declared.memory_argument.MemArgTarget.{MemArgTarget}
@@ -18,7 +18,7 @@ use Rattle.wasm_instr_ops.specs.declared.atomic.AtomicOperator.TheVariants as at
 use Rattle.wasm_instr.specs.declared.operator.Operator.{Operator}
 use Rattle.wasm_instr.specs.declared.operator.Operator.TheVariants as operator
 
--- The number of operands besides the address that identify the target: one for an array, none for a memory.
+-- An array is an operand besides the address; a memory is none.
 abbrev pub arrays_in : MemArgTarget → ℕ
 arrays_in (target.Array _) = 1
 arrays_in (target.Memory _) = 0
@@ -27,7 +27,7 @@ arrays_in (target.Memory _) = 0
 abbrev pub reaching : MemArg → ℕ → ℕ
 reaching m takes = takes + arrays_in m.target
 
--- The numbers of operands and results of the numeric operators of one byte.
+-- The operands and results of an operator; `None` if they depend on the module.
 abbrev pub numeric_pair : NumericOperator → ℕ × ℕ
 numeric_pair numeric.I32Eqz = (1, 1)
 numeric_pair numeric.I64Eqz = (1, 1)
@@ -83,7 +83,6 @@ numeric_pair numeric.I64Extend16S = (1, 1)
 numeric_pair numeric.I64Extend32S = (1, 1)
 numeric_pair _ = (2, 1)
 
--- The numbers of operands and results of the operators with the prefix byte 0xfb; `None` if they depend on the module.
 abbrev pub gc_pair : GcOperator → Option (ℕ × ℕ)
 gc_pair (gc.StructNewDefault _) = Some (0, 1)
 gc_pair (gc.StructSet _ _) = Some (2, 0)
@@ -109,7 +108,6 @@ gc_pair (gc.BrOnCastDescEq _ _ _) = None
 gc_pair (gc.BrOnCastDescEqFail _ _ _) = None
 gc_pair _ = Some (1, 1)
 
--- The numbers of operands and results of the operators with the prefix byte 0xfc.
 abbrev pub misc_pair : MiscOperator → ℕ × ℕ
 misc_pair (misc.MemoryInit _ _) = (3, 0)
 misc_pair (misc.MemoryCopy _ _) = (3, 0)
@@ -128,7 +126,6 @@ misc_pair misc.I64MulWideS = (2, 2)
 misc_pair misc.I64MulWideU = (2, 2)
 misc_pair _ = (1, 1)
 
--- The numbers of operands and results of the operators with the prefix byte 0xfd.
 abbrev pub simd_pair : SimdOperator → ℕ × ℕ
 simd_pair (simd.V128Load memarg) = (reaching memarg 1, 1)
 simd_pair (simd.V128Load8x8S memarg) = (reaching memarg 1, 1)
@@ -242,7 +239,6 @@ simd_pair simd.I64x2RelaxedLaneselect = (3, 1)
 simd_pair simd.I32x4RelaxedDotI8x16I7x16AddS = (3, 1)
 simd_pair _ = (2, 1)
 
--- The numbers of operands and results of the operators with the prefix byte 0xfe.
 abbrev pub atomic_pair : AtomicOperator → ℕ × ℕ
 atomic_pair (atomic.MemoryAtomicWait32 memarg) = (3, 1)
 atomic_pair (atomic.MemoryAtomicWait64 memarg) = (3, 1)
@@ -296,7 +292,7 @@ atomic_pair (atomic.ArrayAtomicSet _ _) = (3, 0)
 atomic_pair (atomic.ArrayAtomicRmwCmpxchg _ _) = (4, 1)
 atomic_pair _ = (2, 1)
 
--- The numbers of operands and results of an operator; `None` if they depend on the module.
+-- The operands and results of any operator; `None` if they depend on the module.
 abbrev pub fixed_arity : Operator → Option (ℕ × ℕ)
 fixed_arity operator.Unreachable = Some (0, 0)
 fixed_arity operator.Nop = Some (0, 0)

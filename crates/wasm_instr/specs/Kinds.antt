@@ -1,14 +1,13 @@
--- Classes of operators.
 use Rattle.std.specs.Prelude.{◌≡◌, ◌⊎◌, codes}
 use Rattle.wasm_instr.specs.declared.operator.Operator.{Operator}
 use Rattle.wasm_instr.specs.declared.operator.Operator.TheVariants as operator
 use Rattle.wasm_instr.specs.Row.{proposal_of}
 
--- The operator is a SIMD operator: its proposal is simd or relaxed_simd.
+-- The operator's proposal is simd or relaxed_simd.
 abbrev pub IsSimd : Operator → Type 0
 IsSimd op = (proposal_of op ≡ codes "simd") ⊎ (proposal_of op ≡ codes "relaxed_simd")
 
--- The operator is a SIMD operator: its variant is Simd.
+-- The operator's variant is Simd.
 abbrev pub IsVector : Operator → Type 0
 IsVector (operator.Simd _) = Unit {0}
 IsVector _ = ⊥

@@ -1,5 +1,4 @@
--- The roles of the operators in the structure of an expression.
--- WebAssembly Core Specification 3.0: Structure, Instructions, Control Instructions. Proposal legacy exception handling: try, catch, catch_all and delegate.
+-- Specification: Structure, Control Instructions. Proposal legacy exception handling.
 use Rattle.std.specs.Prelude.{List, [], ◌∷◌}
 use Rattle.wasm_grammar.specs.Role.{Role, block, loop, try_table, plain, opens, opens_if, opens_try, turns_else, turns_catch, turns_catch_all, delegates, ends}
 use Rattle.wasm_instr.specs.declared.operator.Operator.{Operator}
@@ -19,7 +18,6 @@ role_of (operator.Delegate depth) = delegates depth
 role_of operator.End = ends
 role_of op = plain op
 
--- The roles of a list of operators.
 abbrev pub roles_of : List Operator → List (Role Operator)
 roles_of [] = []
 roles_of (op ∷ ops) = role_of op ∷ roles_of ops

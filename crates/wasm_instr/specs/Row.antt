@@ -1,6 +1,6 @@
 -- Written by tools/lists.py from tools/operators.tsv.
 -- The rows of all operators, by columns.
--- WebAssembly Core Specification 3.0: Binary Format, Instructions; Appendix, Index of Instructions.
+-- Specification: Binary Format, Instructions; Appendix, Index of Instructions.
 use Rattle.std.specs.Prelude.{ℕ, List, [], ◌∷◌, Option, Some, None, codes}
 use Rattle.wasm_instr_ops.specs.imm.declared.memory_argument.MemArgKind.TheVariants as kind
 use Rattle.wasm_instr_ops.specs.imm.control.select.Select.TheVariants as select
@@ -13,7 +13,7 @@ use Rattle.wasm_instr_simd.specs.Simd.{simd_proposal, simd_name, simd_subopcode,
 use Rattle.wasm_instr_ops.specs.Atomic.{atomic_proposal, atomic_name, atomic_subopcode, atomic_immediates}
 use Rattle.wasm_instr_ops.specs.imm.Immediate.{Immediate, unsigned_32, signed_32, signed_64, float_32, float_64, memory_argument, memory_index, table_index_32, heap_type, block_type, branch_table, select_types, try_clauses, resume_clauses}
 
--- The name of the proposal that added the operator.
+-- The proposal that added the operator.
 abbrev pub proposal_of : Operator → List ℕ
 proposal_of operator.RefEq = codes "gc"
 proposal_of (operator.TypedSelect _) = codes "reference_types"

@@ -1,4 +1,3 @@
-//! The arity of an operator: its numbers of operands and results.
 ghost use Rattle.std.specs.Prelude.{◌≡◌};
 ghost use Rattle.std.specs.Option.{option_and_then};
 ghost use Rattle.wasm_instr.specs.Arity.{arity_of, sum_within, taking_more, arity_of_block, arity_of_frame, arity_of_label, arity_of_function, arity_of_continuation, arity_of_entry, arity_of_if, arity_of_else, arity_of_catch, arity_of_catch_all, arity_of_end, arity_of_return, leaving, arity_of_branch, arity_of_branch_if, arity_of_branch_on_null, arity_of_branch_on_non_null, arity_of_type_call, arity_of_select, bound_within, arity_of_bind, arity_of_resume, arity_of_resume_throw, arity_of_resume_throw_ref, arity_of_switched, arity_of_switch, arity_of_struct, gc_arity_of};
@@ -9,9 +8,7 @@ use wasm_grammar::FrameKind;
 use wasm_instr_ops::GcOperator;
 use wasm_instr_ops::imm::BlockType;
 
-/// A module, as far as arities depend on it.
-///
-/// A pair is the numbers of parameters and results.
+/// A module, as far as arities depend on it. A pair is the numbers of parameters and results.
 pub trait ModuleArity {
     ghost use Rattle.std.specs.Prelude.{◌≡◌};
     ghost use Rattle.wasm_instr.specs.ModuleFacts.{ModuleFacts};
@@ -19,32 +16,26 @@ pub trait ModuleArity {
     /// The results of all methods.
     ghost facts: { Self → ModuleFacts };
 
-    /// Returns the numbers of parameters and results of the function type with this index.
     fn func_type_arity(&self, type_index: u32) -> Option<(u32, u32)>
         ensures { result ≡ (facts self.now).func_type_arity type_index };
 
-    /// Returns the number of fields of the structure type with this index.
     fn struct_type_fields(&self, type_index: u32) -> Option<u32>
         ensures { result ≡ (facts self.now).struct_type_fields type_index };
 
-    /// Returns the index of the function type of the continuation type with this index.
+    /// Returns the index of the function type of this continuation type.
     fn cont_type_func(&self, type_index: u32) -> Option<u32>
         ensures { result ≡ (facts self.now).cont_type_func type_index };
 
-    /// Returns the index of the continuation type that is the last parameter of the function type
-    /// with this index.
+    /// Returns the index of the continuation type that is the last parameter of this function type.
     fn cont_type_of_last_param(&self, type_index: u32) -> Option<u32>
         ensures { result ≡ (facts self.now).cont_type_of_last_param type_index };
 
-    /// Returns the numbers of parameters and results of the tag with this index.
     fn tag_type_arity(&self, tag_index: u32) -> Option<(u32, u32)>
         ensures { result ≡ (facts self.now).tag_type_arity tag_index };
 
-    /// Returns the type index of the function with this index.
     fn type_index_of_function(&self, function_index: u32) -> Option<u32>
         ensures { result ≡ (facts self.now).type_index_of_function function_index };
 
-    /// Returns the number of open frames.
     fn control_stack_height(&self) -> u32
         ensures { result ≡ (facts self.now).control_stack_height };
 
@@ -57,8 +48,8 @@ pub trait ModuleArity {
 impl<'a> Operator<'a> {
     /// Returns the numbers of operands and results of the operator. Validation, Instructions.
     ///
-    /// Returns `None` if a method of the module that is needed returns `None`. Returns `None` if a
-    /// number is above 4294967295 or would be below 0.
+    /// Returns `None` if a method of the module that is needed returns `None`, or if a number is
+    /// above 4294967295 or would be below 0.
     pub fn operator_arity<M: ModuleArity>(&self, context: &M) -> Option<(u32, u32)>
         ensures { result ≡ arity_of (M.facts context.now) self.now }
     {
@@ -122,14 +113,12 @@ impl<'a> Operator<'a> {
     }
 }
 
-/// Returns the sum, if it fits in 32 bits.
 fn sum(n: u32, by: u32) -> Option<u32>
     ensures { result ≡ sum_within n by }
 {
     n.checked_add(by)
 }
 
-/// Adds one operand.
 fn one_more(arity: Option<(u32, u32)>) -> Option<(u32, u32)>
     ensures { result ≡ option_and_then (taking_more 1) arity }
 {
@@ -152,7 +141,6 @@ fn going(arity: Option<(u32, u32)>) -> Option<(u32, u32)>
     }
 }
 
-/// Returns the numbers of parameters and results of a block type.
 fn block_arity<M: ModuleArity>(context: &M, ty: BlockType) -> Option<(u32, u32)>
     ensures { result ≡ arity_of_block (M.facts context.now) ty }
 {
@@ -163,7 +151,6 @@ fn block_arity<M: ModuleArity>(context: &M, ty: BlockType) -> Option<(u32, u32)>
     }
 }
 
-/// Returns the numbers of parameters and results of the block of a frame.
 fn frame_arity<M: ModuleArity>(context: &M, depth: u32) -> Option<(u32, u32)>
     ensures { result ≡ arity_of_frame (M.facts context.now) depth }
 {
@@ -173,7 +160,6 @@ fn frame_arity<M: ModuleArity>(context: &M, depth: u32) -> Option<(u32, u32)>
     }
 }
 
-/// Returns the number of values that a branch to this depth carries.
 fn label_arity<M: ModuleArity>(context: &M, depth: u32) -> Option<u32>
     ensures { result ≡ arity_of_label (M.facts context.now) depth }
 {
@@ -190,7 +176,6 @@ fn label_arity<M: ModuleArity>(context: &M, depth: u32) -> Option<u32>
     }
 }
 
-/// Returns the numbers of parameters and results of a function.
 fn function_arity<M: ModuleArity>(context: &M, index: u32) -> Option<(u32, u32)>
     ensures { result ≡ arity_of_function (M.facts context.now) index }
 {
@@ -200,7 +185,6 @@ fn function_arity<M: ModuleArity>(context: &M, index: u32) -> Option<(u32, u32)>
     }
 }
 
-/// Returns the numbers of parameters and results of the function type of a continuation type.
 fn continuation_arity<M: ModuleArity>(context: &M, index: u32) -> Option<(u32, u32)>
     ensures { result ≡ arity_of_continuation (M.facts context.now) index }
 {
@@ -210,7 +194,6 @@ fn continuation_arity<M: ModuleArity>(context: &M, index: u32) -> Option<(u32, u
     }
 }
 
-/// Returns the arity of `block`, `loop`, `try` and `try_table`.
 fn entry_arity<M: ModuleArity>(context: &M, ty: BlockType) -> Option<(u32, u32)>
     ensures { result ≡ arity_of_entry (M.facts context.now) ty }
 {
@@ -256,7 +239,6 @@ fn catch_all_arity<M: ModuleArity>(context: &M) -> Option<(u32, u32)>
     }
 }
 
-/// Returns the arity of `end` and `delegate`.
 fn end_arity<M: ModuleArity>(context: &M) -> Option<(u32, u32)>
     ensures { result ≡ arity_of_end (M.facts context.now) }
 {
@@ -279,7 +261,6 @@ fn return_arity<M: ModuleArity>(context: &M) -> Option<(u32, u32)>
     }
 }
 
-/// Returns the arity of a branch that may fall through.
 fn branch_arity<M: ModuleArity>(context: &M, depth: u32) -> Option<(u32, u32)>
     ensures { result ≡ arity_of_branch (M.facts context.now) depth }
 {
@@ -289,7 +270,6 @@ fn branch_arity<M: ModuleArity>(context: &M, depth: u32) -> Option<(u32, u32)>
     }
 }
 
-/// Returns the arity of a branch with a condition.
 fn branch_if_arity<M: ModuleArity>(context: &M, depth: u32) -> Option<(u32, u32)>
     ensures { result ≡ arity_of_branch_if (M.facts context.now) depth }
 {
@@ -318,14 +298,12 @@ fn branch_on_non_null_arity<M: ModuleArity>(context: &M, depth: u32) -> Option<(
     }
 }
 
-/// Returns the arity of a call through a table or a reference.
 fn type_call_arity<M: ModuleArity>(context: &M, index: u32) -> Option<(u32, u32)>
     ensures { result ≡ arity_of_type_call (M.facts context.now) index }
 {
     one_more(context.func_type_arity(index))
 }
 
-/// Returns the arity of a `select` with `count` types.
 fn select_arity(count: usize) -> Option<(u32, u32)>
     ensures { result ≡ arity_of_select count }
 {
@@ -337,7 +315,7 @@ fn select_arity(count: usize) -> Option<(u32, u32)>
     }
 }
 
-/// Returns the arity of `cont.bind`: it takes the parameters except the last `later`, and the
+/// Returns the arity of `cont.bind`, which takes the parameters except the last `later`, and the
 /// continuation.
 fn bound(parameters: u32, later: u32) -> Option<(u32, u32)>
     ensures { result ≡ bound_within parameters later }
@@ -390,7 +368,6 @@ fn resume_throw_ref_arity<M: ModuleArity>(context: &M, index: u32) -> Option<(u3
     }
 }
 
-/// Returns the numbers of parameters and results of the continuation that a `switch` resumes.
 fn switched_arity<M: ModuleArity>(context: &M, index: u32) -> Option<(u32, u32)>
     ensures { result ≡ arity_of_switched (M.facts context.now) index }
 {
@@ -424,7 +401,6 @@ fn struct_arity<M: ModuleArity>(context: &M, index: u32) -> Option<(u32, u32)>
     }
 }
 
-/// Returns the arity of an operator with the prefix byte 0xfb.
 fn gc_arity<M: ModuleArity>(context: &M, op: &GcOperator) -> Option<(u32, u32)>
     ensures { result ≡ gc_arity_of (M.facts context.now) op.now }
 {

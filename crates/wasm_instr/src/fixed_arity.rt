@@ -18,7 +18,6 @@ fn reaching(memarg: &MemArg, takes: u32) -> u32
     }
 }
 
-/// Returns the numbers of operands and results of a numeric operator of one byte.
 pub fn numeric_fixed_arity(op: &NumericOperator) -> (u32, u32)
     ensures { result ≡ numeric_pair op.now }
 {
@@ -79,8 +78,6 @@ pub fn numeric_fixed_arity(op: &NumericOperator) -> (u32, u32)
     }
 }
 
-/// Returns the numbers of operands and results of an operator with the prefix byte 0xfb.
-/// `None` if they depend on the module.
 pub fn gc_fixed_arity(op: &GcOperator) -> Option<(u32, u32)>
     ensures { result ≡ gc_pair op.now }
 {
@@ -111,7 +108,6 @@ pub fn gc_fixed_arity(op: &GcOperator) -> Option<(u32, u32)>
     }
 }
 
-/// Returns the numbers of operands and results of an operator with the prefix byte 0xfc.
 pub fn misc_fixed_arity(op: &MiscOperator) -> (u32, u32)
     ensures { result ≡ misc_pair op.now }
 {
@@ -132,7 +128,6 @@ pub fn misc_fixed_arity(op: &MiscOperator) -> (u32, u32)
     }
 }
 
-/// Returns the numbers of operands and results of an operator with the prefix byte 0xfd.
 pub fn simd_fixed_arity(op: &SimdOperator) -> (u32, u32)
     ensures { result ≡ simd_pair op.now }
 {
@@ -251,7 +246,6 @@ pub fn simd_fixed_arity(op: &SimdOperator) -> (u32, u32)
     }
 }
 
-/// Returns the numbers of operands and results of an operator with the prefix byte 0xfe.
 pub fn atomic_fixed_arity(op: &AtomicOperator) -> (u32, u32)
     ensures { result ≡ atomic_pair op.now }
 {

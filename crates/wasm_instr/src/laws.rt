@@ -1,4 +1,3 @@
-//! Laws about opcodes and encodings. Each law is the contract of a function with an empty body.
 ghost use Rattle.std.specs.Prelude.{◌≡◌, ◌⊎◌, ℕ, List, ◌++◌};
 ghost use Rattle.wasm_instr.specs.declared.operator.Operator.{Operator};
 ghost use Rattle.wasm_instr.specs.Kinds.{IsTypedSelect};
@@ -7,8 +6,7 @@ ghost use Rattle.wasm_instr.specs.Encoding.{EncodesOperator};
 
 use wasm_instr_ops::below::WasmFeatures;
 
-/// States that no encoding of an operator is a proper prefix of another one, and that an encoding
-/// has one operator. Both hold under one set of features.
+/// States that the encodings of operators are a prefix code, under one set of features.
 pub fn operators(features: WasmFeatures)
     ensures { (op other : Operator) (a b x y : List ℕ)
         → EncodesOperator features op a

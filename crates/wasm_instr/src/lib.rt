@@ -1,6 +1,5 @@
-//! The operators of WebAssembly as one type, with their rows, encodings, roles and arities.
-//!
-//! `specs/` defines the row, the encoding and the role of each operator.
+//! The operators of WebAssembly as one type, with their rows, encodings, roles and arities, which
+//! `specs/` defines.
 #![tactic(auto)]
 
 mod arity;

@@ -13,10 +13,10 @@ use wasm_instr_ops::imm::{
 use wasm_instr_ops::{AtomicOperator, GcOperator, MiscOperator, NumericOperator};
 use wasm_instr_simd::SimdOperator;
 
-/// An operator with its immediates. Instructions.
+/// An operator with its immediates.
 ///
-/// The variants are the operators of one byte except the numeric ones, followed by one variant for
-/// each inner enum. `From` converts from an inner enum.
+/// The variants are the operators of one byte except the numeric ones, then the inner enums, from
+/// which `From` converts.
 #[derive(Drop, PartialEq, Eq)]
 pub enum Operator<'a> {
     Unreachable,
@@ -325,7 +325,6 @@ impl<'a> Operator<'a> {
         }
     }
 
-    /// Returns the name of the proposal that added the operator.
     fn proposal(&self) -> &'static str
         ensures { result.now ≡ proposal_of self.now }
     {
@@ -366,7 +365,6 @@ impl<'a> Operator<'a> {
         }
     }
 
-    /// Returns the name of the variant.
     fn name(&self) -> &'static str
         ensures { result.now ≡ name_of self.now }
     {
@@ -458,7 +456,6 @@ impl<'a> Operator<'a> {
         }
     }
 
-    /// Returns the opcode, or the subopcode after a prefix byte.
     fn code(&self) -> u32
         ensures { result ≡ opcode_of self.now }
     {
@@ -550,7 +547,7 @@ impl<'a> Operator<'a> {
         }
     }
 
-    /// Returns whether this is a SIMD operator: its proposal is `simd` or `relaxed_simd`.
+    /// Returns whether the proposal is `simd` or `relaxed_simd`.
     pub fn is_simd(&self) -> bool
         ensures simd { IsTrue result ↔ IsSimd self.now }
         ensures vector { IsTrue result ↔ IsVector self.now }
@@ -558,9 +555,7 @@ impl<'a> Operator<'a> {
         matches!(self, Operator::Simd(_))
     }
 
-    /// Copies the operator with the list that it owns.
-    ///
-    /// Fails only with `OutOfMemory` at offset 0, and only if the operator owns a list.
+    /// Copies the operator with its list. Fails with `OutOfMemory` at offset 0, only if it owns one.
     pub fn clone(&self, alloc: Global) -> Result<Operator<'a>>
         ensures ok { IfOk result (λ copy. copy ≡ self.now) }
         ensures err { IfErr result (λ e. HoldsList self.now × IsOutOfMemoryAt 0 e) }

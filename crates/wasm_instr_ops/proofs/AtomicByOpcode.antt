@@ -1,6 +1,5 @@
 -- Written by tools/lists.py from tools/operators.tsv.
 -- For the operators with the prefix byte 0xfe: subopcode and immediates determine the operator.
--- The subopcode determines the kinds of the immediates, and the name.
 use Rattle.std.proofs.Common.{◌≡◌, ℕ, List, [], ◌∷◌, map, get_or, refl, sym, ap, ◌∙◌}
 use Rattle.wasm_imm.specs.declared.memory_argument.MemArgKind.TheVariants as kind
 use Rattle.wasm_instr_ops.specs.declared.atomic.AtomicOperator.{AtomicOperator}
@@ -145,7 +144,6 @@ pub atomic_named : (op : AtomicOperator) → atomic_name op ≡ atomic_name (ato
 atomic_named (atomic.MemoryAtomicNotify memarg) = refl
 atomic_named op = refl
 
--- The immediates with the values of these fields.
 abbrev of_fields : AtomicFields → List Immediate
 of_fields (fields.Memarg memarg) = memory_argument kind.Plain 2 memarg ∷ []
 of_fields (fields.Ordering ordering) = fence_order ordering ∷ []

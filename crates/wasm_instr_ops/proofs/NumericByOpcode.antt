@@ -1,6 +1,5 @@
 -- Written by tools/lists.py from tools/operators.tsv.
 -- For the numeric operators of one byte: opcode and immediates determine the operator.
--- The opcode determines the kinds of the immediates, and the name.
 use Rattle.std.proofs.Common.{◌≡◌, ℕ, ◌-◌, List, [], ◌∷◌, map, get_or, refl, Bool, true, ltb, ◌&&◌}
 use Rattle.wasm_instr_ops.specs.declared.numeric.NumericOperator.{NumericOperator}
 use Rattle.wasm_instr_ops.specs.declared.numeric.NumericOperator.TheVariants as numeric

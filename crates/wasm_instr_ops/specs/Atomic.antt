@@ -1,6 +1,6 @@
 -- Written by tools/lists.py from tools/operators.tsv.
 -- The rows of the operators with the prefix byte 0xfe, by columns.
--- WebAssembly Core Specification 3.0, Binary Format, proposals threads, shared-everything threads and acquire-release atomics.
+-- Specification: Binary Format, proposals threads, shared-everything threads and acquire-release atomics.
 use Rattle.std.specs.Prelude.{ℕ, List, [], ◌∷◌, codes}
 use Rattle.wasm_imm.specs.declared.memory_argument.MemArgKind.TheVariants as kind
 use Rattle.wasm_instr_ops.specs.declared.atomic.AtomicFields.{AtomicFields}
@@ -9,7 +9,7 @@ use Rattle.wasm_instr_ops.specs.declared.atomic.AtomicOperator.{AtomicOperator}
 use Rattle.wasm_instr_ops.specs.declared.atomic.AtomicOperator.TheVariants as atomic
 use Rattle.wasm_imm.specs.Immediate.{Immediate, unsigned_32, memory_argument, order, fence_order}
 
--- The name of the proposal that added the operator.
+-- The proposal.
 abbrev pub atomic_proposal : AtomicOperator → List ℕ
 atomic_proposal (atomic.GlobalAtomicGet _ _) = codes "shared_everything_threads"
 atomic_proposal (atomic.GlobalAtomicSet _ _) = codes "shared_everything_threads"
@@ -50,7 +50,7 @@ atomic_proposal atomic.RefI31Shared = codes "shared_everything_threads"
 atomic_proposal atomic.Pause = codes "acquire_release_atomics"
 atomic_proposal _ = codes "threads"
 
--- The name of the variant.
+-- The variant's name.
 abbrev pub atomic_name : AtomicOperator → List ℕ
 atomic_name (atomic.MemoryAtomicNotify _) = codes "MemoryAtomicNotify"
 atomic_name (atomic.MemoryAtomicWait32 _) = codes "MemoryAtomicWait32"
@@ -264,7 +264,6 @@ atomic_subopcode (atomic.ArrayAtomicRmwCmpxchg _ _) = 0x71
 atomic_subopcode atomic.RefI31Shared = 0x72
 atomic_subopcode atomic.Pause = 0x04
 
--- The immediates in the order of the binary format, with their values.
 abbrev pub atomic_immediates : AtomicOperator → List Immediate
 atomic_immediates (atomic.MemoryAtomicNotify memarg) = memory_argument kind.Plain 2 memarg ∷ []
 atomic_immediates (atomic.MemoryAtomicWait32 memarg) = memory_argument kind.Plain 2 memarg ∷ []
@@ -370,7 +369,6 @@ atomic_immediates (atomic.ArrayAtomicRmwXchg ordering array_type_index) = order 
 atomic_immediates (atomic.ArrayAtomicRmwCmpxchg ordering array_type_index) = order ordering ∷ unsigned_32 array_type_index ∷ []
 atomic_immediates _ = []
 
--- The fields.
 abbrev pub atomic_fields : AtomicOperator → AtomicFields
 atomic_fields (atomic.MemoryAtomicNotify memarg) = fields.Memarg memarg
 atomic_fields (atomic.MemoryAtomicWait32 memarg) = fields.Memarg memarg

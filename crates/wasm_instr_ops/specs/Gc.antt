@@ -1,12 +1,12 @@
 -- Written by tools/lists.py from tools/operators.tsv.
 -- The rows of the operators with the prefix byte 0xfb, by columns.
--- WebAssembly Core Specification 3.0, Binary Format, Aggregate Instructions; proposal custom descriptors.
+-- Specification: Binary Format, Aggregate Instructions; proposal custom descriptors.
 use Rattle.std.specs.Prelude.{ℕ, List, [], ◌∷◌, codes}
 use Rattle.wasm_instr_ops.specs.declared.gc.GcOperator.{GcOperator}
 use Rattle.wasm_instr_ops.specs.declared.gc.GcOperator.TheVariants as gc
 use Rattle.wasm_imm.specs.Immediate.{Immediate, unsigned_32, heap_type, cast}
 
--- The name of the proposal that added the operator.
+-- The proposal.
 abbrev pub gc_proposal : GcOperator → List ℕ
 gc_proposal (gc.StructNewDesc _) = codes "custom_descriptors"
 gc_proposal (gc.StructNewDefaultDesc _) = codes "custom_descriptors"
@@ -17,7 +17,7 @@ gc_proposal (gc.BrOnCastDescEq _ _ _) = codes "custom_descriptors"
 gc_proposal (gc.BrOnCastDescEqFail _ _ _) = codes "custom_descriptors"
 gc_proposal _ = codes "gc"
 
--- The name of the variant.
+-- The variant's name.
 abbrev pub gc_name : GcOperator → List ℕ
 gc_name (gc.StructNew _) = codes "StructNew"
 gc_name (gc.StructNewDefault _) = codes "StructNewDefault"
@@ -99,7 +99,6 @@ gc_subopcode (gc.RefCastDescEqNullable _) = 0x24
 gc_subopcode (gc.BrOnCastDescEq _ _ _) = 0x25
 gc_subopcode (gc.BrOnCastDescEqFail _ _ _) = 0x26
 
--- The immediates in the order of the binary format, with their values.
 abbrev pub gc_immediates : GcOperator → List Immediate
 gc_immediates (gc.StructNew struct_type_index) = unsigned_32 struct_type_index ∷ []
 gc_immediates (gc.StructNewDefault struct_type_index) = unsigned_32 struct_type_index ∷ []

@@ -1,12 +1,12 @@
 -- Written by tools/lists.py from tools/operators.tsv.
 -- The rows of the operators with the prefix byte 0xfc, by columns.
--- WebAssembly Core Specification 3.0, Binary Format, Numeric, Memory and Table Instructions; proposals memory control and wide arithmetic.
+-- Specification: Binary Format, Numeric, Memory and Table Instructions; proposals memory control and wide arithmetic.
 use Rattle.std.specs.Prelude.{ℕ, List, [], ◌∷◌, codes}
 use Rattle.wasm_instr_ops.specs.declared.misc.MiscOperator.{MiscOperator}
 use Rattle.wasm_instr_ops.specs.declared.misc.MiscOperator.TheVariants as misc
 use Rattle.wasm_imm.specs.Immediate.{Immediate, unsigned_32}
 
--- The name of the proposal that added the operator.
+-- The proposal.
 abbrev pub misc_proposal : MiscOperator → List ℕ
 misc_proposal (misc.MemoryInit _ _) = codes "bulk_memory"
 misc_proposal (misc.DataDrop _) = codes "bulk_memory"
@@ -25,7 +25,7 @@ misc_proposal misc.I64MulWideS = codes "wide_arithmetic"
 misc_proposal misc.I64MulWideU = codes "wide_arithmetic"
 misc_proposal _ = codes "saturating_float_to_int"
 
--- The name of the variant.
+-- The variant's name.
 abbrev pub misc_name : MiscOperator → List ℕ
 misc_name misc.I32TruncSatF32S = codes "I32TruncSatF32S"
 misc_name misc.I32TruncSatF32U = codes "I32TruncSatF32U"
@@ -77,7 +77,6 @@ misc_subopcode misc.I64Sub128 = 0x14
 misc_subopcode misc.I64MulWideS = 0x15
 misc_subopcode misc.I64MulWideU = 0x16
 
--- The immediates in the order of the binary format, with their values.
 abbrev pub misc_immediates : MiscOperator → List Immediate
 misc_immediates (misc.MemoryInit data_index mem) = unsigned_32 data_index ∷ unsigned_32 mem ∷ []
 misc_immediates (misc.DataDrop data_index) = unsigned_32 data_index ∷ []

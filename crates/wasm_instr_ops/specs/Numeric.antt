@@ -1,12 +1,12 @@
 -- Written by tools/lists.py from tools/operators.tsv.
 -- The rows of the numeric operators of one byte, by columns.
--- WebAssembly Core Specification 3.0, Binary Format, Numeric Instructions.
+-- Specification: Binary Format, Numeric Instructions.
 use Rattle.std.specs.Prelude.{ℕ, List, [], codes}
 use Rattle.wasm_instr_ops.specs.declared.numeric.NumericOperator.{NumericOperator}
 use Rattle.wasm_instr_ops.specs.declared.numeric.NumericOperator.TheVariants as numeric
 use Rattle.wasm_imm.specs.Immediate.{Immediate}
 
--- The name of the proposal that added the operator.
+-- The proposal.
 abbrev pub numeric_proposal : NumericOperator → List ℕ
 numeric_proposal numeric.I32Extend8S = codes "sign_extension"
 numeric_proposal numeric.I32Extend16S = codes "sign_extension"
@@ -15,7 +15,7 @@ numeric_proposal numeric.I64Extend16S = codes "sign_extension"
 numeric_proposal numeric.I64Extend32S = codes "sign_extension"
 numeric_proposal _ = codes "mvp"
 
--- The name of the variant.
+-- The variant's name.
 abbrev pub numeric_name : NumericOperator → List ℕ
 numeric_name numeric.I32Eqz = codes "I32Eqz"
 numeric_name numeric.I32Eq = codes "I32Eq"
@@ -277,6 +277,5 @@ numeric_opcode numeric.I64Extend8S = 0xc2
 numeric_opcode numeric.I64Extend16S = 0xc3
 numeric_opcode numeric.I64Extend32S = 0xc4
 
--- The immediates in the order of the binary format, with their values.
 abbrev pub numeric_immediates : NumericOperator → List Immediate
 numeric_immediates _ = []

@@ -382,7 +382,6 @@ impl AtomicOperator {
         }
     }
 
-    /// Returns the name of the proposal that added the operator.
     fn proposal(&self) -> &'static str
         ensures { result.now ≡ atomic_proposal self.now }
     {
@@ -428,7 +427,6 @@ impl AtomicOperator {
         }
     }
 
-    /// Returns the name of the variant.
     fn name(&self) -> &'static str
         ensures { result.now ≡ atomic_name self.now }
     {
@@ -540,7 +538,6 @@ impl AtomicOperator {
         }
     }
 
-    /// Returns the subopcode.
     fn code(&self) -> u32
         ensures { result ≡ atomic_subopcode self.now }
     {
@@ -652,7 +649,6 @@ impl AtomicOperator {
         }
     }
 
-    /// Returns the fields of the operator.
     fn fields(&self) -> AtomicFields
         ensures { result ≡ atomic_fields self.now }
     {
@@ -927,7 +923,6 @@ pub enum AtomicFields {
 }
 
 impl AtomicFields {
-    /// Returns whether the fields are equal.
     fn is(&self, other: &AtomicFields) -> bool
         ensures member { result ≡ ⟦<AtomicFields as PartialEq>⟧.eq self.now other.now }
         ensures same { IsTrue result ↔ (self.now ≡ other.now) }

@@ -147,7 +147,6 @@ impl GcOperator {
         }
     }
 
-    /// Returns the name of the proposal that added the operator.
     fn proposal(&self) -> &'static str
         ensures { result.now ≡ gc_proposal self.now }
     {
@@ -163,7 +162,6 @@ impl GcOperator {
         }
     }
 
-    /// Returns the name of the variant.
     fn name(&self) -> &'static str
         ensures { result.now ≡ gc_name self.now }
     {
@@ -209,7 +207,6 @@ impl GcOperator {
         }
     }
 
-    /// Returns the subopcode.
     fn code(&self) -> u32
         ensures { result ≡ gc_subopcode self.now }
     {

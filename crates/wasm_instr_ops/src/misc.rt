@@ -50,7 +50,6 @@ impl MiscOperator {
         }
     }
 
-    /// Returns the name of the proposal that added the operator.
     fn proposal(&self) -> &'static str
         ensures { result.now ≡ misc_proposal self.now }
     {
@@ -74,7 +73,6 @@ impl MiscOperator {
         }
     }
 
-    /// Returns the name of the variant.
     fn name(&self) -> &'static str
         ensures { result.now ≡ misc_name self.now }
     {
@@ -105,7 +103,6 @@ impl MiscOperator {
         }
     }
 
-    /// Returns the subopcode.
     fn code(&self) -> u32
         ensures { result ≡ misc_subopcode self.now }
     {

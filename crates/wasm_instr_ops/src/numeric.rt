@@ -154,7 +154,6 @@ impl NumericOperator {
         }
     }
 
-    /// Returns the name of the proposal that added the operator.
     fn proposal(&self) -> &'static str
         ensures { result.now ≡ numeric_proposal self.now }
     {
@@ -168,7 +167,6 @@ impl NumericOperator {
         }
     }
 
-    /// Returns the name of the variant.
     fn name(&self) -> &'static str
         ensures { result.now ≡ numeric_name self.now }
     {
@@ -304,7 +302,6 @@ impl NumericOperator {
         }
     }
 
-    /// Returns the opcode.
     fn code(&self) -> u32
         ensures { result ≡ numeric_opcode self.now }
     {

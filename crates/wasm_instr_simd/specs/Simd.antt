@@ -1,13 +1,13 @@
 -- Written by tools/lists.py from tools/operators.tsv.
 -- The rows of the operators with the prefix byte 0xfd, by columns.
--- WebAssembly Core Specification 3.0, Binary Format, Vector Instructions.
+-- Specification: Binary Format, Vector Instructions.
 use Rattle.std.specs.Prelude.{ℕ, List, [], ◌∷◌, codes}
 use Rattle.wasm_imm.specs.declared.memory_argument.MemArgKind.TheVariants as kind
 use Rattle.wasm_instr_simd.specs.declared.simd.SimdOperator.{SimdOperator}
 use Rattle.wasm_instr_simd.specs.declared.simd.SimdOperator.TheVariants as simd
 use Rattle.wasm_imm.specs.Immediate.{Immediate, vector, one_lane, sixteen_lanes, memory_argument}
 
--- The name of the proposal that added the operator.
+-- The proposal.
 abbrev pub simd_proposal : SimdOperator → List ℕ
 simd_proposal simd.I8x16RelaxedSwizzle = codes "relaxed_simd"
 simd_proposal simd.I32x4RelaxedTruncF32x4S = codes "relaxed_simd"
@@ -31,7 +31,7 @@ simd_proposal simd.I16x8RelaxedDotI8x16I7x16S = codes "relaxed_simd"
 simd_proposal simd.I32x4RelaxedDotI8x16I7x16AddS = codes "relaxed_simd"
 simd_proposal _ = codes "simd"
 
--- The name of the variant.
+-- The variant's name.
 abbrev pub simd_name : SimdOperator → List ℕ
 simd_name (simd.V128Load _) = codes "V128Load"
 simd_name (simd.V128Load8x8S _) = codes "V128Load8x8S"
@@ -549,7 +549,6 @@ simd_subopcode simd.I16x8RelaxedQ15mulrS = 0x111
 simd_subopcode simd.I16x8RelaxedDotI8x16I7x16S = 0x112
 simd_subopcode simd.I32x4RelaxedDotI8x16I7x16AddS = 0x113
 
--- The immediates in the order of the binary format, with their values.
 abbrev pub simd_immediates : SimdOperator → List Immediate
 simd_immediates (simd.V128Load memarg) = memory_argument kind.Plain 4 memarg ∷ []
 simd_immediates (simd.V128Load8x8S memarg) = memory_argument kind.Plain 3 memarg ∷ []

@@ -1,5 +1,5 @@
-//! The SIMD operators of WebAssembly, with the prefix byte 0xfd. `specs/` has the rows of the table
-//! of operators, by columns.
+//! The SIMD operators, with the prefix byte 0xfd. `specs/` has the rows of the table of operators,
+//! by columns.
 #![tactic(auto)]
 
 mod simd;

@@ -282,7 +282,6 @@ impl SimdOperator {
         }
     }
 
-    /// Returns the name of the proposal that added the operator.
     fn proposal(&self) -> &'static str
         ensures { result.now ≡ simd_proposal self.now }
     {
@@ -311,7 +310,6 @@ impl SimdOperator {
         }
     }
 
-    /// Returns the name of the variant.
     fn name(&self) -> &'static str
         ensures { result.now ≡ simd_name self.now }
     {
@@ -330,7 +328,7 @@ impl SimdOperator {
         unreachable!()
     }
 
-    /// Handles the subopcodes from 0x00 to 0x3f, and returns `None` for others.
+    /// Handles 0x00 to 0x3f, and returns `None` for others.
     fn first_name(&self) -> Option<&'static str>
         ensures { MatchOption result (0x40 ≤ simd_subopcode self.now) (λ x. x.now ≡ simd_name self.now) }
     {
@@ -403,7 +401,7 @@ impl SimdOperator {
         }
     }
 
-    /// Handles the subopcodes from 0x40 to 0x7f, and returns `None` for others.
+    /// Handles 0x40 to 0x7f, and returns `None` for others.
     fn second_name(&self) -> Option<&'static str>
         ensures { MatchOption result ((simd_subopcode self.now < 0x40) ⊎ (0x80 ≤ simd_subopcode self.now))
             (λ x. x.now ≡ simd_name self.now) }
@@ -477,7 +475,7 @@ impl SimdOperator {
         }
     }
 
-    /// Handles the subopcodes from 0x80 to 0xcc, and returns `None` for others.
+    /// Handles 0x80 to 0xcc, and returns `None` for others.
     fn third_name(&self) -> Option<&'static str>
         ensures { MatchOption result ((simd_subopcode self.now < 0x80) ⊎ (0xcd ≤ simd_subopcode self.now))
             (λ x. x.now ≡ simd_name self.now) }
@@ -551,7 +549,7 @@ impl SimdOperator {
         }
     }
 
-    /// Handles the subopcodes from 0xcd to 0x113, and returns `None` for others.
+    /// Handles 0xcd to 0x113, and returns `None` for others.
     fn fourth_name(&self) -> Option<&'static str>
         ensures { MatchOption result (simd_subopcode self.now < 0xcd) (λ x. x.now ≡ simd_name self.now) }
     {
@@ -624,7 +622,6 @@ impl SimdOperator {
         }
     }
 
-    /// Returns the subopcode.
     fn code(&self) -> u32
         ensures { result ≡ simd_subopcode self.now }
     {
@@ -643,7 +640,7 @@ impl SimdOperator {
         unreachable!()
     }
 
-    /// Handles the subopcodes from 0x00 to 0x3f, and returns `None` for others.
+    /// Handles 0x00 to 0x3f, and returns `None` for others.
     fn first_code(&self) -> Option<u32>
         ensures { MatchOption result (0x40 ≤ simd_subopcode self.now) (λ x. x ≡ simd_subopcode self.now) }
     {
@@ -716,7 +713,7 @@ impl SimdOperator {
         }
     }
 
-    /// Handles the subopcodes from 0x40 to 0x7f, and returns `None` for others.
+    /// Handles 0x40 to 0x7f, and returns `None` for others.
     fn second_code(&self) -> Option<u32>
         ensures { MatchOption result ((simd_subopcode self.now < 0x40) ⊎ (0x80 ≤ simd_subopcode self.now))
             (λ x. x ≡ simd_subopcode self.now) }
@@ -790,7 +787,7 @@ impl SimdOperator {
         }
     }
 
-    /// Handles the subopcodes from 0x80 to 0xcc, and returns `None` for others.
+    /// Handles 0x80 to 0xcc, and returns `None` for others.
     fn third_code(&self) -> Option<u32>
         ensures { MatchOption result ((simd_subopcode self.now < 0x80) ⊎ (0xcd ≤ simd_subopcode self.now))
             (λ x. x ≡ simd_subopcode self.now) }
@@ -864,7 +861,7 @@ impl SimdOperator {
         }
     }
 
-    /// Handles the subopcodes from 0xcd to 0x113, and returns `None` for others.
+    /// Handles 0xcd to 0x113, and returns `None` for others.
     fn fourth_code(&self) -> Option<u32>
         ensures { MatchOption result (simd_subopcode self.now < 0xcd) (λ x. x ≡ simd_subopcode self.now) }
     {

@@ -1,37 +1,38 @@
--- The lines of a function: its header, the indices of its locals, and its operators. The form is that of `wasm-objdump -d` of wabt.
--- WebAssembly Core Specification 3.0: Binary Format, Instructions, Control Instructions. Proposal legacy exception handling: the opcodes 0x06, 0x07, 0x18, 0x19.
+-- The lines of a function: its header, the indices of its locals, and its operators, in the form of
+-- `wasm-objdump -d` of wabt. Specification: Binary Format, Control Instructions. Proposal legacy
+-- exception handling.
 use Rattle.std.specs.Prelude.{◌==◌, ◌||◌, ℕ, ◌+◌, ◌-◌, Bool, List, [], ◌∷◌, ◌++◌, take, drop, slice_index, codes, decimal, if◌then◌else◌}
 use Rattle.wasm_lines.specs.Rows.{offset_text, line_of}
 
--- The name of a function in angle brackets; nothing if it has none.
 abbrev pub shown_name : List ℕ → List ℕ
 shown_name [] = []
 shown_name name = codes " <" ++ (name ++ codes ">")
 
--- The header of a function: the offset of its body, its index and its name.
+-- The offset of a function's body, its index and its name.
 abbrev pub header_of : ℕ → ℕ → List ℕ → List ℕ
 header_of offset index name = offset_text offset ++ ((codes " func[" ++ (decimal index ++ codes "]")) ++ (shown_name name ++ 58 ∷ 10 ∷ []))
 
--- The indices of locals before their type: the first one, and the last one too unless there is one local only.
+-- The indices of locals: the first, and the last too unless there is only one.
 abbrev pub shown_indices : ℕ → ℕ → List ℕ
 shown_indices first number =
     if number == 1
     then codes "local[" ++ (decimal first ++ codes "] type=")
     else codes "local[" ++ (decimal first ++ (codes ".." ++ (decimal (first + number - 1) ++ codes "] type=")))
 
--- An opcode whose line is indented like the opener of its construct: `else`, `catch`, `end`, `delegate` and `catch_all`.
+-- The line of this opcode is indented like the opener of its construct: `else`, `catch`, `end`,
+-- `delegate`, `catch_all`.
 abbrev pub is_outside : ℕ → Bool
 is_outside opcode = opcode == 0x05 || (opcode == 0x07 || (opcode == 0x0b || (opcode == 0x18 || opcode == 0x19)))
 
--- An opcode that opens a construct: `block`, `loop`, `if`, `try` and `try_table`.
+-- The opcode of `block`, `loop`, `if`, `try` or `try_table`.
 abbrev pub opens : ℕ → Bool
 opens opcode = opcode == 0x02 || (opcode == 0x03 || (opcode == 0x04 || (opcode == 0x06 || opcode == 0x1f)))
 
--- An opcode that closes a construct: `end` and `delegate`.
+-- The opcode of `end` or `delegate`.
 abbrev pub closes : ℕ → Bool
 closes opcode = opcode == 0x0b || opcode == 0x18
 
--- How deep the line of an operator is indented, by the constructs that are open before it.
+-- How deep an operator's line is indented, by the constructs open before it.
 abbrev pub depth_of : ℕ → ℕ → ℕ
 depth_of opcode depth = if is_outside opcode then depth - 1 else depth
 
@@ -43,19 +44,18 @@ depth_after opcode depth = if opens opcode then depth + 1 else (if closes opcode
 abbrev pub between : ℕ → List ℕ → ℕ → ℕ → List ℕ
 between start bytes from to = take (to - from) (drop (from - start) bytes)
 
--- The offset at which the next operator starts, or `end` after the last one.
+-- The offset of the next operator, or `end` after the last one.
 abbrev pub next_offset : {Op : Type 0} → ℕ → List (Op × ℕ) → ℕ
 next_offset end [] = end
 next_offset end (p ∷ ps) = p.1
 
--- The lines of operators with their offsets. Each operator is shown with the bytes from its offset to that of the next; the last one ends at `end`. The bytes
--- start at the offset `start`, and `depth` constructs are open. Operators are of any type `Op`: only their text and the first of their bytes matter.
+-- The lines of operators of any type `Op`. Each has the bytes up to the next operator; the last
+-- ends at `end`. The bytes start at `start`, and `depth` constructs are open.
 abbrev pub lines_from : {Op : Type 0} → (Op → List ℕ) → ℕ → List ℕ → ℕ → ℕ → List (Op × ℕ) → List ℕ
 lines_from text start bytes end depth [] = []
 lines_from text start bytes end depth (p ∷ ps) =
     let shown = between start bytes p.1 (next_offset end ps) in
     line_of (depth_of (slice_index shown 0) depth) p.1 shown (text p.0) ++ lines_from text start bytes end (depth_after (slice_index shown 0) depth) ps
 
--- The lines of the operators of a body.
 abbrev pub lines_of : {Op : Type 0} → (Op → List ℕ) → ℕ → List ℕ → ℕ → List (Op × ℕ) → List ℕ
 lines_of text start bytes end placed = lines_from text start bytes end 0 placed

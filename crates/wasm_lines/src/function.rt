@@ -1,11 +1,10 @@
-//! The header of a function, and the indices of its locals.
 ghost use Rattle.std.specs.Prelude.{◌≡◌, ◌++◌, ◌+◌, ◌^◌, ◌<◌, OnOk, string_bytes};
 ghost use Rattle.wasm_lines.specs.Lines.{shown_name, header_of, shown_indices};
 
 use crate::rows::write_offset;
 use wasm_text::Written;
 
-/// Writes a name in angle brackets; nothing if the name is empty.
+/// Writes a name in angle brackets, unless it is empty.
 fn write_name(out: &mut String, name: &str) -> Written
     ensures { OnOk result (string_bytes out.new ≡ string_bytes out.old ++ shown_name name.now) }
 {

@@ -1,4 +1,3 @@
-//! Rows of an address, at most nine bytes, and a text.
 ghost use Rattle.std.specs.Prelude.{◌≡◌, ◌++◌, ◌+◌, ◌-◌, ◌*◌, ◌/◌, ◌^◌, ◌<◌, ◌≤◌, ◌∷◌, OnOk, string_bytes, length, codes, flat_map};
 ghost use Rattle.std.specs.List.{repeat};
 ghost use Rattle.wasm_text.specs.Values.{spaced_byte};
@@ -6,13 +5,11 @@ ghost use Rattle.wasm_lines.specs.Rows.{offset_text, column, row, line_begin, li
 
 use wasm_text::{Written, write_byte, write_spaced_byte};
 
-/// The number of bytes in a full row.
 const BYTES: usize = 9;
 
 /// The first offset with more than six hexadecimal digits.
 const SEVEN_DIGITS: u64 = 0x100_0000;
 
-/// Writes an offset in hexadecimal, with at least six digits.
 pub fn write_offset(out: &mut String, offset: u64) -> Written
     ensures { OnOk result (string_bytes out.new ≡ string_bytes out.old ++ offset_text offset) }
 {
@@ -24,7 +21,6 @@ pub fn write_offset(out: &mut String, offset: u64) -> Written
     write_byte(out, (offset % 0x100) as u8)
 }
 
-/// Writes a space, an offset and a colon.
 fn write_address(out: &mut String, offset: u64) -> Written
     ensures { OnOk result (string_bytes out.new ≡ string_bytes out.old ++ (codes " " ++ (offset_text offset ++ codes ":"))) }
 {
@@ -33,7 +29,6 @@ fn write_address(out: &mut String, offset: u64) -> Written
     out.push_str(":")
 }
 
-/// Writes each byte in hexadecimal, after a space.
 fn write_shown_bytes(out: &mut String, bytes: &[u8]) -> Written
     ensures { OnOk result (string_bytes out.new ≡ string_bytes out.old ++ flat_map spaced_byte bytes.now) }
 {
@@ -43,7 +38,6 @@ fn write_shown_bytes(out: &mut String, bytes: &[u8]) -> Written
     Ok(())
 }
 
-/// Writes a text `times` times.
 fn write_times(out: &mut String, times: usize, text: &str) -> Written
     ensures { OnOk result (string_bytes out.new ≡ string_bytes out.old ++ repeat times text.now) }
 {
@@ -83,7 +77,6 @@ fn write_room(out: &mut String, bytes: &[u8]) -> Written
     out.push_str(bar_after(BYTES - bytes.len()))
 }
 
-/// Writes the first columns of a row: an address and its bytes.
 fn write_column(out: &mut String, offset: u64, bytes: &[u8]) -> Written
     requires { length bytes.now ≤ 9 }
     ensures { OnOk result (string_bytes out.new ≡ string_bytes out.old ++ column offset bytes.now) }
@@ -92,7 +85,7 @@ fn write_column(out: &mut String, offset: u64, bytes: &[u8]) -> Written
     write_room(out, bytes)
 }
 
-/// Writes the first columns of row `number` of the bytes at `offset`.
+/// Writes the address and the bytes of row `number` of the bytes at `offset`.
 fn write_row(out: &mut String, offset: u64, bytes: &[u8], number: usize) -> Written
     requires within { number * 9 ≤ length bytes.now }
     requires fits { offset + length bytes.now < 2 ^ 64 }

@@ -1,4 +1,3 @@
--- Reading or visiting a body, from the laws about bodies.
 use Rattle.std.proofs.Common.{◌≡◌, List, [], Result, Ok, Err, IfErr, subst}
 use Rattle.wasm_operators.specs.below.bytes.error.Error.{Error}
 use Rattle.wasm_operators.specs.below.bytes.message.Message.TheVariants as message
@@ -19,16 +18,14 @@ abbrev pub IsWhole : Type 0
 IsWhole = (body : Reader) (opened new : State) (placed : Placed) → OpensBody (Ok opened) body → ReadsTree [] opened new placed →
     (declarations : List Declaration) × EncodesBody (source_of body) declarations placed
 
--- What the law `opened_bodies` says about a body whose reading stopped at an error.
+-- What it says about a body whose reading stopped at an error.
 abbrev pub IsStopped : Allocating → Type 0
 IsStopped Allocates = (e : Error) (body : Reader) (opened new : State) (placed : Placed) → OpensBody (Ok opened) body →
     ReadsBeginning IsAny EncodesAllowed OperatorFault Allocates [] e opened new placed → StopsBody e body placed
 
--- The locals are in error.
 pub refused_body : (X : Type 0) (Effect : OfPlaced) (e : Error) (body : Reader) → Effect [] → StopsBody e body [] → ReadsBody {X = X} Effect (Err e) body
 refused_body X Effect e body none stops = λ other. ([], none, stops)
 
--- The locals were read, and then the operators.
 pub opened_body : {X : Type 0} (Effect : OfPlaced) (Allocates : Allocating) (r : Result X Error) (body : Reader) (opened new : State) → IsWhole →
     IsStopped Allocates → OpensBody (Ok opened) body → ReadsRest Effect IsAny EncodesAllowed OperatorFault Allocates [] r opened new →
     ReadsBody Effect r body
@@ -38,11 +35,9 @@ opened_body Effect Allocates (Ok x) body opened new whole stopped opens h =
 opened_body Effect Allocates (Err e) body opened new whole stopped opens h =
     λ other. (h.beginning.0, h.beginning.1, stopped e body opened new h.beginning.0 opens h.beginning.2)
 
--- Reading locals does not fail with `OutOfMemory`.
 pub refused_no_memory : (P : Type 0) (e : Error) (body : Reader) → RefusesLocals e body → e.message ≡ message.OutOfMemory → P
 refused_no_memory P e body h is = absurd (subst IsReadFault is h.refusal.fault)
 
--- Reading operators fails with `OutOfMemory` only if they may allocate.
 pub opened_memory : {X : Type 0} (Effect : OfPlaced) (r : Result X Error) (body : Reader) (opened new : State) →
     ((e : Error) (s : State) → StopsRun EncodesAllowed OperatorFault (NextMayAllocate EncodesAllowed) e s → e.message ≡ message.OutOfMemory →
     NextMayAllocate EncodesAllowed s) → OpensBody (Ok opened) body →

@@ -1,4 +1,3 @@
--- The counts after visits of a list, none of which reaches the greatest u64.
 use Rattle.std.proofs.Common.{◌≡◌, ◌≢◌, ℕ, ◌+◌, ◌-◌, ◌^◌, ◌≤◌, List, [], ◌∷◌, length, map, refl, sym, subst, ap, ◌∙◌, arith, cond, Bool, true, false, nat_eq, Result, Ok, Err}
 use Rattle.std.proofs.lemmas.List.{length-append}
 use Rattle.std.specs.Cmp.Lexicographic.{pointwise}
@@ -35,7 +34,6 @@ added_zeros (p ∷ ps) placed =
     let same : 0 + count_of p placed ≡ count_of p placed = omega arith in
     ap (λ m. m ∷ added ps (map (λ p. 0) ps) placed) same ∙ ap (λ others. count_of p placed ∷ others) (added_zeros ps placed)
 
--- Each count is at most this number.
 abbrev pub AreWithin : ℕ → List ℕ → Type 0
 AreWithin most [] = Unit {0}
 AreWithin most (n ∷ ns) = (n ≤ most) × AreWithin most ns
@@ -68,7 +66,6 @@ counted_adds (q ∷ qs) (n ∷ ns) p placed most h below =
     ap (λ m. m ∷ added qs (one_more_of (proposal_of p.0) qs ns) placed) (one_added b n (count_of q placed) most h.0 below) ∙
     ap (λ others. (n + (cond b 1 0 + count_of q placed)) ∷ others) (counted_adds qs ns p placed most h.1 below)
 
--- After visits of a list, each count is increased by the list's operators, if the sum is not too large.
 counts_along : (placed : Placed) (outcomes : List (Unit {0})) (before after : List ℕ) (most : ℕ) → length proposals ≡ length before → AreWithin most before →
     most + length placed ≤ 2 ^ 64 - 1 → VisitRun {A = Unit {0}} (λ s op a t. CountsVisit s op t) before placed outcomes after →
     after ≡ added proposals before placed
@@ -85,14 +82,12 @@ zeros_within : (ps : List (List ℕ)) → AreWithin 0 (map (λ p. 0) ps)
 zeros_within [] = tt
 zeros_within (p ∷ ps) = (omega arith, zeros_within ps)
 
--- After visits that start with no count, the counts are the counts of the list.
 pub visited_counts : (placed : Placed) (before after : List ℕ) → before ≡ map (λ p. 0) proposals → length placed ≤ 2 ^ 64 - 1 →
     Visited {A = Unit {0}} (λ s op a t. CountsVisit s op t) before after placed → after ≡ counts_of placed
 visited_counts placed before after none below (outcomes, run) =
     counts_along placed outcomes before after 0 (ap length (sym none)) (subst (AreWithin 0) (sym none) (zeros_within proposals)) (omega (arith, below)) run ∙
     ap (λ counts. added proposals counts placed) none ∙ added_zeros proposals placed
 
--- A body has at most as many operators as bytes.
 pub body_length : (input : Reader) (declarations : List Declaration) (placed : Placed) → IsNoLonger input.features → IsBody input declarations placed →
     length placed ≤ length (rest input)
 body_length input declarations placed no_longer h =
@@ -100,7 +95,6 @@ body_length input declarations placed no_longer h =
     let whole : length (rest input) ≡ length h.locals + length h.expression = ap length h.parts ∙ length-append h.locals h.expression in
     omega (arith, fits, whole)
 
--- The counts of a complete body.
 pub whole_counts : (r : Result (Unit {0}) Error) (x : Unit {0}) (input : Reader) (before after : List ℕ) → IsNoLonger input.features → r ≡ Ok x →
     ReadsBody (Counted before after) r input → before ≡ map (λ p. 0) proposals → length (rest input) ≤ 2 ^ 64 - 1 → Counts input (Ok after)
 whole_counts (Ok y) x input before after no_longer is (declarations, placed, visited, whole) none fits =
@@ -108,7 +102,6 @@ whole_counts (Ok y) x input before after no_longer is (declarations, placed, vis
     (declarations, placed, whole, visited_counts placed before after none (omega (arith, few, fits)) visited)
 whole_counts (Err e) x input before after no_longer is h none fits = absurd (cc is)
 
--- An error other than an allocation failure.
 pub other_counts : {X : Type 0} (r : Result X Error) (e : Error) (input : Reader) (before after : List ℕ) → r ≡ Err e →
     ReadsBody (Counted before after) r input → e.message ≢ message.OutOfMemory → Counts input (Err (fault.Refused e))
 other_counts (Ok x) e input before after is h other = absurd (cc is)

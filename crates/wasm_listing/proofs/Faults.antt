@@ -1,4 +1,3 @@
--- The properties of each way in which the program ends.
 use Rattle.std.proofs.Common.{◌≡◌, ℕ, List, Bool, false, Option, Some, None, Result, Ok, Err, refl, sym, subst, ◌∙◌, IfErr}
 use Rattle.std.specs.Prelude.{IsTrue, IsOk, IsErrAnd, IfSome}
 use Rattle.std.specs.Io.KnownBytes.{Appends}
@@ -18,7 +17,6 @@ dumps_one f bytes fault.Reading old new h = tt
 dumps_one f bytes fault.Writing old new h = absurd h
 dumps_one f bytes fault.Memory old new h = tt
 
--- For a fault before anything is written, no lines are claimed.
 pub dumps_fault : (known : Option (List ℕ)) (f : WasmFeatures) (e : DumpFault) (old new : Option (List ℕ)) → WritesNothing e →
     IfSome known (λ bytes. Dumps {X = Unit {0}} (input_of f bytes) (Err e) old new)
 dumps_fault None f e old new h = tt
@@ -40,7 +38,6 @@ err_not_ok : {X E : Type 0} (r : Result X E) (e : E) → r ≡ Err e → IsOk r 
 err_not_ok (Ok x) e is ok = cc is
 err_not_ok (Err d) e is ok = cc ok
 
--- A body that the input encodes is not `Refused`.
 pub whole_refused : (known : Option (List ℕ)) (f : WasmFeatures) (input slice : List ℕ) (end : Result (Unit {0}) Error) (e : Error) →
     IfSome known (λ bytes. input ≡ bytes) → slice ≡ input → end ≡ Err e →
     ((declarations : List Declaration) (placed : Placed) → IsBody (input_of f slice) declarations placed → IsOk end) →
@@ -50,7 +47,6 @@ whole_refused (Some bytes) f input slice end e reported same is whole = λ decla
     err_not_ok end e is (whole declarations placed (subst (λ b. IsBody (input_of f b) declarations placed) (sym same)
     (subst (λ b. IsBody (input_of f b) declarations placed) (sym reported) encodes)))
 
--- For other input, the lines of the operators that were read are written.
 pub dumps_refused : (known : Option (List ℕ)) (f : WasmFeatures) (input slice text : List ℕ) (end : Result (Unit {0}) Error) (e : Error)
     (old new : Option (List ℕ)) → IfSome known (λ bytes. input ≡ bytes) → slice ≡ input → end ≡ Err e → Lists (input_of f slice) end text →
     Appends old new text → IfSome known (λ bytes. Dumps {X = Unit {0}} (input_of f bytes) (Err (fault.Refused e)) old new)
@@ -60,7 +56,6 @@ dumps_refused (Some bytes) f input slice text end e old new reported same is lis
     subst (λ b. Lists {X = Unit {0}} (input_of f b) (Err e) text) (same ∙ reported) (subst (λ r. Lists (input_of f slice) r text) is lists) in
     (listed.0, listed.1, subst (Appends old new) listed.2 writes)
 
--- Unless allocation failed, the result is `Ok`.
 pub ok_unless : (r : Result (Unit {0}) Error) (b : Bool) → b ≡ false → (IsErrAnd r (λ e. e.message ≡ message.OutOfMemory) → IsTrue b) →
     IfErr r (λ e. e.message ≡ message.OutOfMemory) → IsOk r
 ok_unless (Ok x) b isnt reports h = refl

@@ -9,7 +9,6 @@ counted_first zero proposal ps ns = ns
 counted_first (suc i) proposal (p ∷ ps) (n ∷ ns) = cond (pointwise nat_eq p proposal) (one_more n) n ∷ counted_first i proposal ps ns
 counted_first (suc i) proposal _ ns = ns
 
--- All proposals were compared.
 pub first_all : (i : ℕ) (proposal : List ℕ) (ps : List (List ℕ)) (ns : List ℕ) → length ps ≡ length ns → i ≡ length ns →
     counted_first i proposal ps ns ≡ one_more_of proposal ps ns
 first_all zero proposal [] [] e h = refl
@@ -20,7 +19,6 @@ first_all zero proposal (p ∷ ps) (n ∷ ns) e h = absurd (omega (arith, h))
 first_all (suc i) proposal (p ∷ ps) (n ∷ ns) e h = ap (λ others. cond (pointwise nat_eq p proposal) (one_more n) n ∷ others)
     (first_all i proposal ps ns (omega (arith, e)) (omega (arith, h)))
 
--- The next proposal is this one.
 pub first_more : (i : ℕ) (proposal : List ℕ) (ps : List (List ℕ)) (ns : List ℕ) → length ps ≡ length ns → i < length ns →
     pointwise nat_eq (get_or ps i []) proposal ≡ true →
     set (counted_first i proposal ps ns) i (one_more (get_or (counted_first i proposal ps ns) i 0)) ≡ counted_first (suc i) proposal ps ns
@@ -30,7 +28,6 @@ first_more zero proposal (p ∷ ps) (n ∷ ns) e h same = ap (λ b. cond b (one_
 first_more (suc i) proposal (p ∷ ps) (n ∷ ns) e h same = ap (λ others. cond (pointwise nat_eq p proposal) (one_more n) n ∷ others)
     (first_more i proposal ps ns (omega (arith, e)) (omega (arith, h)) same)
 
--- The next proposal is another one.
 pub first_other : (i : ℕ) (proposal : List ℕ) (ps : List (List ℕ)) (ns : List ℕ) → length ps ≡ length ns → i < length ns →
     pointwise nat_eq (get_or ps i []) proposal ≡ false → counted_first i proposal ps ns ≡ counted_first (suc i) proposal ps ns
 first_other i proposal ps [] e h other = absurd (omega (arith, h))

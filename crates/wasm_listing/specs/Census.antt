@@ -1,4 +1,3 @@
--- Counts of operators by the proposals that introduced them.
 use Rattle.std.specs.Prelude.{◌≡◌, ℕ, ◌+◌, ◌-◌, ◌^◌, List, [], ◌∷◌, Result, Ok, Err, codes, nat_eq, if◌then◌else◌, map, min}
 use Rattle.std.specs.Cmp.Lexicographic.{pointwise}
 use Rattle.wasm_operators.specs.below.Source.{Reader}
@@ -39,16 +38,13 @@ proposals =
     ∷ codes "acquire_release_atomics"
     ∷ []
 
--- The number of the operators that this proposal introduced.
 abbrev pub count_of : List ℕ → Placed → ℕ
 count_of proposal [] = 0
 count_of proposal (p ∷ ps) = (if pointwise nat_eq proposal (proposal_of p.0) then 1 else 0) + count_of proposal ps
 
--- The number of operators of each proposal.
 abbrev pub counts_of : Placed → List ℕ
 counts_of placed = map (λ proposal. count_of proposal placed) proposals
 
--- A count increased by one, at most the greatest u64.
 abbrev pub one_more : ℕ → ℕ
 one_more n = min (n + 1) (2 ^ 64 - 1)
 
@@ -57,7 +53,6 @@ abbrev pub one_more_of : List ℕ → List (List ℕ) → List ℕ → List ℕ
 one_more_of proposal (p ∷ ps) (n ∷ ns) = (if pointwise nat_eq p proposal then one_more n else n) ∷ one_more_of proposal ps ns
 one_more_of proposal _ _ = []
 
--- A visit adds one to the count of the operator's proposal.
 abbrev pub CountsVisit : List ℕ → Operator → List ℕ → Type 0
 CountsVisit before op after = after ≡ one_more_of (proposal_of op) proposals before
 
@@ -65,8 +60,7 @@ CountsVisit before op after = after ≡ one_more_of (proposal_of op) proposals b
 abbrev pub Counted : List ℕ → List ℕ → OfPlaced
 Counted before after placed = Visited {A = Unit {0}} (λ s op outcome t. CountsVisit s op t) before after placed
 
--- Reading the body that starts here may allocate: after its locals and some of its operators, the next operator opens a frame
--- for which no capacity is left, or owns a list.
+-- After the locals and some operators of the body, `NextMayAllocate` holds.
 pub record BodyMayAllocate (body : Reader) : Type 0 where
   pub opened : State
   pub opens : OpensBody (Ok opened) body
@@ -75,8 +69,7 @@ pub record BodyMayAllocate (body : Reader) : Type 0 where
   pub takes : TakesOperators opened stopped placed
   pub asks : NextMayAllocate EncodesAllowed stopped
 
--- The counts of a body are the counts of its operators. For other bytes the result is the same error as for a listing.
--- There is no error of a reader or a writer.
+-- The counts of a body's operators, or the error that a listing has.
 abbrev pub Counts : Reader → Result (List ℕ) DumpFault → Type 0
 Counts input (Ok counts) = (declarations : List Declaration) × (placed : Placed) × IsBody input declarations placed × (counts ≡ counts_of placed)
 Counts input (Err (fault.Refused e)) = (placed : Placed) × IsNoBody e input placed

@@ -4,7 +4,6 @@ use Rattle.std.specs.Result.{result_ok}
 use Rattle.std.specs.Cmp.Lexicographic.{pointwise}
 use Rattle.bitflags.specs.Text.{name_piece, read_text}
 
--- The names of the features, each with its bit.
 abbrev pub feature_names : List (List ℕ × ℕ)
 feature_names =
     (codes "MULTI_MEMORY", 1)
@@ -15,7 +14,8 @@ feature_names =
     ∷ (codes "MULTIBYTE_ARRAY_ACCESS", 32)
     ∷ []
 
--- All features if there is no word or the word is `all`; none if it is `none`; otherwise the features that it names, separated by bars.
+-- All features for `all` or no word, none for `none`, otherwise the features named, separated by
+-- bars.
 abbrev pub bits_of_word : Option (List ℕ) → Option ℕ
 bits_of_word None = Some 63
 bits_of_word (Some word) =

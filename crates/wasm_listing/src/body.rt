@@ -1,4 +1,3 @@
-//! The body that a program's input encodes.
 ghost use Rattle.std.specs.Prelude.{[], IfOk};
 ghost use Rattle.wasm_operators.specs.Body.{OpensBody};
 ghost use Rattle.wasm_operators.specs.MainTheorem.{ReadSoFar};
@@ -7,9 +6,7 @@ ghost use Rattle.wasm_listing.specs.Dump.{input_of};
 use std::alloc::Global;
 use wasm_operators::{BinaryReader, FunctionBody, OperatorsReader, Result, WasmFeatures};
 
-/// Skips the locals of a body and returns a reader of its operators.
-///
-/// Fails as the locals do.
+/// Skips the locals of a body and returns a reader of its operators. Fails as the locals do.
 pub fn open_body<'a>(
     alloc: Global,
     features: WasmFeatures,

@@ -1,4 +1,3 @@
-//! The number of operators of each proposal in a body.
 ghost use Rattle.std.specs.Prelude.{◌≡◌, List, IfErr};
 ghost use Rattle.wasm_operators.specs.Expression.{Placed};
 ghost use Rattle.wasm_operators.specs.Body.{ReadsBody};
@@ -12,7 +11,6 @@ use crate::fault::DumpFault;
 use std::alloc::Global;
 use wasm_operators::{Error, Message, WasmFeatures, body_laws, decoding_laws, expression_laws};
 
-/// Counts a body's operators.
 fn count_body(
     alloc: Global,
     features: WasmFeatures,
@@ -39,8 +37,8 @@ fn count_body(
 /// `exceptions`, `legacy_exceptions`, `shared_everything_threads`, `function_references`,
 /// `stack_switching`, `wide_arithmetic`, `acquire_release_atomics`.
 ///
-/// Fails with `Refused` if the bytes are no body. Fails with `Memory` if allocation fails, and only
-/// if an operator of the body may allocate.
+/// Fails with `Refused` if the bytes are no body, and with `Memory` only if an operator of the body
+/// may allocate.
 pub fn census(alloc: Global, features: WasmFeatures, body: &[u8]) -> Result<[u64; 19], DumpFault>
     ensures counts { Counts (input_of features body.now) result }
     // If the bytes encode a body, the result is not `Refused`.

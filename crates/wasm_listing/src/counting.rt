@@ -1,11 +1,9 @@
-//! The visitor that counts the operators of each proposal.
 ghost use Rattle.std.specs.Prelude.{◌≡◌, [], replicate, slice_index_or};
 ghost use Rattle.wasm_listing.specs.Census.{proposals, one_more_of, CountsVisit};
 
 use std::marker::Model;
 use wasm_operators::{BrTable, Operator, VisitGroups, VisitOperator, VisitSimdOperator, Visitor};
 
-/// The proposals, in the order of the counts.
 static PROPOSALS: [&str; 19] = [
     "mvp",
     "sign_extension",
@@ -28,7 +26,7 @@ static PROPOSALS: [&str; 19] = [
     "acquire_release_atomics",
 ];
 
-/// Returns the proposal of the count at this place, or the empty string if there is no such place.
+/// Returns the proposal of the count at this place, or the empty string.
 pub fn proposal_at(place: usize) -> &'static str
     ensures { result.now ≡ slice_index_or proposals place [] }
 {
@@ -36,8 +34,6 @@ pub fn proposal_at(place: usize) -> &'static str
 }
 
 /// A visitor that counts the operators of each proposal.
-///
-/// Contracts see the counts.
 #[derive(Debug, Drop)]
 pub struct Census {
     counts: [u64; 19],
@@ -52,22 +48,19 @@ impl Model for Census {
 }
 
 impl Census {
-    /// Creates a visitor whose counts are 0.
     pub fn new() -> Census
         ensures { result ≡ replicate 19 0 }
     {
         Census { counts: [0; 19] }
     }
 
-    /// Returns the number of visited operators of each proposal, in the order of `proposal_at`. A
-    /// count that reaches the greatest u64 stays there.
+    /// Returns the counts, in the order of `proposal_at`. A count stays at the greatest u64.
     pub fn counts(&self) -> [u64; 19]
         ensures { result ≡ self.now }
     {
         self.counts
     }
 
-    /// Counts one more operator of a proposal.
     fn count(&mut self, proposal: &str)
         ensures { self.new ≡ one_more_of proposal.now proposals self.old }
     {
@@ -82,7 +75,6 @@ impl Census {
 impl Visitor for Census {
     type Output = ();
 
-    // A visit adds one to the count of the operator's proposal.
     ghost visits = { λ before op outcome after. CountsVisit before op after };
 
     fn visit_any(&mut self, op: Operator<'static>) {

@@ -1,4 +1,3 @@
-//! The listing of a function body, for any reader and writer.
 ghost use Rattle.std.specs.Prelude.{◌≡◌, ◌↔◌, List, IsTrue, IsOk, IsErrAnd, IfOk, IfErr, IfSome, OnOk, string_bytes};
 ghost use Rattle.std.specs.Io.KnownBytes.{Appends};
 ghost use Rattle.wasm_operators.specs.Expression.{Placed};
@@ -15,14 +14,12 @@ use std::alloc::Global;
 use std::io::{Read, Write};
 use wasm_operators::{Error, Message, Operator, WasmFeatures, body_laws};
 
-/// The lines of the operators that were read of a body, and the result of reading it.
 #[derive(Drop)]
 struct Listing {
     text: String,
     end: Result<(), Error>,
 }
 
-/// Reads a body's operators.
 fn read_body<'a>(
     alloc: Global,
     features: WasmFeatures,
@@ -58,7 +55,6 @@ fn list_body(alloc: Global, features: WasmFeatures, bytes: &[u8]) -> Result<List
     }
 }
 
-/// Returns whether reading ended with an allocation failure.
 fn is_memory(end: &Result<(), Error>) -> bool
     ensures { IsTrue result ↔ IsErrAnd end.now (λ e. e.message ≡ Message.OutOfMemory) }
 {
@@ -68,7 +64,6 @@ fn is_memory(end: &Result<(), Error>) -> bool
     }
 }
 
-/// Writes a text with one call, and flushes.
 fn write_text<W: Write>(writer: &mut W, text: &str) -> Result<(), DumpFault>
     ensures ok { OnOk result (Appends (W.contents writer.old) (W.contents writer.new) text.now) }
     ensures err { IfErr result (λ fault. fault ≡ DumpFault.Writing) }
@@ -84,9 +79,9 @@ fn write_text<W: Write>(writer: &mut W, text: &str) -> Result<(), DumpFault>
 
 /// Reads a body from the reader, and writes a line for each of its operators.
 ///
-/// The lines of the operators before an error are written too; the call then fails with `Refused`.
-/// On `Reading` and `Memory` nothing is written. On `Writing`, an unspecified part may have been
-/// written.
+/// If the bytes are no body, writes the lines of the operators before the error and fails with
+/// `Refused`. Otherwise fails with `Reading` or `Memory`, with nothing written, or with `Writing`,
+/// when an unspecified part may have been written.
 pub fn run<R: Read, W: Write>(
     alloc: Global,
     features: WasmFeatures,
@@ -96,7 +91,6 @@ pub fn run<R: Read, W: Write>(
     // If the bytes that the reader supplies are known, the lines of these bytes are written.
     ensures lines { IfSome (R.remaining reader.old) (λ bytes.
         Dumps (input_of features bytes) result (W.contents writer.old) (W.contents writer.new)) }
-    // If the bytes encode a body, the result is not `Refused`.
     ensures whole { IfSome (R.remaining reader.old) (λ bytes.
         (declarations : List Declaration) → (placed : Placed) → IsBody (input_of features bytes) declarations placed
         → IsNotRefused result) }

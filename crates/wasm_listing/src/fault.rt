@@ -1,11 +1,10 @@
-//! The faults of a run of the program.
 ghost use Rattle.std.specs.Prelude.{◌≡◌};
 ghost use Rattle.wasm_listing.specs.Dump.{status_of};
 
 use std::fmt;
 use wasm_operators::Error;
 
-/// The reason why a body was not listed completely.
+/// Why a body was not listed completely.
 #[derive(Clone, Copy, Debug, PartialEq, Eq)]
 pub enum DumpFault {
     /// The bytes are no body. The lines of the operators that were read are written.

@@ -1,4 +1,3 @@
-//! All bytes of a reader.
 ghost use Rattle.std.specs.Prelude.{◌≡◌, IfOk, IfErr, IfSome};
 ghost use Rattle.wasm_listing.specs.Dump.{WritesNothing};
 
@@ -6,8 +5,7 @@ use crate::fault::DumpFault;
 use std::alloc::Global;
 use std::io::Read;
 
-/// Reads all bytes that the reader has left, until a read returns none. Any error of a read, also
-/// an interrupted one, is `Reading`.
+/// Reads until a read returns no bytes. Any error of a read, also an interrupted one, is `Reading`.
 pub fn read_input<R: Read>(alloc: Global, reader: &mut R) -> Result<Vec<u8>, DumpFault>
     ensures bytes { IfOk result (λ input. IfSome (R.remaining reader.old) (λ bytes. input.items ≡ bytes)) }
     ensures fault { IfErr result (λ fault. WritesNothing fault) }

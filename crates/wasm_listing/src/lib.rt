@@ -1,7 +1,7 @@
 //! The operators of a function body as lines of text, and their counts by proposal.
 //!
-//! The main theorem of this crate is the contract of [`run`], for any reader and writer. If an
-//! allocation fails, [`run`] and [`census`] fail with `Memory`, and nothing is written.
+//! The main theorem is the contract of [`run`]. If allocation fails, [`run`] and [`census`] fail
+//! with `Memory`, and nothing is written.
 #![tactic(auto)]
 
 mod body;

@@ -1,11 +1,9 @@
-//! The lines of a listing, and the text that is written.
 ghost use Rattle.std.specs.Prelude.{◌≡◌, ◌++◌, OnOk, IfOk, string_bytes};
 ghost use Rattle.wasm_listing.specs.Dump.{line_of, lines};
 
 use std::alloc::{AllocError, Global};
 use wasm_operators::Operator;
 
-/// Appends the line of one operator to a text.
 fn push_line(text: &mut String, operator: &Operator, offset: u64) -> Result<(), AllocError>
     ensures { OnOk result (string_bytes text.new ≡ string_bytes text.old ++ line_of (operator.now, offset)) }
 {
@@ -13,7 +11,6 @@ fn push_line(text: &mut String, operator: &Operator, offset: u64) -> Result<(), 
     writeln!(text, "{offset} {name}")
 }
 
-/// Returns the lines of operators with their offsets.
 pub fn lines_of(alloc: Global, operators: &[(Operator, u64)]) -> Result<String, AllocError>
     ensures { IfOk result (λ text. string_bytes text ≡ lines operators.now) }
 {

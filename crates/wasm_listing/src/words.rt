@@ -1,4 +1,3 @@
-//! The features that the program's argument names.
 ghost use Rattle.std.specs.Prelude.{◌≡◌, option_map};
 ghost use Rattle.wasm_listing.specs.Words.{bits_of_word};
 
@@ -6,8 +5,8 @@ use bitflags::Flags;
 use bitflags::parser::from_str_strict;
 use wasm_operators::WasmFeatures;
 
-/// Returns the features that a word names: all for `all` and if there is no word, none for `none`;
-/// otherwise the named features, separated by `|`. Returns `None` if a name is none of the six.
+/// Returns the features that a word names: all for `all` or no word, none for `none`, otherwise the
+/// features separated by `|`. Returns `None` if a name is none of the six.
 pub fn features_of(word: Option<&str>) -> Option<WasmFeatures>
     ensures { option_map (λ features. features.0) result ≡ bits_of_word (option_map (λ text. text.now) word.entry) }
 {

@@ -14,8 +14,6 @@ use Rattle.wasm_module.proofs.Many.{length_code, length_determines}
 use Rattle.wasm_module.proofs.Parts.{refused_now, then_determines, byte_prefix_code, end_determines}
 use Rattle.wasm_module.proofs.Sequences.{then_code, both_code, refused_as}
 
--- ---- what is read or is in error after a first byte is so as a type
-
 module _ (byte : ℕ) where
   pub function_read : byte ≡ 0x60 → (old new : Reader) (parameters results : ℕ) → Reads EncodesSignature (Ok (parameters, results)) old new →
       Reads (EncodesAfterByte byte) (Ok (composite.Function parameters results)) old new
@@ -72,8 +70,6 @@ names_supertypes byte low high = named_at (byte - 0x4f) (omega (arith, low)) (om
     named_at (suc zero) e h = inr (omega (arith, e))
     named_at (suc (suc more)) e h = absurd (omega (arith, h))
 
--- ---- the byte of a list of types
-
 pub rec_type_byte : (old new : Reader) (byte : ℕ) → BeginsWith 0x4e (rest old) → Reads IsByte (Ok byte) old new → byte ≡ 0x4e
 rec_type_byte old new byte (more, starts) (a, p, t) = let is = p.0 in let parts = t.parts in cc (is, parts, starts)
 
@@ -87,8 +83,6 @@ rec_type_read byte is old new n (a, p, t) = (a, (is, p), t)
 pub rec_type_refused : (byte : ℕ) (e : Error) (old new : Reader) → Reads (EncodesUnsigned 32) (Err e) old new →
     Reads (λ text m. (byte ≡ 0x4e) × EncodesUnsigned 32 text m) (Err e) old new
 rec_type_refused byte = refused_as (EncodesUnsigned 32) (λ text m. (byte ≡ 0x4e) × EncodesUnsigned 32 text m) (λ text m b. (m, b.1))
-
--- ---- prefix codes
 
 module _ (numbers : PrefixCode (EncodesUnsigned 32)) where
   pub indices_code : PrefixCode EncodesIndices
@@ -147,8 +141,6 @@ module _ (numbers : PrefixCode (EncodesUnsigned 32)) where
 
     pub sub_type_code : PrefixCode EncodesSubType
     sub_type_code = then_code IsByte EncodesSubAfterByte byte_prefix_code sub_after_byte_code
-
-    -- ---- errors
 
     module _ (small : DeterminesRefusal U32Fault) (value : DeterminesRefusal ValTypeFault) where
       value_types_determine : DeterminesRefusal ValueTypesFault

@@ -20,8 +20,6 @@ use Rattle.wasm_module.specs.Types.{IsPackedByte, IsPacked, IsStorage, IsField, 
 use Rattle.wasm_module.proofs.Parts.{refused_now, then_determines, byte_prefix_code, end_determines}
 use Rattle.wasm_module.proofs.Sequences.{then_code, some_code}
 
--- ---- no first byte of a value type is that of a packed type
-
 abbrev Begins : List ℕ → Type 0
 Begins text = (byte : ℕ) × (more : List ℕ) × (text ≡ byte ∷ more) × ((byte ≤ 0x75) ⊎ (0x7b ≤ byte))
 
@@ -76,8 +74,6 @@ not_both a b x y t p (byte, packed, is) e =
     let same : begins.0 ≡ byte = cc (starts, is, e) in
     apart begins.0 byte begins.3 packed same
 
--- ---- prefix codes
-
 pub storage_code : PrefixCode EncodesValType → PrefixCode IsStorage
 storage_code values a b x y m n (inl p) (inl q) e = some_code EncodesValType values a b x y tt tt p q e
 storage_code values a b x y m n (inl p) (inr q) e = absurd (not_both a b x y p.0 p.1 q e)
@@ -94,8 +90,6 @@ field_code values = then_code IsStorage (λ storage. SomeOf IsByte) (storage_cod
 pub field_determines : PrefixCode EncodesValType → DeterminesRefusal ValTypeFault → DeterminesRefusal FieldFault
 field_determines values value = then_determines IsStorage ValTypeFault (λ storage. EndFault) (storage_code values) value (λ storage. end_determines)
 
--- ---- packed types
-
 packed_small : (byte : ℕ) → IsPackedByte byte → byte < 256
 packed_small byte (inl p) = omega (arith, p)
 packed_small byte (inr p) = omega (arith, p)
@@ -110,8 +104,6 @@ packed_read old new byte (other, packed, begins) (a, p, t) =
 
 pub packed_there : (old new : Reader) (e : Error) → LedBy IsPackedByte (rest old) → Reads IsByte (Err e) old new → ⊥
 packed_there old new e (byte, packed, begins) (same, h) = refused_now IsByte e old h (byte ∷ []) begins.0 byte (refl, packed_small byte packed) begins.1
-
--- ---- value types as storage types
 
 pub storage_read : (old new : Reader) (t : ValType) → Reads EncodesValType (Ok t) old new → Reads IsStorage (Ok tt) old new
 storage_read old new t (a, p, k) = (a, inl (t, p), k)

@@ -36,7 +36,6 @@ module _ {X : Type 0} (P : List ℕ → X → Type 0) (Fault : Message → Reade
         fault = λ m offset h. h;
       }
 
-  -- The number of values that are left, if there is one more.
   one_less : (count i left : ℕ) → i + left ≡ count → i < count → (k : ℕ) × (left ≡ suc k)
   one_less count i zero all more = absurd (omega (arith, all, more))
   one_less count i (suc k) all more = (k, refl)

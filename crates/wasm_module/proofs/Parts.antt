@@ -17,20 +17,16 @@ takes_both a b c x y p q =
       parts = p.parts ∙ ap (λ z. x ++ z) q.parts ∙ sym (append_assoc x y (rest c));
     }
 
--- A call that returns to its start leaves the reader as it was.
 pub back : (old mid now new : Reader) (text : List ℕ) (position : ℕ) → Takes old mid text → now ≡ mid → position ≡ old.position → new ≡ at_position now position →
     new ≡ old
 back old mid now new text position t same at went =
     went ∙ ap (at_position now) at ∙ ap (λ r. at_position r old.position) same ∙ ap (λ r. at_position r old.position) t.moved
-
--- ---- errors of two parts
 
 ends_here : (m : Message) → IsReadFault m → MayFollow m []
 ends_here message.EndOfData fault = refl
 ends_here message.OutOfMemory fault = absurd fault
 ends_here _ fault = tt
 
--- If reading a value fails, none is encoded next.
 pub refused_now : {X : Type 0} (P : List ℕ → X → Type 0) (e : Error) (r : Reader) → IsRefusal P e r → NoPrefix P (rest r)
 refused_now P e r h = subst (NoPrefix P) (append-nil (rest r)) (h.refuses [] (ends_here e.message h.fault))
 
@@ -42,7 +38,6 @@ pub second_fault : {X : Type 0} (P : List ℕ → X → Type 0) (First : Message
     (old mid : Reader) (x : X) → Reads P (Ok x) old mid → After x e.message mid e.offset → ThenFault P First After e.message old e.offset
 second_fault P First After e old mid x reads fault = inr (x, mid, reads, fault)
 
--- The reader after a first part.
 same_after : {X : Type 0} (P : List ℕ → X → Type 0) → PrefixCode P → (r s t : Reader) (x y : X) → Reads P (Ok x) r s → Reads P (Ok y) r t →
     (x ≡ y) × (s ≡ t)
 same_after P code r s t x y (a, p, h) (b, q, k) =

@@ -8,7 +8,6 @@ use Rattle.wasm_module.specs.Both.{Both}
 use Rattle.wasm_module.specs.Imports.{SomeOf, IsExternTypeAfterByte, EncodesExternTypeAfterByte}
 use Rattle.wasm_module.proofs.Parts.{takes_both, back}
 
--- An encoding that is a prefix of the next bytes.
 first_text : (a b x y : List ℕ) → a ≡ b → a ++ x ≡ b ++ y → x ≡ y
 first_text a b x y same e = append_cancel_left a x y (e ∙ ap (λ t. t ++ y) (sym same))
 
@@ -58,7 +57,6 @@ module _ {X Y : Type 0} (P : List ℕ → X → Type 0) (Q : X → List ℕ → 
         let second = after p.2 p.1 q.1 x y m n p.5 (subst (λ v. Q v q.1 n) (sym first.1) q.5) (first_text p.0 q.0 (p.1 ++ x) (q.1 ++ y) first.0 whole) in
         (p.3 ∙ ap (λ t. t ++ p.1) first.0 ∙ ap (λ t. q.0 ++ t) second.0 ∙ sym q.3, second.1)
 
--- If reading a part fails, reading any value that contains the part fails too.
 pub refused_as : {X Z : Type 0} (P : List ℕ → X → Type 0) (Q : List ℕ → Z → Type 0) → ((text : List ℕ) (z : Z) → Q text z → (x : X) × P text x) →
     (e : Error) (old new : Reader) → Reads P (Err e) old new → Reads Q (Err e) old new
 refused_as P Q has e old new (same, h) = (
@@ -69,8 +67,6 @@ refused_as P Q has e old new (same, h) = (
     ahead = h.ahead;
   },
 )
-
--- ---- both are kept, as the parts of a value
 
 module _ {X Y Z : Type 0} (P : List ℕ → X → Type 0) (Q : List ℕ → Y → Type 0) (parts : Z → X × Y) where
   abbrev Whole : List ℕ → Z → Type 0
@@ -104,8 +100,6 @@ module _ {X Y Z : Type 0} (P : List ℕ → X → Type 0) (Q : List ℕ → Y �
 pub both_read : {X Y : Type 0} (P : List ℕ → X → Type 0) (Q : List ℕ → Y → Type 0) (old mid new : Reader) (x : X) (y : Y) → Reads P (Ok x) old mid →
     Reads Q (Ok y) mid new → Reads (Both P Q) (Ok (x, y)) old new
 both_read P Q old mid new x y (a, p, t) (b, q, u) = (a ++ b, (a, b, refl, p, q), takes_both old mid new a b t u)
-
--- ---- parts of an import
 
 module _ {X : Type 0} (P : List ℕ → X → Type 0) where
   pub some_read : (old new : Reader) (x : X) → Reads P (Ok x) old new → Reads (SomeOf P) (Ok tt) old new

@@ -1,6 +1,5 @@
--- Two values, one after the other.
 use Rattle.std.specs.Prelude.{◌≡◌, ℕ, List, ◌++◌}
 
--- The text is an encoding of the first value followed by an encoding of the second.
+-- An encoding of the first value followed by an encoding of the second.
 abbrev pub Both : {X Y : Type 0} → (List ℕ → X → Type 0) → (List ℕ → Y → Type 0) → List ℕ → X × Y → Type 0
 Both P Q text pair = (first second : List ℕ) × (text ≡ first ++ second) × P first pair.0 × Q second pair.1

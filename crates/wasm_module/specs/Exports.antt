@@ -1,5 +1,4 @@
--- Exports.
--- WebAssembly Core Specification 3.0, Binary Format, Modules: Indices, Export Section.
+-- Specification: Binary Format, Modules: Indices, Export Section.
 use Rattle.std.specs.Prelude.{ℕ, List}
 use Rattle.wasm_below.specs.bytes.message.Message.{Message}
 use Rattle.wasm_below.specs.Fault.{ThenFault}
@@ -8,7 +7,6 @@ use Rattle.wasm_below.specs.Source.{Reader, IsByte, EndFault, U32Fault}
 use Rattle.wasm_module.specs.Both.{Both}
 use Rattle.wasm_module.specs.Names.{EncodesName, NameFault}
 
--- An export: its name, the byte of its kind, and its index among the items of that kind.
 pub record ExportParts : Type 0 where
   pub name : List ℕ
   pub kind : ℕ
@@ -27,6 +25,6 @@ ExternIndexFault = ThenFault IsByte EndFault (λ kind. U32Fault)
 abbrev pub EncodesExport : List ℕ → ExportParts → Type 0
 EncodesExport text e = Both EncodesName EncodesExternIndex text (e.name, (e.kind, e.index))
 
--- The error of an export: the error of its first part that can't be read.
+-- The error of the first part in error.
 abbrev pub ExportFault : Message → Reader → ℕ → Type 0
 ExportFault = ThenFault EncodesName NameFault (λ name. ExternIndexFault)

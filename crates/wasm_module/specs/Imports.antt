@@ -1,5 +1,4 @@
--- Imports: their bytes and their errors. Only the kind of what is imported is kept.
--- WebAssembly Core Specification 3.0, Binary Format: Types, Limits, Table Types, Memory Types, Global Types, Tag Types, External Types; Modules, Import
+-- Only the kind of what is imported is kept. Specification: Binary Format, Types; Modules, Import
 -- Section.
 use Rattle.std.specs.Prelude.{◌≡◌, ◌≢◌, ℕ, zero, suc, ◌%◌, ◌⊎◌, List, []}
 use Rattle.wasm_below.specs.bytes.message.Message.{Message}
@@ -11,11 +10,9 @@ use Rattle.wasm_below.specs.TypeEncoding.{EncodesRefType, EncodesValType, RefTyp
 use Rattle.wasm_module.specs.Both.{Both}
 use Rattle.wasm_module.specs.Names.{EncodesName, NameFault}
 
--- Bytes that are skipped.
 abbrev pub Skipped : Type 1
 Skipped = List ℕ → Unit {0} → Type 0
 
--- The error of skipping.
 abbrev pub SkipFault : Type 1
 SkipFault = Message → Reader → ℕ → Type 0
 
@@ -23,7 +20,6 @@ SkipFault = Message → Reader → ℕ → Type 0
 abbrev pub SomeOf : {X : Type 0} → (List ℕ → X → Type 0) → Skipped
 SomeOf {X} Encodes text done = (x : X) × Encodes text x
 
--- There are no bytes.
 abbrev pub IsNothing : Skipped
 IsNothing text done = text ≡ []
 
@@ -48,15 +44,14 @@ BoundsFault flags = ThenFault (EncodesUnsigned 64) U64Fault (λ least. MostFault
 abbrev pub LimitsFault : SkipFault
 LimitsFault = ThenFault IsByte EndFault BoundsFault
 
--- A table type.
---   tabletype ::= rt:reftype lim:limits
+-- tabletype ::= rt:reftype lim:limits
 abbrev pub IsTable : Skipped
 IsTable = Then EncodesRefType (λ ty. IsLimits)
 
 abbrev pub TableFault : SkipFault
 TableFault = ThenFault EncodesRefType RefTypeFault (λ ty. LimitsFault)
 
--- A global type: a value type, and the byte of its mutability, with any value.
+-- A value type, and the byte of its mutability, with any value.
 --   globaltype ::= t:valtype mut:mut      mut ::= 0x00 | 0x01
 abbrev pub IsGlobal : Skipped
 IsGlobal = Then EncodesValType (λ ty. SomeOf IsByte)
@@ -64,7 +59,7 @@ IsGlobal = Then EncodesValType (λ ty. SomeOf IsByte)
 abbrev pub GlobalFault : SkipFault
 GlobalFault = ThenFault EncodesValType ValTypeFault (λ ty. EndFault)
 
--- A tag type: a byte, with any value, and the index of a type.
+-- A byte, with any value, and the index of a type.
 --   tagtype ::= 0x00 x:typeidx
 abbrev pub IsTag : Skipped
 IsTag = Then IsByte (λ attribute. SomeOf (EncodesUnsigned 32))
@@ -100,24 +95,23 @@ EncodesExternType = Then IsByte EncodesExternTypeAfterByte
 abbrev pub ExternTypeFault : SkipFault
 ExternTypeFault = ThenFault IsByte EndFault ExternTypeFaultAfterByte
 
--- An import: the module's name, the import's name, and the byte of its kind.
 pub record ImportParts : Type 0 where
   pub module_name : List ℕ
   pub name : List ℕ
   pub kind : ℕ
 
--- A name, followed by a kind.
 abbrev pub EncodesNamed : List ℕ → List ℕ × ℕ → Type 0
 EncodesNamed = Both EncodesName EncodesExternType
 
 abbrev pub NamedFault : SkipFault
 NamedFault = ThenFault EncodesName NameFault (λ name. ExternTypeFault)
 
--- The module's name, followed by the import's name and kind.
+-- The module's name, the import's name, the byte of a kind and what follows it: nothing, if the
+-- standard has no such kind.
 --   import ::= nm1:name nm2:name xt:externtype
 abbrev pub EncodesImport : List ℕ → ImportParts → Type 0
 EncodesImport text i = Both EncodesName EncodesNamed text (i.module_name, (i.name, i.kind))
 
--- The error of an import: the error of its first part that can't be read.
+-- The error of the first part in error.
 abbrev pub ImportFault : SkipFault
 ImportFault = ThenFault EncodesName NameFault (λ module_name. NamedFault)

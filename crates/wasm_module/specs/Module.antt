@@ -1,5 +1,4 @@
--- The preamble and the sections of a module.
--- WebAssembly Core Specification 3.0, Binary Format, Modules: Modules, Sections.
+-- Specification: Binary Format, Modules.
 use Rattle.std.specs.Prelude.{◌==◌, ℕ, List, if◌then◌else◌}
 use Rattle.std.specs.Int.{w32}
 use Rattle.wasm_below.specs.bytes.features.WasmFeatures.{WasmFeatures}
@@ -13,12 +12,12 @@ use Rattle.wasm_module.specs.declared.preamble.Preamble.{Preamble}
 use Rattle.wasm_module.specs.declared.preamble.PreambleKind.{PreambleKind}
 use Rattle.wasm_module.specs.declared.preamble.PreambleKind.TheVariants as kind
 
--- The magic number and the version, each of four bytes, the lowest first.
+-- The magic number and the version, little-endian.
 --   magic ::= 0x00 0x61 0x73 0x6d    version ::= 0x01 0x00 0x00 0x00
 abbrev pub EncodesPreamble : List ℕ → Preamble → Type 0
 EncodesPreamble text p = Both (EncodesFixed w32) (EncodesFixed w32) text (p.magic, p.version)
 
--- The kind of binary that the two numbers identify. Components are defined by the component model proposal: version 13, layer 1.
+-- The kind of binary. Components, of the component model proposal, have version 13 and layer 1.
 abbrev pub preamble_kind : Preamble → PreambleKind
 preamble_kind p =
     if p.magic == 0x6d736100
@@ -30,15 +29,15 @@ pub record SectionParts : Type 0 where
   pub id : ℕ
   pub contents : Reader
 
--- The bytes are a section: its number, the length of its contents, and the contents.
+-- The number of a section, the length of its contents, and the contents.
 --   section_N(X) ::= N:byte len:u32 en*:X
 abbrev pub EncodesSection : WasmFeatures → List ℕ → SectionParts → Type 0
 EncodesSection features text s = Both IsByte (EncodesReader features) text (s.id, s.contents)
 
--- The error of a preamble: the data ends within the first number, or within the second.
+-- The data ends within one of the numbers.
 abbrev pub PreambleFault : Message → Reader → ℕ → Type 0
 PreambleFault = ThenFault (EncodesFixed w32) (EndsWithin 4) (λ magic. EndsWithin 4)
 
--- The error of a section: the data ends at its number, or the error of the length and the contents after it.
+-- The data ends at the number, or the length or the contents are in error.
 abbrev pub SectionFault : Message → Reader → ℕ → Type 0
 SectionFault = ThenFault IsByte EndFault (λ id. ReaderFault)

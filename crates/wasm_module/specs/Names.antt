@@ -1,5 +1,5 @@
--- Names, custom sections, and the names that a custom section assigns.
--- WebAssembly Core Specification 3.0, Binary Format: Values, Names; Modules, Custom Section; Appendix, Custom Sections, Name Section.
+-- Specification: Binary Format, Values, Names; Modules, Custom Section; Appendix, Custom Sections,
+-- Name Section.
 use Rattle.std.specs.Prelude.{◌≡◌, ℕ, List, length}
 use Rattle.wasm_below.specs.bytes.message.Message.{Message}
 use Rattle.wasm_below.specs.Fault.{ThenFault}
@@ -8,7 +8,6 @@ use Rattle.wasm_below.specs.Sequence.{Then}
 use Rattle.wasm_below.specs.Source.{Reader, EndsWithin, U32Fault}
 use Rattle.wasm_module.specs.Both.{Both}
 
--- These n bytes.
 abbrev pub IsBytes : ℕ → List ℕ → List ℕ → Type 0
 IsBytes n text bytes = (bytes ≡ text) × (length text ≡ n)
 
@@ -17,16 +16,14 @@ IsBytes n text bytes = (bytes ≡ text) × (length text ≡ n)
 abbrev pub EncodesName : List ℕ → List ℕ → Type 0
 EncodesName = Then (EncodesUnsigned 32) IsBytes
 
--- The error of a name: the error of the length, or the data ends within the bytes after it.
+-- The length is in error, or the data ends within the bytes.
 abbrev pub NameFault : Message → Reader → ℕ → Type 0
 NameFault = ThenFault (EncodesUnsigned 32) U32Fault EndsWithin
 
--- A custom section: its name, and a reader of the bytes after the name.
 pub record CustomParts : Type 0 where
   pub name : List ℕ
   pub contents : Reader
 
--- An index with its name.
 pub record NameParts : Type 0 where
   pub index : ℕ
   pub name : List ℕ
@@ -36,6 +33,6 @@ pub record NameParts : Type 0 where
 abbrev pub EncodesNameAssociation : List ℕ → NameParts → Type 0
 EncodesNameAssociation text a = Both (EncodesUnsigned 32) EncodesName text (a.index, a.name)
 
--- The error of an index with its name: the error of the index, or of the name after it.
+-- The error of the index, or of the name.
 abbrev pub NameAssociationFault : Message → Reader → ℕ → Type 0
 NameAssociationFault = ThenFault (EncodesUnsigned 32) U32Fault (λ index. NameFault)

@@ -1,5 +1,4 @@
--- Types. Their sort and the numbers of their parameters and results, or fields, are kept.
--- WebAssembly Core Specification 3.0, Binary Format: Conventions, Lists; Types, Composite Types, Recursive Types.
+-- Specification: Binary Format, Lists; Types, Composite Types, Recursive Types.
 use Rattle.std.specs.Prelude.{◌≡◌, ◌≢◌, ℕ, zero, suc, ◌⊎◌, List, [], ◌∷◌}
 use Rattle.wasm_below.specs.bytes.message.Message.{Message}
 use Rattle.wasm_below.specs.Fault.{ThenFault, FaultAfter, ManyFault}
@@ -12,7 +11,6 @@ use Rattle.wasm_module.specs.Imports.{Skipped, SkipFault, SomeOf, IsNothing}
 use Rattle.wasm_module.specs.declared.composite.CompositeType.{CompositeType}
 use Rattle.wasm_module.specs.declared.composite.CompositeType.TheVariants as composite
 
--- This many values, one after another.
 abbrev pub IsMany : {X : Type 0} → (List ℕ → X → Type 0) → ℕ → Skipped
 IsMany P zero = IsNothing
 IsMany P (suc n) = Then P (λ x. IsMany P n)
@@ -28,7 +26,7 @@ EncodesLength P = Then (EncodesUnsigned 32) (EncodesCounted P)
 abbrev pub LengthFault : {X : Type 0} → (List ℕ → X → Type 0) → (Message → Reader → ℕ → Type 0) → Message → Reader → ℕ → Type 0
 LengthFault P Fault = ThenFault (EncodesUnsigned 32) U32Fault (ManyFault P Fault)
 
--- A list of value types. Their number is kept.
+-- A list of value types, whose number is kept.
 --   resulttype ::= t*:list(valtype)
 abbrev pub EncodesValueTypes : List ℕ → ℕ → Type 0
 EncodesValueTypes = EncodesLength EncodesValType
@@ -43,8 +41,7 @@ EncodesSignature = Both EncodesValueTypes EncodesValueTypes
 abbrev pub SignatureFault : SkipFault
 SignatureFault = ThenFault EncodesValueTypes ValueTypesFault (λ parameters. ValueTypesFault)
 
--- The byte of a packed type.
---   packtype ::= 0x77 ⇒ i16 | 0x78 ⇒ i8
+-- packtype ::= 0x77 ⇒ i16 | 0x78 ⇒ i8
 abbrev pub IsPackedByte : ℕ → Type 0
 IsPackedByte byte = (byte ≡ 0x77) ⊎ (byte ≡ 0x78)
 
@@ -56,7 +53,7 @@ IsPacked text done = (byte : ℕ) × IsPackedByte byte × (text ≡ byte ∷ [])
 abbrev pub IsStorage : Skipped
 IsStorage text done = SomeOf EncodesValType text done ⊎ IsPacked text done
 
--- A field: a storage type, and the byte of its mutability, with any value.
+-- A storage type, and the byte of its mutability, with any value.
 --   fieldtype ::= zt:storagetype mut:mut
 abbrev pub IsField : Skipped
 IsField = Then IsStorage (λ storage. SomeOf IsByte)
@@ -64,7 +61,6 @@ IsField = Then IsStorage (λ storage. SomeOf IsByte)
 abbrev pub FieldFault : SkipFault
 FieldFault = ThenFault IsStorage ValTypeFault (λ storage. EndFault)
 
--- A list of fields. Their number is kept.
 abbrev pub EncodesFields : List ℕ → ℕ → Type 0
 EncodesFields = EncodesLength IsField
 
@@ -86,7 +82,6 @@ EncodesAfterByte byte text (composite.Other kind) = IsOther byte × (kind ≡ by
 abbrev pub FaultAfterByte : ℕ → SkipFault
 FaultAfterByte byte m r offset = ((byte ≡ 0x60) × SignatureFault m r offset) ⊎ (((byte ≡ 0x5f) × FieldsFault m r offset) ⊎ ((byte ≡ 0x5e) × FieldFault m r offset))
 
--- A composite type: its first byte, and the bytes after it.
 abbrev pub EncodesComposite : List ℕ → CompositeType → Type 0
 EncodesComposite = Then IsByte EncodesAfterByte
 
@@ -118,19 +113,20 @@ EncodesSubAfterByte byte text ty = (NamesSupertypes byte × EncodesWithSupertype
 abbrev pub SubFaultAfterByte : ℕ → SkipFault
 SubFaultAfterByte byte m r offset = (NamesSupertypes byte × WithSupertypesFault m r offset) ⊎ ((¬ NamesSupertypes byte) × FaultAfterByte byte m r offset)
 
--- A sub type. Its composite type is kept.
+-- A composite type, perhaps after the indices of supertypes. Kept are the numbers of parameters and
+-- results, or of fields, or a first byte of no composite type.
 abbrev pub EncodesSubType : List ℕ → CompositeType → Type 0
 EncodesSubType = Then IsByte EncodesSubAfterByte
 
--- The error of a sub type: the error of its first part that can't be read.
+-- The error of the first part in error.
 abbrev pub SubTypeFault : SkipFault
 SubTypeFault = ThenFault IsByte EndFault SubFaultAfterByte
 
--- The start of a recursive type that is written as a list: its byte, and the number of sub types that follow.
+-- The start of a recursive type that is a list: its byte, and the number of sub types.
 --   rectype ::= 0x4E st*:list(subtype) | st:subtype
 abbrev pub EncodesRecTypeLength : List ℕ → ℕ → Type 0
 EncodesRecTypeLength = Then IsByte (λ byte text n. (byte ≡ 0x4e) × EncodesUnsigned 32 text n)
 
--- The error of this start: the error of the number after the byte.
+-- The error of the number in this start.
 abbrev pub RecTypeLengthFault : SkipFault
 RecTypeLengthFault = FaultAfter IsByte (λ byte. U32Fault)

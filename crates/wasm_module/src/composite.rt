@@ -1,4 +1,3 @@
-//! Types.
 ghost use Rattle.std.specs.Prelude.{◌≡◌, ◌↔◌, IsTrue, Ok, IfErr};
 ghost use Rattle.wasm_below.specs.Fault.{ManyFault};
 ghost use Rattle.wasm_below.specs.Number.{EncodesUnsigned};
@@ -13,25 +12,18 @@ use wasm_below::byte_laws::unsigned_numbers;
 use wasm_below::type_laws::value_types;
 use wasm_below::{BinaryReader, FromReader, MemoryUse, Never, Result, UsesMemory, ValType};
 
-/// The first byte of an array type.
 const ARRAY: u8 = 0x5e;
 
-/// The first byte of a struct type.
 const STRUCT: u8 = 0x5f;
 
-/// The first byte of a function type.
 const FUNCTION: u8 = 0x60;
 
-/// The first byte of a final type with supertypes.
 const FINAL: u8 = 0x4f;
 
-/// The first byte of a type with supertypes that is not final.
 const OPEN: u8 = 0x50;
 
-/// The first byte of a recursive type that is a list.
 const REC_TYPE: u8 = 0x4e;
 
-/// Skips this many value types.
 fn skip_value_types(reader: &mut BinaryReader<'_>, count: u32) -> Result<()>
     ensures reads { Reads (IsMany EncodesValType count) result reader.old reader.new }
     ensures fault { IfErr result (λ e.
@@ -51,7 +43,6 @@ fn skip_value_types(reader: &mut BinaryReader<'_>, count: u32) -> Result<()>
     Ok(())
 }
 
-/// Skips a list of value types and returns their number.
 fn count_value_types(reader: &mut BinaryReader<'_>) -> Result<u32>
     ensures reads { Reads EncodesValueTypes result reader.old reader.new }
     ensures fault { IfErr result (λ e. ValueTypesFault e.message reader.old e.offset) }
@@ -92,7 +83,6 @@ fn read_signature(reader: &mut BinaryReader<'_>) -> Result<(u32, u32)>
     }
 }
 
-/// Skips this many indices.
 fn skip_indices(reader: &mut BinaryReader<'_>, count: u32) -> Result<()>
     ensures reads { Reads (IsMany (EncodesUnsigned 32) count) result reader.old reader.new }
     ensures fault { IfErr result (λ e.
@@ -112,7 +102,6 @@ fn skip_indices(reader: &mut BinaryReader<'_>, count: u32) -> Result<()>
     Ok(())
 }
 
-/// Skips a list of indices and returns their number.
 fn count_indices(reader: &mut BinaryReader<'_>) -> Result<u32>
     ensures reads { Reads EncodesIndices result reader.old reader.new }
     ensures fault { IfErr result (λ e. IndicesFault e.message reader.old e.offset) }
@@ -135,26 +124,14 @@ fn count_indices(reader: &mut BinaryReader<'_>) -> Result<u32>
 /// A composite type. Specification: Composite Types.
 #[derive(Clone, Copy, Debug, PartialEq, Eq)]
 pub enum CompositeType {
-    /// A function type.
-    Function {
-        /// The number of parameters.
-        parameters: u32,
-        /// The number of results.
-        results: u32,
-    },
-    /// A struct type.
-    Struct {
-        /// The number of fields.
-        fields: u32,
-    },
-    /// An array type.
+    Function { parameters: u32, results: u32 },
+    Struct { fields: u32 },
     Array,
     /// The first byte of a type that is none of the standard's composite types. No bytes after it
     /// are read.
     Other(u8),
 }
 
-/// Reads the bytes after this first byte.
 fn read_after_byte(reader: &mut BinaryReader<'_>, kind: u8) -> Result<CompositeType>
     ensures reads { Reads (EncodesAfterByte kind) result reader.old reader.new }
     ensures fault { IfErr result (λ e. FaultAfterByte kind e.message reader.old e.offset) }
@@ -179,7 +156,6 @@ fn read_after_byte(reader: &mut BinaryReader<'_>, kind: u8) -> Result<CompositeT
     }
 }
 
-/// Reads a composite type without supertypes.
 fn read_composite(reader: &mut BinaryReader<'_>) -> Result<CompositeType>
     ensures reads { Reads EncodesComposite result reader.old reader.new }
     ensures fault { IfErr result (λ e. CompositeFault e.message reader.old e.offset) }
@@ -198,7 +174,6 @@ fn read_composite(reader: &mut BinaryReader<'_>) -> Result<CompositeType>
     }
 }
 
-/// Reads the indices of the supertypes, and the composite type after them.
 fn read_with_supertypes(reader: &mut BinaryReader<'_>) -> Result<CompositeType>
     ensures reads { Reads EncodesWithSupertypes result reader.old reader.new }
     ensures fault { IfErr result (λ e. WithSupertypesFault e.message reader.old e.offset) }
@@ -218,7 +193,6 @@ fn read_with_supertypes(reader: &mut BinaryReader<'_>) -> Result<CompositeType>
     }
 }
 
-/// Reads the bytes after this first byte of a sub type.
 fn read_sub_after_byte(reader: &mut BinaryReader<'_>, kind: u8) -> Result<CompositeType>
     ensures reads { Reads (EncodesSubAfterByte kind) result reader.old reader.new }
     ensures fault { IfErr result (λ e. SubFaultAfterByte kind e.message reader.old e.offset) }
@@ -233,7 +207,7 @@ impl CompositeType {
     /// Reads a sub type and returns its composite type. Specification: Recursive Types.
     ///
     /// After a first byte that is not one of the standard's, nothing is read. Fails as the first
-    /// part that can't be read does: with `EndOfData`, or with the error of a number or a type.
+    /// part in error does: with `EndOfData`, or with the error of a number or a type.
     pub fn read(reader: &mut BinaryReader<'_>) -> Result<CompositeType>
         ensures reads { Reads EncodesSubType result reader.old reader.new }
         ensures fault { IfErr result (λ e. SubTypeFault e.message reader.old e.offset) }
@@ -253,7 +227,6 @@ impl CompositeType {
     }
 }
 
-/// Returns whether the next byte starts a recursive type that is a list.
 fn is_rec_type_list_next(reader: &BinaryReader<'_>) -> bool
     ensures { IsTrue result ↔ BeginsWith REC_TYPE (rest reader.now) }
 {
@@ -261,8 +234,8 @@ fn is_rec_type_list_next(reader: &BinaryReader<'_>) -> bool
 }
 
 /// Returns the number of sub types of the recursive type that starts here. If it is a list,
-/// consumes its first byte and that number; otherwise returns 1 and consumes nothing. The sub types
-/// follow. Specification: Recursive Types.
+/// consumes its first byte and that number; otherwise returns 1 and consumes nothing.
+/// Specification: Recursive Types.
 ///
 /// Fails as `read_var_u32` does after the byte.
 pub fn read_rec_type_len(reader: &mut BinaryReader<'_>) -> Result<u32>
@@ -298,17 +271,14 @@ impl<'a> FromReader<'a> for CompositeType {
 
     ghost fault = { λ m r offset. SubTypeFault m r offset };
 
-    /// Reads a type as `CompositeType::read` does.
     fn from_reader(_alloc: Global, reader: &mut BinaryReader<'a>) -> Result<CompositeType> {
         CompositeType::read(reader)
     }
 
-    /// States that no encoding is a proper prefix of another.
     fn is_prefix_code() {
         types();
     }
 
-    /// States that the fault determines the error.
     fn determines_refusal() {
         types();
     }

@@ -1,4 +1,3 @@
-//! Custom sections.
 ghost use Rattle.std.specs.Prelude.{◌≡◌, Ok, IfOk, IfErr};
 ghost use Rattle.wasm_below.specs.Source.{Reads, IsRefusal};
 ghost use Rattle.wasm_module.specs.Names.{EncodesName, NameFault};
@@ -7,7 +6,7 @@ use crate::name::Name;
 use std::marker::Model;
 use wasm_below::{BinaryReader, Result};
 
-/// The contents of a custom section: its name, and a reader of the bytes after the name.
+/// The contents of a custom section: its name, and a reader of the bytes after it.
 #[derive(Debug, Drop)]
 pub struct CustomSection<'a> {
     name: Name<'a>,
@@ -23,10 +22,8 @@ impl<'a> Model for CustomSection<'a> {
 }
 
 impl<'a> CustomSection<'a> {
-    /// Reads the name of a custom section from the contents of a section with the number 0.
-    /// Specification: Custom Section.
-    ///
-    /// Fails as `Name::read` does.
+    /// Reads the name from the contents of a section with the number 0. Specification: Custom
+    /// Section. Fails as `Name::read` does.
     pub fn new(mut reader: BinaryReader<'a>) -> Result<CustomSection<'a>>
         ensures name { IfOk result (λ s. Reads EncodesName (Ok s.name) reader.entry s.contents) }
         ensures refused { IfErr result (λ e. IsRefusal EncodesName e reader.entry) }

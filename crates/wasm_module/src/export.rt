@@ -1,4 +1,3 @@
-//! Exports.
 ghost use Rattle.std.specs.Prelude.{◌≡◌, ⊤, false, IfOk, IfErr};
 ghost use Rattle.wasm_below.specs.bytes.features.WasmFeatures.{WasmFeatures};
 ghost use Rattle.wasm_below.specs.Fault.{HasFault, DeterminesRefusal};
@@ -14,7 +13,6 @@ use std::marker::Model;
 use wasm_below::byte_laws::unsigned_numbers;
 use wasm_below::{BinaryReader, FromReader, MemoryUse, Never, Result, UsesMemory};
 
-/// Reads the byte of a kind, and an index.
 fn read_extern_index(reader: &mut BinaryReader<'_>) -> Result<(u8, u32)>
     ensures reads { Reads EncodesExternIndex result reader.old reader.new }
     ensures fault { IfErr result (λ e. ExternIndexFault e.message reader.old e.offset) }
@@ -34,8 +32,6 @@ fn read_extern_index(reader: &mut BinaryReader<'_>) -> Result<(u8, u32)>
 }
 
 /// An export: a name for an item of the module.
-///
-/// Contracts see the bytes of the name, the byte of the kind, and the index.
 #[derive(Debug, Drop)]
 pub struct Export<'a> {
     name: Name<'a>,
@@ -77,8 +73,7 @@ impl<'a> Export<'a> {
     /// Reads an export: its name, the byte of its kind, with any value, and an index.
     /// Specification: Export Section.
     ///
-    /// Fails as the first part that can't be read does: with `EndOfData`, or with the error of a
-    /// number.
+    /// Fails as the first part in error does: with `EndOfData`, or with the error of a number.
     pub fn read(reader: &mut BinaryReader<'a>) -> Result<Export<'a>>
         ensures reads { Reads EncodesExport result reader.old reader.new }
         ensures fault { IfErr result (λ e. ExportFault e.message reader.old e.offset) }
@@ -108,7 +103,6 @@ impl<'a> FromReader<'a> for Export<'a> {
 
     ghost fault = { λ m r offset. ExportFault m r offset };
 
-    /// Reads an export as `Export::read` does.
     fn from_reader(_alloc: Global, reader: &mut BinaryReader<'a>) -> Result<Export<'a>>
         ensures reads { ReadsValue EncodesExport false result reader.old reader.new }
         ensures fault { IfErr result (λ e. HasFault ExportFault e reader.old) }
@@ -117,14 +111,12 @@ impl<'a> FromReader<'a> for Export<'a> {
         Export::read(reader)
     }
 
-    /// States that no encoding is a proper prefix of another.
     fn is_prefix_code()
         ensures { (features : WasmFeatures) → PrefixCode EncodesExport }
     {
         exports();
     }
 
-    /// States that the fault determines the error.
     fn determines_refusal()
         ensures { DeterminesRefusal ExportFault }
     {

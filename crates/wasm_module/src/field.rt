@@ -1,4 +1,3 @@
-//! Skipping the fields of structs and arrays.
 ghost use Rattle.std.specs.Prelude.{◌↔◌, IsTrue, IfErr};
 ghost use Rattle.wasm_below.specs.Fault.{ManyFault};
 ghost use Rattle.wasm_below.specs.Source.{Reads, rest};
@@ -9,20 +8,16 @@ use wasm_below::byte_laws::unsigned_numbers;
 use wasm_below::type_laws::value_types;
 use wasm_below::{BinaryReader, Result, ValType};
 
-/// The byte of the packed type of 16 bits.
 const I16: u8 = 0x77;
 
-/// The byte of the packed type of 8 bits.
 const I8: u8 = 0x78;
 
-/// Returns whether the next byte is that of a packed type.
 fn is_packed_next(reader: &BinaryReader<'_>) -> bool
     ensures { IsTrue result ↔ LedBy IsPackedByte (rest reader.now) }
 {
     matches!(reader.remaining_buffer(), [I16 | I8, ..])
 }
 
-/// Skips a packed type, which is next.
 fn skip_packed(reader: &mut BinaryReader<'_>) -> Result<()>
     requires { LedBy IsPackedByte (rest reader.old) }
     ensures reads { Reads IsStorage result reader.old reader.new }
@@ -34,7 +29,6 @@ fn skip_packed(reader: &mut BinaryReader<'_>) -> Result<()>
     }
 }
 
-/// Skips a storage type.
 fn skip_storage(reader: &mut BinaryReader<'_>) -> Result<()>
     ensures reads { Reads IsStorage result reader.old reader.new }
     ensures fault { IfErr result (λ e. ValTypeFault e.message reader.old e.offset) }
@@ -48,7 +42,6 @@ fn skip_storage(reader: &mut BinaryReader<'_>) -> Result<()>
     }
 }
 
-/// Skips a field.
 pub fn skip_field(reader: &mut BinaryReader<'_>) -> Result<()>
     ensures reads { Reads IsField result reader.old reader.new }
     ensures fault { IfErr result (λ e. FieldFault e.message reader.old e.offset) }
@@ -68,7 +61,6 @@ pub fn skip_field(reader: &mut BinaryReader<'_>) -> Result<()>
     }
 }
 
-/// Skips this many fields.
 fn skip_fields(reader: &mut BinaryReader<'_>, count: u32) -> Result<()>
     ensures reads { Reads (IsMany IsField count) result reader.old reader.new }
     ensures fault { IfErr result (λ e.

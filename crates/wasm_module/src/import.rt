@@ -1,4 +1,3 @@
-//! Imports.
 ghost use Rattle.std.specs.Prelude.{◌≡◌, ⊤, false, IfOk, IfErr};
 ghost use Rattle.wasm_below.specs.bytes.features.WasmFeatures.{WasmFeatures};
 ghost use Rattle.wasm_below.specs.Fault.{HasFault, DeterminesRefusal};
@@ -15,7 +14,6 @@ use std::marker::Model;
 use wasm_below::byte_laws::unsigned_numbers;
 use wasm_below::{BinaryReader, FromReader, MemoryUse, Never, Result, UsesMemory};
 
-/// Skips the bytes after the byte of a kind.
 fn skip_extern_type_after_byte(reader: &mut BinaryReader<'_>, kind: u8) -> Result<()>
     ensures reads { Reads (IsExternTypeAfterByte kind) result reader.old reader.new }
     ensures fault { IfErr result (λ e. ExternTypeFaultAfterByte kind e.message reader.old e.offset) }
@@ -33,7 +31,6 @@ fn skip_extern_type_after_byte(reader: &mut BinaryReader<'_>, kind: u8) -> Resul
     }
 }
 
-/// Reads the byte of a kind, and skips the bytes after it.
 fn read_extern_type(reader: &mut BinaryReader<'_>) -> Result<u8>
     ensures reads { Reads EncodesExternType result reader.old reader.new }
     ensures fault { IfErr result (λ e. ExternTypeFault e.message reader.old e.offset) }
@@ -52,7 +49,6 @@ fn read_extern_type(reader: &mut BinaryReader<'_>) -> Result<u8>
     }
 }
 
-/// Reads an import after the name of its module.
 fn read_named<'a>(reader: &mut BinaryReader<'a>) -> Result<(Name<'a>, u8)>
     ensures reads { Reads EncodesNamed result reader.old reader.new }
     ensures fault { IfErr result (λ e. NamedFault e.message reader.old e.offset) }
@@ -73,8 +69,6 @@ fn read_named<'a>(reader: &mut BinaryReader<'a>) -> Result<(Name<'a>, u8)>
 }
 
 /// An import. Only the kind of what is imported is kept.
-///
-/// Contracts see the bytes of the two names and the byte of the kind.
 #[derive(Debug, Drop)]
 pub struct Import<'a> {
     module_name: Name<'a>,
@@ -105,8 +99,7 @@ impl<'a> Import<'a> {
         self.name.bytes()
     }
 
-    /// Returns the byte of the kind: 0 for a function, 1 for a table, 2 for a memory, 3 for a
-    /// global, 4 for a tag. The standard has no other kinds.
+    /// Returns the byte of the kind, as `Export::kind` does.
     pub fn kind(&self) -> u8
         ensures { result ≡ self.now.kind }
     {
@@ -116,8 +109,8 @@ impl<'a> Import<'a> {
     /// Reads an import: the module's name, the import's name, and its type. Specification: Import
     /// Section.
     ///
-    /// After a byte that is none of the five kinds, nothing is read. Fails as the first part that
-    /// can't be read does: with `EndOfData`, or with the error of a number or a type.
+    /// After a byte that is none of the five kinds, nothing is read. Fails as the first part in
+    /// error does: with `EndOfData`, or with the error of a number or a type.
     pub fn read(reader: &mut BinaryReader<'a>) -> Result<Import<'a>>
         ensures reads { Reads EncodesImport result reader.old reader.new }
         ensures fault { IfErr result (λ e. ImportFault e.message reader.old e.offset) }
@@ -151,7 +144,6 @@ impl<'a> FromReader<'a> for Import<'a> {
 
     ghost fault = { λ m r offset. ImportFault m r offset };
 
-    /// Reads an import as `Import::read` does.
     fn from_reader(_alloc: Global, reader: &mut BinaryReader<'a>) -> Result<Import<'a>>
         ensures reads { ReadsValue EncodesImport false result reader.old reader.new }
         ensures fault { IfErr result (λ e. HasFault ImportFault e reader.old) }
@@ -160,14 +152,12 @@ impl<'a> FromReader<'a> for Import<'a> {
         Import::read(reader)
     }
 
-    /// States that no encoding is a proper prefix of another.
     fn is_prefix_code()
         ensures { (features : WasmFeatures) → PrefixCode EncodesImport }
     {
         imports();
     }
 
-    /// States that the fault determines the error.
     fn determines_refusal()
         ensures { DeterminesRefusal ImportFault }
     {

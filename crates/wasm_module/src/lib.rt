@@ -1,6 +1,6 @@
 //! The parts of a module: its preamble, sections, types, imports, exports and custom sections, and
-//! the names in the custom section `name`. Types are known by their sorts, imports by their names
-//! and kinds.
+//! the names in the custom section `name`. Of types the sorts are kept, of imports the names and
+//! kinds.
 #![tactic(auto)]
 
 mod composite;

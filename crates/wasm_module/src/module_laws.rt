@@ -1,7 +1,4 @@
-//! Laws. Each is the contract of a function that does nothing.
-//!
-//! `PrefixCode` says that no encoding is a proper prefix of another, and that each encodes one
-//! value. `DeterminesRefusal` says that the fault determines the message and the offset.
+//! Laws: encodings are prefix codes, and faults determine their errors.
 ghost use Rattle.wasm_below.specs.Fault.{DeterminesRefusal};
 ghost use Rattle.wasm_below.specs.Sequence.{PrefixCode};
 ghost use Rattle.wasm_module.specs.Exports.{EncodesExport, ExportFault};
@@ -22,8 +19,6 @@ pub fn refusals()
     part_refusals();
 }
 
-/// States that names, and indices with names, are prefix codes, and that their errors are
-/// determined.
 pub fn names()
     ensures one { PrefixCode EncodesName }
     ensures refusal { DeterminesRefusal NameFault }
@@ -34,7 +29,6 @@ pub fn names()
     number_refusals();
 }
 
-/// States that exports are a prefix code, and that their errors are determined.
 pub fn exports()
     ensures one { PrefixCode EncodesExport }
     ensures refusal { DeterminesRefusal ExportFault }
@@ -43,8 +37,6 @@ pub fn exports()
     number_refusals();
 }
 
-/// States that imports, with their two names and their kind, are a prefix code, and that their
-/// errors are determined.
 pub fn imports()
     ensures one { PrefixCode EncodesImport }
     ensures refusal { DeterminesRefusal ImportFault }
@@ -57,7 +49,7 @@ pub fn imports()
 }
 
 /// States that types, and the start of a list of them, are prefix codes, and that their errors are
-/// determined. Of a type, the sort and the numbers of its parts are kept.
+/// determined.
 pub fn types()
     ensures one { PrefixCode EncodesSubType }
     ensures refusal { DeterminesRefusal SubTypeFault }

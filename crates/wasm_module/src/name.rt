@@ -1,4 +1,3 @@
-//! Names, and indices with names.
 ghost use Rattle.std.specs.Prelude.{◌≡◌, ⊤, false, IfOk, IfErr};
 ghost use Rattle.wasm_below.specs.bytes.features.WasmFeatures.{WasmFeatures};
 ghost use Rattle.wasm_below.specs.Fault.{HasFault, DeterminesRefusal};
@@ -14,8 +13,6 @@ use wasm_below::byte_laws::unsigned_numbers;
 use wasm_below::{BinaryReader, FromReader, MemoryUse, Never, Result, UsesMemory};
 
 /// A name. Whether its bytes are UTF-8 is not checked.
-///
-/// Contracts see the bytes.
 #[derive(Debug, Drop)]
 pub struct Name<'a> {
     bytes: &'a [u8],
@@ -30,7 +27,6 @@ impl<'a> Model for Name<'a> {
 }
 
 impl<'a> Name<'a> {
-    /// Returns the bytes of the name.
     pub fn bytes(&self) -> &'a [u8]
         ensures { result.now ≡ self.now }
     {
@@ -39,8 +35,7 @@ impl<'a> Name<'a> {
 
     /// Reads a name: a number of 32 bits, and that many bytes. Specification: Names.
     ///
-    /// Fails as `read_var_u32` does; with `EndOfData` at the start of the bytes if the data ends
-    /// within them.
+    /// Fails as `read_var_u32` does, or with `EndOfData` at the start of the bytes.
     pub fn read(reader: &mut BinaryReader<'a>) -> Result<Name<'a>>
         ensures reads { Reads EncodesName result reader.old reader.new }
         ensures fault { IfErr result (λ e. NameFault e.message reader.old e.offset) }
@@ -62,8 +57,6 @@ impl<'a> Name<'a> {
 }
 
 /// An index with its name, for example of a function.
-///
-/// Contracts see the index and the bytes of the name.
 #[derive(Debug, Drop)]
 pub struct NameAssociation<'a> {
     index: u32,
@@ -79,23 +72,21 @@ impl<'a> Model for NameAssociation<'a> {
 }
 
 impl<'a> NameAssociation<'a> {
-    /// Returns the index that is named.
     pub fn index(&self) -> u32
         ensures { result ≡ self.now.index }
     {
         self.index
     }
 
-    /// Returns the bytes of its name.
+    /// Returns the bytes of the name.
     pub fn name(&self) -> &'a [u8]
         ensures { result.now ≡ self.now.name }
     {
         self.name.bytes()
     }
 
-    /// Reads an index and its name. Specification: Name Section, Name Maps.
-    ///
-    /// Fails as `read_var_u32` does, then as `Name::read` does.
+    /// Reads an index and its name. Specification: Name Section, Name Maps. Fails as `read_var_u32`
+    /// does, then as `Name::read` does.
     pub fn read(reader: &mut BinaryReader<'a>) -> Result<NameAssociation<'a>>
         ensures reads { Reads EncodesNameAssociation result reader.old reader.new }
         ensures fault { IfErr result (λ e. NameAssociationFault e.message reader.old e.offset) }
@@ -125,7 +116,6 @@ impl<'a> FromReader<'a> for NameAssociation<'a> {
 
     ghost fault = { λ m r offset. NameAssociationFault m r offset };
 
-    /// Reads an index and its name as `NameAssociation::read` does.
     fn from_reader(_alloc: Global, reader: &mut BinaryReader<'a>) -> Result<NameAssociation<'a>>
         ensures reads { ReadsValue EncodesNameAssociation false result reader.old reader.new }
         ensures fault { IfErr result (λ e. HasFault NameAssociationFault e reader.old) }
@@ -134,14 +124,12 @@ impl<'a> FromReader<'a> for NameAssociation<'a> {
         NameAssociation::read(reader)
     }
 
-    /// States that no encoding is a proper prefix of another.
     fn is_prefix_code()
         ensures { (features : WasmFeatures) → PrefixCode EncodesNameAssociation }
     {
         names();
     }
 
-    /// States that the fault determines the error.
     fn determines_refusal()
         ensures { DeterminesRefusal NameAssociationFault }
     {

@@ -1,4 +1,3 @@
-//! The first eight bytes of a module.
 ghost use Rattle.std.specs.Prelude.{◌≡◌, IfErr};
 ghost use Rattle.wasm_below.specs.Source.{Reads};
 ghost use Rattle.wasm_module.specs.Module.{EncodesPreamble, PreambleFault, preamble_kind};
@@ -10,22 +9,19 @@ use wasm_below::{BinaryReader, Result};
 /// The bytes `\0asm` as a number.
 const MAGIC: u32 = 0x6d73_6100;
 
-/// The version of modules.
 const MODULE: u32 = 0x0000_0001;
 
-/// The version and the layer of components.
 const COMPONENT: u32 = 0x0001_000d;
 
 /// The preamble of a binary: a magic number and a version, each of four bytes, the lowest first.
 #[derive(Clone, Copy, Debug, PartialEq, Eq)]
 pub struct Preamble {
-    /// The number that identifies a binary of WebAssembly.
+    /// Identifies a binary of WebAssembly.
     pub magic: u32,
-    /// The number that identifies the sort of the binary and its version.
+    /// Identifies the sort of the binary and its version.
     pub version: u32,
 }
 
-/// The kind of binary that a preamble identifies.
 #[derive(Clone, Copy, Debug, PartialEq, Eq)]
 pub enum PreambleKind {
     /// A module of version 1.
@@ -39,7 +35,7 @@ pub enum PreambleKind {
 }
 
 impl Preamble {
-    /// Returns the kind of binary that the preamble identifies. Specification: Modules.
+    /// Returns the kind of binary. Specification: Modules.
     pub fn kind(&self) -> PreambleKind
         ensures { result ≡ preamble_kind self.now }
     {
@@ -67,9 +63,8 @@ impl fmt::Display for PreambleKind {
     }
 }
 
-/// Reads a preamble of any kind. Specification: Modules.
-///
-/// Fails with `EndOfData` at the start of the number for which the data has fewer than four bytes.
+/// Reads a preamble of any kind. Specification: Modules. Fails with `EndOfData` at the start of the
+/// number that the data lacks.
 pub fn read_preamble(reader: &mut BinaryReader<'_>) -> Result<Preamble>
     ensures reads { Reads EncodesPreamble result reader.old reader.new }
     ensures fault { IfErr result (λ e. PreambleFault e.message reader.old e.offset) }

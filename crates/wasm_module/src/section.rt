@@ -1,4 +1,3 @@
-//! One section.
 ghost use Rattle.std.specs.Prelude.{◌≡◌, IfOk, IfErr};
 ghost use Rattle.wasm_below.specs.Source.{Reads, offset_of, end_of};
 ghost use Rattle.wasm_module.specs.Module.{EncodesSection, SectionFault};
@@ -38,10 +37,7 @@ impl<'a> Section<'a> {
 }
 
 /// Reads the next section: a byte, a number of 32 bits, and that many bytes. Specification:
-/// Sections.
-///
-/// The subsections of the custom section `name` have the same encoding, so this call reads them
-/// too. Specification: Name Section.
+/// Sections. The subsections of the custom section `name` have the same encoding.
 ///
 /// Fails with `EndOfData` at the end of the data; otherwise as `read_reader` does after the byte.
 pub fn read_section<'a>(reader: &mut BinaryReader<'a>) -> Result<Section<'a>>

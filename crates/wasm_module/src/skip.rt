@@ -7,7 +7,6 @@ use wasm_below::byte_laws::unsigned_numbers;
 use wasm_below::type_laws::{reference_types, value_types};
 use wasm_below::{BinaryReader, RefType, Result, ValType};
 
-/// Skips the maximum size, if these flags say that there is one.
 fn skip_most(reader: &mut BinaryReader<'_>, flags: u8) -> Result<()>
     ensures reads { Reads (IsMost flags) result reader.old reader.new }
     ensures fault { IfErr result (λ e. MostFault flags e.message reader.old e.offset) }
@@ -21,7 +20,6 @@ fn skip_most(reader: &mut BinaryReader<'_>, flags: u8) -> Result<()>
     }
 }
 
-/// Skips the sizes of limits with these flags.
 fn skip_bounds(reader: &mut BinaryReader<'_>, flags: u8) -> Result<()>
     ensures reads { Reads (IsBounds flags) result reader.old reader.new }
     ensures fault { IfErr result (λ e. BoundsFault flags e.message reader.old e.offset) }
@@ -41,7 +39,6 @@ fn skip_bounds(reader: &mut BinaryReader<'_>, flags: u8) -> Result<()>
     }
 }
 
-/// Skips limits.
 pub fn skip_limits(reader: &mut BinaryReader<'_>) -> Result<()>
     ensures reads { Reads IsLimits result reader.old reader.new }
     ensures fault { IfErr result (λ e. LimitsFault e.message reader.old e.offset) }
@@ -60,7 +57,6 @@ pub fn skip_limits(reader: &mut BinaryReader<'_>) -> Result<()>
     }
 }
 
-/// Skips a table type.
 pub fn skip_table(reader: &mut BinaryReader<'_>) -> Result<()>
     ensures reads { Reads IsTable result reader.old reader.new }
     ensures fault { IfErr result (λ e. TableFault e.message reader.old e.offset) }
@@ -80,7 +76,6 @@ pub fn skip_table(reader: &mut BinaryReader<'_>) -> Result<()>
     }
 }
 
-/// Skips a global type.
 pub fn skip_global(reader: &mut BinaryReader<'_>) -> Result<()>
     ensures reads { Reads IsGlobal result reader.old reader.new }
     ensures fault { IfErr result (λ e. GlobalFault e.message reader.old e.offset) }
@@ -100,7 +95,6 @@ pub fn skip_global(reader: &mut BinaryReader<'_>) -> Result<()>
     }
 }
 
-/// Skips a tag type.
 pub fn skip_tag(reader: &mut BinaryReader<'_>) -> Result<()>
     ensures reads { Reads IsTag result reader.old reader.new }
     ensures fault { IfErr result (λ e. TagFault e.message reader.old e.offset) }

@@ -1,4 +1,3 @@
--- Reading of a body from its locals on.
 use Rattle.std.proofs.Common.{◌≡◌, ℕ, ◌+◌, List, [], ◌++◌, length, Ok, refl, sym, subst, ap, ◌∙◌, arith, inl, inr}
 use Rattle.wasm_operators_readers.specs.below.bytes.error.Error.{Error}
 use Rattle.wasm_operators_readers.specs.below.bytes.features.WasmFeatures.{WasmFeatures}
@@ -17,14 +16,12 @@ use Rattle.wasm_operators.proofs.LocalsLemmas.{locals_prefix_code}
 abbrev source : WasmFeatures → ℕ → List ℕ → Source
 source features offset bytes = record { features = features; offset = offset; bytes = bytes }
 
--- The rest after bytes that were read.
 source_of-after : (old new : Reader) (text : List ℕ) → Takes old new text → source_of new ≡ source_after (source_of old) text (rest new)
 source_of-after old new text t =
     let features : new.features ≡ old.features = ap (λ (r : Reader). r.features) t.moved in
     let offset : offset_of new ≡ offset_of old + length text = ap offset_of t.moved ∙ omega arith in
     ap (λ f. source f (offset_of new) (rest new)) features ∙ ap (λ o. source old.features o (rest new)) offset
 
--- A body: the locals, and the expression after them.
 pub past_body : (body r : Reader) (declarations : List Declaration) (placed : Placed) → IsPastLocals declarations body r →
     EncodesExpression (source_of r) placed → EncodesBody (source_of body) declarations placed
 past_body body r declarations placed (text, encodes, takes) h =
@@ -36,7 +33,6 @@ past_body body r declarations placed (text, encodes, takes) h =
       encodes_expression = subst (λ s. EncodesExpression s placed) (source_of-after body r text takes) h;
     }
 
--- The expression of a body follows its locals.
 pub past_expression : (body r : Reader) (declarations others : List Declaration) (placed : Placed) → IsPastLocals declarations body r →
     EncodesBody (source_of body) others placed → (others ≡ declarations) × EncodesExpression (source_of r) placed
 past_expression body r declarations others placed (text, encodes, takes) h =
@@ -52,14 +48,12 @@ pub body_tree : (body : Reader) (opened new : State) (placed : Placed) → Opens
     (declarations : List Declaration) × EncodesBody (source_of body) declarations placed
 body_tree body opened new placed opens h = (opens.0.0, past_body body opened.reader opens.0.0 placed opens.0.1 h.encodes)
 
--- The condition for allocation failure is dropped.
 anywhere : (Allocates : Allocating) (e : Error) (s : State) → StopsRun EncodesAllowed OperatorFault Allocates e s → StopsRun EncodesAllowed OperatorFault Anywhere e s
 anywhere Allocates e s (inl left) = inl left
 anywhere Allocates e s (inr (some, inl none)) = inr (some, inl none)
 anywhere Allocates e s (inr (some, inr (inl there))) = inr (some, inr (inl there))
 anywhere Allocates e s (inr (some, inr (inr memory))) = inr (some, inr (inr (memory.0, memory.1, tt)))
 
--- The locals, and the longest list that begins an expression after them.
 pub body_beginning : (Allocates : Allocating) (e : Error) (body : Reader) (opened new : State) (placed : Placed) → OpensBody (Ok opened) body →
     ReadsBeginning IsAny EncodesAllowed OperatorFault Allocates [] e opened new placed → NoExpression e body placed
 body_beginning Allocates e body opened new placed opens h =
@@ -70,7 +64,6 @@ body_beginning Allocates e body opened new placed opens h =
       reads = record { at = h.at; text = h.text; takes = h.takes; laid = h.laid; read_so_far = h.read_so_far; stops = anywhere Allocates e new h.stops };
     }
 
--- If the locals are in error, there is no body.
 pub no_body : (e : Error) (body : Reader) (declarations : List Declaration) (placed : Placed) → RefusesLocals e body →
     EncodesBody (source_of body) declarations placed → ⊥
 no_body e body declarations placed h encodes =
@@ -80,6 +73,5 @@ pub expression_after_locals : (body : Reader) (opened : State) (declarations : L
     EncodesBody (source_of body) declarations placed → EncodesExpression (source_of opened.reader) placed
 expression_after_locals body opened declarations placed opens h = (past_expression body opened.reader opens.0.0 declarations placed opens.0.1 h).1
 
--- If the locals are in error, nothing of the body is read.
 pub refused_stops : (e : Error) (body : Reader) → RefusesLocals e body → StopsBody e body []
 refused_stops e body h = inl (record { refused = h; nothing = refl })

@@ -1,4 +1,3 @@
--- The fault of a constant expression determines its error, and no encoding of one is a proper prefix of another.
 use Rattle.std.proofs.Common.{◌≡◌, ℕ, ◌+◌, ◌≤◌, List, [], ◌∷◌, ◌++◌, length, Some, None, inl, inr, refl, sym, subst, ap, ◌∙◌, ◌⊎◌, arith}
 use Rattle.std.proofs.lemmas.Bool.{cases_lt}
 use Rattle.wasm_operators_readers.specs.below.bytes.features.WasmFeatures.{WasmFeatures}
@@ -26,8 +25,6 @@ use Rattle.wasm_operators.specs.Constant.{HasNoEnd, EncodesConstantReader}
 use Rattle.wasm_operators.specs.ConstantFaults.{PassesOperators, IsNoOperator, EndsInside, ConstantFault}
 use Rattle.wasm_operators.proofs.OneEnd.{constant_at}
 
--- ---- the prefix code
-
 pub constant_prefix_code : (f : WasmFeatures) → PrefixCodeUpTo SameReader (EncodesConstantReader f)
 constant_prefix_code f a b x y m n first second e =
     let p = constant_at f a m 0 first in
@@ -36,15 +33,12 @@ constant_prefix_code f a b x y m n first second e =
     let buffers = first.0.1 ∙ same.1 ∙ sym second.0.1 in
     (same.1, (first.0.0 ∙ sym second.0.0, buffers, first.0.2 ∙ sym second.0.2))
 
--- ---- the fault
-
 some_is : {X : Type 0} {x y : X} → Some x ≡ Some y → x ≡ y
 some_is e = cc e
 
 end_encodes : (f : WasmFeatures) → EncodesOperator f operator.End (0x0b ∷ [])
 end_encodes f = record { head = 0x0b ∷ []; after = []; parts = refl; code = refl; immediates = refl; enabled = tt }
 
--- At the end of the skipped operators, no operator except an `end` may follow.
 Ended : Message → Reader → List FrameKind → ℕ → Type 0
 Ended m r frames offset = IsNoOperator m r frames offset ⊎ EndsInside m r frames offset
 
@@ -67,7 +61,6 @@ no_end_there (x ∷ xs) next more h is = no_end_there xs next more h.1 is
 features_there : (old new : Reader) (text : List ℕ) → Takes old new text → new.features ≡ old.features
 features_there old new text t = ap (λ (r : Reader). r.features) t.moved
 
--- If two runs skip operators of the same bytes, the run that ends is not the shorter.
 not_shorter : (m : Message) (r a b : Reader) (xs ys : List FrameKind) (offset : ℕ) (p : PassesOperators r a xs) (q : PassesOperators r b ys) →
     Ended m a xs offset →
     length q.placed ≤ length p.placed
@@ -89,7 +82,6 @@ not_shorter m r a b xs ys offset p q ended =
 ends_allowed : (kind : FrameKind) → Allows kind (role_of operator.End)
 ends_allowed kind = refl
 
--- The two cases exclude each other: an `end` is an operator that each frame allows.
 not_both : (m n : Message) (r : Reader) (frames : List FrameKind) (x y : ℕ) → IsNoOperator m r frames x → EndsInside n r frames y → ⊥
 not_both m n r frames x y (kind, innermost_is, none, fault) (begins, around, is, at) =
     none (0x0b ∷ []) begins.0 operator.End (end_encodes r.features, ends_allowed kind) begins.1

@@ -37,7 +37,6 @@ pub next_determines : (total : ℕ) → DeterminesRefusal (NextFault total)
 next_determines total =
     then_determines (EncodesUnsigned 32) U32Fault (NumberedFault total) (number_prefix_code 32) u32_determines (numbered_determines total)
 
--- If two parts of one length start the same list, they are equal.
 same_start : (a b x y : List ℕ) → length a ≡ length b → a ++ x ≡ b ++ y → a ≡ b
 same_start [] [] x y n e = refl
 same_start [] (c ∷ b) x y n e = absurd (omega (arith, n))
@@ -47,7 +46,6 @@ same_start (c ∷ a) (d ∷ b) x y n e =
     let same : a ≡ b = same_start a b x y fewer (cc e) in
     cc (e, same)
 
--- No encoding of bytes with their length is a proper prefix of another, and each encodes the same bytes.
 pub reader_prefix_code : (features : WasmFeatures) → PrefixCodeUpTo SameReader (EncodesReader features)
 reader_prefix_code features a b x y r s (a1, a2, n, ea, pa, (ra, ba, za, la)) (b1, b2, k, eb, pb, (rb, bb, zb, lb)) e =
     let whole : a1 ++ (a2 ++ x) ≡ b1 ++ (b2 ++ y) = sym (append_assoc a1 a2 x) ∙ ap (λ z. z ++ x) (sym ea) ∙ e ∙ ap (λ z. z ++ y) eb ∙ append_assoc b1 b2 y in
@@ -55,7 +53,6 @@ reader_prefix_code features a b x y r s (a1, a2, n, ea, pa, (ra, ba, za, la)) (b
     let same : a2 ≡ b2 = same_start a2 b2 x y (la ∙ o.1 ∙ sym lb) (same_rest a1 b1 (a2 ++ x) (b2 ++ y) o.0 whole) in
     (ea ∙ cc (o.0, same) ∙ sym eb, (ra ∙ sym rb, ba ∙ same ∙ sym bb, za ∙ sym zb))
 
--- Bytes encode at most one body.
 pub one_body_of : (s : Source) (declarations others : List Declaration) (first second : Placed) → EncodesBody s declarations first →
     EncodesBody s others second → (declarations ≡ others) × (first ≡ second)
 one_body_of s declarations others first second p q =

@@ -1,4 +1,3 @@
--- Declarations of locals: no encoding begins another, and the errors of one and of all.
 use Rattle.std.proofs.Common.{◌≡◌, ℕ, ◌+◌, ◌<◌, List, ◌++◌, length, Ok, refl, sym, ap, ◌∙◌, append_assoc, arith, inl, inr}
 use Rattle.wasm_operators_readers.specs.below.bytes.error.Error.{Error}
 use Rattle.wasm_operators_readers.specs.below.Number.{EncodesUnsigned}
@@ -18,7 +17,6 @@ use Rattle.wasm_operators.specs.Locals.{Declaration, EncodesDeclaration, Declara
 same_pair : (d e : Declaration) → d.0 ≡ e.0 → d.1 ≡ e.1 → d ≡ e
 same_pair d e p q = λ i. (p i, q i)
 
--- No encoding of a declaration begins another, and each encodes one declaration.
 pub declaration_prefix_code : PrefixCode EncodesDeclaration
 declaration_prefix_code a b x y d e (a1, a2, ea, pa, qa) (b1, b2, eb, pb, qb) eq =
     let whole : a1 ++ (a2 ++ x) ≡ b1 ++ (b2 ++ y) = sym (append_assoc a1 a2 x) ∙ ap (λ z. z ++ x) (sym ea) ∙ eq ∙ ap (λ z. z ++ y) eb ∙ append_assoc b1 b2 y in
@@ -34,14 +32,12 @@ locals_prefix_code =
     then_prefix_code (EncodesUnsigned 32) (EncodesMany EncodesDeclaration) (number_prefix_code 32)
     (many_prefix_code EncodesDeclaration declaration_prefix_code)
 
--- A declaration of this many locals, after their number.
 abbrev Typed : ℕ → List ℕ → Declaration → Type 0
 Typed number ty d = (d.0 ≡ number) × EncodesValType ty d.1
 
 split : (text : List ℕ) (d : Declaration) → EncodesDeclaration text d → (e : Declaration) × Then (EncodesUnsigned 32) Typed text e
 split text d (a, b, e, p, q) = (d, (a, b, d.0, e, p, (refl, q)))
 
--- The type after a number is in error, and the call returned to the start.
 pub type_refused : (e : Error) (old mid mid2 new : Reader) (number position : ℕ) → Reads (EncodesUnsigned 32) (Ok number) old mid →
     (mid2 ≡ mid) × IsRefusal EncodesValType e mid → position ≡ old.position → new ≡ at_position mid2 position →
     (new ≡ old) × IsRefusal EncodesDeclaration e old
@@ -50,7 +46,6 @@ type_refused e old mid mid2 new number position r (same, h) at went =
     let s = second_refused (EncodesUnsigned 32) Typed e old mid mid2 new number position (number_prefix_code 32) r (same, typed) at went in
     (s.0, refuses_by (Then (EncodesUnsigned 32) Typed) EncodesDeclaration e old split s.1)
 
--- A declaration after the count and the declarations that were read is in error, and so are the locals.
 pub declaration_refused : (e : Error) (old mid now : Reader) (count read : ℕ) (text : List ℕ) (done : List Declaration) →
     Reads (EncodesUnsigned 32) (Ok count) old mid → EncodesMany EncodesDeclaration read text done → read < count → Takes mid now text →
     IsRefusal EncodesDeclaration e now → DeclarationFault e.message now e.offset → RefusesLocals e old
@@ -68,7 +63,6 @@ declaration_refused e old mid now count read text done first many lt takes h fau
       );
     }
 
--- The count is in error, and so are the locals.
 pub count_refused : (e : Error) (old : Reader) → IsRefusal (EncodesUnsigned 32) e old → U32Fault e.message old e.offset → RefusesLocals e old
 count_refused e old h fault =
     record {
@@ -76,13 +70,11 @@ count_refused e old h fault =
       fault = inl (refused_now (EncodesUnsigned 32) e old h, fault);
     }
 
--- The count and as many declarations were read.
 pub locals_read : (old mid new : Reader) (count : ℕ) (text : List ℕ) (done : List Declaration) → Reads (EncodesUnsigned 32) (Ok count) old mid →
     EncodesMany EncodesDeclaration count text done → Takes mid new text → IsPastLocals done old new
 locals_read old mid new count text done (first, p, t) many takes =
     (first ++ text, (first, text, count, refl, p, many), takes_then old mid new first text t takes)
 
--- The reader after the locals of a body is unique.
 pub one_past : (r s body : Reader) (declarations others : List Declaration) → IsPastLocals declarations body r → IsPastLocals others body s →
     (s ≡ r) × (others ≡ declarations)
 one_past r s body declarations others (a, p, t) (b, q, u) =

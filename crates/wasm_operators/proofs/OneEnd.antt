@@ -1,4 +1,3 @@
--- Lists of operators with no `end`, and with one.
 use Rattle.std.proofs.Common.{◌≡◌, ℕ, ◌+◌, List, [], ◌∷◌, ◌++◌, length, drop, Option, Some, None, refl, sym, subst, ap, ◌∙◌, append_assoc}
 use Rattle.std.specs.Option.{option_map}
 use Rattle.wasm_operators_readers.specs.below.bytes.features.WasmFeatures.{WasmFeatures}
@@ -16,18 +15,14 @@ use Rattle.wasm_operators_readers.specs.Expression.{Placed, operators, LaidOut, 
 use Rattle.wasm_operators_readers.proofs.LayoutLemmas.{operators-append}
 use Rattle.wasm_operators.specs.Constant.{HasNoEnd, EndsOnce, EncodesConstantReader}
 
--- ---- lists
-
 no_end_push : (ops : List Operator) (op : Operator) → HasNoEnd ops → (op ≡ operator.End → ⊥) → HasNoEnd (ops ++ op ∷ [])
 no_end_push [] op h other = (other, tt)
 no_end_push (x ∷ xs) op h other = (h.0, no_end_push xs op h.1 other)
 
--- One more operator was skipped, which is not `end`.
 pub passed_more : (placed : Placed) (op : Operator) (at : ℕ) → HasNoEnd (operators placed) → (op ≡ operator.End → ⊥) →
     HasNoEnd (operators (placed ++ (op, at) ∷ []))
 passed_more placed op at h other = subst HasNoEnd (sym (operators-append placed ((op, at) ∷ []))) (no_end_push (operators placed) op h other)
 
--- One more operator was skipped, which is `end`.
 pub passed_end : (placed : Placed) (op : Operator) (at : ℕ) → HasNoEnd (operators placed) → op ≡ operator.End → EndsOnce (operators (placed ++ (op, at) ∷ []))
 passed_end placed op at h is = (operators placed, operators-append placed ((op, at) ∷ []) ∙ ap (λ (o : Operator). operators placed ++ o ∷ []) is, h)
 
@@ -35,7 +30,6 @@ has_end : (before more : List Operator) → HasNoEnd (before ++ operator.End ∷
 has_end [] more h = h.0 refl
 has_end (x ∷ xs) more h = has_end xs more h.1
 
--- A list with an `end` is no prefix of a list without.
 pub not_beginning : (whole placed : Placed) → EndsOnce (operators whole) → HasNoEnd (operators placed) → IsBeginningOf whole placed → ⊥
 not_beginning whole placed (before, e, n) h (more, eq) =
     let ops : operators placed ≡ before ++ operator.End ∷ operators more = ap operators eq ∙ operators-append whole more ∙ ap (λ z. z ++ operators more) e ∙
@@ -46,14 +40,12 @@ no_list : (xs ys : List Operator) (op : Operator) → xs ++ op ∷ ys ≡ [] →
 no_list [] ys op e = cc e
 no_list (x ∷ xs) ys op e = cc e
 
--- If the only `end` is the last operator, none is before another operator.
 end_inside : (xs before ys : List Operator) (next : Operator) → xs ++ operator.End ∷ next ∷ ys ≡ before ++ operator.End ∷ [] → HasNoEnd before → ⊥
 end_inside [] [] ys next e h = let t : next ∷ ys ≡ [] = cc e in cc t
 end_inside (x ∷ xs) [] ys next e h = no_list xs (next ∷ ys) operator.End (cc e)
 end_inside [] (b ∷ bs) ys next e h = h.0 (cc e)
 end_inside (x ∷ xs) (b ∷ bs) ys next e h = end_inside xs bs ys next (cc e) h.1
 
--- So a list with a prefix whose one `end` is last is that prefix.
 pub not_longer : (placed whole others : Placed) (next : Operator × ℕ) → EndsOnce (operators placed) → EndsOnce (operators whole) →
     whole ≡ placed ++ next ∷ others → ⊥
 not_longer placed whole others next (first, d, m) (before, e, n) eq =
@@ -62,9 +54,6 @@ not_longer placed whole others next (first, d, m) (before, e, n) eq =
     sym (operators-append placed (next ∷ others)) ∙ ap operators (sym eq) ∙ e in
     end_inside first before (operators others) next.0 ops n
 
--- ---- the offset of the bytes
-
--- The same operators, with the bytes at another offset.
 relocate : (f : WasmFeatures) (from to : ℕ) (ps : Placed) (bytes : List ℕ) → LaidOut f from ps bytes →
     (qs : Placed) × LaidOut f to qs bytes × (operators qs ≡ operators ps)
 relocate f from to [] bytes l = ([], l, refl)
@@ -72,7 +61,6 @@ relocate f from to (p ∷ ps) bytes (at, text, more, parts, encodes, l) =
     let r = relocate f (from + length text) (to + length text) ps more l in
     ((p.0, to) ∷ r.0, (refl, text, more, parts, encodes, r.1), ap (λ (ops : List Operator). p.0 ∷ ops) r.2)
 
--- A constant expression, with its bytes at this offset.
 pub constant_at : (f : WasmFeatures) (text : List ℕ) (x : Reader) (offset : ℕ) → EncodesConstantReader f text x →
     (whole : Placed) × LaidOut f offset whole text × AreWalk (operators whole) × EndsOnce (operators whole)
 constant_at f text x offset ((features, buffer, start, _), (placed, (laid, walked), once)) =
@@ -82,13 +70,10 @@ constant_at f text x offset ((features, buffer, start, _), (placed, (laid, walke
     let r = relocate f (offset_of x) offset placed text here in
     (r.0, r.1, subst AreWalk (sym r.2) walked, subst EndsOnce (sym r.2) once)
 
--- ---- frames
-
 role_ends : (op : Operator) → role_of op ≡ ends → op ≡ operator.End
 role_ends operator.End e = refl
 role_ends _ e = absurd (cc e)
 
--- The frame of the expression stays open.
 abbrev IsOpen : List FrameKind → Type 0
 IsOpen frames = (inside : List FrameKind) × (frames ≡ frame.Block ∷ inside)
 
@@ -122,11 +107,8 @@ open_along (op ∷ ops) inside frames h e =
     let o = open_step inside b.0 (role_of op) (λ is. h.0 (role_ends op is)) b.1 in
     open_along ops o.0 frames h.1 (ap (λ next. frames_along next (roles_of ops)) (sym o.1) ∙ b.2)
 
--- Operators without `end` leave a frame open.
 pub stays_open : (ops : List Operator) (frames : List FrameKind) → HasNoEnd ops → frames_along (frame.Block ∷ []) (roles_of ops) ≡ Some frames → frames ≡ [] → ⊥
 stays_open ops frames h e none = let o = open_along ops [] frames h e in cc (none, o.1)
-
--- ---- the byte of `end`
 
 pub end_byte : (f : WasmFeatures) (text : List ℕ) → EncodesOperator f operator.End text → text ≡ 0x0b ∷ []
 end_byte f text s = s.parts ∙ ap (λ head. head ++ s.after) s.code ∙ ap (λ (after : List ℕ). 0x0b ∷ after) s.immediates

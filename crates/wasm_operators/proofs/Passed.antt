@@ -22,7 +22,6 @@ use Rattle.wasm_operators.specs.Constant.{HasNoEnd, EncodesConstantReader}
 use Rattle.wasm_operators.specs.ConstantFaults.{PassesOperators, ConstantFault}
 use Rattle.wasm_operators.proofs.OneEnd.{not_beginning, not_longer, constant_at, passed_end, end_byte}
 
--- The frames after the operators, starting with the frame of the expression.
 pub from_block : (s t : State) (placed : Placed) → IsFresh s → TakesOperators s t placed → frames_along (frame.Block ∷ []) (roles_of (operators placed)) ≡ Some t.frames
 from_block s t placed fresh r = subst (λ frames. frames_along frames (roles_of (operators placed)) ≡ Some t.frames) fresh r.frames
 
@@ -30,12 +29,10 @@ pub passes : (s t : State) (placed : Placed) → IsFresh s → TakesOperators s 
 passes s t placed fresh r no_end =
     record { placed = placed; no_end = no_end; text = r.text; takes = r.takes; laid = r.laid; along = from_block s t placed fresh r }
 
--- What was read, and the rest followed by more bytes.
 parts_of : (s t : State) (placed : Placed) (r : TakesOperators s t placed) (more text left : List ℕ) → rest s.reader ++ more ≡ text ++ left →
     r.text ++ (rest t.reader ++ more) ≡ text ++ left
 parts_of s t placed r more text left e = sym (append_assoc r.text (rest t.reader) more) ∙ ap (λ z. z ++ more) (sym r.takes.parts) ∙ e
 
--- If no operator may follow those that were read, no constant expression is encoded.
 pub none_follows : (s t : State) (placed : Placed) (more : List ℕ) → IsFresh s → TakesOperators s t placed → HasNoEnd (operators placed) →
     ((text after : List ℕ) (op : Operator) → EncodesOperator t.reader.features op text → rest t.reader ++ more ≡ text ++ after →
     frames_after t.frames (role_of op) ≡ None) → NoPrefix (EncodesConstantReader s.reader.features) (rest s.reader ++ more)
@@ -54,9 +51,6 @@ none_follows s t placed more fresh r no_end stuck text left x encodes eq =
       | inr le ↦ not_beginning c.0 placed c.3 no_end (laid_beginning f o c.0 placed text r.text left (rest t.reader ++ more) c.1 r.laid (sym whole) le)
     ]
 
--- ---- after the first `end`
-
--- The frames after it are those around the innermost.
 pub after_end : (t u : State) → TakesOperator EncodesAllowed operator.End t u → u.frames ≡ without_innermost t.frames
 after_end t u k =
     go (sym k.frames ∙ steps_ends t.frames (role_of operator.End) refl (IsSome_of (frames_after t.frames (role_of operator.End)) u.frames k.frames))
@@ -67,7 +61,6 @@ after_end t u k =
 end_text : (t u : State) (k : TakesOperator EncodesAllowed operator.End t u) → k.text ≡ 0x0b ∷ []
 end_text t u k = end_byte t.reader.features k.text (sound t.reader.features k.kind k.text operator.End k.encodes)
 
--- The reader before it is at its byte.
 pub begins_end : (t u : State) → TakesOperator EncodesAllowed operator.End t u → BeginsWith 0x0b (rest t.reader)
 begins_end t u k = (rest u.reader, k.takes.parts ∙ ap (λ z. z ++ rest u.reader) (end_text t u k))
 
@@ -77,7 +70,6 @@ offset_after_end t u k =
     let one : length k.text ≡ 1 = ap length (end_text t u k) in
     omega (arith, at, one)
 
--- If it leaves a frame open, no constant expression is encoded.
 pub none_inside : (s t u : State) (placed : Placed) (more : List ℕ) → IsFresh s → TakesOperators s t placed → HasNoEnd (operators placed) →
     TakesOperator EncodesAllowed operator.End t u → (u.frames ≡ [] → ⊥) → NoPrefix (EncodesConstantReader s.reader.features) (rest s.reader ++ more)
 none_inside s t u placed more fresh r no_end k stays text left x encodes eq =
@@ -108,7 +100,6 @@ none_inside s t u placed more fresh r no_end k stays text left x encodes eq =
           ]
     ]
 
--- The fault in this case.
 pub inside_fault : (s t u : State) (placed : Placed) (offset : ℕ) → IsFresh s → TakesOperators s t placed → HasNoEnd (operators placed) →
     TakesOperator EncodesAllowed operator.End t u → (u.frames ≡ [] → ⊥) → offset ≡ offset_of u.reader → ConstantFault message.FramesRemainConst s.reader offset
 inside_fault s t u placed offset fresh r no_end k stays at = (
@@ -118,9 +109,6 @@ inside_fault s t u placed offset fresh r no_end k stays at = (
   inr (begins_end t u k, λ none. stays (after_end t u k ∙ none), refl, at ∙ offset_after_end t u k),
 )
 
--- ---- offsets
-
--- If bytes are left, the offset of the next is within the data.
 pub within_data : (r : Reader) (byte : ℕ) (more : List ℕ) → rest r ≡ byte ∷ more → offset_of r < end_of r
 within_data r byte more e =
     let n : length r.buffer - r.position ≡ length more + 1 = sym (length-drop r.position r.buffer) ∙ ap length e ∙ omega arith in
@@ -131,7 +119,6 @@ before old new text t =
     let at : offset_of new ≡ offset_of old + length text = ap offset_of t.moved ∙ omega arith in
     (omega (arith, at), ap end_of t.moved)
 
--- The offset after the first `end` is at or after the start of the expression.
 pub ahead_after : (s t u : State) (placed : Placed) → TakesOperators s t placed → TakesOperator EncodesAllowed operator.End t u → IsAhead s.reader (offset_of u.reader)
 ahead_after s t u placed r k =
     let b = begins_end t u k in

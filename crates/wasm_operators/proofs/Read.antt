@@ -1,4 +1,3 @@
--- Reading of a constant expression.
 use Rattle.std.proofs.Common.{◌≡◌, ℕ, ◌+◌, ◌-◌, List, [], ◌∷◌, ◌++◌, length, take, Result, Ok, Err, IfOk, IfErr, refl, sym, subst, ap, ◌∙◌, arith}
 use Rattle.std.proofs.Math.Seq.{take-append_seam}
 use Rattle.wasm_operators_readers.specs.below.Source.{Reader, rest, offset_of, reader_of, Takes}
@@ -23,20 +22,17 @@ pub err_more : {X E : Type 0} {P Q : E → Type 0} (r : Result X E) → ((e : E)
 err_more (Ok x) f h = tt
 err_more (Err e) f h = f e h
 
--- The first `end` was read.
 pub end_passed : (s t u : State) (placed : Placed) (op : Operator) → TakesOperators s t placed → HasNoEnd (operators placed) → TakesOperator EncodesAllowed op t u →
     op ≡ operator.End → PassesEnd s u
 end_passed s t u placed op r no_end k is =
     (placed ++ (op, offset_of t.reader) ∷ [], ran_push EncodesAllowed sound s t u placed op r k, passed_end placed op (offset_of t.reader) no_end is)
 
--- The walk of an expression was read, if no frame is open after it.
 walk_passed : (s t : State) (placed : Placed) → IsFresh s → TakesOperators s t placed → t.frames ≡ [] → AreWalk (operators placed)
 walk_passed s t placed fresh r closed = subst (OpenPath (roles_of (operators placed))) closed (read_further [] s t placed (fresh_before s fresh) r).path
 
 take_first : (xs ys : List ℕ) (n : ℕ) → n ≡ length xs → take n (xs ++ ys) ≡ xs
 take_first xs ys n e = ap (λ k. take k (xs ++ ys)) e ∙ take-append_seam xs ys
 
--- The bytes up to the first `end`, as a separate reader.
 pub constant_there : (s t : State) (c : Reader) (bytes : List ℕ) → IsFresh s → PassesEnd s t → t.frames ≡ [] →
     bytes ≡ take (t.reader.position - s.reader.position) (rest s.reader) → c ≡ reader_of s.reader.features (offset_of s.reader) bytes →
     (text : List ℕ) × EncodesConstantReader s.reader.features text c × Takes s.reader t.reader text
@@ -51,7 +47,6 @@ constant_there s t c bytes fresh (placed, r, once) closed cut is =
     let laid : LaidOut f (o + 0) placed r.text = subst (λ n. LaidOut f n placed r.text) offset r.laid in
     (r.text, subst (EncodesConstantReader f r.text) same ((refl, refl, refl, refl), (placed, (laid, walk_passed s t placed fresh r closed), once)), r.takes)
 
--- The same, for readers of bytes.
 pub constant_read : (old : Reader) (s t : State) (after c : Reader) (bytes : List ℕ) → s.reader ≡ old → IsFresh s → PassesEnd s t → t.frames ≡ [] →
     after ≡ t.reader → bytes ≡ take (after.position - old.position) (rest old) → c ≡ reader_of old.features (offset_of old) bytes →
     (text : List ℕ) × EncodesConstantReader old.features text c × Takes old after text

@@ -26,11 +26,9 @@ use Rattle.wasm_operators.specs.ConstantFaults.{ConstantFault, ConstantMayAlloca
 use Rattle.wasm_operators.proofs.OneEnd.{stays_open}
 use Rattle.wasm_operators.proofs.Passed.{from_block, passes, none_follows, none_inside, inside_fault, within_data, before, ahead_after}
 
--- The reason why one operator was not read.
 abbrev pub Stops : Error → State → Type 0
 Stops e t = StopsRead EncodesAllowed OperatorFault (NextMayAllocate EncodesAllowed) e t
 
--- No operator may follow.
 stuck : (e : Error) (t : State) (more : List ℕ) → Stops e t → MayFollow e.message more → (text after : List ℕ) (op : Operator) →
     EncodesOperator t.reader.features op text → rest t.reader ++ more ≡ text ++ after → frames_after t.frames (role_of op) ≡ None
 stuck e t more (inl none) follow text after op encodes eq = ap (λ frames. frames_after frames (role_of op)) none.0
@@ -39,7 +37,6 @@ stuck e t more (inr (inl there)) follow text after op encodes eq =
     (λ allows. takes_all t.reader.features there.kind text op encodes allows tt) eq
 stuck e t more (inr (inr memory)) follow text after op encodes eq = absurd (subst (λ m. MayFollow m more) memory.0 follow)
 
--- If the next operator may allocate, a byte is left.
 some_byte : (t : State) → NextMayAllocate EncodesAllowed t → (byte : ℕ) × BeginsWith byte (rest t.reader)
 some_byte t (inl room) = (room.2, room.3)
 some_byte t (inr list) = (list.2.leads.0, list.2.leads.2)
@@ -78,7 +75,6 @@ there_ahead e offset s t placed fresh r no_end stops memory other = elim (is_mem
     at_operator not (inr (inl there)) = ahead_before s.reader t.reader r.text e.offset r.takes there.ahead
     at_operator not (inr (inr needs)) = absurd (not needs.0)
 
--- If an operator is in error, so is the expression, with the same message. An allocation failure is reported at its start.
 pub refused_there : (e d : Error) (s mid t : State) (placed : Placed) → IsFresh s → TakesOperators s mid placed → HasNoEnd (operators placed) →
     IsUnchanged mid t → Stops e t →
     d.message ≡ e.message → (e.message ≡ message.OutOfMemory → d.offset ≡ offset_of s.reader) → ((e.message ≡ message.OutOfMemory → ⊥) → d.offset ≡ e.offset) →
@@ -100,7 +96,6 @@ refused_fault e d s mid t placed fresh r no_end same stops is other not =
     let at = there_fault e s t placed fresh q no_end stops not_memory in
     subst (λ m. ConstantFault m s.reader d.offset) (sym is) (subst (ConstantFault e.message s.reader) (sym (other not_memory)) at)
 
--- The first `end` leaves a frame open.
 pub refused_inside : (d : Error) (s t u : State) (placed : Placed) → IsFresh s → TakesOperators s t placed → HasNoEnd (operators placed) →
     TakesOperator EncodesAllowed operator.End t u → (u.frames ≡ [] → ⊥) → d.message ≡ message.FramesRemainConst → d.offset ≡ offset_of u.reader →
     IsRefused (EncodesConstantReader s.reader.features) true d s.reader
@@ -117,7 +112,6 @@ pub inside_has_fault : (d : Error) (s t u : State) (placed : Placed) → IsFresh
 inside_has_fault d s t u placed fresh r no_end k stays is at not =
     subst (λ m. ConstantFault m s.reader d.offset) (sym is) (inside_fault s t u placed d.offset fresh r no_end k stays at)
 
--- If allocation failed, the next operator may allocate.
 pub memory_there : (e d : Error) (s mid t : State) (placed : Placed) → IsFresh s → TakesOperators s mid placed → HasNoEnd (operators placed) →
     IsUnchanged mid t → Stops e t → d.message ≡ e.message → d.message ≡ message.OutOfMemory → ConstantMayAllocate s.reader
 memory_there e d s mid t placed fresh r no_end same stops is memory =

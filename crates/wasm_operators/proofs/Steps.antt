@@ -21,11 +21,9 @@ locals_of r count total = record { reader = r; count = count; total = total }
 same_locals : (r s : Reader) (count total : ℕ) → s ≡ r → locals_of s count total ≡ locals_of r count total
 same_locals r s count total e = ap (λ z. locals_of z count total) e
 
--- If no declaration is encoded, none within the limit of locals is.
 next_refused : (total : ℕ) (e : Error) (old : Reader) → IsRefusal EncodesDeclaration e old → IsRefused (EncodesNext total) false e old
 next_refused total e old h = refused_by EncodesDeclaration (EncodesNext total) false e old (λ text d p. (d, p.0)) (as_refused EncodesDeclaration false e old h)
 
--- A declaration has a number.
 numbered : (text : List ℕ) (d : Declaration) → EncodesDeclaration text d → (front more : List ℕ) × (text ≡ front ++ more) × EncodesUnsigned 32 front d.0
 numbered text d (a, b, e, p, q) = (a, b, e, p)
 
@@ -38,13 +36,11 @@ no_number e old h =
       ahead = h.ahead;
     }
 
--- The number of the next declaration is in error.
 pub number_refused_next : (e : Error) (r new : Reader) (count total : ℕ) → (new ≡ r) × IsRefusal (EncodesUnsigned 32) e r → U32Fault e.message r e.offset →
     ReadsDeclaration (Err e) (locals_of r count total) (locals_of new count total)
 number_refused_next e r new count total (same, h) fault =
     (same_locals r new count total same, (same, next_refused total e r (no_number e r h)), inl (refused_now (EncodesUnsigned 32) e r h, fault))
 
--- The type of the next declaration is in error, and the call returned to the start.
 pub type_refused_next : (e : Error) (r mid mid2 new : Reader) (count total number position : ℕ) → Reads (EncodesUnsigned 32) (Ok number) r mid →
     total + number ≤ max_locals → (mid2 ≡ mid) × IsRefusal EncodesValType e mid → ValTypeFault e.message mid e.offset → position ≡ r.position →
     new ≡ at_position mid2 position → ReadsDeclaration (Err e) (locals_of r count total) (locals_of new count total)
@@ -52,7 +48,6 @@ type_refused_next e r mid mid2 new count total number position first fits h faul
     let b = type_refused e r mid mid2 new number position first h at went in
     (same_locals r new count total b.0, (b.0, next_refused total e r b.1), inr (number, mid, first, inr (fits, fault)))
 
--- The number of locals would be too large, and the call returned to the start.
 pub too_many_next : (e : Error) (r mid new : Reader) (count total number position : ℕ) → Reads (EncodesUnsigned 32) (Ok number) r mid →
     max_locals < total + number → e.message ≡ message.TooManyLocals → e.offset ≡ offset_of mid → position ≡ r.position → new ≡ at_position mid position →
     ReadsDeclaration (Err e) (locals_of r count total) (locals_of new count total)
@@ -73,7 +68,6 @@ too_many_next e r mid new count total number position (text, p, t) many is at sa
     } in
     (same_locals r new count total here, (here, refused), inr (number, mid, (text, p, t), inl (many, is, at)))
 
--- The number and the type were read.
 pub declaration_read : (r mid new : Reader) (total number : ℕ) (ty : ValType) → Reads (EncodesUnsigned 32) (Ok number) r mid →
     Reads EncodesValType (Ok ty) mid new → total + number ≤ max_locals → ReadsValue (EncodesNext total) false (Ok (number, ty)) r new
 declaration_read r mid new total number ty (a, p, t) (b, q, u) fits = (a ++ b, ((a, b, refl, p, q), fits), takes_then r mid new a b t u)
@@ -102,7 +96,6 @@ stepped (d ∷ ds) old new (mid, (left, ((text, encodes, takes), count, total)),
       left = omega (arith, left, h.left);
     }
 
--- The steps of the iterator over unread locals, once no item is left.
 pub stepped_past : (body : Reader) (declarations : List Declaration) (items : LocalsLeft) → HasStepped declarations body items → items.left ≡ 0 →
     IsPastLocals declarations body items.locals.reader
 stepped_past body declarations items (unread, (first, p, t, none), steps) end =
@@ -110,13 +103,11 @@ stepped_past body declarations items (unread, (first, p, t, none), steps) end =
     let all : length declarations ≡ unread.count = omega (arith, h.left, end) in
     locals_read body unread.reader items.locals.reader unread.count h.text declarations (first, p, t) (all, h.encodes) h.takes
 
--- Skipping the locals returns the reader after them.
 pub result_past : (r body : Reader) (declarations : List Declaration) → IsPastLocals declarations body r → IsResultPastLocals r body
 result_past r body declarations past (Ok s) (others, h) = ap Ok (one_past r s body declarations others past h).0
 result_past r body declarations (text, encodes, takes) (Err e) h =
     absurd (refused_now _ e body h.refusal text (rest r) declarations encodes takes.parts)
 
--- One more step.
 one_more : (declarations : List Declaration) (d : Declaration) (old mid new : LocalsLeft) → StepsAlong declarations old mid →
     StepsLocals (Some (Ok d)) mid new → StepsAlong (declarations ++ d ∷ []) old new
 one_more [] d old mid new same step = (new, subst (λ items. StepsLocals (Some (Ok d)) items new) same step, refl)

@@ -1,4 +1,3 @@
--- Bytes that encode no body fail in one way, unless allocation fails.
 use Rattle.std.proofs.Common.{◌≡◌, ◌≢◌, List, [], Ok, Err, sym, ap, ◌∙◌, arith, inl, inr}
 use Rattle.wasm_operators_readers.specs.below.bytes.error.Error.{Error}
 use Rattle.wasm_operators_readers.specs.below.bytes.message.Message.TheVariants as message
@@ -24,7 +23,6 @@ use Rattle.wasm_operators.proofs.Bodies.{no_body, expression_after_locals}
 use Rattle.wasm_operators.proofs.LocalsLemmas.{one_past}
 use Rattle.wasm_operators.proofs.Determined.{locals_determine}
 
--- The state without the capacity, about which nothing is said.
 abbrev roomless : State → State
 roomless s = record { reader = s.reader; frames = s.frames; room = 0 }
 
@@ -44,7 +42,6 @@ stops_roomless e s (inr (some, inr (inl there))) =
     )
 stops_roomless e s (inr (some, inr (inr memory))) = inr (some, inr (inr memory))
 
--- The reads after the locals.
 ran_after : (e : Error) (body : Reader) (placed : Placed) (h : NoExpression e body placed) → TakesOperators (roomless h.opened) (roomless h.stopped) placed
 ran_after e body placed h =
     let along = ap (λ (frames : List FrameKind). frames_along frames (roles_of (operators placed))) h.opens.1 ∙
@@ -58,12 +55,10 @@ ran_after e body placed h =
       memory = frames_alone h.opened.reader.features (offset_of h.opened.reader) placed h.reads.text h.opened.frames h.stopped.frames h.reads.laid along;
     }
 
--- If the locals are in error, they were not read.
 no_locals_read : (e : Error) (body : Reader) (opened : State) → RefusesLocals e body → OpensBody (Ok opened) body → ⊥
 no_locals_read e body opened h ((declarations, (text, encodes, takes)), fresh) =
     refused_now EncodesLocals e body h.refusal text (rest opened.reader) declarations encodes takes.parts
 
--- Bytes with an error encode no body.
 pub stopped_none : (e : Error) (body : Reader) (placed whole : Placed) (declarations : List Declaration) → e.message ≢ message.OutOfMemory →
     StopsBody e body placed → EncodesBody (source_of body) declarations whole → ⊥
 stopped_none e body placed whole declarations other (inl h) encodes = no_body e body declarations whole h.refused encodes
@@ -72,7 +67,6 @@ stopped_none e body placed whole declarations other (inr h) encodes =
     (fresh_before (roomless h.opened) h.opens.1) (ran_after e body placed h) tt (stops_roomless e h.stopped h.reads.stops)
     (expression_after_locals body h.opened declarations whole h.opens encodes) tt)
 
--- Which operators were read, and which error it is.
 pub stopped_same : (d e : Error) (body : Reader)
     (first second : Placed) → d.message ≢ message.OutOfMemory → e.message ≢ message.OutOfMemory → StopsBody d body first → StopsBody e body second →
     (first ≡ second) × (d.message ≡ e.message) × (d.offset ≡ e.offset)

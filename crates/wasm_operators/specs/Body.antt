@@ -1,5 +1,4 @@
--- The body of a function: its locals and its expression.
--- WebAssembly Core Specification 3.0: Binary Format, Modules, Code Section.
+-- Specification: Binary Format, Modules, Code Section.
 use Rattle.std.specs.Prelude.{◌≡◌, ◌≢◌, ℕ, ◌+◌, List, [], ◌++◌, length, Result, Ok, Err, ◌⊎◌}
 use Rattle.wasm_operators_readers.specs.below.bytes.error.Error.{Error}
 use Rattle.wasm_operators_readers.specs.below.bytes.message.Message.TheVariants as message
@@ -11,11 +10,11 @@ use Rattle.wasm_operators_readers.specs.Reading.{State, IsFresh, Anywhere}
 use Rattle.wasm_operators_readers.specs.MainTheorem.{ReadsBeginning}
 use Rattle.wasm_operators.specs.Locals.{Declaration, EncodesLocals, RefusesLocals, ReadsPastLocals}
 
--- The rest of a source after these bytes of a prefix.
+-- The bytes of a source after the prefix `text`, as a source.
 abbrev pub source_after : Source → List ℕ → List ℕ → Source
 source_after s text more = record { features = s.features; offset = s.offset + length text; bytes = more }
 
--- The bytes encode a body: the declarations of its locals, and an expression with these operators.
+-- The bytes encode the declarations of a body's locals, and an expression with these operators.
 --   func ::= loc**:list(locals) e:expr ⇒ concat(loc**) e
 pub record EncodesBody (s : Source) (declarations : List Declaration) (placed : Placed) : Type 0 where
   pub locals : List ℕ
@@ -24,17 +23,17 @@ pub record EncodesBody (s : Source) (declarations : List Declaration) (placed : 
   pub encodes_locals : EncodesLocals locals declarations
   pub encodes_expression : EncodesExpression (source_after s locals expression) placed
 
--- The new reader of a body's operators, after its locals. No operator was read before.
+-- A new reader of a body's operators is after the locals, or the locals are in error.
 abbrev pub OpensBody : Result State Error → Reader → Type 0
 OpensBody (Ok s) body = ReadsPastLocals (Ok s.reader) body × IsFresh s
 OpensBody (Err e) body = RefusesLocals e body
 
--- The bytes do not begin with a body's locals, and no operator was read.
+-- The locals are in error, and no operator was read.
 pub record NoLocals (e : Error) (body : Reader) (placed : Placed) : Type 0 where
   pub refused : RefusesLocals e body
   pub nothing : placed ≡ []
 
--- The bytes begin with a body's locals, and no expression follows. These operators are the longest list that begins an expression there,
+-- The locals are followed by no expression. These operators are the longest list that begins one,
 -- and the error describes the bytes after them.
 pub record NoExpression (e : Error) (body : Reader) (placed : Placed) : Type 0 where
   pub opened : State
@@ -42,11 +41,13 @@ pub record NoExpression (e : Error) (body : Reader) (placed : Placed) : Type 0 w
   pub stopped : State
   pub reads : ReadsBeginning IsAny EncodesAllowed OperatorFault Anywhere [] e opened stopped placed
 
--- The bytes encode no body, and these operators were read.
+-- The bytes encode no body, and these operators were read: none if the locals are in error,
+-- otherwise the longest prefix of an expression, unless allocation fails.
 abbrev pub StopsBody : Error → Reader → Placed → Type 0
 StopsBody e body placed = NoLocals e body placed ⊎ NoExpression e body placed
 
--- Reading or visiting a body to its end, unless allocation fails. `Effect` is the effect on the list of operators.
+-- Reading or visiting a body to its end, unless allocation fails. `Effect` says what was done with
+-- the operators.
 abbrev pub ReadsBody : {X : Type 0} → OfPlaced → Result X Error → Reader → Type 0
 ReadsBody Effect (Ok x) body = (declarations : List Declaration) × (placed : Placed) × Effect placed × EncodesBody (source_of body) declarations placed
 ReadsBody Effect (Err e) body = e.message ≢ message.OutOfMemory → (placed : Placed) × Effect placed × StopsBody e body placed

@@ -1,5 +1,5 @@
--- Constant expressions as readers of modules read them: up to the first `end`, which has to close the expression.
--- WebAssembly Core Specification 3.0: Binary Format, Instructions, Expressions; Validation, Instructions, Constant Expressions.
+-- Constant expressions as readers of modules read them: up to the first `end`, which has to close
+-- the expression. Specification: Binary Format, Expressions; Validation, Constant Expressions.
 use Rattle.std.specs.Prelude.{◌≡◌, ◌≢◌, ℕ, List, [], ◌∷◌, ◌++◌, length}
 use Rattle.wasm_operators_readers.specs.below.bytes.features.WasmFeatures.{WasmFeatures}
 use Rattle.wasm_operators_readers.specs.below.FromReader.{IsReaderOf}
@@ -8,7 +8,6 @@ use Rattle.wasm_operators_readers.specs.instr.declared.operator.Operator.{Operat
 use Rattle.wasm_operators_readers.specs.instr.declared.operator.Operator.TheVariants as operator
 use Rattle.wasm_operators_readers.specs.Expression.{Placed, operators, EncodesExpression}
 
--- None of the operators is `end`.
 abbrev pub HasNoEnd : List Operator → Type 0
 HasNoEnd [] = Unit {0}
 HasNoEnd (op ∷ ops) = (op ≢ operator.End) × HasNoEnd ops
@@ -17,10 +16,11 @@ HasNoEnd (op ∷ ops) = (op ≢ operator.End) × HasNoEnd ops
 abbrev pub EndsOnce : List Operator → Type 0
 EndsOnce ops = (before : List Operator) × (ops ≡ before ++ operator.End ∷ []) × HasNoEnd before
 
--- All of the bytes encode an expression with exactly one `end`, its last operator.
+-- All of the bytes encode an expression with exactly one `end`.
 abbrev pub EncodesConstant : Source → Type 0
 EncodesConstant s = (placed : Placed) × EncodesExpression s placed × EndsOnce (operators placed)
 
--- The bytes encode such an expression, and the value is a new reader of these bytes, at any offset.
+-- The bytes encode an expression with exactly one `end`, and the value is a new reader of them, at
+-- any offset.
 abbrev pub EncodesConstantReader : WasmFeatures → List ℕ → Reader → Type 0
 EncodesConstantReader features text r = IsReaderOf features (length text) text r × EncodesConstant (source_of r)

@@ -1,5 +1,4 @@
--- The errors of a constant expression.
--- WebAssembly Core Specification 3.0: Binary Format, Instructions, Expressions.
+-- Specification: Binary Format, Expressions.
 use Rattle.std.specs.Prelude.{◌≡◌, ◌≢◌, ℕ, ◌+◌, List, [], ◌∷◌, Some, ◌⊎◌}
 use Rattle.wasm_operators_readers.specs.below.bytes.message.Message.{Message}
 use Rattle.wasm_operators_readers.specs.below.bytes.message.Message.TheVariants as message
@@ -15,8 +14,8 @@ use Rattle.wasm_operators_readers.specs.Next.{NextMayAllocate}
 use Rattle.wasm_operators_readers.specs.Reading.{State}
 use Rattle.wasm_operators.specs.Constant.{HasNoEnd}
 
--- Between the two readers, the bytes encode operators other than `end`, each allowed by the frame that the operators before it leave.
--- The first frame is that of the expression; after the operators these frames are open.
+-- Between the two readers, the bytes encode operators other than `end`, which lead from the frame
+-- of an expression to these frames.
 pub record PassesOperators (old new : Reader) (frames : List FrameKind) : Type 0 where
   pub placed : Placed
   pub no_end : HasNoEnd (operators placed)
@@ -25,21 +24,22 @@ pub record PassesOperators (old new : Reader) (frames : List FrameKind) : Type 0
   pub laid : LaidOut old.features (offset_of old) placed text
   pub along : frames_along (frame.Block ∷ []) (roles_of (operators placed)) ≡ Some frames
 
--- No operator that the innermost frame allows is encoded next, and this is the error for the next bytes.
+-- No operator that the innermost frame allows is encoded next.
 abbrev pub IsNoOperator : Message → Reader → List FrameKind → ℕ → Type 0
 IsNoOperator m r frames offset =
     (kind : FrameKind) × (innermost frames ≡ Some kind) × NoPrefix (EncodesAllowed r.features kind) (rest r) × OperatorFault r.features kind m r offset
 
--- The next operator is `end`, and it leaves a frame open. The error is reported after it.
+-- The next operator is `end`, and it leaves a frame open. The error is after it.
 abbrev pub EndsInside : Message → Reader → List FrameKind → ℕ → Type 0
 EndsInside m r frames offset =
     BeginsWith 0x0b (rest r) × (without_innermost frames ≢ []) × (m ≡ message.FramesRemainConst) × (offset ≡ offset_of r + 1)
 
--- After operators other than `end`, no operator is encoded, or an `end` that is inside another construct.
+-- After operators other than `end`, no operator is encoded, or an `end` that is inside another
+-- construct.
 abbrev pub ConstantFault : Message → Reader → ℕ → Type 0
 ConstantFault m r offset =
     (after : Reader) × (frames : List FrameKind) × PassesOperators r after frames × (IsNoOperator m after frames offset ⊎ EndsInside m after frames offset)
 
--- After operators other than `end`, the next operator may allocate: it opens a frame for which no capacity is left, or it owns a list.
+-- After operators other than `end`, `NextMayAllocate` holds.
 abbrev pub ConstantMayAllocate : Reader → Type 0
 ConstantMayAllocate r = (after : State) × PassesOperators r after.reader after.frames × NextMayAllocate EncodesAllowed after

@@ -1,5 +1,4 @@
--- The locals of a function: which bytes declare them, which errors these have, and what readers of them return.
--- WebAssembly Core Specification 3.0: Binary Format, Modules, Code Section.
+-- Specification: Binary Format, Modules, Code Section.
 use Rattle.std.specs.Prelude.{◌≡◌, ℕ, ◌+◌, ◌<◌, ◌≤◌, List, [], ◌∷◌, ◌++◌, ◌⊎◌, false, Option, Some, None, Result, Ok, Err}
 use Rattle.wasm_operators_readers.specs.below.bytes.error.Error.{Error}
 use Rattle.wasm_operators_readers.specs.below.bytes.message.Message.{Message}
@@ -22,20 +21,20 @@ Declaration = ℕ × ValType
 abbrev pub EncodesDeclaration : List ℕ → Declaration → Type 0
 EncodesDeclaration text d = (number ty : List ℕ) × (text ≡ number ++ ty) × EncodesUnsigned 32 number d.0 × EncodesValType ty d.1
 
--- The bytes encode these declarations: their number, and each of them. The total number of locals is not checked.
+-- The number of these declarations, and each of them. The total is not checked.
 --   func ::= loc**:list(locals) e:expr ⇒ concat(loc**) e
 abbrev pub EncodesLocals : List ℕ → List Declaration → Type 0
 EncodesLocals = Then (EncodesUnsigned 32) (EncodesMany EncodesDeclaration)
 
--- The error of a declaration: the error of its number, or of its type.
+-- The error of the number, or of the type.
 abbrev pub DeclarationFault : Message → Reader → ℕ → Type 0
 DeclarationFault = ThenFault (EncodesUnsigned 32) U32Fault (λ number. ValTypeFault)
 
--- The error of the declarations: the error of their count, or of the first declaration that has one.
+-- The error of the count, or of the first declaration that has one.
 abbrev pub LocalsFault : Message → Reader → ℕ → Type 0
 LocalsFault = ThenFault (EncodesUnsigned 32) U32Fault (ManyFault EncodesDeclaration DeclarationFault)
 
--- The reader's bytes do not begin with the declarations of locals.
+-- The reader's bytes do not begin with declarations of locals, with this error.
 pub record RefusesLocals (e : Error) (body : Reader) : Type 0 where
   pub refusal : IsRefusal EncodesLocals e body
   pub fault : LocalsFault e.message body e.offset
@@ -44,23 +43,24 @@ pub record RefusesLocals (e : Error) (body : Reader) : Type 0 where
 abbrev pub IsPastLocals : List Declaration → Reader → Reader → Type 0
 IsPastLocals declarations body r = (text : List ℕ) × EncodesLocals text declarations × Takes body r text
 
--- The result of skipping the locals of a body.
+-- Skipping the locals of a body: a reader after them, or their error.
 abbrev pub ReadsPastLocals : Result Reader Error → Reader → Type 0
 ReadsPastLocals (Ok r) body = (declarations : List Declaration) × IsPastLocals declarations body r
 ReadsPastLocals (Err e) body = RefusesLocals e body
 
--- A function has at most this many locals.
+-- 4294967295: a function has at most this many locals.
 --   func ::= .. ⇒ .., if |concat(loc**)| < 2^32
 abbrev pub max_locals : ℕ
 max_locals = 4294967295
 
--- A reader of locals: the reader of the bytes, the declared number of declarations, and how many locals were declared so far.
+-- A reader of locals: the reader of the bytes, the number of declarations, and the locals declared
+-- so far.
 pub record Locals : Type 0 where
   pub reader : Reader
   pub count : ℕ
   pub total : ℕ
 
--- Locals of which no declaration was read, only the count.
+-- Locals of which only the count was read.
 abbrev pub OpensLocals : Result Locals Error → Reader → Type 0
 OpensLocals (Ok l) body = (text : List ℕ) × EncodesUnsigned 32 text l.count × Takes body l.reader text × (l.total ≡ 0)
 OpensLocals (Err e) body = IsRefusal (EncodesUnsigned 32) e body × U32Fault e.message body e.offset
@@ -69,16 +69,16 @@ OpensLocals (Err e) body = IsRefusal (EncodesUnsigned 32) e body × U32Fault e.m
 abbrev pub EncodesNext : ℕ → List ℕ → Declaration → Type 0
 EncodesNext total text d = EncodesDeclaration text d × (total + d.0 ≤ max_locals)
 
--- The error after the number of a declaration: too many locals, or the error of the type.
+-- Too many locals, or the error of the type.
 abbrev pub NumberedFault : ℕ → ℕ → Message → Reader → ℕ → Type 0
 NumberedFault total number m r offset = ((max_locals < total + number) × (m ≡ message.TooManyLocals) × (offset ≡ offset_of r)) ⊎
     ((total + number ≤ max_locals) × ValTypeFault m r offset)
 
--- The error of the next declaration: the error of its number, or one after the number.
+-- The error of the number; then too many locals, or the error of the type.
 abbrev pub NextFault : ℕ → Message → Reader → ℕ → Type 0
 NextFault total = ThenFault (EncodesUnsigned 32) U32Fault (NumberedFault total)
 
--- One read of a declaration: it adds its locals to the total, or changes nothing.
+-- One read: it adds the locals to the total, or changes nothing.
 abbrev pub ReadsDeclaration : Result Declaration Error → Locals → Locals → Type 0
 ReadsDeclaration (Ok d) old new =
     ReadsValue (EncodesNext old.total) false (Ok d) old.reader new.reader × (new.count ≡ old.count) × (new.total ≡ old.total + d.0)
@@ -90,7 +90,8 @@ pub record LocalsLeft : Type 0 where
   pub locals : Locals
   pub left : ℕ
 
--- One step of the iterator: no item is left, or one declaration is read. Afterwards one item less is left; after an error none.
+-- A step of the iterator: a declaration is read, if an item is left. Then one less is left; after
+-- an error none.
 abbrev pub StepsLocals : Option (Result Declaration Error) → LocalsLeft → LocalsLeft → Type 0
 StepsLocals None old new = (old.left ≡ 0) × (new ≡ old)
 StepsLocals (Some (Ok d)) old new = (old.left ≡ new.left + 1) × ReadsDeclaration (Ok d) old.locals new.locals
@@ -100,12 +101,11 @@ StepsLocals (Some (Err e)) old new = (0 < old.left) × (new.left ≡ 0) × Reads
 abbrev pub all_left : Locals → LocalsLeft
 all_left l = record { locals = l; left = l.count }
 
--- Steps that returned these declarations, one after another.
 abbrev pub StepsAlong : List Declaration → LocalsLeft → LocalsLeft → Type 0
 StepsAlong [] old new = new ≡ old
 StepsAlong (d ∷ ds) old new = (mid : LocalsLeft) × StepsLocals (Some (Ok d)) old mid × StepsAlong ds mid new
 
--- Steps from the unread locals of a body to this iterator, which returned these declarations.
+-- Steps from a body's unread locals to this iterator returned these declarations.
 abbrev pub HasStepped : List Declaration → Reader → LocalsLeft → Type 0
 HasStepped declarations body items = (unread : Locals) × OpensLocals (Ok unread) body × StepsAlong declarations (all_left unread) items
 

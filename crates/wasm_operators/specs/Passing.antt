@@ -10,11 +10,10 @@ use Rattle.wasm_operators_readers.specs.Expression.{Placed, operators}
 use Rattle.wasm_operators_readers.specs.Reading.{State, IsUnchanged, TakesOperator, StopsRead, TakesOperators}
 use Rattle.wasm_operators.specs.Constant.{EndsOnce}
 
--- An operator was read, and the result is whether it is `end`; or an error was returned.
+-- An operator was read, and the result is whether it is `end`; or the read failed.
 abbrev pub PassesOne : Result Bool Error → State → State → Type 0
 PassesOne (Ok outcome) old new = (op : Operator) × TakesOperator EncodesAllowed op old new × (IsTrue outcome ↔ (op ≡ operator.End))
 PassesOne (Err e) old new = IsUnchanged old new × StopsRead EncodesAllowed OperatorFault (NextMayAllocate EncodesAllowed) e new
 
--- The operators up to the first `end` were read.
 abbrev pub PassesEnd : State → State → Type 0
 PassesEnd old new = (placed : Placed) × TakesOperators old new placed × EndsOnce (operators placed)

@@ -1,5 +1,4 @@
--- Sections that are a list of items: their number, and the items, one after another.
--- WebAssembly Core Specification 3.0, Binary Format: Conventions, Lists; Modules, Sections.
+-- Specification: Binary Format, Lists; Modules, Sections.
 use Rattle.std.specs.Prelude.{◌≡◌, ℕ, ◌+◌, ◌<◌, ◌⊎◌, Bool, true, false, List, [], Option, Some, None, Result, Ok, Err}
 use Rattle.wasm_operators_readers.specs.below.bytes.error.Error.{Error}
 use Rattle.wasm_operators_readers.specs.below.bytes.message.Message.{Message}
@@ -8,41 +7,38 @@ use Rattle.wasm_operators_readers.specs.below.Fault.{HasFault}
 use Rattle.wasm_operators_readers.specs.below.FromReader.{ReadsValue, IsRefused}
 use Rattle.wasm_operators_readers.specs.below.Source.{Reader, rest, offset_of}
 
--- A section: its number of items, and the reader after that number.
 pub record Section : Type 0 where
   pub count : ℕ
   pub reader : Reader
 
--- An iterator over the items: how many are left, the reader before the next item, and whether an error was returned.
+-- How many items are left, the reader before the next, and whether an error was returned.
 pub record SectionItems : Type 0 where
   pub remaining : ℕ
   pub reader : Reader
   pub refused : Bool
 
--- The iterator over all items of a section.
 abbrev pub items_of : Section → SectionItems
 items_of s = record { remaining = s.count; reader = s.reader; refused = false }
 
--- The same iterator after it returned an error.
 abbrev pub after_error : SectionItems → SectionItems
 after_error s = record { remaining = s.remaining; reader = s.reader; refused = true }
 
--- No item follows: an error was returned, or no item and no data is left.
+-- An error was returned, or no item and no data is left.
 abbrev pub IsDone : SectionItems → Type 0
 IsDone s = (s.refused ≡ true) ⊎ ((s.remaining ≡ 0) × (rest s.reader ≡ []))
 
--- Data is left, and the error is reported at its start.
+-- Data is left, and the error is at its start.
 abbrev pub IsDataLeft : Error → Reader → Type 0
 IsDataLeft e r = (rest r ≡ [] → ⊥) × (e.message ≡ message.DataAfterSection) × (e.offset ≡ offset_of r)
 
--- Reading the next item fails with an error of its type; or no item is left, but data is.
+-- Reading the next item fails; or no item is left, but data is.
 abbrev pub StopsSection : {X : Type 0} → (List ℕ → X → Type 0) → (Message → Reader → ℕ → Type 0) → Bool → Error → SectionItems → Type 0
 StopsSection Encodes Fault takes_memory e s =
     ((0 < s.remaining) × IsRefused Encodes takes_memory e s.reader × HasFault Fault e s.reader) ⊎
     ((s.remaining ≡ 0) × IsDataLeft e s.reader)
 
--- One step of the iterator: an item was read, at the place that its type requires; or an error was returned, once, and nothing consumed;
--- or no item follows.
+-- A step: an item was read, where its type requires; or an error was returned, once, and nothing
+-- consumed; or no item follows.
 abbrev pub StepsSection : {X : Type 0} → (List ℕ → X → Type 0) → (Message → Reader → ℕ → Type 0) → (Reader → X → Reader → Type 0) → Bool →
     Option (Result X Error) → SectionItems → SectionItems → Type 0
 StepsSection Encodes Fault Placed takes_memory None old new = (new ≡ old) × IsDone old

@@ -1,5 +1,4 @@
--- Single operators, read or visited from a reader of bytes with frames that the caller keeps, and the end of an expression.
--- WebAssembly Core Specification 3.0, Binary Format: Instructions; Expressions.
+-- Specification: Binary Format, Instructions and Expressions.
 use Rattle.std.specs.Prelude.{◌≡◌, Option, None, Result}
 use Rattle.wasm_operators_readers.specs.below.bytes.error.Error.{Error}
 use Rattle.wasm_operators_readers.specs.below.Source.{Reader}
@@ -8,11 +7,10 @@ use Rattle.wasm_operators_readers.specs.grammar.declared.frame_kind.FrameKind.{F
 use Rattle.wasm_operators_readers.specs.instr.declared.operator.Operator.{Operator}
 use Rattle.wasm_operators_readers.specs.Reading.{EndsExpression}
 
--- The result of reading an operator from here, with this frame as the innermost, if one is open. The position of the reader after it is not fixed.
+-- The result of reading an operator here, in this innermost frame.
 abbrev pub PeeksOperator : Option FrameKind → Result Operator Error → Reader → Type 0
 PeeksOperator frame result r = (after : Reader) × DecodesOperatorIn frame result r after
 
--- The end of an expression, with this frame as the innermost, if one is open: `Ok` if and only if none is open and no data is left.
--- Otherwise the error is at the position.
+-- `Ok` if and only if no frame is open and no data is left; otherwise the error is at the position.
 abbrev pub FinishesExpression : {X : Type 0} → Result X Error → Option FrameKind → Reader → Type 0
 FinishesExpression result frame r = EndsExpression result (frame ≡ None) r

@@ -1,7 +1,3 @@
-//! Laws about bodies and their locals. Each is the contract of a function that does nothing.
-//!
-//! `PrefixCode` says that no encoding is a proper prefix of another, and that each encodes one
-//! value. `DeterminesRefusal` says that the fault determines the message and the offset.
 ghost use Rattle.std.specs.Prelude.{◌≡◌, ◌≢◌, ℕ, List, [], ◌∷◌, ◌++◌, Some, Ok};
 ghost use Rattle.wasm_operators_readers.specs.below.bytes.error.Error.{Error};
 ghost use Rattle.wasm_operators_readers.specs.below.Fault.{DeterminesRefusal};
@@ -20,36 +16,33 @@ ghost use Rattle.wasm_operators.specs.Locals.{Declaration, EncodesDeclaration, E
 use wasm_operators_readers::below::{Message, WasmFeatures};
 
 /// States that no encoding of a declaration, or of a body's locals, is a proper prefix of another,
-/// and that each encodes one value.
+/// and that each has one value.
 pub fn declarations()
     ensures one { PrefixCode EncodesDeclaration }
     ensures locals { PrefixCode EncodesLocals }
 {}
 
-/// States that the errors of a declaration, of the next declaration and of a body's locals are
-/// determined.
+/// States that the errors of declarations and of a body's locals are determined.
 pub fn refusals()
     ensures one { DeterminesRefusal DeclarationFault }
     ensures next { (total : ℕ) → DeterminesRefusal (NextFault total) }
     ensures locals { DeterminesRefusal LocalsFault }
 {}
 
-/// States that no encoding of a body with its length is a proper prefix of another. Each encodes
-/// one body, except for the body's offset.
+/// States that no encoding of a body with its length is a proper prefix of another, and that each
+/// has one body, except for its offset.
 pub fn lengths(features: WasmFeatures)
     ensures { PrefixCodeUpTo SameReader (EncodesReader features) }
 {}
 
-/// States that bytes encode at most one body: they have one list of declarations and one of
-/// operators.
+/// States that bytes encode at most one body: one list of declarations and one of operators.
 pub fn one_body()
     ensures { (s : Source) (declarations others : List Declaration) (first second : Placed)
         → EncodesBody s declarations first → EncodesBody s others second
         → (declarations ≡ others) × (first ≡ second) }
 {}
 
-/// States that the expression of a body follows its locals, and that locals followed by an
-/// expression are a body.
+/// States that a body is locals followed by an expression.
 pub fn past_locals()
     ensures body { (body r : Reader) (declarations : List Declaration) (placed : Placed)
         → IsPastLocals declarations body r → EncodesExpression (source_of r) placed
@@ -59,9 +52,8 @@ pub fn past_locals()
         → (others ≡ declarations) × EncodesExpression (source_of r) placed }
 {}
 
-/// States that a body which was opened and read or visited to its end is a body. Its expression
-/// starts where it was opened. If reading stopped at an error, it stopped as `StopsBody` says of
-/// the body.
+/// States that reading or visiting an opened body to its end reads a body. At an error it stopped
+/// as `StopsBody` says.
 pub fn opened_bodies()
     ensures whole { (body : Reader) (opened new : State) (placed : Placed)
         → OpensBody (Ok opened) body → ReadsTree [] opened new placed
@@ -84,7 +76,7 @@ pub fn refused_locals()
     ensures stopped { (e : Error) (body : Reader) → RefusesLocals e body → StopsBody e body [] }
 {}
 
-/// States how steps of an iterator over the locals of a body follow one another, from the first.
+/// States how steps of an iterator over locals follow one another, from the first.
 pub fn steps_of_locals()
     ensures first { (body : Reader) (unread : Locals) → OpensLocals (Ok unread) body → HasStepped [] body (all_left unread) }
     ensures next { (declarations : List Declaration) (d : Declaration) (body : Reader) (old new : LocalsLeft)
@@ -92,8 +84,8 @@ pub fn steps_of_locals()
         → HasStepped (declarations ++ d ∷ []) body new }
 {}
 
-/// States that bytes with an error encode no body. The operators that were read, the message and
-/// the offset are determined. Both hold unless allocation fails.
+/// States that bytes with an error encode no body, and determine the operators that were read, the
+/// message and the offset, unless allocation fails.
 pub fn stopped_bodies()
     ensures none { (e : Error) (body : Reader) (placed whole : Placed) (declarations : List Declaration)
         → e.message ≢ Message.OutOfMemory → StopsBody e body placed

@@ -1,4 +1,3 @@
-//! The body of a function.
 ghost use Rattle.std.specs.Prelude.{◌≡◌, [], false, IfOk, IfErr};
 ghost use Rattle.wasm_operators_readers.specs.below.bytes.features.WasmFeatures.{WasmFeatures};
 ghost use Rattle.wasm_operators_readers.specs.below.Fault.{HasFault, DeterminesRefusal};
@@ -53,10 +52,8 @@ impl<'a> FunctionBody<'a> {
         FunctionBody { reader }
     }
 
-    /// Reads a number of 32 bits and that many bytes, and returns the bytes as a body with the same
-    /// features and their offset. Specification: Code Section.
-    ///
-    /// Fails as `read_reader` does.
+    /// Reads a number of 32 bits and that many bytes, which are the body. Specification: Code
+    /// Section. Fails as `read_reader` does.
     pub fn read(reader: &mut BinaryReader<'a>) -> Result<FunctionBody<'a>>
         ensures reads { Reads (EncodesReader reader.old.features) result reader.old reader.new }
         ensures placed { IfOk result (λ body. end_of body ≡ offset_of reader.new) }
@@ -68,7 +65,6 @@ impl<'a> FunctionBody<'a> {
         }
     }
 
-    /// Returns the same body. Does not allocate.
     pub fn clone(&self) -> FunctionBody<'a>
         ensures { result ≡ self.now }
     {
@@ -77,26 +73,25 @@ impl<'a> FunctionBody<'a> {
         }
     }
 
-    /// Returns a reader of the body, at its start.
+    /// Returns a reader at the start of the body.
     pub fn get_binary_reader(&self) -> BinaryReader<'a>
         ensures { result ≡ self.now }
     {
         self.reader.clone()
     }
 
-    /// Reads the count of declarations and returns a reader of the body's locals.
-    ///
-    /// Fails as `read_var_u32` does.
+    /// Reads the count of declarations and returns a reader of the locals. Fails as `read_var_u32`
+    /// does.
     pub fn get_locals_reader(&self) -> Result<LocalsReader<'a>>
         ensures { OpensLocals result self.now }
     {
         LocalsReader::new(self.reader.clone())
     }
 
-    /// Skips the locals and returns a reader of the bytes after them.
+    /// Skips the locals and returns a reader of the bytes after them. Does not check the total
+    /// number of locals.
     ///
-    /// Fails as `read_var_u32` does at the count of the declarations. At a declaration, fails as
-    /// `read_var_u32` or `ValType::read` does. The total number of locals is not checked.
+    /// Fails as `read_var_u32` or `ValType::read` does.
     pub fn get_binary_reader_for_operators(&self) -> Result<BinaryReader<'a>>
         ensures { ReadsPastLocals result self.now }
     {
@@ -114,9 +109,8 @@ impl<'a> FunctionBody<'a> {
         Ok(reader)
     }
 
-    /// Skips the locals and returns a reader of the body's operators. Does not allocate.
-    ///
-    /// Fails as `get_binary_reader_for_operators` does.
+    /// Skips the locals and returns a reader of the operators. Fails as
+    /// `get_binary_reader_for_operators` does.
     ///
     /// # Examples
     ///
@@ -134,8 +128,8 @@ impl<'a> FunctionBody<'a> {
         }
     }
 
-    /// Returns the offsets of all data of the reader that the body was made from: the offset of the
-    /// first byte, which may be before the body, and of the end.
+    /// Returns the offsets of all data of the reader that the body was made from. They may start
+    /// before the body.
     pub fn range(&self) -> Range<u64>
         ensures start { result.start ≡ self.now.start }
         ensures end { result.end ≡ end_of self.now }
@@ -164,7 +158,6 @@ impl<'a> FromReader<'a> for FunctionBody<'a> {
 
     ghost placed = { λ old body new. end_of body ≡ offset_of new };
 
-    /// Reads a body as `FunctionBody::read` does.
     fn from_reader(_alloc: Global, reader: &mut BinaryReader<'a>) -> Result<FunctionBody<'a>>
         ensures reads { ReadsValue (EncodesReader reader.old.features) false result reader.old reader.new }
         ensures fault { IfErr result (λ e. HasFault ReaderFault e reader.old) }

@@ -1,4 +1,3 @@
-//! Constant expressions.
 ghost use Rattle.std.specs.Prelude.{◌≡◌, [], true, IfOk, IfErr};
 ghost use Rattle.wasm_operators_readers.specs.below.FromReader.{ReadsValue, SameReader};
 ghost use Rattle.wasm_operators_readers.specs.below.bytes.features.WasmFeatures.{WasmFeatures};
@@ -20,8 +19,7 @@ use wasm_operators_readers::below::{
 
 /// A constant expression: a reader of its bytes.
 ///
-/// Two are equal if the bytes that are left are the same, at any offsets and with any features.
-/// Contracts see the reader.
+/// Two are equal if the bytes that are left are, at any offsets and with any features.
 #[derive(Debug, Drop)]
 pub struct ConstExpr<'a> {
     reader: BinaryReader<'a>,
@@ -43,12 +41,11 @@ impl<'a> ConstExpr<'a> {
         ConstExpr { reader }
     }
 
-    /// Reads the expression at the start of the rest: the operators up to the first `end`, which
-    /// has to close the expression. Specification: Binary Format, Expressions.
+    /// Reads the operators up to the first `end`, which has to close the expression. Specification:
+    /// Binary Format, Expressions.
     ///
-    /// Fails with `FramesRemainConst` after that `end` if a frame is still open; otherwise as the
-    /// first operator in error does. Fails with `OutOfMemory` at the start of the expression, and
-    /// only if one of these operators may allocate.
+    /// Fails with `FramesRemainConst` after that `end` if a frame is open; otherwise as the first
+    /// operator in error does. Fails with `OutOfMemory` at the start of the expression.
     ///
     /// # Examples
     ///
@@ -77,14 +74,13 @@ impl<'a> ConstExpr<'a> {
         }
     }
 
-    /// Returns a reader of the expression's bytes.
     pub fn get_binary_reader(&self) -> BinaryReader<'a>
         ensures { result ≡ self.now }
     {
         self.reader.clone()
     }
 
-    /// Returns a new reader of the expression's operators. Does not allocate.
+    /// Returns a new reader of the operators.
     pub fn get_operators_reader(&self, alloc: Global) -> OperatorsReader<'a>
         ensures reader { result.reader ≡ self.now }
         ensures fresh { IsFresh result }

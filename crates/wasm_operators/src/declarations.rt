@@ -1,13 +1,11 @@
-//! One declaration of locals.
 ghost use Rattle.std.specs.Prelude.{IfErr};
 ghost use Rattle.wasm_operators_readers.specs.below.Source.{Reads};
 ghost use Rattle.wasm_operators.specs.Locals.{EncodesDeclaration, DeclarationFault};
 
 use wasm_operators_readers::below::{BinaryReader, Result, ValType};
 
-/// Reads a declaration: the number of locals, and their type. Specification: Code Section.
-///
-/// Fails as `read_var_u32` or `ValType::read` does.
+/// Reads the number of locals, and their type. Specification: Code Section. Fails as `read_var_u32`
+/// or `ValType::read` does.
 #[inline(always)]
 pub fn read_declaration(reader: &mut BinaryReader<'_>) -> Result<(u32, ValType)>
     ensures reads { Reads EncodesDeclaration result reader.old reader.new }

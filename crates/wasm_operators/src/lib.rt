@@ -1,10 +1,9 @@
-//! The operators of a WebAssembly expression, read or visited from borrowed bytes; bodies of
-//! functions, constant expressions and sections that hold them; and single operators.
+//! The operators of WebAssembly expressions, read or visited from borrowed bytes; function bodies,
+//! constant expressions and sections that hold them; and single operators.
 //!
 //! The contract of [`OperatorsReader::read_all`] is the main theorem. With a new reader, it returns
 //! `Ok` if and only if the bytes encode an expression of the recursive grammar. The list is then
-//! the walk of the expression's one tree. Callers list only this crate in `crates.txt`: it has the
-//! names of all layers below it.
+//! the walk of the expression's one tree. Callers list only this crate.
 //!
 //! Every call that allocates may fail with `OutOfMemory`. A call that reads one operator or item
 //! then consumes nothing; a call that reads to the end keeps what it read before.
@@ -128,5 +127,5 @@ pub use wasm_operators_readers::visitors::visit_operator_with_simd;
 pub use wasm_operators_readers::visitors::visit_owned;
 pub use wasm_operators_readers::visitors::visit_owned_simd;
 
-/// The code section: the bodies of functions (Binary Format, Modules, Code Section).
+/// The code section: function bodies (Binary Format, Modules, Code Section).
 pub type CodeSectionReader<'a> = SectionLimited<'a, FunctionBody<'a>>;

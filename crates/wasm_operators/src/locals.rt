@@ -1,4 +1,3 @@
-//! Readers of a body's locals.
 ghost use Rattle.std.specs.Prelude.{◌≡◌, List, [], IfSome, Some};
 ghost use Rattle.std.specs.Iterator.{at_most, UpTo};
 ghost use Rattle.std.specs.Iterator.SizeHint.{IsWithinCount};
@@ -12,9 +11,7 @@ use std::marker::Model;
 use wasm_operators_readers::OperatorsReader;
 use wasm_operators_readers::below::{BinaryReader, Error, Message, Result, ValType};
 
-/// A reader of the declarations of a body's locals, which adds up how many locals they declare.
-///
-/// Contracts see the reader of the bytes, the count of the declarations, and the total so far.
+/// A reader of the declarations of a body's locals. It adds up how many locals they declare.
 #[derive(Debug, Drop)]
 pub struct LocalsReader<'a> {
     reader: BinaryReader<'a>,
@@ -31,9 +28,8 @@ impl<'a> Model for LocalsReader<'a> {
 }
 
 impl<'a> LocalsReader<'a> {
-    /// Reads the count of the declarations and creates a reader of the locals.
-    ///
-    /// Fails as `read_var_u32` does.
+    /// Reads the count of the declarations and creates a reader of the locals. Fails as
+    /// `read_var_u32` does.
     ///
     /// # Examples
     ///
@@ -56,7 +52,7 @@ impl<'a> LocalsReader<'a> {
         }
     }
 
-    /// Returns the declared number of declarations, which does not change as they are read.
+    /// Returns the declared number of declarations, which reading does not change.
     pub fn get_count(&self) -> u32
         ensures { result ≡ self.now.count }
     {
@@ -70,12 +66,11 @@ impl<'a> LocalsReader<'a> {
         self.reader.original_position()
     }
 
-    /// Reads the next declaration: the number of locals, and their type. Specification: Code
-    /// Section. A call after `get_count` declarations reads on.
+    /// Reads the number and the type of the next locals. Specification: Code Section. A call after
+    /// `get_count` declarations reads on.
     ///
-    /// Fails as `read_var_u32` does; with `TooManyLocals` after that number if the total were more
-    /// than 4294967295 locals; then as `ValType::read` does. Only a read that succeeds changes the
-    /// total.
+    /// Fails as `read_var_u32` does; with `TooManyLocals` after the number if the total were more
+    /// than 4294967295; then as `ValType::read` does. Only success changes the total.
     pub fn read(&mut self) -> Result<(u32, ValType)>
         ensures { ReadsDeclaration result self.old self.new }
     {
@@ -101,7 +96,6 @@ impl<'a> LocalsReader<'a> {
         }
     }
 
-    /// Returns the reader of the bytes, at its current position.
     pub fn get_binary_reader(self) -> BinaryReader<'a>
         ensures { result ≡ self.entry.reader }
     {
@@ -116,8 +110,8 @@ impl<'a> IntoIterator for LocalsReader<'a> {
 
     ghost into_iter_gives = { λ locals items. items ≡ all_left locals };
 
-    /// Converts the reader into an iterator over as many declarations as were declared. It starts
-    /// at the current position, even if some were read before.
+    /// Converts the reader into an iterator over as many declarations as were declared, from the
+    /// current position, even if some were read before.
     fn into_iter(self) -> LocalsIterator<'a> {
         let left = self.count;
         LocalsIterator { locals: self, left }
@@ -125,8 +119,6 @@ impl<'a> IntoIterator for LocalsReader<'a> {
 }
 
 /// An iterator over the declarations of a body's locals. Nothing follows an error.
-///
-/// Contracts see the reader of the declarations, and how many items are left.
 #[derive(Debug, Drop)]
 pub struct LocalsIterator<'a> {
     locals: LocalsReader<'a>,
@@ -174,9 +166,9 @@ impl<'a> Iterator for LocalsIterator<'a> {
 }
 
 impl<'a> LocalsIterator<'a> {
-    /// Returns the reader of the bytes after the locals, once no item is left. If no item failed,
-    /// it is the reader that `FunctionBody::get_binary_reader_for_operators` returns. Otherwise it
-    /// is at the start of the item that failed.
+    /// Returns the reader after the locals, once no item is left. If no item failed, it is the
+    /// reader of `FunctionBody::get_binary_reader_for_operators`, otherwise it is at the start of
+    /// the item that failed.
     pub fn into_binary_reader_for_operators(self) -> BinaryReader<'a>
         requires { self.left ≡ 0 }
         ensures reader { result ≡ self.entry.locals.reader }
@@ -188,8 +180,8 @@ impl<'a> LocalsIterator<'a> {
         self.locals.get_binary_reader()
     }
 
-    /// Returns a new reader of the operators at the current position. It is after the locals once
-    /// no item is left and no item failed. Does not allocate.
+    /// Returns a new reader of the operators at the current position: after the locals, once no
+    /// item is left and none failed.
     pub fn into_operators_reader(self, alloc: Global) -> OperatorsReader<'a>
         ensures reader { result.reader ≡ self.entry.locals.reader }
         ensures fresh { IsFresh result }

@@ -13,10 +13,7 @@ use wasm_operators_readers::below::{Error, Message, Result};
 use wasm_operators_readers::instr::FrameStack;
 use wasm_operators_readers::visitors::IsEndOperatorVisitor;
 
-/// Skips the operators up to the first `end`, which has to close the expression.
-///
-/// Fails with `FramesRemainConst` after that `end` if a frame is still open; otherwise as the first
-/// operator in error does. Fails with `OutOfMemory` at the start of the expression.
+/// Skips the operators up to the first `end`. Fails as `ConstExpr::read` does.
 pub fn pass_constant(operators: &mut OperatorsReader<'_>) -> Result<()>
     requires { IsFresh operators.old }
     ensures passed { IfOk result (λ _. PassesEnd operators.old operators.new × (operators.new.frames ≡ [])) }
@@ -45,9 +42,6 @@ fn pass_one(operators: &mut OperatorsReader<'_>) -> Result<bool>
     operators.visit_operator_simd(&mut IsEndOperatorVisitor)
 }
 
-/// Checks that no frame is open.
-///
-/// Fails with `FramesRemainConst` at the position if one is.
 fn check_closed(operators: &OperatorsReader<'_>) -> Result<()>
     ensures closed { IfOk result (λ _. operators.now.frames ≡ []) }
     ensures open { IfErr result

@@ -1,4 +1,3 @@
-//! Sections that are a list of items, and the iterator over them.
 ghost use Rattle.std.specs.Prelude.{◌≡◌, ◌+◌, cond, Ok, IfOk, IfErr};
 ghost use Rattle.std.specs.Iterator.{at_most};
 ghost use Rattle.wasm_operators_readers.specs.below.Number.{EncodesUnsigned};
@@ -10,8 +9,6 @@ use std::marker::{Model, PhantomData};
 use wasm_operators_readers::below::{BinaryReader, Error, FromReader, Message, Result};
 
 /// A section of items of one type, with their number before them.
-///
-/// Contracts see that number, and the reader after it.
 #[derive(Drop)]
 pub struct SectionLimited<'a, T> {
     alloc: Global,
@@ -29,11 +26,8 @@ impl<'a, T> Model for SectionLimited<'a, T> {
 }
 
 impl<'a, T: FromReader<'a>> SectionLimited<'a, T> {
-    /// Reads the number of items, an unsigned LEB128 number of 32 bits, and creates the section.
-    /// The items are read with this allocator.
-    ///
-    /// Fails as the number does: with `EndOfData` at the end of the data, with `IntegerTooLong` or
-    /// `IntegerTooLarge` at the byte in error.
+    /// Reads the number of items, and creates the section. The items are read with this allocator.
+    /// Fails as `read_var_u32` does.
     pub fn new(alloc: Global, mut reader: BinaryReader<'a>) -> Result<SectionLimited<'a, T>>
         ensures count { IfOk result (λ s. Reads (EncodesUnsigned 32) (Ok s.count) reader.entry s.reader) }
         ensures refused { IfErr result (λ e. IsRefusal (EncodesUnsigned 32) e reader.entry) }
@@ -50,7 +44,6 @@ impl<'a, T: FromReader<'a>> SectionLimited<'a, T> {
         }
     }
 
-    /// Returns the number of items that the section declares.
     pub fn count(&self) -> u32
         ensures { result ≡ self.now.count }
     {
@@ -82,10 +75,8 @@ impl<'a, T: FromReader<'a>> IntoIterator for SectionLimited<'a, T> {
     }
 }
 
-/// An iterator over the items of a section, which ends after an error.
-///
-/// After the last item it returns `DataAfterSection` once, if data is left. Contracts see how many
-/// items are left, the reader before the next item, and whether an error was returned.
+/// An iterator over the items of a section, which ends after an error. After the last item it
+/// returns `DataAfterSection` once, if data is left.
 #[derive(Drop)]
 pub struct SectionLimitedIntoIter<'a, T> {
     alloc: Global,
@@ -112,7 +103,7 @@ impl<'a, T: FromReader<'a>> Iterator for SectionLimitedIntoIter<'a, T> {
     ghost remaining = { λ s. at_most (cond s.refused 0 (s.remaining + 1)) };
 
     /// Reads the next item. Returns the item's error, or `DataAfterSection` at the start of the
-    /// data if no item is left and data is. An error consumes nothing, and nothing follows it.
+    /// data that is left after all items. An error consumes nothing.
     fn next(&mut self) -> Option<Result<T>> {
         if self.refused {
             return None;

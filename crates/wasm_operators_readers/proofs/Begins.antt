@@ -26,9 +26,6 @@ use Rattle.wasm_operators_readers.specs.Next.{BeginsOperator, StopsNext, state_o
 use Rattle.wasm_operators_readers.proofs.DecoderPremises.{sound, scalar_sound}
 use Rattle.wasm_operators_readers.proofs.Taken.{refused_unchanged, room_refused, none_open}
 
--- ---- the opcode
-
--- After reading a byte, the reader is directly after this opcode.
 occurs : (old mid : Reader) (code start : ℕ) → Reads IsByte (Ok code) old mid → start ≡ old.position → (at_position mid start ≡ old) × IsAfterCode start None code mid
 occurs old mid code start r same =
     let f = first_byte_read old mid code r in
@@ -38,9 +35,6 @@ occurs old mid code start r same =
       record { begun = omega (arith, same, position); opcode = (code ∷ [], refl, subst (λ z. Takes z mid (code ∷ [])) (sym back) f.2) },
     )
 
--- ---- the end of the data
-
--- No operator is encoded by no bytes.
 none_empty : (Encodes : Taking) → IsSound Encodes → (f : WasmFeatures) (k : FrameKind) → NoPrefix (Encodes f k) []
 none_empty Encodes sound f k text left op s eq = not_empty f op text left (sound f k text op s) eq
 
@@ -71,9 +65,6 @@ no_first bytes more none first = let both : [] ≡ 0xfd ∷ more = sym none ∙ 
 scalar_end_fault : (k : FrameKind) (e : Error) (old : Reader) → IsRefusal IsByte e old → IsEndHere e old → HasFault (ScalarOperatorFault old.features k) e old
 scalar_end_fault k e old h end = λ some. inr ((λ b. no_first (rest old) b.0 (none_here old end.2) b.1), inl (refused_now IsByte e old h, end))
 
--- ---- the call
-
--- The opcode was read, and there is capacity.
 pub begun : (old mid : Reader) (s t : OpenFrames) (kind : FrameKind) (code start : ℕ) (f : FrameStep) → innermost s.frames ≡ Some kind → Reads IsByte (Ok code) old mid →
     start ≡ old.position → f ≡ step_at code → t.frames ≡ s.frames → s.room ≤ t.room → GrowsByDoubling 1 s t → (Opens f → HasRoom t) →
     BeginsOperator (state_of old s) (state_of mid t) kind start code f
@@ -90,19 +81,16 @@ begun old mid s t kind code start f open_frame reads same step frames room memor
       opens = opens;
     }
 
--- The reader goes back to the opcode.
 pub back_to : (old mid : Reader) (code start : ℕ) → Reads IsByte (Ok code) old mid → start ≡ old.position → (start ≤ mid.position) × (at_position mid start ≡ old) × BeginsWith code (rest old)
 back_to old mid code start reads same =
     let h = occurs old mid code start reads same in
     let f = first_byte_read old mid code reads in
     (h.1.begun, h.0, (rest mid, f.2.parts))
 
--- No frame is open.
 pub begun_closed : (Encodes : Taking) (Fault : Refusing) (old : Reader) (s : OpenFrames) (e : Error) → innermost s.frames ≡ None → e.message ≡ message.OperatorsRemaining →
     e.offset ≡ offset_of old → StopsNext Encodes Fault e (state_of old s) (state_of old s)
 begun_closed Encodes Fault old s e none is at = none_open Encodes Fault (state_of old s) e (empty_of_innermost s.frames none) is at
 
--- The capacity can't grow.
 pub begun_without_room : (Encodes : Taking) (Fault : Refusing) (old mid new : Reader) (s t : OpenFrames) (kind : FrameKind) (code start : ℕ) (f : FrameStep) (e : Error) →
     innermost s.frames ≡ Some kind → Reads IsByte (Ok code) old mid → start ≡ old.position → f ≡ step_at code → Opens f → s.room ≡ 0 → t ≡ s → new ≡ at_position mid start →
     e.message ≡ message.OutOfMemory → e.offset ≡ mid.start + start → StopsNext Encodes Fault e (state_of old s) (state_of new t)
@@ -115,7 +103,6 @@ begun_without_room Encodes Fault old mid new s t kind code start f e open_frame 
     (memory_stays (frame_memory s.frames s.room) (length s.frames) 10) (ap (λ (x : OpenFrames). frame_memory x.frames x.room) stays)) b.2
     (subst Opens step opens) (ap (λ (x : OpenFrames). x.room) stays ∙ none) is (omega (arith, at, begin, same))
 
--- The reader is at the end of the data.
 pub begun_at_end : (old new : Reader) (s : OpenFrames) (kind : FrameKind) (e : Error) → innermost s.frames ≡ Some kind → (new ≡ old) × IsRefusal IsByte e old → IsEndHere e old →
     StopsNext EncodesAllowed OperatorFault e (state_of old s) (state_of new s)
 begun_at_end old new s kind e open_frame r end =

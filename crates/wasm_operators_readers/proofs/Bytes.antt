@@ -8,7 +8,6 @@ use Rattle.wasm_operators_readers.specs.Step.{step_at}
 passed : (byte low : ℕ) (s rest : FrameStep) → low < 0x20 → 0x20 ≤ byte → rest ≡ step.Stays → cond (eqb byte low) s rest ≡ step.Stays
 passed byte low s rest below from e = ap (λ b. cond b s rest) (ne_eqb byte low (λ same. omega (arith, same, below, from))) ∙ e
 
--- From 0x20 on, no byte changes the frames.
 pub stays_from_20 : (byte : ℕ) → 0x20 ≤ byte → step_at byte ≡ step.Stays
 stays_from_20 byte from =
     passed byte 0x02 _ _ (omega arith) from

@@ -1,4 +1,4 @@
--- The clauses of calls that read or visit to the end, from the calls' effects.
+-- The clauses of drivers, from their effects.
 use Rattle.std.proofs.Common.{◌≡◌, List, Result, Ok, Err, subst, ◌⊎◌, IfErr}
 use Rattle.wasm_decode.specs.below.bytes.error.Error.{Error}
 use Rattle.wasm_decode.specs.below.bytes.message.Message.TheVariants as message
@@ -11,10 +11,9 @@ use Rattle.wasm_operators_readers.proofs.Ends.{flat_run, run_cut, run_left}
 use Rattle.wasm_operators_readers.proofs.Premises.{Keeps, IsReading}
 use Rattle.wasm_operators_readers.proofs.Runs.{run_tree, run_beginning, run_only, run_depth}
 
--- The effect on a list implies the property.
 module _ (Effect Kept : OfPlaced) (Sort : Operator → Type 0) (Encodes : Taking) (Fault : Refusing) (Allocates : Allocating)
     (kept : (placed : Placed) → Effect placed → Kept placed) (keeps : Keeps Sort Kept Encodes) where
-  -- The case that the longest list does not have the property is separate.
+  -- Apart from the case that the longest list does not have the property.
   pub runs_rest : {X : Type 0} (reading : IsReading Fault) (r : Result X Error) (before : List Operator) (old new : State) →
       ((longest : Placed) → IsLongestAfter before (source_of old.reader) longest → (Kept longest → ⊥) →
       IfErr r (λ e. (e.message ≡ message.UnexpectedSimd) ⊎ (e.message ≡ message.OutOfMemory))) →

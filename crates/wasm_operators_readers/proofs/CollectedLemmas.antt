@@ -1,4 +1,3 @@
--- Lists to which operators were appended, one after another.
 use Rattle.std.proofs.Common.{◌≡◌, ℕ, List, [], ◌∷◌, ◌++◌, Result, refl, sym, ap, ◌∙◌, append_assoc}
 use Rattle.wasm_decode.specs.instr.declared.operator.Operator.{Operator}
 use Rattle.wasm_operators_readers.specs.Expression.{Placed}
@@ -12,7 +11,6 @@ made_push {T} holds [] items op at made none held = (made, [], ap (λ (x : List 
 made_push {T} holds (p ∷ ps) items op at made (first, others, same, one, more) held =
     (first, others ++ (made, at) ∷ [], ap (λ (x : List (T × ℕ)). x ++ (made, at) ∷ []) same, one, made_push holds ps others op at made more held)
 
--- One more operator.
 pub collected_push : {T : Type 0} (holds : Operator → T → Type 0) (old mid new : List (T × ℕ)) (placed : Placed) (op : Operator) (at : ℕ) → Collects holds old mid placed →
     CollectsOne holds at mid op new → Collects holds old new (placed ++ (op, at) ∷ [])
 collected_push {T} holds old mid new placed op at (items, are, same) (made, held, one) = (
@@ -21,7 +19,6 @@ collected_push {T} holds old mid new placed op at (items, are, same) (made, held
   one ∙ ap (λ (x : List (T × ℕ)). x ++ (made, at) ∷ []) same ∙ append_assoc old items ((made, at) ∷ []),
 )
 
--- No operator.
 pub collected_none : {T : Type 0} (holds : Operator → T → Type 0) (old : List (T × ℕ)) → Collects holds old old []
 collected_none {T} holds old = ([], refl, sym (append_none old))
   where
@@ -29,7 +26,6 @@ collected_none {T} holds old = ([], refl, sym (append_none old))
     append_none [] = refl
     append_none (y ∷ ys) = ap (λ (z : List (T × ℕ)). y ∷ z) (append_none ys)
 
--- If the items are the operators, the two lists are equal.
 made_same : (placed items : Placed) → AreMade (λ op made. made ≡ op) placed items → items ≡ placed
 made_same [] items none = none
 made_same (p ∷ ps) items (first, others, same, one, more) =
@@ -38,7 +34,6 @@ made_same (p ∷ ps) items (first, others, same, one, more) =
 pub collected_adds : (old new placed : Placed) → Collects (λ op made. made ≡ op) old new placed → Adds old new placed
 collected_adds old new placed (items, are, same) = same ∙ ap (λ (x : Placed). old ++ x) (made_same placed items are)
 
--- So a run to the end that collects operators appends them.
 pub collected_runs : {X : Type 0} (Encodes : Taking) (Fault : Refusing) (Allocates : Allocating) (result : Result X Error) (start end : State) (old new : Placed) →
     RunsToEnd (Collects (λ op made. made ≡ op) old new) Encodes Fault Allocates result start end → RunsToEnd (Adds old new) Encodes Fault Allocates result start end
 collected_runs Encodes Fault Allocates result start end old new (placed, collects, takes, ends) = (placed, collected_adds old new placed collects, takes, ends)

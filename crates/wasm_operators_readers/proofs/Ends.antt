@@ -1,4 +1,4 @@
--- The end of a run: without trees; for data that is cut off; and that it is determined.
+-- The end of a run: without trees, for data that is cut off, and that it is determined.
 use Rattle.std.proofs.Common.{◌≡◌, ℕ, zero, suc, ◌+◌, ◌≤◌, List, [], ◌∷◌, ◌++◌, length, replicate, Some, None, Result, Ok, Err, refl, sym, subst, ap, ◌∙◌, append_assoc, arith, inl, inr}
 use Rattle.std.specs.Prelude.{◌↔◌, IsOk}
 use Rattle.std.proofs.lemmas.Bool.{cases_lt}
@@ -32,7 +32,6 @@ use Rattle.wasm_operators_readers.proofs.Runs.{features_stay, read_further, IsSt
 some_is : {X : Type 0} {x y : X} → Some x ≡ Some y → x ≡ y
 some_is e = cc e
 
--- The longest list by frames alone is unique.
 pub one_flat : (Kept : OfPlaced) (frames : List FrameKind) (s : Source) (first second : Placed) → IsFlatOf Kept frames s first →
     IsFlatOf Kept frames s second → first ≡ second
 one_flat Kept frames s first second p q =
@@ -41,7 +40,6 @@ one_flat Kept frames s first second p q =
     (laid_same s.features s.offset first second p.beginning.beginning q.beginning.beginning p.beginning.more q.beginning.more p.beginning.laid q.beginning.laid
     (sym p.beginning.parts ∙ q.beginning.parts) (omega arith)).0
 
--- A run that ends with no bytes and no frames left closes every frame, and the other way round.
 pub run_closes : (old new : State) (placed : Placed) → TakesOperators old new placed → new.frames ≡ [] → rest new.reader ≡ [] →
     ClosesFrom old.frames (source_of old.reader) placed
 run_closes old new placed r closed all = (
@@ -65,7 +63,6 @@ closes_exactly Encodes Fault Allocates (Err e) old new placed r stops = (
   λ closes. let end = closes_run old new placed r closes in absurd (no_refusal Encodes Fault Allocates e new stops end.0 end.1),
 )
 
--- Unless allocation fails, the longest list by frames alone was read, and the result is `Ok` if and only if it closes every frame.
 pub flat_run : {X : Type 0} (Sort : Operator → Type 0) (Kept : OfPlaced) (Encodes : Taking) (Fault : Refusing) (Allocates : Allocating) →
     Keeps Sort Kept Encodes → (result : Result X Error) (old new : State) (placed flat : Placed) → TakesOperators old new placed → Kept placed →
     EndsRun Encodes Fault Allocates result new → IsFlatOf Kept old.frames (source_of old.reader) flat → IsNotOutOfMemory result →
@@ -77,7 +74,7 @@ flat_run Sort Kept Encodes Fault Allocates keeps result old new placed flat r ke
       subst (λ ps. IsOk result ↔ ClosesFrom old.frames (source_of old.reader) ps) same (closes_exactly Encodes Fault Allocates result old new placed r ended),
     )
 
--- If more bytes would complete the rest of an expression, the bytes that are left begin with an operator that the frames allow.
+-- Some operator that the frames allow is encoded at the start of these bytes.
 record NextOccurs (Sort : Operator → Type 0) (s : State) (left : List ℕ) : Type 0 where
   op : Operator
   sort : Sort op
@@ -110,7 +107,6 @@ right_none : (xs ys : List ℕ) → xs ++ ys ≡ [] → ys ≡ []
 right_none [] ys e = e
 right_none (x ∷ xs) ys e = absurd (cc e)
 
--- Data that is cut off fails at its end, within an operator or between two.
 pub run_cut : (Sort : Operator → Type 0) (Kept : OfPlaced) (Encodes : Taking) (Fault : Refusing) (Allocates : Allocating) → Keeps Sort Kept Encodes → (e : Error)
     (before : List Operator) (old new : State) (placed : Placed) → ReadSoFar before old → TakesOperators old new placed → StopsRun Encodes Fault Allocates e new →
     IsCut Kept before (source_of old.reader) → CutFault e.message (rest new.reader)
@@ -149,7 +145,6 @@ run_cut Sort Kept Encodes Fault Allocates keeps e before old new placed h r stop
       | inr le ↦ absurd (shorter le)
     ]
 
--- Bytes 0x0b, one after another.
 ends_placed : ℕ → ℕ → Placed
 ends_placed offset zero = []
 ends_placed offset (suc n) = (operator.End, offset) ∷ ends_placed (offset + 1) n
@@ -171,7 +166,6 @@ unfolding ends_placed
 ends_operators offset zero = refl
 ends_operators offset (suc n) = ap (λ (ops : List Operator). operator.End ∷ ops) (ends_operators (offset + 1) n)
 
--- If all data was read, one byte 0x0b for each open frame completes the rest of an expression.
 pub run_completed : (before : List Operator) (old new : State) (placed : Placed) → ReadSoFar before old → TakesOperators old new placed → rest new.reader ≡ [] →
     IsCompletedByEnds before (source_of old.reader) (length new.frames)
 run_completed before old new placed h r all =
@@ -195,13 +189,11 @@ run_completed before old new placed h r all =
       ),
     )
 
--- Two results that are the same, unless allocation failed.
 abbrev pub SameResult : {X Y : Type 0} → Result X Error → Result Y Error → Type 0
 SameResult (Ok x) (Ok y) = Unit {0}
 SameResult (Err d) (Err e) = (d.message ≡ e.message) × (d.offset ≡ e.offset)
 SameResult _ _ = ⊥
 
--- A read that failed fails again with the same message and offset, unless allocation fails.
 pub refused_again : (Encodes : Taking) (Fault : Refusing) (Allocates : Allocating) → IsDetermined Fault → (d : Error) (result : Result Operator Error)
     (old mid new : State) → ReadsOperator Encodes Fault Allocates (Err d) old mid → (d.message ≡ message.OutOfMemory → ⊥) →
     ReadsOperator Encodes Fault Allocates result mid new → IsNotOutOfMemory result → SameResult {X = Operator} (Err d) result
@@ -240,7 +232,6 @@ record RanOver (reader : Reader) (frames : List FrameKind) (new : State) (placed
 ran_over : (old new : State) (placed : Placed) → TakesOperators old new placed → RanOver old.reader old.frames new placed
 ran_over old new placed r = record { text = r.text; takes = r.takes; laid = r.laid; along = r.frames }
 
--- If two runs start at one place and no operator of this sort can follow the first, the first is not shorter.
 not_shorter : (Kept : Operator → Type 0) (reader : Reader) (frames : List FrameKind) (new end : State) (placed others : Placed) →
     RanOver reader frames new placed → RanOver reader frames end others → AreEach Kept others → IsStuckFor Kept new → length others ≤ length placed
 not_shorter Kept reader frames new end placed others r q each none =
@@ -256,7 +247,6 @@ not_shorter Kept reader frames new end placed others r q each none =
         next_allowed reader.features frames new.frames end.frames placed others (rest new.reader) r.along q.along g
         (none g.text g.more g.next.0 encodes (each placed g.others g.next g.parts) g.bytes)
 
--- Two runs over the same bytes, with the same frames at the start, are the same, unless allocation fails.
 pub run_determined : {X Y : Type 0} (Encodes : Taking) (Fault : Refusing) (Allocates : Allocating) (Kept : Operator → Type 0) → TakesEach Kept Encodes →
     IsDetermined Fault → (first : Result X Error) (second : Result Y Error) (old new other end : State) (placed others : Placed) → other.reader ≡ old.reader →
     other.frames ≡ old.frames → TakesOperators old new placed → TakesOperators other end others → AreEach Kept placed → AreEach Kept others →
@@ -275,7 +265,6 @@ run_determined Encodes Fault Allocates Kept takes determined first second old ne
     let stacks : end.frames ≡ new.frames = some_is (sym q1.along ∙ ap (λ ps. frames_along old.frames (roles_of (operators ps))) (sym same.0) ∙ r1.along) in
     (same.0, readers, stacks, same_ends Encodes Fault Allocates determined first second new end readers stacks a b memory other_memory)
 
--- The error determines whether no frame is open, and whether one is open at the end of the data.
 pub reports_closed : (Encodes : Taking) (Fault : Refusing) (Allocates : Allocating) → IsReading Fault → (e : Error) (s : State) → StopsRun Encodes Fault Allocates e s →
     (e.message ≡ message.OutOfMemory → ⊥) → (e.message ≡ message.OperatorsRemaining) ↔ (s.frames ≡ [])
 reports_closed Encodes Fault Allocates reading e s (inl left) other = (λ is. absurd (cc (is, left.2)), λ closed. absurd (left.1 closed))
@@ -292,7 +281,6 @@ reports_left Encodes Fault Allocates reading e s (inr (some, inr (inl there))) =
 )
 reports_left Encodes Fault Allocates reading e s (inr (some, inr (inr memory))) = (λ is. absurd (cc (is, memory.0)), λ h. absurd (some h.0))
 
--- If frames are open at the end of the data, one byte 0x0b for each of them completes it.
 pub run_left : (Encodes : Taking) (Fault : Refusing) (Allocates : Allocating) → IsReading Fault → (e : Error) (before : List Operator) (old new : State)
     (placed : Placed) → ReadSoFar before old → TakesOperators old new placed → StopsRun Encodes Fault Allocates e new → e.message ≡ message.FramesRemain →
     IsCompletedByEnds before (source_of old.reader) (length new.frames)
@@ -304,7 +292,6 @@ longest_at : (Kept : OfPlaced) (m : Message) (before : List Operator) (r : Reade
 longest_at Kept message.OutOfMemory before r placed h other = absurd (other refl)
 longest_at Kept _ before r placed h other = h
 
--- Two drivers from one place, after the same operators, have the same results, unless allocation fails.
 pub beginnings_same : (Kept : OfPlaced) (Encodes : Taking) (Fault : Refusing) (Allocates : Allocating) → IsDetermined Fault → (before : List Operator)
     (d e : Error) (old new end : State) (placed others : Placed) → ReadsBeginning Kept Encodes Fault Allocates before d old new placed →
     ReadsBeginning Kept Encodes Fault Allocates before e old end others → (d.message ≡ message.OutOfMemory → ⊥) → (e.message ≡ message.OutOfMemory → ⊥) →

@@ -24,7 +24,6 @@ no_longest P first p none (suc k) bound =
       | inr less ↦ omega (arith, less)
     ])
 
--- A list that a prefix of some bytes encodes is no longer than they are.
 short : (f : WasmFeatures) (offset : ℕ) (placed : Placed) (bytes beginning more : List ℕ) → bytes ≡ beginning ++ more → LaidOut f offset placed beginning →
     length placed ≤ length bytes
 short f offset placed bytes beginning more parts laid =
@@ -32,7 +31,6 @@ short f offset placed bytes beginning more parts laid =
     let whole : length bytes ≡ length beginning + length more = ap length parts ∙ length-append beginning more in
     omega (arith, few, whole)
 
--- A longest list exists after the operators that a reader has read.
 pub longest_is_some : (Kept : OfPlaced) → Kept [] → (before : List Operator) (s : State) → ReadSoFar before s →
     ((placed : Placed) → IsLongestOf Kept before (source_of s.reader) placed → ⊥) → ⊥
 longest_is_some Kept kept before s read_so_far none =
@@ -49,7 +47,6 @@ longest_is_some Kept kept before s read_so_far none =
     (λ x h long. none x (record { beginning = h.0; kept = h.1; longest = λ y b k. long y (b, k) })) (length source.bytes)
     (λ x h. short source.features source.offset x source.bytes h.0.beginning h.0.more h.0.parts h.0.laid)
 
--- A longest list exists by frames alone.
 pub flat_is_some : (Kept : OfPlaced) → Kept [] → (frames : List FrameKind) (s : Source) → ((placed : Placed) → IsFlatOf Kept frames s placed → ⊥) → ⊥
 flat_is_some Kept kept frames s none =
     let first : IsAllowedFrom frames s [] = record { beginning = []; more = s.bytes; parts = refl; laid = refl; allowed = refl } in

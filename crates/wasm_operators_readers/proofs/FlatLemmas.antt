@@ -15,7 +15,6 @@ use Rattle.wasm_operators_readers.specs.Expression.{Placed, OfPlaced, IsAny, ope
 use Rattle.wasm_operators_readers.specs.Flat.{IsAllowedFrom, IsFlatOf, IsFlatBeginning}
 use Rattle.wasm_operators_readers.proofs.LayoutLemmas.{roles_of-append, laid_encoded, both_encoded, path_begins, begins_walk}
 
--- After operators that have encodings and an open path to the frames, a list that these frames allow begins an expression.
 pub allowed_begins : (before : List Operator) (frames : List FrameKind) (s : Source) (placed : Placed) → AreEncoded s.features before →
     OpenPath (roles_of before) frames → IsAllowedFrom frames s placed → IsPrefixAfter before s placed
 allowed_begins before frames s placed encodes path h =
@@ -31,7 +30,6 @@ allowed_begins before frames s placed encodes path h =
           (both_encoded s.features before (operators placed) encodes (laid_encoded s.features s.offset placed h.beginning h.laid));
     }
 
--- A list that begins an expression is allowed by the frames.
 pub begins_allowed : (before : List Operator) (frames : List FrameKind) (s : Source) (placed : Placed) → OpenPath (roles_of before) frames →
     IsPrefixAfter before s placed → IsAllowedFrom frames s placed
 begins_allowed before frames s placed path h =

@@ -1,4 +1,4 @@
--- A missing feature and a wrong frame: when they are reported, and that they are reported in no other case.
+-- A missing feature and a wrong frame are reported if and only if they occur.
 use Rattle.std.proofs.Common.{◌≡◌, ℕ, ◌+◌, ◌<◌, List, [], ◌∷◌, Ok, None, inl, inr, refl, sym, subst, ap, ◌∙◌, arith}
 use Rattle.wasm_decode.specs.below.bytes.features.WasmFeatures.{WasmFeatures}
 use Rattle.wasm_decode.specs.below.bytes.message.FrameName.{FrameName}
@@ -17,7 +17,6 @@ use Rattle.wasm_decode.specs.opcodes.OperatorFaults.{LacksFeature, EntryFault, O
 use Rattle.wasm_operators_readers.specs.Guarded.{BeginsGuarded}
 use Rattle.wasm_operators_readers.proofs.Messages.{end_unguarded, subopcode_unguarded, free_unguarded, kinds_unguarded}
 
--- What a caller learns from a missing feature, and from a wrong frame.
 abbrev pub Lacking : WasmFeatures → InstructionName → Reader → ℕ → Type 0
 Lacking f name r offset = (g : Guard) × BeginsGuarded g r × LacksFeature f g × (name ≡ guarded_instruction g) × (offset ≡ offset_of r)
 
@@ -26,7 +25,6 @@ Misplaced f k name needed r offset =
     (g : Guard) × BeginsGuarded g r × (¬ LacksFeature f g) × (¬ Allows k (guarded_role g)) × (name ≡ guarded_instruction g) × (needed ≡ needed_frame g) ×
     (offset ≡ offset_of r + 1)
 
--- The offset after the opcode.
 after_code : (r new : Reader) (code : ℕ) → Reads IsByte (Ok code) r new → offset_of new ≡ offset_of r + 1
 after_code r new code reads =
     let t = (first_byte_read r new code reads).2 in
@@ -73,7 +71,6 @@ pub misplaced_only : (f : WasmFeatures) (k : FrameKind) (name : InstructionName)
 misplaced_only f k name needed r offset (inl h) = absurd (end_unguarded (message.WrongFrame name needed) r offset h.1)
 misplaced_only f k name needed r offset (inr (code, new, reads, h)) = misplaced_entry f k name needed r new offset code (entry_at None code) refl reads h
 
--- The opcode of a guarded operator is read.
 code_read : (r : Reader) (code : ℕ) → code < 256 → BeginsWith code (rest r) → Reads IsByte (Ok code) r (at_position r (r.position + 1))
 code_read r code small first = (code ∷ [], (refl, small), advanced r (at_position r (r.position + 1)) code first refl)
 

@@ -44,7 +44,6 @@ pub roles_of-ends : (n : ℕ) → roles_of (replicate n operator.End) ≡ replic
 roles_of-ends zero = refl
 roles_of-ends (suc n) = ap (λ roles. ends ∷ roles) (roles_of-ends n)
 
--- Operators with an open path begin an expression.
 pub path_begins : (f : WasmFeatures) (ops : List Operator) (frames : List FrameKind) → OpenPath (roles_of ops) frames → AreEncoded f ops → Begins f ops
 path_begins f ops frames path encodes =
     let n = length frames in
@@ -97,7 +96,6 @@ opcode_some : (prefix : Option ℕ) (code : ℕ) (head : List ℕ) → EncodesOp
 opcode_some None code head h = let n : length head ≡ 1 = ap length h in omega (arith, n)
 opcode_some (Some prefix) code head h = let n : length head ≡ length (prefix ∷ h.0) = ap length h.1 in omega (arith, n)
 
--- An encoding has at least one byte.
 pub encoded_some : (f : WasmFeatures) (op : Operator) (text : List ℕ) → EncodesOperator f op text → 1 ≤ length text
 encoded_some f op text s =
     let c = opcode_some (prefix_of op) (opcode_of op) s.head s.code in
@@ -111,7 +109,6 @@ none_some (b ∷ text) more e some = absurd (cc e)
 pub not_empty : (f : WasmFeatures) (op : Operator) (text more : List ℕ) → EncodesOperator f op text → [] ≡ text ++ more → ⊥
 not_empty f op text more s e = none_some text more e (encoded_some f op text s)
 
--- After a list that all of the bytes encode, no operator follows.
 pub laid_no_longer : (f : WasmFeatures) (offset : ℕ) (ps qs : Placed) (a b y : List ℕ) → LaidOut f offset ps a → LaidOut f offset qs b → a ++ [] ≡ b ++ y →
     length qs ≤ length ps
 laid_no_longer f offset ps qs a b y l m e =
@@ -120,7 +117,6 @@ laid_no_longer f offset ps qs a b y l m e =
       | inr le ↦ le
     ]
 
--- Two lists of one length at the start of the same bytes are equal.
 pub laid_same : (f : WasmFeatures) (offset : ℕ) (ps qs : Placed) (a b x y : List ℕ) → LaidOut f offset ps a → LaidOut f offset qs b → a ++ x ≡ b ++ y →
     length ps ≡ length qs → (ps ≡ qs) × (a ≡ b) × (x ≡ y)
 laid_same f offset [] [] a b x y l m e n = (refl, l ∙ sym m, ap (λ z. z ++ x) (sym l) ∙ e ∙ ap (λ z. z ++ y) m)
@@ -135,7 +131,6 @@ laid_same f offset (p ∷ ps) (q ∷ qs) a b x y (eo, t, r, ea, s, l) (eo2, t2, 
     let g = laid_same f (offset + length t) ps qs r r2 x y l m2 tail (cc n) in
     (cc (same, g.0), ea ∙ cc (h.1, g.1) ∙ sym eb, g.2)
 
--- One list after another.
 pub laid_append : (f : WasmFeatures) (offset : ℕ) (ps qs : Placed) (a b : List ℕ) → LaidOut f offset ps a → LaidOut f (offset + length a) qs b →
     LaidOut f offset (ps ++ qs) (a ++ b)
 laid_append f offset [] qs a b l m =
@@ -152,7 +147,6 @@ laid_append f offset (p ∷ ps) qs a b (eo, text, more, ea, s, l) m =
       laid_append f (offset + length text) ps qs more b l (subst (λ n. LaidOut f n qs b) n m),
     )
 
--- If two lists are encoded at the start of the same bytes, the list that is not longer is a prefix of the other.
 pub laid_beginning : (f : WasmFeatures) (offset : ℕ) (ps qs : Placed) (a b x y : List ℕ) → LaidOut f offset ps a → LaidOut f offset qs b → a ++ x ≡ b ++ y →
     length ps ≤ length qs → IsBeginningOf ps qs
 laid_beginning f offset ps qs a b x y l m e le =
@@ -161,7 +155,6 @@ laid_beginning f offset ps qs a b x y l m e le =
       | inr ge ↦ ([], sym (laid_same f offset ps qs a b x y l m e (omega arith)).0 ∙ sym (append-nil ps))
     ]
 
--- The longest list is unique.
 pub one_longest : (Kept : OfPlaced) (before : List Operator) (s : Source) (first second : Placed) → IsLongestOf Kept before s first →
     IsLongestOf Kept before s second → first ≡ second
 one_longest Kept before s first second p q =
@@ -170,7 +163,6 @@ one_longest Kept before s first second p q =
     (laid_same s.features s.offset first second p.beginning.beginning q.beginning.beginning p.beginning.more q.beginning.more p.beginning.laid q.beginning.laid
     (sym p.beginning.parts ∙ q.beginning.parts) (omega arith)).0
 
--- An operator that follows a list, in a longer list that the frames allow, is allowed there.
 pub next_allowed : (f : WasmFeatures) (frames there end : List FrameKind) (placed others : Placed) (after : List ℕ) →
     frames_along frames (roles_of (operators placed)) ≡ Some there → frames_along frames (roles_of (operators others)) ≡ Some end →
     (g : GoesOn f placed others after) → frames_after there (role_of g.next.0) ≡ None → ⊥
@@ -183,7 +175,6 @@ next_allowed f frames there end placed others after e d g none =
     let b = bound (λ frames. frames_along frames (roles_of (operators g.others))) (frames_after there (role_of g.next.0)) end along in
     cc (none, b.1)
 
--- An operator that follows the list, in a list that begins an expression, is allowed there.
 pub goes_allowed : (before : List Operator) (f : WasmFeatures) (ps qs : Placed) (after : List ℕ) (frames : List FrameKind) →
     OpenPath (roles_of (before ++ operators ps)) frames → BeginsWalk (roles_of (before ++ operators qs)) → (g : GoesOn f ps qs after) →
     frames_after frames (role_of g.next.0) ≡ None → ⊥
@@ -207,7 +198,6 @@ not_longer_whole before f offset ps qs a b x y l m walk (tree, walked) e =
       | inr le ↦ le
     ]
 
--- No encoding of the rest of an expression is a proper prefix of another, and an encoding belongs to one list.
 pub one_whole : (before : List Operator) (f : WasmFeatures) (offset : ℕ) (ps qs : Placed) (a b x y : List ℕ) → LaidOut f offset ps a → LaidOut f offset qs b →
     IsWalk (roles_of (before ++ operators ps)) → IsWalk (roles_of (before ++ operators qs)) → a ++ x ≡ b ++ y → (ps ≡ qs) × (a ≡ b)
 one_whole before f offset ps qs a b x y l m walk others e =

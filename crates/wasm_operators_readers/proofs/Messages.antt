@@ -1,4 +1,5 @@
--- An operator's errors have messages of reading values. A missing feature and a wrong frame are reported for guarded operators only.
+-- An operator's errors have messages of reading values. A missing feature and a wrong frame are
+-- reported for guarded operators only.
 use Rattle.std.proofs.Common.{◌≡◌, ◌≢◌, ℕ, zero, suc, inl, inr, List, [], ◌∷◌, Option, Some, None, true, false, sym, subst}
 use Rattle.wasm_decode.specs.below.bytes.features.WasmFeatures.{WasmFeatures}
 use Rattle.wasm_decode.specs.below.bytes.message.LeadingByteName.{LeadingByteName}
@@ -38,7 +39,6 @@ use Rattle.wasm_decode.specs.opcodes.Entries.{entry_at}
 use Rattle.wasm_decode.specs.opcodes.Kinds.{EncodesKind}
 use Rattle.wasm_decode.specs.opcodes.OperatorFaults.{KindFault, KindsFault, FreeFault, SubopcodeFault, unknown_message, GuardFault, EntryFault, OperatorFault, ScalarOperatorFault}
 
--- A message of reading values that concerns no feature and no frame.
 abbrev pub IsUnguarded : Message → Type 0
 IsUnguarded (message.FeatureRequired _) = ⊥
 IsUnguarded (message.WrongFrame _ _) = ⊥
@@ -49,11 +49,9 @@ read_fault (message.FeatureRequired _) h = absurd h
 read_fault (message.WrongFrame _ _) h = absurd h
 read_fault _ h = h
 
--- Every error of this kind has such a message.
 abbrev pub Unguarded : (Message → Reader → ℕ → Type 0) → Type 0
 Unguarded Fault = (m : Message) (r : Reader) (offset : ℕ) → Fault m r offset → IsUnguarded m
 
--- The message is this one.
 one : (m reported : Message) → IsUnguarded reported → m ≡ reported → IsUnguarded m
 one m reported h e = subst IsUnguarded (sym e) h
 
@@ -78,8 +76,6 @@ byte_unguarded : (IsWrong : ℕ → Type 0) (refusal : ℕ → Message) (place :
 byte_unguarded IsWrong refusal place is m r offset (inl h) = end_unguarded m r offset h
 byte_unguarded IsWrong refusal place is m r offset (inr (byte, _, _, e, _)) = one m (refusal byte) (is byte) e
 
--- ---- numbers
-
 number_unguarded : (width : ℕ) → Unguarded (λ m r offset. NumberFault m width r offset)
 number_unguarded width message.EndOfData r offset h = tt
 number_unguarded width (message.IntegerTooLong _) r offset h = tt
@@ -100,8 +96,6 @@ s33_unguarded _ r offset h = absurd h.0
 count_unguarded : (name : SizeName) (limit : ℕ) → Unguarded (CountFault name limit)
 count_unguarded name limit (message.SizeOutOfBounds _) r offset h = tt
 count_unguarded name limit m r offset h = number_unguarded 32 m r offset h.0.0
-
--- ---- types
 
 short_unguarded : (name : TypeName) → Unguarded (ShortFault name)
 short_unguarded name message.EndOfData r offset h = tt
@@ -129,8 +123,6 @@ ref_unguarded m r offset (inr (_, h)) = short_unguarded type_name.ReferenceType 
 val_unguarded : Unguarded ValTypeFault
 val_unguarded m r offset (inl (byte, _, _, h)) = ref_unguarded m r offset h
 val_unguarded m r offset (inr (_, h)) = one_byte_unguarded type_name.ValueType m r offset h
-
--- ---- control
 
 block_unguarded : Unguarded BlockTypeFault
 block_unguarded m r offset (inl (byte, _, _, h)) = val_unguarded m r offset h
@@ -174,8 +166,6 @@ try_unguarded =
     then_unguarded EncodesBlockType BlockTypeFault (λ ty. ListFault size_name.Catches max_catches EncodesCatch CatchFault) block_unguarded
     (λ ty. list_unguarded size_name.Catches max_catches EncodesCatch CatchFault catch_unguarded)
 
--- ---- memory
-
 index_unguarded : (feature f : WasmFeatures) → Unguarded (IndexFault feature f)
 index_unguarded feature f m r offset (inl (_, h)) = u32_unguarded m r offset h
 index_unguarded feature f m r offset (inr (_, h)) = byte_unguarded (λ byte. byte ≢ 0) (λ byte. message.ZeroByteExpected) (offset_of r) (λ byte. tt) m r offset h
@@ -212,8 +202,6 @@ flags_unguarded f k flags start =
 memarg_unguarded : (f : WasmFeatures) (k : MemArgKind) → Unguarded (MemArgFault f k)
 memarg_unguarded f k m r offset h =
     then_unguarded (EncodesUnsigned 32) U32Fault (λ flags. FlagsFault f k flags (offset_of r)) u32_unguarded (λ flags. flags_unguarded f k flags (offset_of r)) m r offset h
-
--- ---- operators
 
 kind_unguarded : (f : WasmFeatures) (start : ℕ) (k : Kind) → Unguarded (KindFault f start k)
 kind_unguarded f start is_unsigned_32 = u32_unguarded
@@ -252,7 +240,6 @@ free_unguarded f start p code (free ks) m r offset h = kinds_unguarded f start k
 free_unguarded f start p code prefixes m r offset h = absurd h
 free_unguarded f start p code (guarded g ks) m r offset h = absurd h
 
--- The errors after a prefix byte.
 pub subopcode_unguarded : (f : WasmFeatures) (start code : ℕ) → Unguarded (ThenFault (EncodesUnsigned 32) U32Fault (SubopcodeFault f start code))
 subopcode_unguarded f start code =
     then_unguarded (EncodesUnsigned 32) U32Fault (SubopcodeFault f start code) u32_unguarded (λ sub. free_unguarded f start (Some code) sub (entry_at (Some code) sub))

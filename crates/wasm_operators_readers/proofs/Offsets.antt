@@ -1,4 +1,3 @@
--- The offsets of errors, and the positions of readers.
 use Rattle.std.proofs.Common.{◌≡◌, ℕ, ◌+◌, ◌-◌, ◌≤◌, List, length, Err, inl, inr, sym, ap, ◌∙◌, length-append, length-drop, arith}
 use Rattle.wasm_decode.specs.below.bytes.error.Error.{Error}
 use Rattle.wasm_decode.specs.below.Source.{Reader, rest, offset_of, end_of, Takes, IsAhead}
@@ -21,7 +20,6 @@ pub run_ahead : (Encodes : Taking) (Fault : Refusing) (Allocates : Allocating) (
 run_ahead Encodes Fault Allocates e s (inl left) within = here s.reader e.offset within left.3
 run_ahead Encodes Fault Allocates e s (inr (some, stops)) within = read_ahead Encodes Fault Allocates e s stops within
 
--- After a read the reader is still within its data.
 pub took_within : (old new : Reader) (text : List ℕ) → Takes old new text → offset_of old ≤ end_of old →
     (offset_of old ≤ offset_of new) × (offset_of new ≤ end_of new) × (end_of new ≡ end_of old)
 took_within old new text takes within =

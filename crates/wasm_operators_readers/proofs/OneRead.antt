@@ -1,4 +1,3 @@
--- One read or visit of an operators reader.
 use Rattle.std.proofs.Common.{◌≡◌, ℕ, ◌+◌, ◌*◌, ◌<◌, ◌≤◌, List, [], ◌∷◌, ◌++◌, length, Option, Some, None, refl, sym, subst, ap, ◌∙◌, length-append, arith, ◌⊎◌, inl, inr}
 use Rattle.std.proofs.lemmas.List.{append-nil}
 use Rattle.wasm_decode.specs.below.bytes.error.Error.{Error}
@@ -24,13 +23,11 @@ pub is_memory : (m : Message) → (m ≡ message.OutOfMemory) ⊎ (m ≡ message
 is_memory message.OutOfMemory = inl refl
 is_memory _ = inr (λ e. cc e)
 
--- Unless allocation failed, the error allows that no bytes follow.
 pub may_end : (m : Message) → (m ≡ message.OutOfMemory → ⊥) → MayFollow m []
 may_end message.EndOfData other = refl
 may_end message.OutOfMemory other = absurd (other refl)
 may_end _ other = tt
 
--- An error about the next bytes stops a read, which leaves the reader and the frames as they were.
 pub stops_read : (Encodes : Taking) (Fault : Refusing) (Allocates : Allocating) (e : Error) (old new : State) (kind : FrameKind) → new.reader ≡ old.reader →
     new.frames ≡ old.frames → innermost old.frames ≡ Some kind → Refuses (Encodes old.reader.features kind) (rest old.reader) e.message →
     IsAhead old.reader e.offset → HasFault (Fault old.reader.features kind) e old.reader →
@@ -47,14 +44,12 @@ stops_read Encodes Fault Allocates e old new kind reader frames open_frame refus
       }))
     ]
 
--- A weaker condition for allocation failure admits the same errors.
 pub needs_more : (Encodes : Taking) (Fault : Refusing) (Allocates Others : Allocating) → ((s : State) → Allocates s → Others s) → (e : Error) (s : State) →
     StopsRead Encodes Fault Allocates e s → StopsRead Encodes Fault Others e s
 needs_more Encodes Fault Allocates Others more e s (inl none) = inl none
 needs_more Encodes Fault Allocates Others more e s (inr (inl there)) = inr (inl there)
 needs_more Encodes Fault Allocates Others more e s (inr (inr memory)) = inr (inr (memory.0, memory.1, more s memory.2))
 
--- An error about the bytes, with these bytes after them, means that no operator which would be read is encoded there.
 pub refused_none : (Encodes : Taking) (Fault : Refusing) (e : Error) (s : State) (h : IsRefusedThere Encodes Fault e s) (after : List ℕ) →
     MayFollow e.message after → (text more : List ℕ) (op : Operator) → (Allows h.kind (role_of op) → Encodes s.reader.features h.kind text op) →
     rest s.reader ++ after ≡ text ++ more → frames_after s.frames (role_of op) ≡ None
@@ -64,13 +59,11 @@ refused_none Encodes Fault e s h after follow text more op taken eb = go (replac
     go None none = may_not_step s.frames h.kind (role_of op) h.open_frame none
     go (Some next) some = absurd (h.refuses after follow text more op (taken (IsSome_of (replacement h.kind (role_of op)) next some)) eb)
 
--- A step extends the open path.
 pub path_on : (before : List Operator) (op : Operator) (frames next : List FrameKind) → OpenPath (roles_of before) frames →
     frames_after frames (role_of op) ≡ Some next → OpenPath (roles_of (before ++ op ∷ [])) next
 path_on before op frames next path step =
     subst (λ roles. OpenPath roles next) (sym (roles_of-append before (op ∷ []))) (path_step frames (roles_of before) (role_of op) next path step)
 
--- A read consumes at least one byte.
 pub shorter : (Encodes : Taking) → IsSound Encodes → (op : Operator) (old new : State) → TakesOperator Encodes op old new →
     length (rest new.reader) < length (rest old.reader)
 shorter Encodes sound op old new t =
@@ -78,7 +71,6 @@ shorter Encodes sound op old new t =
     let b = encoded_some old.reader.features op t.text (sound old.reader.features t.kind t.text op t.encodes) in
     omega (arith, a, b)
 
--- The number of frames that a read adds, doubled, is at most the number of bytes that it consumes.
 pub read_depth : (Encodes : Taking) → IsSound Encodes → (op : Operator) (old new : State) (t : TakesOperator Encodes op old new) →
     2 * length new.frames ≤ 2 * length old.frames + length t.text
 read_depth Encodes sound op old new t =
@@ -86,7 +78,6 @@ read_depth Encodes sound op old new t =
     let b = after_length old.frames (role_of op) new.frames t.frames in
     omega (arith, a, b)
 
--- A read fails with the message that no frame is open only if none is.
 pub closed_read : (Encodes : Taking) (Fault : Refusing) (Allocates : Allocating) → IsReading Fault → (e : Error) (s : State) → StopsRead Encodes Fault Allocates e s →
     e.message ≡ message.OperatorsRemaining → s.frames ≡ []
 closed_read Encodes Fault Allocates reading e s (inl none) is = none.0
@@ -94,7 +85,6 @@ closed_read Encodes Fault Allocates reading e s (inr (inl there)) is =
     absurd (subst IsReadFault is (reading s.reader.features there.kind e.message s.reader e.offset there.fault))
 closed_read Encodes Fault Allocates reading e s (inr (inr memory)) is = absurd (cc (is, memory.0))
 
--- If no frame is open, a read fails with this message only, unless allocation fails.
 pub read_closed : (Encodes : Taking) (Fault : Refusing) (Allocates : Allocating) (e : Error) (s : State) → StopsRead Encodes Fault Allocates e s →
     (e.message ≡ message.OutOfMemory → ⊥) → s.frames ≡ [] → e.message ≡ message.OperatorsRemaining
 read_closed Encodes Fault Allocates e s (inl none) other closed = none.1
@@ -104,7 +94,6 @@ read_closed Encodes Fault Allocates e s (inr (inr memory)) other closed = absurd
 some_is : {X : Type 0} {x y : X} → Some x ≡ Some y → x ≡ y
 some_is e = cc e
 
--- If a read fails, unless allocation failed, another read of the same bytes and frames reads no operator.
 pub refused_not_taken : (Encodes : Taking) (Fault : Refusing) (Allocates : Allocating) (e : Error) (s t new : State) (op : Operator) → t.reader ≡ s.reader →
     t.frames ≡ s.frames → StopsRead Encodes Fault Allocates e s → (e.message ≡ message.OutOfMemory → ⊥) → TakesOperator Encodes op t new → ⊥
 refused_not_taken Encodes Fault Allocates e s t new op same_reader same_frames (inl none) other takes =
@@ -118,7 +107,6 @@ refused_not_taken Encodes Fault Allocates e s t new op same_reader same_frames (
     (append-nil (rest s.reader) ∙ ap rest (sym same_reader) ∙ takes.takes.parts)
 refused_not_taken Encodes Fault Allocates e s t new op same_reader same_frames (inr (inr memory)) other takes = other memory.0
 
--- Two errors about the same bytes and frames are the same, unless allocation failed.
 pub one_refusal : (Encodes : Taking) (Fault : Refusing) (Allocates : Allocating) → IsDetermined Fault → (d e : Error) (s t : State) → t.reader ≡ s.reader →
     t.frames ≡ s.frames → StopsRead Encodes Fault Allocates d s → StopsRead Encodes Fault Allocates e t → (d.message ≡ message.OutOfMemory → ⊥) →
     (e.message ≡ message.OutOfMemory → ⊥) → (d.message ≡ e.message) × (d.offset ≡ e.offset)

@@ -25,12 +25,10 @@ use Rattle.wasm_decode.specs.instr.ops.numeric.NumericOperator.TheVariants as nu
 use Rattle.wasm_operators_readers.specs.Expression.{Placed, operators, LaidOut}
 use Rattle.wasm_operators_readers.specs.Openings.{opened_by_role, opened_by, opened_along, LeadsFrame}
 
--- A block type has at least one byte: no bytes would be a prefix of a block type of one byte.
 block_some : (text : List ℕ) (ty : BlockType) → EncodesBlockType text ty → 1 ≤ length text
 block_some [] ty h = let p = block_prefix_code [] (0x40 ∷ []) (0x40 ∷ []) [] ty block_type.Empty h refl refl in absurd (cc p.0)
 block_some (b ∷ text) ty h = omega arith
 
--- An opcode and at least one byte after it.
 two_bytes : (code : ℕ) (text head after first more : List ℕ) → text ≡ head ++ after → head ≡ code ∷ [] → after ≡ first ++ more →
     1 ≤ length first → 2 * 1 ≤ length text
 two_bytes code text head after first more e h b some =
@@ -42,7 +40,6 @@ two_bytes code text head after first more e h b some =
 none_opened : (n : ℕ) → 2 * 0 ≤ n
 none_opened n = omega arith
 
--- The number of frames that an operator opens, doubled, is at most the number of its bytes.
 pub twice_opened : (f : WasmFeatures) (op : Operator) (text : List ℕ) → EncodesOperator f op text → 2 * opened_by op ≤ length text
 twice_opened f (operator.Block ty) text s =
     two_bytes 0x02 text s.head s.after s.immediates.0 s.immediates.1 s.parts s.code s.immediates.2 (block_some s.immediates.0 ty s.immediates.3)
@@ -78,7 +75,6 @@ mapped : {X Y : Type 0} (f : X → Y) (o : Option X) (y : Y) → option_map f o 
 mapped f None y e = absurd (cc e)
 mapped f (Some x) y e = (x, refl, some_is e)
 
--- The frames that replace a frame after a role.
 replaced_length : {A : Type 0} (kind : FrameKind) (role : Role A) (next : List FrameKind) → replacement kind role ≡ Some next →
     length next ≤ 1 + opened_by_role role
 replaced_length kind (plain a) next e = let n : length next ≡ 1 = ap length (sym (some_is e)) in omega (arith, n)
@@ -101,7 +97,6 @@ inside_length (first ∷ inside) kind role next e =
     let n : length next ≡ 1 + length m.0 = sym (ap length m.2) ∙ omega arith in
     omega (arith, h, n)
 
--- A role opens at most this many frames.
 pub after_length : {A : Type 0} (frames : List FrameKind) (role : Role A) (next : List FrameKind) → frames_after frames role ≡ Some next →
     length next ≤ length frames + opened_by_role role
 after_length [] role next e = absurd (cc e)
@@ -116,7 +111,6 @@ along_length (p ∷ ps) frames next e =
     let others = along_length ps b.0 next b.2 in
     omega (arith, first, others)
 
--- The first byte of an operator: its opcode or its prefix byte.
 abbrev pub first_byte : Option ℕ → ℕ → ℕ
 first_byte None code = code
 first_byte (Some prefix) code = prefix
@@ -177,14 +171,12 @@ led_by byte (inr (inr (inl is))) = ap leads_frame is
 led_by byte (inr (inr (inr (inl is)))) = ap leads_frame is
 led_by byte (inr (inr (inr (inr is)))) = ap leads_frame is
 
--- An operator that opens a frame starts with the opcode of such an operator.
 pub opener_leads : (f : WasmFeatures) (op : Operator) (text : List ℕ) → EncodesOperator f op text → 0 < opened_by op →
     (byte : ℕ) × BeginsWith byte text × LeadsFrame byte
 opener_leads f op text s some =
     let byte = first_byte (prefix_of op) (opcode_of op) in
     (byte, begins_encoding f op text s, leads_of byte (led (leads_frame byte) (subst (λ n. 0 < n) (opened_by_first op) some)))
 
--- An operator that starts with such an opcode opens a frame.
 pub leads_opener : (f : WasmFeatures) (op : Operator) (text : List ℕ) (byte : ℕ) → EncodesOperator f op text → BeginsWith byte text → LeadsFrame byte →
     opened_by op ≡ 1
 leads_opener f op text byte s (more, e) leads =

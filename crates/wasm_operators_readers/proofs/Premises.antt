@@ -1,5 +1,4 @@
--- The properties of a decoder that the lemmas about reads require of its relations: which bytes encode an operator that is read,
--- and which error is returned if there is none.
+-- What the lemmas about reads require of a decoder's relations.
 use Rattle.std.proofs.Common.{◌≡◌, ℕ, List, ◌∷◌, ◌++◌}
 use Rattle.wasm_decode.specs.below.bytes.features.WasmFeatures.{WasmFeatures}
 use Rattle.wasm_decode.specs.below.bytes.message.Message.{Message}
@@ -31,11 +30,9 @@ Everything op = Unit {0}
 abbrev pub IsNoVector : Operator → Type 0
 IsNoVector op = IsVector op → ⊥
 
--- Each operator that is encoded and allowed is read.
 abbrev pub TakesAll : Taking → Type 0
 TakesAll Encodes = TakesEach Everything Encodes
 
--- Each operator of the list is of this sort.
 abbrev pub AreEach : (Operator → Type 0) → OfPlaced
 AreEach Sort placed = (before after : Placed) (p : Operator × ℕ) → placed ≡ before ++ p ∷ after → Sort p.0
 
@@ -44,19 +41,15 @@ pub record Keeps (Sort : Operator → Type 0) (Kept : OfPlaced) (Encodes : Takin
   pub takes : TakesEach Sort Encodes
   pub each : (placed : Placed) → Kept placed → AreEach Sort placed
 
--- No SIMD operator is read.
 abbrev pub TakesNoVector : Taking → Type 0
 TakesNoVector Encodes = (f : WasmFeatures) (kind : FrameKind) (text : List ℕ) (op : Operator) → Encodes f kind text op → IsVector op → ⊥
 
--- The error has a message of reading a value.
 abbrev pub IsReading : Refusing → Type 0
 IsReading Fault = (f : WasmFeatures) (kind : FrameKind) (m : Message) (r : Reader) (offset : ℕ) → Fault f kind m r offset → IsReadFault m
 
--- The error is determined.
 abbrev pub IsDetermined : Refusing → Type 0
 IsDetermined Fault = (f : WasmFeatures) (kind : FrameKind) → DeterminesRefusal (Fault f kind)
 
--- The prefix byte of SIMD operators has a separate error.
 abbrev pub RefusesVectors : Refusing → Type 0
 RefusesVectors Fault = (f : WasmFeatures) (kind : FrameKind) (m : Message) (r : Reader) (offset : ℕ) → Fault f kind m r offset → BeginsWith 0xfd (rest r) →
     m ≡ message.UnexpectedSimd

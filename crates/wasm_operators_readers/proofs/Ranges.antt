@@ -6,7 +6,6 @@ use Rattle.wasm_decode.specs.instr.declared.operator.Operator.{Operator}
 use Rattle.wasm_operators_readers.specs.Expression.{Placed, LaidOut, EndsAt}
 use Rattle.wasm_operators_readers.proofs.LayoutLemmas.{encoded_some}
 
--- An encoded list is no longer than its bytes.
 pub laid_length : (f : WasmFeatures) (offset : ℕ) (placed : Placed) (bytes : List ℕ) → LaidOut f offset placed bytes → length placed ≤ length bytes
 laid_length f offset [] bytes l = omega arith
 laid_length f offset (p ∷ ps) bytes (at, text, more, parts, encodes, others) =
@@ -15,7 +14,6 @@ laid_length f offset (p ∷ ps) bytes (at, text, more, parts, encodes, others) =
     let whole : length bytes ≡ length text + length more = ap length parts ∙ length-append text more in
     omega (arith, one, few, whole)
 
--- The bytes of the join of two lists, split in two.
 pub laid_parts : (f : WasmFeatures) (offset : ℕ) (first second : Placed) (bytes : List ℕ) → LaidOut f offset (first ++ second) bytes →
     (a b : List ℕ) × (bytes ≡ a ++ b) × LaidOut f offset first a × LaidOut f (offset + length a) second b
 laid_parts f offset [] second bytes l =
@@ -41,14 +39,12 @@ last_end f offset p bytes (at, text, more, parts, encodes, none) =
     let empty : length more ≡ 0 = ap length none in
     (text, encodes, omega (arith, whole, empty, at))
 
--- Each operator ends where the next starts.
 pub next_range : (f : WasmFeatures) (offset : ℕ) (before after : Placed) (p q : Operator × ℕ) (bytes : List ℕ) →
     LaidOut f offset (before ++ p ∷ q ∷ after) bytes → EndsAt f p q.1
 next_range f offset before after p q bytes l =
     let parts = laid_parts f offset before (p ∷ q ∷ after) bytes l in
     next_end f (offset + length parts.0) after p q parts.1 parts.4
 
--- The last operator ends where the bytes end.
 pub last_range : (f : WasmFeatures) (offset : ℕ) (before : Placed) (p : Operator × ℕ) (bytes : List ℕ) → LaidOut f offset (before ++ p ∷ []) bytes →
     EndsAt f p (offset + length bytes)
 last_range f offset before p bytes l =
@@ -57,7 +53,6 @@ last_range f offset before p bytes l =
     let end : offset + length parts.0 + length parts.1 ≡ offset + length bytes = omega (arith, whole) in
     subst (EndsAt f p) end (last_end f (offset + length parts.0) p parts.1 parts.4)
 
--- That is the position of the reader after it.
 pub last_read : (old new : Reader) (before : Placed) (p : Operator × ℕ) (text : List ℕ) → Takes old new text →
     LaidOut old.features (offset_of old) (before ++ p ∷ []) text → EndsAt old.features p (offset_of new)
 last_read old new before p text takes l =

@@ -1,4 +1,3 @@
--- A role and its step change the frames identically.
 use Rattle.std.proofs.Common.{◌≡◌, List, [], ◌∷◌, refl, ap}
 use Rattle.std.specs.Option.{option_map}
 use Rattle.wasm_decode.specs.grammar.declared.frame_kind.FrameKind.{FrameKind}

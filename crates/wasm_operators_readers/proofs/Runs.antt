@@ -38,7 +38,6 @@ ran_start s = record { text = []; takes = takes_none s.reader; laid = refl; fram
 pub features_stay : (old new : Reader) (text : List ℕ) → Takes old new text → new.features ≡ old.features
 features_stay old new text t = ap (λ (r : Reader). r.features) t.moved
 
--- A run of one read.
 pub ran_one : (Encodes : Taking) → IsSound Encodes → (old new : State) (op : Operator) → TakesOperator Encodes op old new →
     TakesOperators old new ((op, offset_of old.reader) ∷ [])
 ran_one Encodes sound old new op t = record {
@@ -50,7 +49,6 @@ ran_one Encodes sound old new op t = record {
   memory = little_longer (frame_memory old.frames old.room) (length old.frames) (length t.text) (frame_memory new.frames new.room) t.memory;
 }
 
--- Two runs, one after the other.
 pub ran_join : (old mid new : State) (first second : Placed) → TakesOperators old mid first → TakesOperators mid new second →
     TakesOperators old new (first ++ second)
 ran_join old mid new first second r t =
@@ -85,7 +83,6 @@ ran_push Encodes sound old mid new placed op r t =
 right-zero : (n : ℕ) → n + 0 ≡ n
 right-zero n = omega arith
 
--- A read that fails adds nothing.
 pub ran_unchanged : (old mid new : State) (placed : Placed) → TakesOperators old mid placed → IsUnchanged mid new → TakesOperators old new placed
 ran_unchanged old mid new placed r (reader, frames, room, memory) =
     record {
@@ -99,16 +96,13 @@ ran_unchanged old mid new placed r (reader, frames, room, memory) =
           (frame_memory new.frames new.room) r.memory memory (few_frames old.reader.features (offset_of old.reader) placed r.text old.frames mid.frames r.laid r.frames));
     }
 
--- A read that fails ends the run, if data was left.
 pub run_stops : (Encodes : Taking) (Fault : Refusing) (Allocates : Allocating) (e : Error) (mid new : State) → (rest mid.reader ≡ [] → ⊥) → IsUnchanged mid new →
     StopsRead Encodes Fault Allocates e new → StopsRun Encodes Fault Allocates e new
 run_stops Encodes Fault Allocates e mid new left same stops = inr (λ none. left (ap rest (sym same.0) ∙ none), stops)
 
--- No operator was read before a new reader.
 pub fresh_before : (s : State) → IsFresh s → ReadSoFar [] s
 fresh_before s fresh = record { encodes = tt; path = subst (OpenPath []) (sym fresh) path_start }
 
--- The operators before the reader, after more were read.
 pub read_further : (before : List Operator) (old new : State) (placed : Placed) → ReadSoFar before old → TakesOperators old new placed →
     ReadSoFar (before ++ operators placed) new
 read_further before old new placed h r =
@@ -121,7 +115,6 @@ read_further before old new placed h r =
       path = subst (λ roles. OpenPath roles new.frames) (sym (roles_of-append before (operators placed))) path;
     }
 
--- After a read, the operators before the reader are one more.
 pub read_one_more : (Encodes : Taking) → IsSound Encodes → (before : List Operator) (op : Operator) (old new : State) → TakesOperator Encodes op old new →
     ReadSoFar before old → ReadSoFar (before ++ op ∷ []) new
 read_one_more Encodes sound before op old new t h =
@@ -132,7 +125,6 @@ read_one_more Encodes sound before op old new t h =
       path = path_on before op old.frames new.frames h.path t.frames;
     }
 
--- If nothing changed, the operators before the reader are the same.
 pub read_no_further : (before : List Operator) (old new : State) → IsUnchanged old new → ReadSoFar before old → ReadSoFar before new
 read_no_further before old new same h =
     record {
@@ -140,14 +132,12 @@ read_no_further before old new same h =
       path = subst (OpenPath (roles_of before)) (sym same.1) h.path;
     }
 
--- The number of frames that one operator added, doubled, is at most the number of bytes that were read.
 pub taken_depth : (Encodes : Taking) → IsSound Encodes → (op : Operator) (old new : State) → TakesOperator Encodes op old new → IsWithinDepth old new
 taken_depth Encodes sound op old new t =
     let few = read_depth Encodes sound op old new t in
     let position : new.reader.position ≡ old.reader.position + length t.text = ap (λ (r : Reader). r.position) t.takes.moved in
     omega (arith, few, position)
 
--- A read consumes at least one byte.
 pub taken_ahead : (Encodes : Taking) → IsSound Encodes → (op : Operator) (old new : State) → TakesOperator Encodes op old new →
     offset_of old.reader < offset_of new.reader
 taken_ahead Encodes sound op old new t =
@@ -155,7 +145,6 @@ taken_ahead Encodes sound op old new t =
     let offset : offset_of new.reader ≡ offset_of old.reader + length t.text = ap offset_of t.takes.moved ∙ omega arith in
     omega (arith, some, offset)
 
--- The number of added frames, doubled, is at most the number of bytes that were read.
 pub run_depth : (old new : State) (placed : Placed) → TakesOperators old new placed → IsWithinDepth old new
 run_depth old new placed r =
     let a = twice_opened_along old.reader.features (offset_of old.reader) placed r.text r.laid in
@@ -163,7 +152,6 @@ run_depth old new placed r =
     let position : new.reader.position ≡ old.reader.position + length r.text = ap (λ (r : Reader). r.position) r.takes.moved in
     omega (arith, a, b, position)
 
--- If nothing is left, the run read all of the bytes.
 all_taken : (old new : State) (placed : Placed) (r : TakesOperators old new placed) → rest new.reader ≡ [] → r.text ≡ rest old.reader
 all_taken old new placed r all = sym (r.takes.parts ∙ ap (λ x. r.text ++ x) all ∙ append-nil r.text)
 
@@ -205,7 +193,6 @@ stuck Encodes Fault Allocates Kept takes (Ok x) s (closed, taken) other text mor
 stuck Encodes Fault Allocates Kept takes (Err e) s stops other text more op encodes kept eb =
     stuck_run Encodes Fault Allocates Kept takes e s stops other text more op encodes kept eb
 
--- What was read, by frames alone.
 pub ran_allowed : (old new : State) (placed : Placed) → TakesOperators old new placed → IsAllowedFrom old.frames (source_of old.reader) placed
 ran_allowed old new placed r =
     record {
@@ -216,7 +203,6 @@ ran_allowed old new placed r =
       allowed = IsSome_of (frames_along old.frames (roles_of (operators placed))) new.frames r.frames;
     }
 
--- If no operator of this sort may follow, the run read the longest list with the property.
 pub run_flat : (Sort : Operator → Type 0) (Kept : OfPlaced) → ((ps : Placed) → Kept ps → AreEach Sort ps) → (old new : State) (placed : Placed) →
     TakesOperators old new placed → Kept placed → IsStuckFor Sort new → IsFlatOf Kept old.frames (source_of old.reader) placed
 run_flat Sort Kept each old new placed r kept none = record { beginning = ran_allowed old new placed r; kept = kept; longest = not_longer }
@@ -242,7 +228,6 @@ pub beginning_of_run : (before : List Operator) (old new : State) (placed : Plac
 beginning_of_run before old new placed h r =
     allowed_begins before old.frames (source_of old.reader) placed h.encodes h.path (ran_allowed old new placed r)
 
--- A list that all of the bytes encode is the longest list.
 pub encoded_longest : (Kept : OfPlaced) (before : List Operator) (s : Source) (whole : Placed) → AreEncoded s.features before → EncodesRest before s whole →
     Kept whole → IsLongestOf Kept before s whole
 encoded_longest Kept before s whole encodes (laid, walked) kept =
@@ -260,7 +245,6 @@ encoded_longest Kept before s whole encodes (laid, walked) kept =
           laid_no_longer s.features s.offset whole others s.bytes other.beginning other.more laid other.laid (append-nil s.bytes ∙ other.parts);
     }
 
--- If the run read that list, all data was read and no frame is open.
 pub whole_run : (before : List Operator) (old new : State) (placed whole : Placed) → ReadSoFar before old → TakesOperators old new placed →
     EncodesRest before (source_of old.reader) whole → placed ≡ whole → (new.frames ≡ []) × (rest new.reader ≡ [])
 whole_run before old new placed whole h r (laid, walked) same =
@@ -272,14 +256,12 @@ whole_run before old new placed whole h r (laid, walked) same =
       (laid_same f o placed whole r.text (rest old.reader) (rest new.reader) [] r.laid laid both (ap length same)).2,
     )
 
--- No error is returned if all frames are closed and all data was read.
 pub no_refusal : (Encodes : Taking) (Fault : Refusing) (Allocates : Allocating) (e : Error) (s : State) → StopsRun Encodes Fault Allocates e s → s.frames ≡ [] →
     rest s.reader ≡ [] → ⊥
 no_refusal Encodes Fault Allocates e s (inl left) closed all = left.1 closed
 no_refusal Encodes Fault Allocates e s (inr (left, stops)) closed all = left all
 
 module _ (Sort : Operator → Type 0) (Kept : OfPlaced) (Encodes : Taking) (Fault : Refusing) (Allocates : Allocating) (keeps : Keeps Sort Kept Encodes) where
-  -- The run read the longest list with the property, unless allocation failed.
   pub run_longest : (before : List Operator) (e : Error) (old new : State) (placed : Placed) → ReadSoFar before old → TakesOperators old new placed → Kept placed →
       StopsRun Encodes Fault Allocates e new → (e.message ≡ message.OutOfMemory → ⊥) → IsLongestOf Kept before (source_of old.reader) placed
   run_longest before e old new placed h r kept stops other =
@@ -303,7 +285,6 @@ module _ (Sort : Operator → Type 0) (Kept : OfPlaced) (Encodes : Taking) (Faul
         stops = stops;
       }
 
-  -- If the bytes encode the rest of an expression with the property, only allocation can fail.
   pub run_only : (before : List Operator) (e : Error) (old new : State) (placed whole : Placed) → ReadSoFar before old → TakesOperators old new placed →
       Kept placed → StopsRun Encodes Fault Allocates e new → EncodesRest before (source_of old.reader) whole → Kept whole → e.message ≡ message.OutOfMemory
   run_only before e old new placed whole h r kept stops encodes too =
@@ -318,20 +299,17 @@ module _ (Sort : Operator → Type 0) (Kept : OfPlaced) (Encodes : Taking) (Faul
             )
       ]
 
--- Finishing at the end of the data fails if frames are open.
 pub finish_left : (m : Message) (e : Error) (s : State) → e.message ≡ m → rest s.reader ≡ [] → e.offset ≡ offset_of s.reader →
     StopsFinish m (s.frames ≡ []) s.reader → FramesLeft e s
 finish_left message.FramesRemain e s is all at h = (all, h, is, at)
 finish_left message.UnexpectedData e s is all at h = absurd (h.1 all)
 finish_left _ e s is all at h = absurd h
 
--- The result of finishing at the end of the data.
 pub finish_ends : {X : Type 0} (Encodes : Taking) (Fault : Refusing) (Allocates : Allocating) (result : Result X Error) (s : State) → rest s.reader ≡ [] →
     Finishes result s → EndsRun Encodes Fault Allocates result s
 finish_ends Encodes Fault Allocates (Ok x) s all h = h
 finish_ends Encodes Fault Allocates (Err e) s all (at, h) = inl (finish_left e.message e s refl all at h)
 
--- One more operator at the end.
 pub pushed : (b : Bool) (new now old placed : Placed) (p q : Operator × ℕ) → new ≡ cond b (now ++ p ∷ []) now → b ≡ true → now ≡ old ++ placed → p ≡ q →
     new ≡ old ++ (placed ++ q ∷ [])
 pushed b new now old placed p q e eb en ep =

@@ -1,4 +1,3 @@
--- Two reads or visits from readers at one place with the same frames.
 use Rattle.std.proofs.Common.{◌≡◌, ℕ, ◌+◌, List, ◌++◌, length, Some, sym, subst, ap, ◌∙◌, inl, inr}
 use Rattle.wasm_decode.specs.below.bytes.error.Error.{Error}
 use Rattle.wasm_decode.specs.below.bytes.message.Message.TheVariants as message
@@ -17,7 +16,6 @@ use Rattle.wasm_operators_readers.proofs.Premises.{IsSound, IsDetermined}
 some_is : {X : Type 0} {x y : X} → Some x ≡ Some y → x ≡ y
 some_is e = cc e
 
--- They read the same operator, to the same place and frames.
 pub taken_same : (Encodes : Taking) → IsSound Encodes → (op other : Operator) (old new start end : State) → SameReaderAndFrames old start →
     TakesOperator Encodes op old new → TakesOperator Encodes other start end → (op ≡ other) × SameReaderAndFrames new end
 taken_same Encodes sound op other old new start end agree a b =
@@ -37,7 +35,6 @@ taken_same Encodes sound op other old new start end agree a b =
     let frames : end.frames ≡ new.frames = some_is (sym b.frames ∙ step ∙ a.frames) in
     (same.0, (reader, frames))
 
--- They fail identically, unless allocation fails, and nothing changes.
 pub stopped_same : (Encodes : Taking) (Fault : Refusing) → IsDetermined Fault → (d e : Error) (old new start end : State) → SameReaderAndFrames old start →
     StopsNext Encodes Fault d old new → (d.message ≡ message.OutOfMemory → ⊥) → StopsNext Encodes Fault e start end → (e.message ≡ message.OutOfMemory → ⊥) →
     (d.message ≡ e.message) × (d.offset ≡ e.offset) × SameReaderAndFrames new end
@@ -47,7 +44,6 @@ stopped_same Encodes Fault determined d e old new start end agree a other b othe
     let same = one_refusal Encodes Fault (NextMayAllocate Encodes) determined d e new end reader frames a.1 b.1 other others in
     (same.0, same.1, (reader, frames))
 
--- If one reads an operator, the other can fail with `OutOfMemory` only.
 pub taken_or_memory : (Encodes : Taking) (Fault : Refusing) (e : Error) (op : Operator) (old new start end : State) → SameReaderAndFrames old start →
     TakesOperator Encodes op old new → StopsNext Encodes Fault e start end → e.message ≡ message.OutOfMemory
 taken_or_memory Encodes Fault e op old new start end agree takes stops =

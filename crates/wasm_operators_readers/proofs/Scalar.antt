@@ -1,4 +1,5 @@
--- Lists without SIMD operators: their relation to the longest list, and the error at a SIMD operator.
+-- Lists without SIMD operators: their relation to the longest list, and the error at a SIMD
+-- operator.
 use Rattle.std.proofs.Common.{◌≡◌, ℕ, ◌+◌, ◌≤◌, Bool, true, false, cond, List, [], ◌∷◌, ◌++◌, length, Result, Ok, Err, IfErr, refl, sym, subst, ap, ◌∙◌, append_assoc, length-append, arith, ◌⊎◌, inl, inr}
 use Rattle.std.specs.Prelude.{◌↔◌}
 use Rattle.std.proofs.lemmas.Bool.{cases_lt}
@@ -29,7 +30,6 @@ use Rattle.wasm_operators_readers.proofs.Premises.{AreEach, IsNoVector, Keeps, R
 use Rattle.wasm_operators_readers.proofs.Runs.{features_stay, read_further, beginning_of_run, IsStuckFor, stuck_run}
 use Rattle.wasm_operators_readers.proofs.VisitLemmas.{no_vector_of, vector_of, scalar_begins, scalar_longest, scalar_none}
 
--- A scalar list has no SIMD operator.
 pub each_scalar : (placed : Placed) → IsScalar placed → AreEach IsNoVector placed
 each_scalar placed scalar before after p e vector = scalar_none placed p before after (scalar ∙ e) vector
 
@@ -37,7 +37,6 @@ either : (b : Bool) → (b ≡ true) ⊎ (b ≡ false)
 either true = inl refl
 either false = inr refl
 
--- If only SIMD operators may follow a run, an operator that follows it is a SIMD operator.
 next_vector : (before : List Operator) (old new : State) (placed longest : Placed) → ReadSoFar before old → (r : TakesOperators old new placed) →
     IsLongestAfter before (source_of old.reader) longest → IsStuckFor IsNoVector new →
     (g : GoesOn old.reader.features placed longest (rest new.reader)) → is_vector g.next.0 ≡ true
@@ -52,7 +51,6 @@ next_vector before old new placed longest h r l none g =
           )
     ]
 
--- The run and the longest list are the same, or the list goes on.
 run_and_longest : (before : List Operator) (old new : State) (placed longest : Placed) → ReadSoFar before old → (r : TakesOperators old new placed) →
     IsLongestAfter before (source_of old.reader) longest →
     (placed ≡ longest) ⊎ GoesOn old.reader.features placed longest (rest new.reader)
@@ -70,7 +68,6 @@ vector_byte : (op : Operator) → IsVector op → first_byte (prefix_of op) (opc
 vector_byte (operator.Simd op) is = refl
 vector_byte _ is = absurd is
 
--- If a SIMD operator ends the run, the error says so.
 pub scalar_vector : (Encodes : Taking) (Fault : Refusing) (Allocates : Allocating) → Keeps IsNoVector IsScalar Encodes → RefusesVectors Fault →
     (before : List Operator) (e : Error) (old new : State) (placed longest : Placed) → ReadSoFar before old → TakesOperators old new placed → IsScalar placed → StopsRun Encodes Fault Allocates e new →
     IsLongestAfter before (source_of old.reader) longest → (IsScalar longest → ⊥) → (e.message ≡ message.UnexpectedSimd) ⊎ (e.message ≡ message.OutOfMemory)
@@ -103,7 +100,6 @@ scalar_vector Encodes Fault Allocates keeps refuses before e old new placed long
         stopped (inr (some, inr (inl there))) = refuses new.reader.features there.kind e.message new.reader e.offset there.fault (led g other)
         stopped (inr (some, inr (inr memory))) = absurd (other memory.0)
 
--- The same for any result.
 pub scalar_refused : {X : Type 0} (Effect : OfPlaced) (Encodes : Taking) (Fault : Refusing) (Allocates : Allocating) →
     ((placed : Placed) → Effect placed → IsScalar placed) → Keeps IsNoVector IsScalar Encodes → RefusesVectors Fault → (r : Result X Error)
     (before : List Operator) (old new : State) → RunsToEnd Effect Encodes Fault Allocates r old new → ReadSoFar before old → (longest : Placed) →
@@ -113,9 +109,6 @@ scalar_refused Effect Encodes Fault Allocates kept keeps refuses (Ok x) before o
 scalar_refused Effect Encodes Fault Allocates kept keeps refuses (Err e) before old new (placed, effect, ran, stops) h longest l vectors =
     scalar_vector Encodes Fault Allocates keeps refuses before e old new placed longest h ran (kept placed effect) stops l vectors
 
--- ---- the longest list without SIMD operators, from the longest list
-
--- A prefix of the bytes encodes the first of two lists.
 laid_first : (f : WasmFeatures) (offset : ℕ) (ps qs : Placed) (bytes : List ℕ) → LaidOut f offset (ps ++ qs) bytes →
     (a b : List ℕ) × (bytes ≡ a ++ b) × LaidOut f offset ps a
 laid_first f offset [] qs bytes l = ([], bytes, refl, refl)
@@ -127,7 +120,6 @@ laid_first f offset (p ∷ ps) qs bytes (at, text, more, parts, encodes, l) =
       (at, text, others.0, refl, encodes, others.3),
     )
 
--- The first of two lists begins an expression if their join does.
 begins_first : (before : List Operator) (s : Source) (ps qs : Placed) → IsPrefixAfter before s (ps ++ qs) → IsPrefixAfter before s ps
 begins_first before s ps qs h =
     let a = laid_first s.features s.offset ps qs h.beginning h.laid in
@@ -147,7 +139,6 @@ begins_first before s ps qs h =
       );
     }
 
--- The frames allow it.
 allowed_first : (frames : List FrameKind) (s : Source) (ps qs : Placed) → IsAllowedFrom frames s (ps ++ qs) → IsAllowedFrom frames s ps
 allowed_first frames s ps qs h =
     let a = laid_first s.features s.offset ps qs h.beginning h.laid in
@@ -167,7 +158,6 @@ allowed_first frames s ps qs h =
 begins_length : (ps qs : Placed) → IsBeginningOf ps qs → length ps ≤ length qs
 begins_length ps qs (more, e) = let n : length qs ≡ length ps + length more = ap length e ∙ length-append ps more in omega (arith, n)
 
--- The scalar prefix of a list is scalar.
 pub scalar_is_scalar : (ps : Placed) → IsScalar (scalar_beginning ps)
 scalar_is_scalar [] = refl
 scalar_is_scalar (p ∷ ps) = go (is_vector p.0) refl (scalar_is_scalar ps)
@@ -177,7 +167,6 @@ scalar_is_scalar (p ∷ ps) = go (is_vector p.0) refl (scalar_is_scalar ps)
     go true is h = refl
     go false is h = ap (λ c. cond c [] (p ∷ scalar_beginning (scalar_beginning ps))) is ∙ ap (λ (z : Placed). p ∷ z) h
 
--- The scalar prefix of the longest list is the longest list without SIMD operators.
 scalar_longest_of : (before : List Operator) (s : Source) (longest : Placed) → IsLongestAfter before s longest →
     IsLongestOf IsScalar before s (scalar_beginning longest)
 scalar_longest_of before s longest l =
@@ -197,14 +186,12 @@ scalar_exactly before s longest placed l = (
   λ same. subst (IsLongestOf IsScalar before s) (sym same) (scalar_longest_of before s longest l),
 )
 
--- Each list without SIMD operators that begins an expression is a prefix of it.
 pub scalar_part : (before : List Operator) (s : Source) (longest placed : Placed) → IsLongestAfter before s longest → IsPrefixAfter before s placed →
     IsScalar placed → IsBeginningOf placed (scalar_beginning longest)
 scalar_part before s longest placed l h scalar =
     scalar_longest longest placed (laid_beginning s.features s.offset placed longest h.beginning l.beginning.beginning h.more l.beginning.more h.laid
     l.beginning.laid (sym h.parts ∙ l.beginning.parts) (l.longest placed h tt)) scalar
 
--- The same by frames alone.
 pub scalar_flat : (frames : List FrameKind) (s : Source) (flat : Placed) → IsFlatFrom frames s flat → IsFlatOf IsScalar frames s (scalar_beginning flat)
 scalar_flat frames s flat l =
     let part = scalar_begins flat in
@@ -216,7 +203,6 @@ scalar_flat frames s flat l =
           (sym other.parts ∙ l.beginning.parts) (l.longest others other tt)) scalar);
     }
 
--- All of the bytes encode it and it closes every frame, if and only if both hold for the list and the list is scalar.
 pub scalar_closes : (frames : List FrameKind) (s : Source) (flat : Placed) → IsFlatFrom frames s flat →
     ClosesFrom frames s (scalar_beginning flat) ↔ (ClosesFrom frames s flat × IsScalar flat)
 scalar_closes frames s flat l = (

@@ -33,7 +33,6 @@ step_by_first (operator.Numeric op) = numeric_stays op
 step_by_first operator.Unreachable = refl
 step_by_first _ = refl
 
--- The step of an operator's first byte is the step of its role.
 pub leading_step : (f : WasmFeatures) (op : Operator) (text : List ℕ) (byte : ℕ) → EncodesOperator f op text → BeginsWith byte text →
     step_at byte ≡ step_of (role_of op)
 leading_step f op text byte s (more, e) =
@@ -41,7 +40,6 @@ leading_step f op text byte s (more, e) =
     let same : byte ≡ first_byte (prefix_of op) (opcode_of op) = cc (sym e ∙ h.1) in
     ap step_at same ∙ step_by_first op
 
--- The same for the first byte of the rest, from which the operator was read.
 pub step_there : (f : WasmFeatures) (op : Operator) (text more left : List ℕ) (byte : ℕ) → EncodesOperator f op text → left ≡ text ++ more →
     BeginsWith byte left → step_at byte ≡ step_of (role_of op)
 step_there f op text more left byte s e (others, d) =
@@ -50,7 +48,6 @@ step_there f op text more left byte s e (others, d) =
     let same : byte ≡ first_byte (prefix_of op) (opcode_of op) = cc whole in
     ap step_at same ∙ step_by_first op
 
--- The steps of the bytes after the first ones.
 abbrev from_9 : ℕ → FrameStep
 from_9 byte = cond (eqb byte 0x1f) step.OpensTryTable step.Stays
 
@@ -78,7 +75,6 @@ from_2 byte = cond (eqb byte 0x04) step.OpensIf (from_3 byte)
 abbrev from_1 : ℕ → FrameStep
 from_1 byte = cond (eqb byte 0x03) step.OpensLoop (from_2 byte)
 
--- Each byte in turn.
 at_byte : (byte n : ℕ) (first no_step : FrameStep) (P : Type 0) → Opens (cond (eqb byte n) first no_step) → (byte ≡ n → Opens first → P) →
     (Opens no_step → P) → P
 at_byte byte n first no_step P h is other = go (eqb byte n) refl h
@@ -87,7 +83,6 @@ at_byte byte n first no_step P h is other = go (eqb byte n) refl h
     go true e h = is (eqb-true byte n e) h
     go false e h = other h
 
--- A step that opens a frame belongs to an opcode of such an operator.
 pub opens_leads : (byte : ℕ) → Opens (step_at byte) → LeadsFrame byte
 opens_leads byte h =
     at_byte byte 0x02 step.OpensBlock (from_1 byte) (LeadsFrame byte) h (λ is _. inl is) (λ h.
@@ -101,7 +96,6 @@ opens_leads byte h =
     at_byte byte 0x19 step.TurnsCatchAll (from_9 byte) (LeadsFrame byte) h (λ is h. absurd h) (λ h.
     at_byte byte 0x1f step.OpensTryTable step.Stays (LeadsFrame byte) h (λ is _. inr (inr (inr (inr is)))) (λ h. absurd h))))))))))
 
--- A step opens a frame if and only if its role does.
 opened_by_step : {A : Type 0} (role : Role A) → Opens (step_of role) → opened_by_role role ≡ 1
 opened_by_step (opens block a) h = refl
 opened_by_step (opens loop a) h = refl
@@ -115,14 +109,12 @@ opened_by_step turns_catch_all h = absurd h
 opened_by_step (delegates depth) h = absurd h
 opened_by_step ends h = absurd h
 
--- A frame that allows an operator allows its step.
 pub step_allowed : (frames : List FrameKind) (kind : FrameKind) (op : Operator) (s : FrameStep) → innermost frames ≡ Some kind → Allows kind (role_of op) →
     s ≡ step_of (role_of op) → IsSome (frames_after frames (role_of_step s))
 step_allowed frames kind op s open_frame allows is =
     subst IsSome (stepped_same frames (role_of op) ∙ ap (λ (s : FrameStep). frames_after frames (role_of_step s)) (sym is))
     (may_step frames kind (role_of op) open_frame allows)
 
--- The frames after the step are the frames after the operator.
 pub step_frames : (frames next : List FrameKind) (op : Operator) (s : FrameStep) → s ≡ step_of (role_of op) →
     frames_after frames (role_of_step s) ≡ Some next → frames_after frames (role_of op) ≡ Some next
 step_frames frames next op s is e =
@@ -136,7 +128,6 @@ opens_or_not step.OpensIf P first none = first tt
 opens_or_not step.OpensTry P first none = first tt
 opens_or_not _ P first none = none (λ h. h)
 
--- A step uses no more of the capacity than its operator may.
 pub step_room : (op : Operator) (s : FrameStep) (old new : ℕ) → s ≡ step_of (role_of op) → old ≤ new + 1 → ((Opens s → ⊥) → old ≤ new) →
     old ≤ new + opened_by op
 step_room op s old new is used other =
@@ -144,7 +135,6 @@ step_room op s old new is used other =
     (λ h. let n : opened_by op ≡ 1 = opened_by_step (role_of op) (subst Opens is h) in omega (arith, n, used))
     (λ none. let le = other none in omega (arith, le))
 
--- An operator was read and the stack made its step.
 pub took_operator : (Encodes : Taking) (op : Operator) (old new : State) (kind : FrameKind) (text : List ℕ) (s : FrameStep) → innermost old.frames ≡ Some kind →
     Encodes old.reader.features kind text op → Takes old.reader new.reader text → s ≡ step_of (role_of op) →
     frames_after old.frames (role_of_step s) ≡ Some new.frames → old.room ≤ new.room + 1 → ((Opens s → ⊥) → old.room ≤ new.room) → GrowsLittle 0 old new →

@@ -22,7 +22,6 @@ use Rattle.wasm_operators_readers.proofs.Premises.{IsSound}
 use Rattle.wasm_operators_readers.proofs.StepLemmas.{step_allowed, step_there, took_operator, opens_leads}
 use Rattle.wasm_operators_readers.specs.Next.{NextMayAllocate, BeginsOperator}
 
--- The step of the opcode is the step of the operator.
 step_is : (Encodes : Taking) → IsSound Encodes → (f : WasmFeatures) (kind : FrameKind) (op : Operator) (text : List ℕ) (code start : ℕ) (mid new : Reader) →
     IsAfterCode start None code mid → Encodes f kind text op → Takes (at_position mid start) new text → step_at code ≡ step_of (role_of op)
 step_is Encodes sound f kind op text code start mid new b encodes takes = go b.opcode
@@ -32,7 +31,6 @@ step_is Encodes sound f kind op text code start mid new b encodes takes = go b.o
         let first : BeginsWith code (rest (at_position mid start)) = (rest mid, t.parts ∙ ap (λ z. z ++ rest mid) opcode) in
         step_there f op text (rest new) (rest (at_position mid start)) code (sound f kind text op encodes) takes.parts first
 
--- If an operator was decoded, the frame allows the step.
 pub begun_allows : (Encodes : Taking) → IsSound Encodes → ((f : WasmFeatures) (kind : FrameKind) (text : List ℕ) (op : Operator) → Encodes f kind text op → Allows kind (role_of op)) →
     (old mid : State) (kind : FrameKind) (code start : ℕ) (s : FrameStep) (op : Operator) (text : List ℕ) (new : Reader) → BeginsOperator old mid kind start code s →
     Encodes mid.reader.features kind text op → Takes (at_position mid.reader start) new text → IsSome (frames_after mid.frames (role_of_step s))
@@ -40,7 +38,6 @@ begun_allows Encodes sound allowed old mid kind code start s op text new b encod
     step_allowed mid.frames kind op s (ap innermost b.frames ∙ b.open_frame) (allowed mid.reader.features kind text op encodes)
     (b.step ∙ step_is Encodes sound mid.reader.features kind op text code start mid.reader new b.after encodes takes)
 
--- An operator was decoded, and the stack made its step.
 pub begun_took : (Encodes : Taking) → IsSound Encodes → (old mid new : State) (kind : FrameKind) (code start : ℕ) (s : FrameStep) (op : Operator) (text : List ℕ) →
     BeginsOperator old mid kind start code s → Encodes mid.reader.features kind text op → Takes (at_position mid.reader start) new.reader text →
     frames_after mid.frames (role_of_step s) ≡ Some new.frames → mid.room ≤ new.room + 1 → ((Opens s → ⊥) → mid.room ≤ new.room) →
@@ -55,7 +52,6 @@ begun_took Encodes sound old mid new kind code start s op text b encodes takes f
     (λ none. let h = other none in omega (arith, h, kept))
     (as_little (frame_memory old.frames old.room) (length old.frames) 10 (frame_memory mid.frames mid.room) (frame_memory new.frames new.room) b.memory same)
 
--- The next bytes are in error.
 pub refused_unchanged : (Encodes : Taking) (Fault : Refusing) (old new : State) (kind : FrameKind) (e : Error) → innermost old.frames ≡ Some kind →
     RefusesOperator (Encodes old.reader.features kind) (Fault old.reader.features kind) e old.reader new.reader → new.frames ≡ old.frames → old.room ≤ new.room →
     GrowsLittle 0 old new → IsUnchanged old new × StopsRead Encodes Fault (NextMayAllocate Encodes) e new
@@ -67,7 +63,6 @@ refused_unchanged Encodes Fault old new kind e open_frame (same, refused, fault)
           (λ m. let h = refused.memory m in (h.0, inr (kind, ap innermost frames ∙ open_frame, list h.1))),
     )
 
--- The bytes after the opcode are in error.
 pub begun_stopped : (Encodes : Taking) (Fault : Refusing) (old mid new : State) (kind : FrameKind) (code start : ℕ) (s : FrameStep) (e : Error) →
     BeginsOperator old mid kind start code s → RefusesOperator (Encodes mid.reader.features kind) (Fault mid.reader.features kind) e (at_position mid.reader start) new.reader →
     new.frames ≡ mid.frames → new.room ≡ mid.room → IsUnchanged old new × StopsRead Encodes Fault (NextMayAllocate Encodes) e new
@@ -80,7 +75,6 @@ begun_stopped Encodes Fault old mid new kind code start s e b refused frames roo
     (as_little (frame_memory old.frames old.room) (length old.frames) 10 (frame_memory mid.frames mid.room) (frame_memory new.frames new.room) b.memory
     (ap (λ (n : ℕ). frame_memory new.frames n) room ∙ ap (λ (fs : List FrameKind). frame_memory fs mid.room) frames))
 
--- The capacity can't grow for the frame that the next operator opens.
 pub room_refused : (Encodes : Taking) (Fault : Refusing) (old new : State) (kind : FrameKind) (code : ℕ) (e : Error) → innermost old.frames ≡ Some kind →
     new.reader ≡ old.reader → new.frames ≡ old.frames → old.room ≤ new.room → GrowsLittle 0 old new → BeginsWith code (rest old.reader) → Opens (step_at code) → new.room ≡ 0 → e.message ≡ message.OutOfMemory → e.offset ≡ offset_of old.reader →
     IsUnchanged old new × StopsRead Encodes Fault (NextMayAllocate Encodes) e new
@@ -93,7 +87,6 @@ room_refused Encodes Fault old new kind code e open_frame same frames room memor
   )),
 )
 
--- No frame is open.
 pub none_open : (Encodes : Taking) (Fault : Refusing) (s : State) (e : Error) → s.frames ≡ [] → e.message ≡ message.OperatorsRemaining →
     e.offset ≡ offset_of s.reader → IsUnchanged s s × StopsRead Encodes Fault (NextMayAllocate Encodes) e s
 none_open Encodes Fault s e closed is at = ((refl, refl, omega arith, memory_stays (frame_memory s.frames s.room) (length s.frames) 10), inl (closed, is, at))

@@ -1,4 +1,3 @@
--- Visitors' runs, and lists without SIMD operators, one after another.
 use Rattle.std.proofs.Common.{◌≡◌, ℕ, Bool, true, false, cond, List, [], ◌∷◌, ◌++◌, refl, sym, subst, ap, ◌∙◌}
 use Rattle.wasm_decode.specs.instr.declared.operator.Operator.{Operator}
 use Rattle.wasm_decode.specs.instr.declared.operator.Operator.TheVariants as operator
@@ -20,17 +19,14 @@ visit_run_append {V} {A} visits (p ∷ ps) qs xs ys before between after (first,
   visit_run_append visits ps qs others ys mid between after run more,
 )
 
--- Two runs, one after the other.
 pub visited_append : {V A : Type 0} (visits : V → Operator → A → V → Type 0) (ps qs : Placed) (before between after : V) →
     Visited visits before between ps → Visited visits between after qs → Visited visits before after (ps ++ qs)
 visited_append visits ps qs before between after (xs, run) (ys, more) =
     (xs ++ ys, visit_run_append visits ps qs xs ys before between after run more)
 
--- No visit.
 pub visited_start : {V A : Type 0} (visits : V → Operator → A → V → Type 0) (before : V) → Visited visits before before []
 visited_start visits before = ([], (refl, refl))
 
--- One more visit.
 pub visited_push : {V A : Type 0} (visits : V → Operator → A → V → Type 0) (ps : Placed) (op : Operator) (at : ℕ) (outcome : A) (before between after : V) →
     Visited visits before between ps → visits between op outcome after → Visited visits before after (ps ++ (op, at) ∷ [])
 visited_push visits ps op at outcome before between after run visit =
@@ -40,7 +36,6 @@ scalar_first : (b : Bool) (p : Operator × ℕ) (xs ps : Placed) → cond b [] (
 scalar_first true p xs ps e = absurd (cc e)
 scalar_first false p xs ps e = (refl, cc e)
 
--- After a list without SIMD operators, the scalar prefix goes on.
 pub scalar_append : (ps qs : Placed) → IsScalar ps → scalar_beginning (ps ++ qs) ≡ ps ++ scalar_beginning qs
 scalar_append [] qs h = refl
 scalar_append (p ∷ ps) qs h =
@@ -59,12 +54,10 @@ pub no_vector_of : (op : Operator) → is_vector op ≡ false → IsVector op �
 no_vector_of (operator.Simd op) e is = cc e
 no_vector_of _ e is = is
 
--- One more operator that is not a SIMD operator.
 pub scalar_push : (ps : Placed) (op : Operator) (at : ℕ) → IsScalar ps → (IsVector op → ⊥) → IsScalar (ps ++ (op, at) ∷ [])
 scalar_push ps op at h none =
     scalar_append ps ((op, at) ∷ []) h ∙ ap (λ b. ps ++ cond b [] ((op, at) ∷ [])) (not_vector op none)
 
--- The scalar prefix ends at a SIMD operator.
 pub scalar_stops : (ps qs : Placed) (p : Operator × ℕ) → IsScalar ps → is_vector p.0 ≡ true → scalar_beginning (ps ++ p ∷ qs) ≡ ps
 scalar_stops ps qs p h is =
     scalar_append ps (p ∷ qs) h ∙ ap (λ b. ps ++ cond b [] (p ∷ scalar_beginning qs)) is ∙ append_nil ps
@@ -77,7 +70,6 @@ begin_first : (b : Bool) (p : Operator × ℕ) (xs ps : Placed) → IsBeginningO
 begin_first true p xs ps h = (p ∷ ps, refl)
 begin_first false p xs ps h = (h.0, ap (λ (x : Placed). p ∷ x) h.1)
 
--- The scalar prefix is a prefix.
 pub scalar_begins : (ps : Placed) → IsBeginningOf (scalar_beginning ps) ps
 scalar_begins [] = ([], refl)
 scalar_begins (p ∷ ps) = begin_first (is_vector p.0) p (scalar_beginning ps) ps (scalar_begins ps)
@@ -91,13 +83,11 @@ no_vector_in false p xs [] after q is rest e vector =
     no_vector_of q.0 (ap (λ (r : Operator × ℕ). is_vector r.0) (sym same) ∙ is) vector
 no_vector_in false p xs (r ∷ before) after q is rest e vector = rest before after (cc e) vector
 
--- The scalar prefix has no SIMD operator.
 pub scalar_none : (ps : Placed) (q : Operator × ℕ) (before after : Placed) → scalar_beginning ps ≡ before ++ q ∷ after → IsVector q.0 → ⊥
 scalar_none [] q [] after e vector = absurd (cc e)
 scalar_none [] q (r ∷ before) after e vector = absurd (cc e)
 scalar_none (p ∷ ps) q before after e vector =
     no_vector_in (is_vector p.0) p (scalar_beginning ps) before after q refl (λ b a. scalar_none ps q b a) e vector
 
--- Every other prefix without SIMD operators is a prefix of it.
 pub scalar_longest : (ps others : Placed) → IsBeginningOf others ps → IsScalar others → IsBeginningOf others (scalar_beginning ps)
 scalar_longest ps others (more, e) h = (scalar_beginning more, ap scalar_beginning e ∙ scalar_append others more h)

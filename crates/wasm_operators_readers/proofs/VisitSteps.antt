@@ -18,23 +18,19 @@ use Rattle.wasm_operators_readers.proofs.Premises.{IsSound}
 use Rattle.wasm_operators_readers.specs.Next.{NextMayAllocate, BeginsOperator}
 use Rattle.wasm_operators_readers.proofs.Taken.{begun_allows, begun_took, begun_stopped}
 
--- What is read is allowed by the frame.
 abbrev pub TakesAllowed : Taking → Type 0
 TakesAllowed Encodes = (f : WasmFeatures) (kind : FrameKind) (text : List ℕ) (op : Operator) → Encodes f kind text op → Allows kind (role_of op)
 
 module _ {V A : Type 0} (visits : V → Operator → A → V → Type 0) (Encodes : Taking) (Fault : Refusing) where
-  -- What follows the opcode was decoded and visited, or is in error.
   abbrev pub After : State → State → FrameKind → ℕ → Result A Error → V → V → Type 0
   After mid new kind start result v w =
       Decodes visits (Encodes mid.reader.features kind) (Fault mid.reader.features kind) result (at_position mid.reader start) new.reader v w
 
-  -- The frame allows the step.
   pub step_allowed_after : IsSound Encodes → TakesAllowed Encodes → (old mid new : State) (kind : FrameKind) (code start : ℕ) (a : A) (v w : V) →
       BeginsOperator old mid kind start code (step_at code) → After mid new kind start (Ok a) v w → IsSome (frames_after mid.frames (role_of_step (step_at code)))
   step_allowed_after sound allowed old mid new kind code start a v w b (text, op, encodes, takes, visit) =
       begun_allows Encodes sound allowed old mid kind code start (step_at code) op text new.reader b encodes takes
 
-  -- The stack made the step.
   pub visited_with_step : IsSound Encodes → (old mid new : State) (kind : FrameKind) (code start : ℕ) (a : A) (v w : V) →
       BeginsOperator old mid kind start code (step_at code) → After mid new kind start (Ok a) v w →
       frames_after mid.frames (role_of_step (step_at code)) ≡ Some new.frames → mid.room ≤ new.room + 1 → ((Opens (step_at code) → ⊥) → mid.room ≤ new.room) →
@@ -42,14 +38,12 @@ module _ {V A : Type 0} (visits : V → Operator → A → V → Type 0) (Encode
   visited_with_step sound old mid new kind code start a v w b (text, op, encodes, takes, visit) frames opened other same =
       (op, begun_took Encodes sound old mid new kind code start (step_at code) op text b encodes takes frames opened other same, visit)
 
-  -- An error was returned; the frames stayed.
   pub refused_after : (old mid new : State) (kind : FrameKind) (code start : ℕ) (e : Error) (v w : V) → BeginsOperator old mid kind start code (step_at code) →
       After mid new kind start (Err e) v w → new.frames ≡ mid.frames → new.room ≡ mid.room →
       VisitsOperator visits Encodes Fault (NextMayAllocate Encodes) (Err e) old new v w
   refused_after old mid new kind code start e v w b (same, refused) frames room =
       let stops = begun_stopped Encodes Fault old mid new kind code start (step_at code) e b refused frames room in (stops.0, same, stops.1)
 
-  -- The opcode is 0x20 or more: with any result, the frames stayed.
   pub visited_from_20 : IsSound Encodes → TakesAllowed Encodes → (old mid new : State) (kind : FrameKind) (code start : ℕ) (result : Result A Error) (v w : V) →
       0x20 ≤ code → BeginsOperator old mid kind start code (step_at code) → After mid new kind start result v w → new.frames ≡ mid.frames → new.room ≡ mid.room →
       VisitsOperator visits Encodes Fault (NextMayAllocate Encodes) result old new v w

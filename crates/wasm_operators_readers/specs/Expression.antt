@@ -1,5 +1,4 @@
--- Lists of operators with their offsets: which bytes encode them, which lists are an expression, and which begin one.
--- WebAssembly Core Specification 3.0: Binary Format, Instructions, Expressions.
+-- Specification: Binary Format, Expressions.
 use Rattle.std.specs.Prelude.{◌≡◌, ℕ, ◌+◌, ◌≤◌, List, [], ◌∷◌, ◌++◌, length, map}
 use Rattle.wasm_decode.specs.below.bytes.features.WasmFeatures.{WasmFeatures}
 use Rattle.wasm_decode.specs.below.Source.{Source}
@@ -19,21 +18,21 @@ operators placed = map (λ p. p.0) placed
 abbrev pub OfPlaced : Type 1
 OfPlaced = Placed → Type 0
 
--- The property that every list has.
+-- The property of every list.
 abbrev pub IsAny : OfPlaced
 IsAny placed = Unit {0}
 
--- The bytes are the encodings of the operators, one after another, and each offset is that of the operator's first byte.
+-- The bytes encode the operators one after another, each at its offset.
 abbrev pub LaidOut : WasmFeatures → ℕ → Placed → List ℕ → Type 0
 LaidOut f offset [] bytes = bytes ≡ []
 LaidOut f offset (p ∷ ps) bytes = (p.1 ≡ offset) × (text more : List ℕ) × (bytes ≡ text ++ more) × EncodesOperator f p.0 text ×
     LaidOut f (offset + length text) ps more
 
--- The encoding of the operator, which starts at the operator's offset, ends before this offset.
+-- The encoding of the operator, from its offset, ends before this offset.
 abbrev pub EndsAt : WasmFeatures → Operator × ℕ → ℕ → Type 0
 EndsAt f p end = (text : List ℕ) × EncodesOperator f p.0 text × (end ≡ p.1 + length text)
 
--- The operators, in this order, are the walk of an expression.
+-- The operators are the walk of an expression.
 abbrev pub AreWalk : List Operator → Type 0
 AreWalk ops = IsWalk (roles_of ops)
 
@@ -42,11 +41,12 @@ abbrev pub AreEncoded : WasmFeatures → List Operator → Type 0
 AreEncoded f [] = Unit {0}
 AreEncoded f (op ∷ ops) = ((text : List ℕ) × EncodesOperator f op text) × AreEncoded f ops
 
--- More operators can follow these so that all of them are the walk of an expression and have encodings.
+-- The operators are a prefix of the walk of an expression, and all have encodings.
 abbrev pub Begins : WasmFeatures → List Operator → Type 0
 Begins f ops = (more : List Operator) × AreWalk (ops ++ more) × AreEncoded f (ops ++ more)
 
--- All of the bytes encode these operators, and the operators before followed by these are the walk of an expression.
+-- All of the bytes encode these operators. The operators before and these are the walk of an
+-- expression.
 abbrev pub EncodesRest : List Operator → Source → Placed → Type 0
 EncodesRest before s placed = LaidOut s.features s.offset placed s.bytes × AreWalk (before ++ operators placed)
 
@@ -54,7 +54,8 @@ EncodesRest before s placed = LaidOut s.features s.offset placed s.bytes × AreW
 abbrev pub EncodesExpression : Source → Placed → Type 0
 EncodesExpression s placed = EncodesRest [] s placed
 
--- A prefix of the bytes encodes these operators, and the operators before followed by these begin an expression.
+-- A prefix of the bytes encodes these operators, which begin an expression after the operators
+-- before.
 pub record IsPrefixAfter (before : List Operator) (s : Source) (placed : Placed) : Type 0 where
   pub beginning : List ℕ
   pub more : List ℕ
@@ -62,17 +63,18 @@ pub record IsPrefixAfter (before : List Operator) (s : Source) (placed : Placed)
   pub laid : LaidOut s.features s.offset placed beginning
   pub begins : Begins s.features (before ++ operators placed)
 
--- The longest list with the property `Kept` that a prefix of the bytes encodes and that begins an expression after the operators before.
+-- The longest `Kept` list that a prefix of the bytes encodes and that begins an expression after
+-- the operators before.
 pub record IsLongestOf (Kept : OfPlaced) (before : List Operator) (s : Source) (placed : Placed) : Type 0 where
   pub beginning : IsPrefixAfter before s placed
   pub kept : Kept placed
   pub longest : (others : Placed) → IsPrefixAfter before s others → Kept others → length others ≤ length placed
 
--- The longest list that a prefix of the bytes encodes and that, after the operators before, begins an expression.
+-- As `IsLongestOf`, for all lists.
 abbrev pub IsLongestAfter : List Operator → Source → Placed → Type 0
 IsLongestAfter before s placed = IsLongestOf IsAny before s placed
 
--- The longest list that a prefix of the bytes encodes and that begins an expression.
+-- As `IsLongestAfter`, with no operators before.
 abbrev pub IsLongestBeginning : Source → Placed → Type 0
 IsLongestBeginning s placed = IsLongestAfter [] s placed
 

@@ -1,4 +1,3 @@
--- Iterators over operators.
 use Rattle.std.specs.Prelude.{◌≡◌, ℕ, if◌then◌else◌, Bool, true, false, [], length, Option, None, Some, Result, Ok, Err, is_err, ◌⊎◌}
 use Rattle.std.specs.Iterator.{Count, at_most}
 use Rattle.wasm_decode.specs.below.bytes.error.Error.{Error}
@@ -12,7 +11,6 @@ abbrev pub ReadsNextPlaced : Result (Operator × ℕ) Error → State → State 
 ReadsNextPlaced (Ok placed) old new = ReadsNext (Ok placed.0) old new × (placed.1 ≡ offset_of old.reader)
 ReadsNextPlaced (Err e) old new = ReadsNext (Err e) old new
 
--- An iterator over operators: the reader, and whether a read failed.
 pub record Iterating : Type 0 where
   pub reader : State
   pub refused : Bool
@@ -21,16 +19,14 @@ pub record Iterating : Type 0 where
 abbrev pub iterating_over : State → Iterating
 iterating_over s = record { reader = s; refused = false }
 
--- No item follows: a read failed, or all data was read.
 abbrev pub HasEnded : Iterating → Type 0
 HasEnded i = (i.refused ≡ true) ⊎ (rest i.reader.reader ≡ [])
 
--- One step of an iterator that reads in this way. If the iterator has ended it returns nothing and nothing changes; otherwise it returns the result of one
--- read.
+-- A step of an iterator that reads in this way: nothing if it has ended, otherwise one read.
 abbrev pub StepsBy : {X : Type 0} → (Result X Error → State → State → Type 0) → Iterating → Option (Result X Error) → Iterating → Type 0
 StepsBy Reads old None new = HasEnded old × (new ≡ old)
 StepsBy Reads old (Some item) new = (HasEnded old → ⊥) × Reads item old.reader new.reader × (new.refused ≡ is_err item)
 
--- An iterator returns at most as many items as bytes are left, and none after an error.
+-- At most as many items as bytes are left, and none after an error.
 abbrev pub items_to_come : Iterating → Count
 items_to_come i = at_most (if i.refused then 0 else length (rest i.reader.reader))

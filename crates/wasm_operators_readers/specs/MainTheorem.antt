@@ -15,12 +15,13 @@ use Rattle.wasm_operators_readers.specs.Expression.{Placed, OfPlaced, operators,
 use Rattle.wasm_operators_readers.specs.Flat.{IsFlatOf}
 use Rattle.wasm_operators_readers.specs.Reading.{State, Taking, Refusing, Allocating, StopsRun}
 
--- The operators that were read before: they have encodings, and their open path leads to the reader's frames. For a new reader this list is empty.
+-- These operators were read before: they have encodings, and their open path leads to the frames.
 pub record ReadSoFar (before : List Operator) (s : State) : Type 0 where
   pub encodes : AreEncoded s.reader.features before
   pub path : OpenPath (roles_of before) s.frames
 
--- The operators that were read are the rest of the one expression that the bytes encode, and all bytes were read.
+-- The operators that were read complete the one expression that the bytes encode. No byte and no
+-- frame is left.
 pub record ReadsTree (before : List Operator) (old new : State) (placed : Placed) : Type 0 where
   pub encodes : EncodesRest before (source_of old.reader) placed
   pub tree : Expression Operator
@@ -29,14 +30,14 @@ pub record ReadsTree (before : List Operator) (old new : State) (placed : Placed
   pub all : rest new.reader ≡ []
   pub takes : Takes old.reader new.reader (rest old.reader)
 
--- The list that was read before an error: the longest list with the property `Kept` that begins an expression.
--- If allocation failed, it is some list that begins an expression.
+-- The list that was read before an error: the longest `Kept` list that begins an expression, or
+-- some list if allocation failed.
 abbrev pub BeginningAt : OfPlaced → Message → List Operator → Reader → Placed → Type 0
 BeginningAt Kept message.OutOfMemory before r placed = IsPrefixAfter before (source_of r) placed
 BeginningAt Kept _ before r placed = IsLongestOf Kept before (source_of r) placed
 
--- The operators that were read are the longest list with the property `Kept` that begins an expression.
--- The reader is after them, and the error describes the next bytes.
+-- The operators that were read are the longest `Kept` list that begins an expression; if allocation
+-- failed, some list that begins one. The error describes the next bytes.
 pub record ReadsBeginning (Kept : OfPlaced) (Encodes : Taking) (Fault : Refusing) (Allocates : Allocating) (before : List Operator) (e : Error) (old new : State)
     (placed : Placed) : Type 0 where
   pub at : BeginningAt Kept e.message before old.reader placed
@@ -46,34 +47,32 @@ pub record ReadsBeginning (Kept : OfPlaced) (Encodes : Taking) (Fault : Refusing
   pub read_so_far : ReadSoFar (before ++ operators placed) new
   pub stops : StopsRun Encodes Fault Allocates e new
 
--- For some list of operators, the effect `Effect` took place and the property `Of` holds.
+-- `Effect` holds for some list of operators with the property `Of`.
 abbrev pub SomeCame : OfPlaced → OfPlaced → Type 0
 SomeCame Effect Of = (placed : Placed) × Effect placed × Of placed
 
--- The result is not the error `OutOfMemory`.
 abbrev pub IsNotOutOfMemory : {X : Type 0} → Result X Error → Type 0
 IsNotOutOfMemory result = IfErr result (λ e. e.message ≢ message.OutOfMemory)
 
--- The list is encoded by all of the bytes, and closes all of these frames.
+-- All of the bytes encode the list, and it closes all of these frames.
 abbrev pub ClosesFrom : List FrameKind → Source → Placed → Type 0
 ClosesFrom frames s placed = LaidOut s.features s.offset placed s.bytes × (frames_along frames (roles_of (operators placed)) ≡ Some [])
 
--- Without trees, unless allocation fails: `Effect` is true for the longest list with the property `Kept` that the frames allow step by step.
--- The result is then `Ok` if and only if all of the bytes encode that list and it closes every frame.
+-- Without trees, unless allocation fails: `Effect` holds for the longest `Kept` list that the
+-- frames allow. `Ok` if and only if all of the bytes encode that list and it closes every frame.
 abbrev pub ReadsFlat : {X : Type 0} → OfPlaced → OfPlaced → Result X Error → State → Type 0
 ReadsFlat Effect Kept result old =
     (flat : Placed) → IsFlatOf Kept old.frames (source_of old.reader) flat → IsNotOutOfMemory result → Effect flat ×
     (IsOk result ↔ ClosesFrom old.frames (source_of old.reader) flat)
 
--- The number of added frames, doubled, is at most the number of bytes that were read.
+-- Each added frame takes at least two of the bytes that were read.
 abbrev pub IsWithinDepth : State → State → Type 0
 IsWithinDepth old new = 2 * length new.frames + old.reader.position ≤ 2 * length old.frames + new.reader.position
 
--- The same bytes, followed by more.
 abbrev pub with_after : Source → List ℕ → Source
 with_after s more = record { features = s.features; offset = s.offset; bytes = s.bytes ++ more }
 
--- With more bytes after them, the bytes encode the rest of an expression whose operators have the property `Kept`.
+-- With more bytes after them, the bytes encode the rest of a `Kept` expression.
 pub record IsCut (Kept : OfPlaced) (before : List Operator) (s : Source) : Type 0 where
   pub more : List ℕ
   pub some : more ≡ [] → ⊥
@@ -81,8 +80,8 @@ pub record IsCut (Kept : OfPlaced) (before : List Operator) (s : Source) : Type 
   pub encodes : EncodesRest before (with_after s more) whole
   pub kept : Kept whole
 
--- The error for bytes that are cut off, and the bytes that are then left: `FramesRemain` if all bytes were read and a frame is open.
--- It is `EndOfData` if the data ends within an operator, or `OutOfMemory`.
+-- The error for bytes that are cut off: `FramesRemain` after the last byte, `EndOfData` within an
+-- operator, or `OutOfMemory`.
 abbrev pub CutFault : Message → List ℕ → Type 0
 CutFault message.OutOfMemory left = Unit {0}
 CutFault message.FramesRemain left = left ≡ []
@@ -93,26 +92,28 @@ CutFault _ left = ⊥
 abbrev pub IsCompletedByEnds : List Operator → Source → ℕ → Type 0
 IsCompletedByEnds before s n = (whole : Placed) × EncodesRest before (with_after s (replicate n 0x0b)) whole
 
--- If the error is `FramesRemain`, then one byte 0x0b for each open frame completes the rest of an expression.
+-- If the error is `FramesRemain`, one byte 0x0b for each open frame completes the expression.
 abbrev pub IsCompletedIfCut : {X : Type 0} → List Operator → Result X Error → State → State → Type 0
 IsCompletedIfCut before result old new =
     IfErr result (λ e. e.message ≡ message.FramesRemain → IsCompletedByEnds before (source_of old.reader) (length new.frames))
 
--- What reading or visiting to the end does after the operators `before`. `Effect` is the effect on the list of operators: it was added to another list, or
--- visited.
--- `Kept` is the property of the lists that may be read: all lists, or the lists without SIMD operators.
+-- What reading or visiting to the end does after the operators `before`. `Effect`: the list was
+-- added to another, or visited. `Kept`: all lists, or those without SIMD operators.
 pub record ReadsRest {X : Type 0} (Effect Kept : OfPlaced) (Encodes : Taking) (Fault : Refusing) (Allocates : Allocating) (before : List Operator)
     (result : Result X Error) (old new : State) : Type 0 where
-  -- On `Ok`, the operators are the rest of the one expression that the bytes encode: the walk of its tree.
+  -- On `Ok`, the operators are the walk of the one tree that the bytes encode.
   pub tree : OnOk result (SomeCame Effect (ReadsTree before old new))
-  -- If the bytes encode the rest of an expression with the property `Kept`, the result is `Ok`, unless allocation fails.
+  -- If the bytes encode the rest of a `Kept` expression, only allocation can fail.
   pub only : (whole : Placed) → EncodesRest before (source_of old.reader) whole → Kept whole → IfErr result (λ e. e.message ≡ message.OutOfMemory)
-  -- On `Err`, the operators are the longest list with the property `Kept` that begins an expression, and the error describes the next bytes.
+  -- On `Err`, the operators are the longest `Kept` list that begins an expression, and the error
+  -- describes the next bytes.
   pub beginning : IfErr result (λ e. SomeCame Effect (ReadsBeginning Kept Encodes Fault Allocates before e old new))
-  -- If more bytes would complete such an expression, an error reports only the end of the data or an allocation failure.
+  -- If more bytes would complete such an expression, the error is the end of the data or an
+  -- allocation failure.
   pub cut : IsCut Kept before (source_of old.reader) → IfErr result (λ e. CutFault e.message (rest new.reader))
-  -- If all bytes were read and frames are open, one byte 0x0b for each of them completes the expression.
+  -- If all bytes were read and frames are open, one byte 0x0b for each completes the expression.
   pub completed : IsCompletedIfCut before result old new
-  -- If the longest list that begins an expression does not have the property `Kept`, an error is `UnexpectedSimd` or `OutOfMemory`.
+  -- If the longest list that begins an expression is not `Kept`, an error is `UnexpectedSimd` or
+  -- `OutOfMemory`.
   pub vector : (longest : Placed) → IsLongestAfter before (source_of old.reader) longest → (Kept longest → ⊥) →
       IfErr result (λ e. (e.message ≡ message.UnexpectedSimd) ⊎ (e.message ≡ message.OutOfMemory))

@@ -1,4 +1,5 @@
--- One read or visit of a reader of operators: which bytes it consumes, which errors it returns, and when allocation may fail.
+-- One read or visit of a reader of operators: the bytes it consumes, its errors, and when
+-- allocation may fail.
 use Rattle.std.specs.Prelude.{◌≡◌, ℕ, ◌<◌, ◌≤◌, [], Some, None, Result, ◌⊎◌}
 use Rattle.wasm_decode.specs.below.bytes.error.Error.{Error}
 use Rattle.wasm_decode.specs.grammar.declared.frame_kind.FrameKind.{FrameKind}
@@ -18,31 +19,32 @@ use Rattle.wasm_operators_readers.specs.Reading.{Taking, Refusing, Allocating, S
 abbrev pub ListMayAllocate : Taking → Allocating
 ListMayAllocate Encodes s = (kind : FrameKind) × (innermost s.frames ≡ Some kind) × MayAllocate (Encodes s.reader.features kind) s.reader
 
--- Allocation may fail for the frame that the next operator opens, if no capacity is left, or for the list that the operator owns.
+-- The next operator opens a frame without capacity for it, or owns a list.
 abbrev pub NextMayAllocate : Taking → Allocating
 NextMayAllocate Encodes s = FrameMayAllocate s ⊎ ListMayAllocate Encodes s
 
--- One read of an operator.
+-- `Ok` if and only if a prefix of the rest encodes an operator that the innermost frame allows,
+-- unless allocation fails. On `Ok`, `TakesOperator` holds; on `Err`, `StopsNext`.
 abbrev pub ReadsNext : Result Operator Error → State → State → Type 0
 ReadsNext = ReadsOperator EncodesAllowed OperatorFault (NextMayAllocate EncodesAllowed)
 
--- One visit by a visitor of all operators.
+-- As `ReadsNext`, for a visit, with the visitor's relation at the operator. On `Err`, the visitor
+-- is unchanged.
 abbrev pub VisitsNext : {V A : Type 0} → (V → Operator → A → V → Type 0) → Result A Error → State → State → V → V → Type 0
 VisitsNext visits = VisitsOperator visits EncodesAllowed OperatorFault (NextMayAllocate EncodesAllowed)
 
--- One visit by a visitor without SIMD operators.
+-- As `VisitsNext`, by a visitor without SIMD operators.
 abbrev pub VisitsNextScalar : {V A : Type 0} → (V → Operator → A → V → Type 0) → Result A Error → State → State → V → V → Type 0
 VisitsNextScalar visits = VisitsOperator visits EncodesScalar ScalarOperatorFault (NextMayAllocate EncodesScalar)
 
--- The state that consists of this reader and this stack of open frames.
 abbrev pub state_of : Reader → OpenFrames → State
 state_of r s = record { reader = r; frames = s.frames; room = s.room }
 
--- Nothing changed, except that the capacity may have grown, and the error describes the next bytes.
+-- Nothing but the capacity may have changed, and the error describes the next bytes.
 abbrev pub StopsNext : Taking → Refusing → Error → State → State → Type 0
 StopsNext Encodes Fault e old new = IsUnchanged old new × StopsRead Encodes Fault (NextMayAllocate Encodes) e new
 
--- The opcode of the next operator was read from the position `start`, and there is capacity for its step. Nothing else changed.
+-- The opcode was read from `start`, and there is capacity for its step.
 pub record BeginsOperator (old new : State) (kind : FrameKind) (start code : ℕ) (s : FrameStep) : Type 0 where
   pub open_frame : innermost old.frames ≡ Some kind
   pub after : IsAfterCode start None code new.reader

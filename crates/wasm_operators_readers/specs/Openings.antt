@@ -1,13 +1,11 @@
--- How many frames operators open, and their first bytes.
--- WebAssembly Core Specification 3.0: Binary Format, Instructions, Control Instructions.
--- The legacy exception handling proposal: try.
+-- How many frames operators open, and their first bytes. Specification: Binary Format, Control
+-- Instructions. Proposal legacy exception handling.
 use Rattle.std.specs.Prelude.{◌≡◌, ℕ, ◌+◌, [], ◌∷◌, ◌⊎◌}
 use Rattle.wasm_decode.specs.grammar.Role.{Role, opens, opens_if, opens_try}
 use Rattle.wasm_decode.specs.instr.declared.operator.Operator.{Operator}
 use Rattle.wasm_decode.specs.instr.Roles.{role_of}
 use Rattle.wasm_operators_readers.specs.Expression.{Placed}
 
--- How many more frames are open after a role, at most.
 abbrev pub opened_by_role : {A : Type 0} → Role A → ℕ
 opened_by_role (opens n a) = 1
 opened_by_role (opens_if a) = 1
@@ -18,7 +16,6 @@ opened_by_role _ = 0
 abbrev pub opened_by : Operator → ℕ
 opened_by op = opened_by_role (role_of op)
 
--- How many more frames are open after these operators, at most.
 abbrev pub opened_along : Placed → ℕ
 opened_along [] = 0
 opened_along (p ∷ ps) = opened_by p.0 + opened_along ps

@@ -1,6 +1,6 @@
--- A reader of operators, one read or visit, and several of them.
--- The definitions take three relations: which bytes encode an operator that is read, which error is returned, and when allocation may fail.
--- So they serve reads, visits, and visits without SIMD operators.
+-- A reader of operators, one read or visit, and several. Three relations are parameters: the
+-- encoding of an operator that is read, the error, and when allocation may fail. So the definitions
+-- serve reads, visits, and visits without SIMD operators.
 use Rattle.std.specs.Prelude.{◌≡◌, ℕ, ◌+◌, ◌≤◌, List, [], ◌∷◌, ◌++◌, length, Some, Result, Ok, Err, ◌⊎◌}
 use Rattle.wasm_decode.specs.below.bytes.error.Error.{Error}
 use Rattle.wasm_decode.specs.below.bytes.features.WasmFeatures.{WasmFeatures}
@@ -16,15 +16,16 @@ use Rattle.wasm_operators_readers.specs.Expression.{Placed, OfPlaced, operators,
 use Rattle.wasm_operators_readers.specs.Openings.{opened_by, opened_along, LeadsFrame}
 use Rattle.wasm_operators_readers.specs.Stack.{frame_memory, IsLittleMemory}
 
--- The bytes encode an operator that is read, with these features and in a frame of this kind.
+-- The bytes encode an operator that is read in a frame of this kind.
 abbrev pub Taking : Type 1
 Taking = WasmFeatures → FrameKind → List ℕ → Operator → Type 0
 
--- Which error is returned: its message, the reader, and the error's offset.
+-- The message and offset of a read's error.
 abbrev pub Refusing : Type 1
 Refusing = WasmFeatures → FrameKind → Message → Reader → ℕ → Type 0
 
--- The reader of the bytes, the open frames from the outermost to the innermost, and how many more can be opened without allocating.
+-- The reader of the bytes, the open frames from the outermost to the innermost, and how many more
+-- fit without allocating.
 pub record State : Type 0 where
   pub reader : Reader
   pub frames : List FrameKind
@@ -38,8 +39,8 @@ Allocating = State → Type 0
 abbrev pub IsFresh : State → Type 0
 IsFresh s = s.frames ≡ frame.Block ∷ []
 
--- After this many bytes, the memory of the frames is within a bound: not larger than before, or with space for two for each frame that was open,
--- one for each byte, and ten.
+-- After this many bytes, the memory is not larger than before, or has space for two for each frame
+-- that was open, one for each byte, and ten.
 abbrev pub GrowsLittle : ℕ → State → State → Type 0
 GrowsLittle bytes old new =
     IsLittleMemory (frame_memory old.frames old.room) (length old.frames) (bytes + 10) (frame_memory new.frames new.room)
@@ -48,12 +49,12 @@ GrowsLittle bytes old new =
 abbrev pub IsUnchanged : State → State → Type 0
 IsUnchanged old new = (new.reader ≡ old.reader) × (new.frames ≡ old.frames) × (old.room ≤ new.room) × GrowsLittle 0 old new
 
--- Two readers are at one place of the same bytes, with the same frames. Their capacities may differ.
+-- Two readers are at one place, with the same frames. Their capacities may differ.
 abbrev pub SameReaderAndFrames : State → State → Type 0
 SameReaderAndFrames first second = (second.reader ≡ first.reader) × (second.frames ≡ first.frames)
 
--- A prefix of the rest, which was read, encodes this operator, and the innermost frame allows it. An operator that opens a frame uses at most one of the
--- capacity.
+-- A prefix of the rest, which was read, encodes an operator that the innermost frame allows. The
+-- frames follow its role, and only opening a frame uses capacity, at most one.
 pub record TakesOperator (Encodes : Taking) (op : Operator) (old new : State) : Type 0 where
   pub kind : FrameKind
   pub open_frame : innermost old.frames ≡ Some kind
@@ -64,11 +65,10 @@ pub record TakesOperator (Encodes : Taking) (op : Operator) (old new : State) : 
   pub room : old.room ≤ new.room + opened_by op
   pub memory : GrowsLittle 0 old new
 
--- No frame is open.
 abbrev pub NoFrameOpen : Error → State → Type 0
 NoFrameOpen e s = (s.frames ≡ []) × (e.message ≡ message.OperatorsRemaining) × (e.offset ≡ offset_of s.reader)
 
--- No prefix of the rest encodes an operator that is read, and the error describes these bytes.
+-- No operator is encoded next, and the error describes the bytes.
 pub record IsRefusedThere (Encodes : Taking) (Fault : Refusing) (e : Error) (s : State) : Type 0 where
   pub kind : FrameKind
   pub open_frame : innermost s.frames ≡ Some kind
@@ -84,20 +84,20 @@ NoMemory Allocates e s = (e.message ≡ message.OutOfMemory) × (e.offset ≡ of
 abbrev pub Anywhere : Allocating
 Anywhere s = Unit {0}
 
--- Allocation may fail for the frame that the next operator opens inside the open ones: no capacity is left.
+-- The next operator opens a frame inside others, without capacity for it.
 abbrev pub FrameMayAllocate : Allocating
 FrameMayAllocate s = (kind : FrameKind) × (innermost s.frames ≡ Some kind) × (byte : ℕ) × BeginsWith byte (rest s.reader) × LeadsFrame byte × (s.room ≡ 0)
 
--- Why a read returns this error: no frame is open, no operator can be read, or allocation fails.
+-- No frame is open, no operator can be read, or allocation fails.
 abbrev pub StopsRead : Taking → Refusing → Allocating → Error → State → Type 0
 StopsRead Encodes Fault Allocates e s = NoFrameOpen e s ⊎ (IsRefusedThere Encodes Fault e s ⊎ NoMemory Allocates e s)
 
--- One read. On an error, the reasons hold for the state after the read.
+-- One read. On an error, the reasons hold for the state after it.
 abbrev pub ReadsOperator : Taking → Refusing → Allocating → Result Operator Error → State → State → Type 0
 ReadsOperator Encodes Fault Allocates (Ok op) old new = TakesOperator Encodes op old new
 ReadsOperator Encodes Fault Allocates (Err e) old new = IsUnchanged old new × StopsRead Encodes Fault Allocates e new
 
--- One visit, with the visitor before and after it. A read that fails makes no visit.
+-- One visit. A read that fails makes no visit.
 abbrev pub VisitsOperator : {V A : Type 0} → (V → Operator → A → V → Type 0) → Taking → Refusing → Allocating → Result A Error → State → State → V → V → Type 0
 VisitsOperator visits Encodes Fault Allocates (Ok a) old new before after = (op : Operator) × TakesOperator Encodes op old new × visits before op a after
 VisitsOperator visits Encodes Fault Allocates (Err e) old new before after = IsUnchanged old new × (after ≡ before) × StopsRead Encodes Fault Allocates e new
@@ -117,12 +117,13 @@ StopsFinish message.FramesRemain Closed r = Closed → ⊥
 StopsFinish message.UnexpectedData Closed r = Closed × (rest r ≡ [] → ⊥)
 StopsFinish _ Closed r = ⊥
 
--- The end of an expression: `Ok` if and only if its frames are closed, as `Closed` says, and all data was read.
+-- `Ok` if and only if the frames are closed, as `Closed` says, and all data was read.
 abbrev pub EndsExpression : {X : Type 0} → Result X Error → Type 0 → Reader → Type 0
 EndsExpression (Ok x) Closed r = Closed × (rest r ≡ [])
 EndsExpression (Err e) Closed r = (e.offset ≡ offset_of r) × StopsFinish e.message Closed r
 
--- The end of an expression for a reader that has a stack of open frames.
+-- `Ok` if and only if no frame is open and all data was read. The error, at the position, is
+-- `FramesRemain` or `UnexpectedData`.
 abbrev pub Finishes : {X : Type 0} → Result X Error → State → Type 0
 Finishes result s = EndsExpression result (s.frames ≡ []) s.reader
 
@@ -130,8 +131,8 @@ Finishes result s = EndsExpression result (s.frames ≡ []) s.reader
 abbrev pub FramesLeft : Error → State → Type 0
 FramesLeft e s = (rest s.reader ≡ []) × (s.frames ≡ [] → ⊥) × (e.message ≡ message.FramesRemain) × (e.offset ≡ offset_of s.reader)
 
--- Why reading to the end returns this error: frames are open at the end of the data,
--- or data is left and no operator can be read, or allocation fails.
+-- Frames are open at the end of the data; or data is left, and no operator can be read or
+-- allocation fails.
 abbrev pub StopsRun : Taking → Refusing → Allocating → Error → State → Type 0
 StopsRun Encodes Fault Allocates e s = FramesLeft e s ⊎ ((rest s.reader ≡ [] → ⊥) × StopsRead Encodes Fault Allocates e s)
 
@@ -143,7 +144,7 @@ EndsRun Encodes Fault Allocates (Err e) s = StopsRun Encodes Fault Allocates e s
 abbrev pub Adds : Placed → Placed → Placed → Type 0
 Adds out_old out_new placed = out_new ≡ out_old ++ placed
 
--- Reading or visiting to the end: which operators were read, the effect on them, and why reading ended.
+-- Reading or visiting to the end: the operators that were read, the effect, and the end.
 abbrev pub RunsToEnd : {X : Type 0} → OfPlaced → Taking → Refusing → Allocating → Result X Error → State → State → Type 0
 RunsToEnd Effect Encodes Fault Allocates result old new =
     (placed : Placed) × Effect placed × TakesOperators old new placed × EndsRun Encodes Fault Allocates result new

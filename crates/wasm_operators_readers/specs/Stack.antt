@@ -1,26 +1,28 @@
--- Open frames, and the capacity for more of them.
--- WebAssembly Core Specification 3.0: Appendix, Validation Algorithm, control frames.
+-- Specification: Appendix, Validation Algorithm.
 use Rattle.std.specs.Prelude.{◌≡◌, ℕ, ◌+◌, ◌-◌, ◌*◌, ◌<◌, ◌≤◌, List, [], length, max, ◌⊎◌}
 use Rattle.wasm_decode.specs.grammar.declared.frame_kind.FrameKind.{FrameKind}
 
--- The open frames, from the outermost to the innermost, and how many more can be opened without allocating.
+-- The open frames, from the outermost to the innermost, and how many more can be opened without
+-- allocating.
 pub record OpenFrames : Type 0 where
   pub frames : List FrameKind
   pub room : ℕ
 
--- One more frame can be opened without allocating: no frame is open, or there is capacity.
+-- One more frame can be opened without allocating.
 abbrev pub HasRoom : OpenFrames → Type 0
 HasRoom s = (s.frames ≡ []) ⊎ (0 < s.room)
 
--- For how many frames the memory has space: the open ones except the innermost, which is stored apart, and those that there is capacity for.
+-- How many frames the memory has space for. The innermost frame is stored apart.
 abbrev pub frame_memory : List FrameKind → ℕ → ℕ
 frame_memory frames room = (length frames - 1) + room
 
--- The memory is within a bound: it has space for at most as many frames as before, or for two for each of these and this many more.
+-- There is space for at most as many frames as before, or for two for each of these and this many
+-- more.
 abbrev pub IsLittleMemory : ℕ → ℕ → ℕ → ℕ → Type 0
 IsLittleMemory before frames more now = now ≤ max before (2 * frames + more)
 
--- With this many more frames wanted, the memory is within a bound: not larger than before, or with space for two for each open or wanted frame, and eight.
+-- The memory is not larger than before, or has space for two for each open or wanted frame, and
+-- eight.
 abbrev pub GrowsByDoubling : ℕ → OpenFrames → OpenFrames → Type 0
 GrowsByDoubling needed old new =
     IsLittleMemory (frame_memory old.frames old.room) (length old.frames + needed) 8 (frame_memory new.frames new.room)

@@ -1,7 +1,5 @@
--- The steps of the open frames: roles without what operators carry.
--- WebAssembly Core Specification 3.0: Structure, Instructions, Control Instructions; Appendix, Validation Algorithm, control frames.
--- The opcodes of step_at: Binary Format, Instructions, Control Instructions and Expressions.
--- The legacy exception handling proposal: try, catch, catch_all and delegate.
+-- Specification: Structure, Control Instructions; Appendix, Validation Algorithm. The opcodes of
+-- step_at: Binary Format, Control Instructions and Expressions. Proposal legacy exception handling.
 use Rattle.std.specs.Prelude.{ℕ, ◌==◌, if◌then◌else◌}
 use Rattle.wasm_decode.specs.grammar.Role.{Role, block, loop, try_table, plain, opens, opens_if, opens_try, turns_else, turns_catch, turns_catch_all, delegates, ends}
 use Rattle.wasm_operators_readers.specs.declared.step.FrameStep.{FrameStep}
@@ -35,7 +33,7 @@ role_of_step step.TurnsCatchAll = turns_catch_all
 role_of_step step.Delegates = delegates 0
 role_of_step step.Ends = ends
 
--- One more frame is open after the step.
+-- The step opens a frame.
 abbrev pub Opens : FrameStep → Type 0
 Opens step.OpensBlock = Unit {0}
 Opens step.OpensLoop = Unit {0}
@@ -44,7 +42,7 @@ Opens step.OpensIf = Unit {0}
 Opens step.OpensTry = Unit {0}
 Opens _ = ⊥
 
--- The step of the operators whose encoding starts with this byte.
+-- The step of the operators that start with this byte.
 abbrev pub step_at : ℕ → FrameStep
 step_at byte =
     if byte == 0x02 then step.OpensBlock else (

@@ -1,11 +1,10 @@
--- Visitors along lists of operators, and lists without SIMD operators.
--- WebAssembly Core Specification 3.0: Binary Format, Instructions, Vector Instructions.
+-- Specification: Binary Format, Vector Instructions.
 use Rattle.std.specs.Prelude.{◌≡◌, Bool, true, false, if◌then◌else◌, List, [], ◌∷◌}
 use Rattle.wasm_decode.specs.instr.declared.operator.Operator.{Operator}
 use Rattle.wasm_decode.specs.instr.declared.operator.Operator.TheVariants as operator
 use Rattle.wasm_operators_readers.specs.Expression.{Placed}
 
--- A visitor's run along a list: one visit for each operator, in order, with its result.
+-- One visit for each operator, in order, with its result.
 abbrev pub VisitRun : {V A : Type 0} → (V → Operator → A → V → Type 0) → V → Placed → List A → V → Type 0
 VisitRun visits before [] outcomes after = (outcomes ≡ []) × (after ≡ before)
 VisitRun {V} {A} visits before (p ∷ ps) outcomes after =
@@ -15,7 +14,6 @@ VisitRun {V} {A} visits before (p ∷ ps) outcomes after =
 abbrev pub Visited : {V A : Type 0} → (V → Operator → A → V → Type 0) → V → V → Placed → Type 0
 Visited {V} {A} visits before after placed = (outcomes : List A) × VisitRun visits before placed outcomes after
 
--- Whether the operator is a SIMD operator.
 abbrev pub is_vector : Operator → Bool
 is_vector (operator.Simd _) = true
 is_vector _ = false

@@ -1,4 +1,3 @@
-//! Memory for frames that are not open yet.
 ghost use Rattle.std.specs.Prelude.{◌≡◌, ◌≤◌, [], IsOk, OnOk, IfErr, max, vec_capacity};
 ghost use Rattle.wasm_decode.specs.imm.OutOfMemory.{IsOutOfMemoryAt};
 
@@ -7,8 +6,7 @@ use std::marker::Model;
 use wasm_decode::below::{Error, Message, Result};
 use wasm_decode::grammar::FrameKind;
 
-/// The memory of a reader of operators, which one reader after another can use. Contracts see for
-/// how many frames it has capacity.
+/// The memory of a reader of operators, for reuse. Contracts see its capacity in frames.
 #[derive(Debug, Drop)]
 pub struct OperatorsReaderAllocations {
     frames: Vec<FrameKind>,
@@ -26,7 +24,7 @@ impl Model for OperatorsReaderAllocations {
 }
 
 impl OperatorsReaderAllocations {
-    /// Creates allocations without capacity. Does not allocate.
+    /// Creates allocations without capacity.
     pub fn new(alloc: Global) -> OperatorsReaderAllocations
         ensures { result ≡ 0 }
     {
@@ -35,8 +33,7 @@ impl OperatorsReaderAllocations {
         }
     }
 
-    /// Reserves capacity for this many frames. Does not allocate if the capacity suffices;
-    /// otherwise allocates the capacity that is asked for and no more.
+    /// Reserves capacity for this many frames, and allocates no more than that.
     ///
     /// Fails with `OutOfMemory` at offset 0. Then nothing changes.
     pub fn reserve(&mut self, frames: usize) -> Result<()>
@@ -52,7 +49,6 @@ impl OperatorsReaderAllocations {
         Ok(())
     }
 
-    /// Takes the memory of this vector and drops the elements.
     pub(crate) fn from_frames(mut frames: Vec<FrameKind>) -> OperatorsReaderAllocations
         ensures { result ≡ vec_capacity frames }
     {
@@ -60,7 +56,6 @@ impl OperatorsReaderAllocations {
         OperatorsReaderAllocations { frames }
     }
 
-    /// Returns the memory as a vector without elements.
     pub(crate) fn into_frames(self) -> Vec<FrameKind>
         ensures empty { result.items ≡ [] }
         ensures room { vec_capacity result ≡ self }

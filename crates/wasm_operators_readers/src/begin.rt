@@ -1,5 +1,5 @@
-//! The steps before the immediates of an operator (its frame, its opcode, and capacity for its
-//! step), and the step after them.
+//! What precedes and follows the immediates of an operator: frame, opcode, capacity; the change of
+//! the frames.
 ghost use Rattle.std.specs.Prelude.{◌≡◌, ◌+◌, ◌≤◌, Some, IsSome, IfOk, IfErr};
 ghost use Rattle.wasm_decode.specs.grammar.Frames.{frames_after};
 ghost use Rattle.wasm_decode.specs.opcodes.Allowed.{EncodesAllowed, EncodesScalar};
@@ -14,7 +14,6 @@ use wasm_decode::below::{BinaryReader, Message, Result};
 use wasm_decode::grammar::FrameKind;
 use wasm_decode::no_frame;
 
-/// The innermost frame, the position at which the operator starts, and its opcode.
 #[derive(Clone, Copy, Debug)]
 pub struct OperatorStart {
     pub frame: FrameKind,
@@ -22,12 +21,10 @@ pub struct OperatorStart {
     pub code: u8,
 }
 
-/// Reads the opcode of the next operator, and reserves capacity for a frame if the operator opens
-/// one.
+/// Reads the opcode of the next operator, and reserves capacity for the frame that it opens.
 ///
-/// Fails with `OperatorsRemaining` if no frame is open, with `EndOfData` at the end of the data,
-/// and with `OutOfMemory` if the capacity can't grow. On an error the reader and the frames are
-/// unchanged.
+/// Fails with `OperatorsRemaining` if no frame is open, then with `EndOfData` or `OutOfMemory`. The
+/// reader and the frames are then unchanged.
 #[inline(always)]
 pub fn begin(reader: &mut BinaryReader<'_>, control: &mut ControlStack) -> Result<OperatorStart>
     ensures begun { IfOk result
@@ -58,10 +55,8 @@ pub fn begin(reader: &mut BinaryReader<'_>, control: &mut ControlStack) -> Resul
     }
 }
 
-/// Makes the step of an operator that was read.
-///
-/// The step is found again from the opcode, which is a constant where the operator is decoded. A
-/// stored step would need a branch to distinguish it.
+/// Makes the step of an operator that was read. The step is found again from the opcode, a constant
+/// where the operator is decoded; a stored step would need a branch.
 #[inline(always)]
 pub fn make_step(control: &mut ControlStack, code: u8)
     requires allowed { IsSome (frames_after control.old.frames (role_of_step (step_at code))) }

@@ -1,4 +1,3 @@
-//! The visitor that appends operators to a list.
 ghost use Rattle.std.specs.Prelude.{◌<◌, vec_capacity, vec_len};
 ghost use Rattle.wasm_decode.specs.instr.declared.operator.Operator.{Operator};
 ghost use Rattle.wasm_operators_readers.specs.Collecting.{CollectsOne};
@@ -8,10 +7,8 @@ use wasm_decode::visitors::{
     HoldOperator, HoldTable, VisitGroups, VisitOperator, VisitSimdOperator, Visitor,
 };
 
-/// A visitor that appends what is made of each operator to a list, with the offset that was set
-/// before the visit.
-///
-/// So the operator is made in place in the list, and no result is copied there.
+/// Appends an item, made of the operator, with the offset that was set before the visit. The item
+/// is made in place: no result is copied.
 #[derive(Drop)]
 pub struct Collector<T> {
     pub items: Vec<(T, u64)>,
@@ -21,7 +18,6 @@ pub struct Collector<T> {
 impl<T: HoldOperator + Drop> Visitor for Collector<T> {
     type Output = ();
 
-    // If the list has capacity, a visit appends one item, which is made of the operator.
     ghost visits = { λ before op outcome after. vec_len before.items < vec_capacity before.items
         → CollectsOne T.holds before.offset before.items.items op after.items.items };
 

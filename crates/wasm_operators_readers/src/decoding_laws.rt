@@ -1,4 +1,3 @@
-//! Laws about one read of an operator. Each is the contract of a function that does nothing.
 ghost use Rattle.std.specs.Prelude.{◌≡◌, ◌↔◌, ◌+◌, ℕ, []};
 ghost use Rattle.wasm_decode.specs.below.bytes.error.Error.{Error};
 ghost use Rattle.wasm_decode.specs.below.Refusal.{IsReadFault};
@@ -15,16 +14,16 @@ ghost use Rattle.wasm_operators_readers.specs.Reading.{State, StopsRead, StopsRu
 use wasm_decode::below::{FrameName, InstructionName, Message, WasmFeatures};
 use wasm_decode::grammar::FrameKind;
 
-/// States that no error of an operator has a message about frames, about data after the expression,
-/// or about allocation failure.
+/// States that no operator has an error about frames, about data after the expression, or about
+/// allocation.
 pub fn refusal_messages(features: WasmFeatures, frame: FrameKind)
     ensures any { (m : Message) (r : Reader) (offset : ℕ) → OperatorFault features frame m r offset → IsReadFault m }
     ensures scalar { (m : Message) (r : Reader) (offset : ℕ) → ScalarOperatorFault features frame m r offset
         → IsReadFault m }
 {}
 
-/// States that a visitor without SIMD operators fails with `UnexpectedSimd` at their prefix byte
-/// `0xfd`, and elsewhere like any other visitor.
+/// States that a visitor without SIMD operators fails with `UnexpectedSimd` at the byte `0xfd`, and
+/// otherwise like any visitor.
 pub fn vector_refusals(features: WasmFeatures, frame: FrameKind)
     ensures there { (m : Message) (r : Reader) (offset : ℕ) → ScalarOperatorFault features frame m r offset
         → BeginsWith 0xfd (rest r) → m ≡ Message.UnexpectedSimd }
@@ -33,7 +32,7 @@ pub fn vector_refusals(features: WasmFeatures, frame: FrameKind)
 {}
 
 /// States that `FeatureRequired` is returned if and only if the next operator is `try`, `catch` or
-/// `catch_all` without its feature. Its offset is that of the opcode.
+/// `catch_all` without its feature. The offset is that of the opcode.
 pub fn features_required(features: WasmFeatures, frame: FrameKind)
     ensures only { (name : InstructionName) (r : Reader) (offset : ℕ)
         → OperatorFault features frame (Message.FeatureRequired name) r offset
@@ -42,9 +41,9 @@ pub fn features_required(features: WasmFeatures, frame: FrameKind)
         → OperatorFault features frame (Message.FeatureRequired (guarded_instruction g)) r (offset_of r) }
 {}
 
-/// States that `WrongFrame` is returned for `else`, `catch`, `catch_all` and `delegate` only. It is
-/// returned if and only if the feature is enabled and the innermost frame does not allow the
-/// operator. Its offset is one byte after the opcode.
+/// States that `WrongFrame` is returned for `else`, `catch`, `catch_all` and `delegate` only, and
+/// if and only if the feature is enabled and the innermost frame does not allow the operator. The
+/// offset is one byte after the opcode.
 pub fn wrong_frames(features: WasmFeatures, frame: FrameKind)
     ensures only { (name : InstructionName) (needed : FrameName) (r : Reader) (offset : ℕ)
         → OperatorFault features frame (Message.WrongFrame name needed) r offset
@@ -54,9 +53,8 @@ pub fn wrong_frames(features: WasmFeatures, frame: FrameKind)
         → OperatorFault features frame (Message.WrongFrame (guarded_instruction g) (needed_frame g)) r (offset_of r + 1) }
 {}
 
-/// States that, when reading or visiting to the end fails, the message says whether a frame is
-/// open. Unless allocation fails, it is `OperatorsRemaining` if and only if no frame is open.
-/// It is `FramesRemain` if and only if a frame is open and all data was read.
+/// States which error reading to the end returns, unless allocation fails: `OperatorsRemaining` if
+/// and only if no frame is open, and `FramesRemain` if and only if one is and all data was read.
 pub fn run_messages()
     ensures closed { (e : Error) (s : State) → StopsRun EncodesAllowed OperatorFault Anywhere e s
         → (e.message ≡ Message.OutOfMemory → ⊥) → (e.message ≡ Message.OperatorsRemaining) ↔ (s.frames ≡ []) }
@@ -76,8 +74,8 @@ pub fn run_messages()
         → (e.message ≡ Message.FramesRemain) ↔ ((rest s.reader ≡ []) × (s.frames ≡ [] → ⊥)) }
 {}
 
-/// States that if an allocation fails, the next operator may allocate: it opens a frame for which
-/// no capacity is left, or it owns a list.
+/// States that if allocation fails, the next operator owns a list, or opens a frame without
+/// capacity for it.
 pub fn memory_asked()
     ensures read { (e : Error) (s : State) → StopsRead EncodesAllowed OperatorFault (NextMayAllocate EncodesAllowed) e s
         → e.message ≡ Message.OutOfMemory → NextMayAllocate EncodesAllowed s }

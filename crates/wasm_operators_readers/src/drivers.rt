@@ -1,4 +1,3 @@
-//! Reading and visiting to the end of the data.
 ghost use Rattle.std.specs.Prelude.{◌≡◌, ◌+◌, ◌<◌, List, ◌⊎◌, IfErr, vec_capacity, vec_len};
 ghost use Rattle.wasm_decode.specs.instr.declared.operator.Operator.{Operator};
 ghost use Rattle.wasm_decode.specs.opcodes.Allowed.{EncodesAllowed, EncodesScalar};
@@ -18,7 +17,6 @@ use wasm_decode::instr::Operator;
 use wasm_decode::visitors::{HoldTable, VisitOperator, VisitSimdOperator};
 
 impl<'a> OperatorsReader<'a> {
-    /// Reads to the end of the data or to an error, and finishes. Appends the items to `out`.
     fn read_to_end<T>(&mut self, out: &mut Vec<(T, u64)>) -> Result<()>
     where
         T: HoldTable<'a> + Drop,
@@ -42,32 +40,27 @@ impl<'a> OperatorsReader<'a> {
     /// Fails as `read` and `finish` do, and with `OutOfMemory` at the position if `out` can't grow.
     /// The reader is then after the operators that were added, and the call can be repeated.
     ///
-    /// The clause `rest` is for a reader that has already read operators; `before` lists them. For
-    /// a new reader this list is empty (`OperatorsReader::new`, clause `read_so_far`).
+    /// For a new reader, `before` in the clause `rest` is the empty list (`OperatorsReader::new`,
+    /// clause `read_so_far`).
     ///
     /// # Examples
-    ///
-    /// If the bytes encode an expression, the call appends its walk, unless allocation fails. A
-    /// caller proves this with `read_all.ensures.rest [] (new.ensures.read_so_far)`, fields `tree` and
-    /// `only`.
     ///
     /// ```
     /// let mut found = Vec::new(alloc);
     /// OperatorsReader::new(alloc, BinaryReader::new(bytes, 0)).read_all(&mut found)?;
     /// ```
     pub fn read_all(&mut self, out: &mut Vec<(Operator<'a>, u64)>) -> Result<()>
-        // On `Ok`, the added operators are the walk of the one tree that the bytes encode;
-        // otherwise they are the longest prefix of one.
+        // On `Ok`, the added operators are the walk of the encoded tree; otherwise the longest
+        // prefix of one.
         ensures rest { (before : List Operator) → ReadSoFar before self.old
             → ReadsRest (Adds out.old.items out.new.items) IsAny EncodesAllowed OperatorFault Anywhere
             before result self.old self.new }
-        // After any earlier reads: which operators were added, where the reader is, and why reading
-        // ended.
+        // Which operators were added, where the reader is, and why reading ended.
         ensures runs { RunsToEnd (Adds out.old.items out.new.items) EncodesAllowed OperatorFault Anywhere
             result self.old self.new }
         // The same without trees, by the frames alone.
         ensures flat { ReadsFlat (Adds out.old.items out.new.items) IsAny result self.old }
-        // The number of added frames, doubled, is at most the number of bytes that were read.
+        // Each added frame takes at least two bytes.
         ensures depth { IsWithinDepth self.old self.new }
         // Allocation fails only if one read may allocate, or if `out` is full.
         ensures memory { IfErr result
@@ -77,12 +70,11 @@ impl<'a> OperatorsReader<'a> {
         self.read_to_end(out)
     }
 
-    /// Visits all operators to the end of the data or to an error, SIMD operators too, and
-    /// finishes. Drops the results of the visits.
+    /// Visits all operators to the end of the data or to an error, and finishes. Drops the results
+    /// of the visits.
     ///
-    /// Fails as `visit_operator_simd` and `finish` do. The reader is then after the operators that
-    /// were visited, and the call can be repeated. The clauses are those of `read_all`, about
-    /// visits.
+    /// Fails as `visit_operator_simd` and `finish` do. The reader is then after the visited
+    /// operators, and the call can be repeated. The clauses are those of `read_all`.
     ///
     /// # Examples
     ///
@@ -96,20 +88,14 @@ impl<'a> OperatorsReader<'a> {
     where
         V: VisitOperator<'a> + VisitSimdOperator,
         V::Output: Copy,
-        // On `Ok`, the visitor ran along the walk of the one tree that the bytes encode; otherwise
-        // along the longest prefix of one.
         ensures rest { (before : List Operator) → ReadSoFar before self.old
             → ReadsRest (Visited V.visits v.old v.new) IsAny EncodesAllowed OperatorFault
             (NextMayAllocate EncodesAllowed)
             before result self.old self.new }
-        // After any earlier reads: which operators were visited, where the reader is, and why
-        // reading ended.
         ensures runs { RunsToEnd (Visited V.visits v.old v.new) EncodesAllowed OperatorFault
             (NextMayAllocate EncodesAllowed)
             result self.old self.new }
-        // The same without trees, by the frames alone.
         ensures flat { ReadsFlat (Visited V.visits v.old v.new) IsAny result self.old }
-        // The number of added frames, doubled, is at most the number of bytes that were read.
         ensures depth { IsWithinDepth self.old self.new }
     {
         self.visit_to_end_simd(v)
@@ -118,26 +104,20 @@ impl<'a> OperatorsReader<'a> {
     /// Visits all operators to the end of the data, to a SIMD operator or to another error, and
     /// finishes. Drops the results of the visits.
     ///
-    /// Fails as `visit_operator` and `finish` do. The reader is then after the operators that were
-    /// visited, and the call can be repeated. The clauses are those of `read_all`, about visits of
-    /// lists without SIMD operators.
+    /// Fails as `visit_operator` and `finish` do. The reader is then after the visited operators,
+    /// and the call can be repeated. The clauses are those of `read_all`, for lists without SIMD
+    /// operators.
     pub fn visit_all<V: VisitOperator<'a>>(&mut self, v: &mut V) -> Result<()>
     where
         V::Output: Copy,
-        // On `Ok`, the visitor ran along the walk of the one tree that the bytes encode, which has
-        // no SIMD operator.
-        // Otherwise it ran along the longest prefix of one without SIMD operators. The error for a
-        // SIMD operator after it is `UnexpectedSimd`.
+        // The visited operators are the longest prefix of an expression without SIMD operators. The
+        // error for a SIMD operator after it is `UnexpectedSimd`.
         ensures rest { (before : List Operator) → ReadSoFar before self.old
             → ReadsRest (VisitedScalar V.visits v.old v.new) IsScalar EncodesScalar ScalarOperatorFault
             (NextMayAllocate EncodesScalar) before result self.old self.new }
-        // After any earlier reads: which operators were visited, none of them a SIMD operator,
-        // where the reader is, and why reading ended.
         ensures runs { RunsToEnd (VisitedScalar V.visits v.old v.new) EncodesScalar ScalarOperatorFault
             (NextMayAllocate EncodesScalar) result self.old self.new }
-        // The same without trees, by the frames alone.
         ensures flat { ReadsFlat (VisitedScalar V.visits v.old v.new) IsScalar result self.old }
-        // The number of added frames, doubled, is at most the number of bytes that were read.
         ensures depth { IsWithinDepth self.old self.new }
     {
         self.visit_to_end(v)

@@ -1,5 +1,3 @@
-//! Laws about expressions, their prefixes, and what visitors receive. Each is the contract of a
-//! function that does nothing.
 ghost use Rattle.std.specs.Prelude.{◌≡◌, ◌↔◌, ◌*◌, ◌<◌, ◌≤◌, ℕ, List, [], ◌∷◌, ◌++◌, ◌+◌, length};
 ghost use Rattle.wasm_decode.specs.below.Source.{Source, Reader, source_of, offset_of, Takes, BeginsWith};
 ghost use Rattle.wasm_decode.specs.grammar.declared.frame_kind.FrameKind.{FrameKind};
@@ -16,10 +14,8 @@ ghost use Rattle.wasm_operators_readers.specs.Visiting.{scalar_beginning, IsScal
 
 use wasm_decode::below::WasmFeatures;
 
-/// States that if two lists are encoded at the start of the same bytes, the list that is not longer
-/// is a prefix of the other. Lists of the same length are equal, and so are their bytes.
-/// The reason: no encoding of an operator is a proper prefix of another encoding, and an encoding
-/// belongs to one operator.
+/// States that of two lists encoded at the start of the same bytes the shorter is a prefix of the
+/// longer, and that lists of equal length are equal, and so are their bytes.
 pub fn one_layout(features: WasmFeatures)
     ensures beginning { BeginsLonger features }
     ensures same { (offset : ℕ) (first second : Placed) (a b x y : List ℕ)
@@ -28,10 +24,8 @@ pub fn one_layout(features: WasmFeatures)
         → (first ≡ second) × (a ≡ b) × (x ≡ y) }
 {}
 
-/// States that a list is no longer than the bytes that encode it, and that its operators have
-/// encodings.
-/// If a list is the join of two lists, its bytes are the join of their encodings, and the other way
-/// round.
+/// States that an encoded list is no longer than its bytes, and that its operators have encodings.
+/// Two lists in succession are encoded by their encodings in succession, and only so.
 pub fn layouts(features: WasmFeatures)
     ensures length { IsNoLonger features }
     ensures encoded { HasEncodings features }
@@ -40,8 +34,8 @@ pub fn layouts(features: WasmFeatures)
     ensures joined { LaysOutBoth features }
 {}
 
-/// States that the encoding of each operator of an encoded list ends where the next starts, and the
-/// last where the bytes end. After a list was read, that is the reader's position.
+/// States that each operator of an encoded list ends where the next starts, and the last at the end
+/// of the bytes. After a list was read, that is the reader's position.
 pub fn ranges(features: WasmFeatures)
     ensures next { (offset : ℕ) (before after : Placed) (p q : Operator × ℕ) (bytes : List ℕ)
         → LaidOut features offset (before ++ p ∷ q ∷ after) bytes → EndsAt features p q.1 }
@@ -51,8 +45,8 @@ pub fn ranges(features: WasmFeatures)
         → LaidOut old.features (offset_of old) (before ++ p ∷ []) text → EndsAt old.features p (offset_of new) }
 {}
 
-/// States that no encoding of an expression is a proper prefix of another, and that an encoding
-/// belongs to one list of operators.
+/// States that no encoding of an expression is a proper prefix of another, and that each belongs to
+/// one list of operators.
 pub fn one_expression(features: WasmFeatures)
     ensures { (offset : ℕ) (first second : Placed) (a b x y : List ℕ)
         → EncodesExpression (record { features = features; offset = offset; bytes = a }) first
@@ -67,9 +61,8 @@ pub fn one_longest_beginning()
         → IsLongestBeginning s first → IsLongestBeginning s second → first ≡ second }
 {}
 
-/// States that a longest list exists after the operators that a reader has read, and a longest one
-/// without SIMD operators; also by frames alone. The law says that there can't be none; `read_all`
-/// finds the list.
+/// States that it is impossible that no longest list exists after the operators that were read,
+/// with or without SIMD operators, by trees or by frames. `read_all` finds the list.
 pub fn longest_exists()
     ensures any { (before : List Operator) (s : State) → ReadSoFar before s
         → ¬ ((placed : Placed) → ¬ IsLongestAfter before (source_of s.reader) placed) }
@@ -80,20 +73,19 @@ pub fn longest_exists()
         → ¬ ((placed : Placed) → ¬ IsFlatOf IsScalar frames s placed) }
 {}
 
-/// States that a list which all of the bytes encode as the rest of an expression is the longest
-/// after the operators before it.
+/// States that a list which all of the bytes encode as the rest of an expression is the longest.
 pub fn whole_is_longest()
     ensures { (before : List Operator) (s : Source) (whole : Placed)
         → AreEncoded s.features before → EncodesRest before s whole → IsLongestAfter before s whole }
 {}
 
-/// States that the longest list which begins an expression is the longest that the frames allow.
-/// Each of its operators is allowed by the frame that the operators before it leave.
+/// States that the longest list which begins an expression is the longest that the frames allow
+/// step by step.
 pub fn flat_beginnings()
     ensures { (s : Source) (placed : Placed) → IsFlatBeginning s placed ↔ IsLongestBeginning s placed }
 {}
 
-/// States that the scalar prefix of a list is the longest prefix without SIMD operators.
+/// States that the scalar prefix of a list is its longest prefix without SIMD operators.
 pub fn scalar_beginnings()
     ensures beginning { (placed : Placed) → IsBeginningOf (scalar_beginning placed) placed }
     ensures none { (placed before after : Placed) (op : Operator) (at : ℕ)
@@ -103,10 +95,9 @@ pub fn scalar_beginnings()
 {}
 
 /// States that the longest list without SIMD operators which begins an expression is the scalar
-/// prefix of the longest list. Each list without SIMD operators which begins one is a prefix of it.
-/// The same holds by frames alone.
-/// All of the bytes encode the scalar prefix and it closes every frame, if and only if the longest
-/// list is scalar and does so.
+/// prefix of the longest list, and that the other such lists are its prefixes. The same holds by
+/// frames alone. The scalar prefix is a whole expression if and only if the longest list is one and
+/// is scalar.
 pub fn scalar_longest()
     ensures exactly { (before : List Operator) (s : Source) (longest placed : Placed) → IsLongestAfter before s longest
         → IsLongestOf IsScalar before s placed ↔ (placed ≡ scalar_beginning longest) }
@@ -118,9 +109,8 @@ pub fn scalar_longest()
         → ClosesFrom frames s (scalar_beginning flat) ↔ (ClosesFrom frames s flat × IsScalar flat) }
 {}
 
-/// States that the number of frames that an operator opens, doubled, is at most the number of its
-/// bytes. It opens one if and only if its first byte is the opcode of `block`, `loop`, `if`, `try`
-/// or `try_table`.
+/// States that an operator has at least two bytes for each frame that it opens. It opens one if and
+/// only if its first byte is the opcode of `block`, `loop`, `if`, `try` or `try_table`.
 pub fn frames_opened(features: WasmFeatures)
     ensures half { (op : Operator) (text : List ℕ) → EncodesOperator features op text → 2 * opened_by op ≤ length text }
     ensures leads { (op : Operator) (text : List ℕ) → EncodesOperator features op text

@@ -1,4 +1,3 @@
-//! Iterators over operators, alone or with the offsets of their first bytes.
 ghost use Rattle.std.specs.Prelude.{◌≡◌, ◌≤◌};
 ghost use Rattle.wasm_operators_readers.specs.Next.{ReadsNext};
 ghost use Rattle.wasm_operators_readers.specs.Stack.{frame_memory};
@@ -11,8 +10,8 @@ use wasm_decode::below::Result;
 use wasm_decode::instr::Operator;
 
 impl<'a> OperatorsReader<'a> {
-    /// Reads the next operator and returns it with the original position of its first byte. Fails
-    /// as `read` does.
+    /// Reads the next operator and returns it with the offset of its first byte. Fails as `read`
+    /// does.
     #[inline(always)]
     pub fn read_with_offset(&mut self) -> Result<(Operator<'a>, u64)>
         ensures { ReadsNextPlaced result self.old self.new }
@@ -24,8 +23,7 @@ impl<'a> OperatorsReader<'a> {
         }
     }
 
-    /// Converts the reader into an iterator over operators, each with the original position of its
-    /// first byte.
+    /// Converts the reader into an iterator over operators with the offsets of their first bytes.
     pub fn into_iter_with_offsets(self) -> OperatorsIteratorWithOffsets<'a>
         ensures { result ≡ iterating_over self.entry }
     {
@@ -53,8 +51,8 @@ impl<'a> IntoIterator for OperatorsReader<'a> {
 
 /// An iterator over the operators of a reader.
 ///
-/// Each item is one `read`. The iterator ends at the end of the data and after an `Err`, and does
-/// not check whether frames are open then. Contracts see the reader, and whether a read failed.
+/// Each item is one `read`. It ends at the end of the data and after an `Err`, and does not check
+/// for open frames. Contracts see the reader, and whether a read failed.
 #[derive(Drop)]
 pub struct OperatorsIterator<'a> {
     reader: OperatorsReader<'a>,
@@ -97,11 +95,7 @@ impl<'a> Iterator for OperatorsIterator<'a> {
     }
 }
 
-/// An iterator over the operators of a reader, each with the original position of its first byte.
-///
-/// Each item is one `read_with_offset`. The iterator ends at the end of the data and after an
-/// `Err`, and does not check whether frames are open then. Contracts see the reader, and whether a
-/// read failed.
+/// Like `OperatorsIterator`, with the offset of each operator's first byte.
 #[derive(Drop)]
 pub struct OperatorsIteratorWithOffsets<'a> {
     reader: OperatorsReader<'a>,

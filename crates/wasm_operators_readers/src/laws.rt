@@ -1,4 +1,3 @@
-//! Laws about reads, visits and drivers. Each is the contract of a function that does nothing.
 ghost use Rattle.std.specs.Prelude.{◌≡◌, ◌≢◌, List};
 ghost use Rattle.wasm_decode.specs.below.bytes.error.Error.{Error};
 ghost use Rattle.wasm_decode.specs.instr.declared.operator.Operator.{Operator};
@@ -12,8 +11,8 @@ ghost use Rattle.wasm_operators_readers.specs.Visiting.{IsScalar};
 
 use wasm_decode::below::Message;
 
-/// States that a read or a visit that fails, and is repeated, fails with the same message at the
-/// same offset, unless allocation fails.
+/// States that repeating a read or visit that failed returns the same message and offset, unless
+/// allocation fails.
 pub fn refused_again()
     ensures any { (d e : Error) (old mid new : State)
         → StopsNext EncodesAllowed OperatorFault d old mid → d.message ≢ Message.OutOfMemory
@@ -25,8 +24,7 @@ pub fn refused_again()
         → (d.message ≡ e.message) × (d.offset ≡ e.offset) }
 {}
 
-/// States that repeating a read that failed reads no operator, unless the failure was an allocation
-/// failure.
+/// States that repeating a failed read reads no operator, unless allocation had failed.
 pub fn not_taken()
     ensures any { (e : Error) (old mid new : State) (op : Operator)
         → StopsNext EncodesAllowed OperatorFault e old mid → e.message ≢ Message.OutOfMemory
@@ -36,10 +34,9 @@ pub fn not_taken()
         → ¬ TakesOperator EncodesScalar op mid new }
 {}
 
-/// States that two reads or visits from readers at one place with the same frames have the same
-/// result, unless allocation fails. They read the same operator or return the same message and
-/// offset, and are at one place again.
-/// If one reads an operator, the other can fail with `OutOfMemory` only.
+/// States that two reads or visits from the same place with the same frames return the same
+/// operator or error and end at the same place, unless allocation fails. If one reads an operator,
+/// the other can fail with `OutOfMemory` only.
 pub fn same_result()
     ensures taken { (op other : Operator) (old new start end : State) → SameReaderAndFrames old start
         → TakesOperator EncodesAllowed op old new → TakesOperator EncodesAllowed other start end
@@ -63,9 +60,8 @@ pub fn same_result()
         → e.message ≡ Message.OutOfMemory }
 {}
 
-/// States that when reading or visiting to the end fails, the whole result is determined, unless
-/// allocation fails: the operators, the reader's place, the open frames, the message and the
-/// offset.
+/// States that if reading or visiting to the end fails, unless by allocation, the bytes and frames
+/// determine the operators, the reader's place, the open frames, the message and the offset.
 pub fn one_result()
     ensures reads { (before : List Operator) (d e : Error) (old new end : State) (placed others : Placed)
         → ReadsBeginning IsAny EncodesAllowed OperatorFault Anywhere before d old new placed

@@ -1,11 +1,11 @@
-//! The reader of operators, with its stack of open frames: one read or visit after another, the
-//! calls that read or visit to the end of the data, and iterators.
+//! The reader of operators and its stack of open frames: single reads and visits, drivers, and
+//! iterators.
 //!
-//! Every call that allocates may fail with `OutOfMemory`. The reader and its open frames are then
-//! as after the last operator that was read.
+//! Every call that allocates may fail with `OutOfMemory`. The reader and its frames are then as
+//! after the last operator that was read.
 //!
-//! `specs/` defines what an expression is (`Expression`), what one read does (`Next`) and what
-//! several do (`Reading`). `MainTheorem` says what that means for the grammar of expressions.
+//! In `specs/`, `Expression` defines expressions, `Next` one read, `Reading` several, and
+//! `MainTheorem` what that means for the grammar.
 #![tactic(auto)]
 
 mod allocations;

@@ -1,8 +1,5 @@
-//! Visiting the next operator of a reader with its stack of open frames, and all operators to the
-//! end of the data.
-//!
-//! The reader and the stack are borrowed separately, so that a loop can hold the reader in a local
-//! variable. That variable stays in registers as long as no call out of line borrows it.
+//! Visits with the reader and the stack borrowed separately, so that a loop can keep the reader in
+//! a local variable, which stays in registers.
 ghost use Rattle.std.specs.Prelude.{◌≡◌, ◌+◌, ◌<◌, ◌⊎◌, IfErr, vec_capacity, vec_len};
 ghost use Rattle.wasm_decode.specs.opcodes.Allowed.{EncodesAllowed, EncodesScalar};
 ghost use Rattle.wasm_decode.specs.opcodes.OperatorFaults.{OperatorFault, ScalarOperatorFault};
@@ -20,7 +17,6 @@ use wasm_decode::below::{BinaryReader, Error, Message, Result};
 use wasm_decode::visitors::{HoldTable, VisitOperator, VisitSimdOperator};
 use wasm_decode::{visit_after_opcode, visit_after_opcode_simd, visit_below_0x20};
 
-/// Visits the next operator, which may be a SIMD operator.
 #[inline(always)]
 pub fn visit_next_simd<'a, V>(
     v: &mut V,
@@ -50,7 +46,6 @@ where
     }
 }
 
-/// Visits the next operator. A SIMD operator is an error.
 #[inline(always)]
 pub fn visit_next<'a, V: VisitOperator<'a>>(
     v: &mut V,
@@ -78,7 +73,6 @@ pub fn visit_next<'a, V: VisitOperator<'a>>(
     }
 }
 
-/// Checks that all frames are closed and all data was read.
 pub fn finish(reader: &BinaryReader<'_>, control: &ControlStack) -> Result<()>
     ensures { Finishes result (state_of reader.now control.now) }
 {
@@ -92,7 +86,6 @@ pub fn finish(reader: &BinaryReader<'_>, control: &ControlStack) -> Result<()>
     Ok(())
 }
 
-/// Visits to the end of the data or to an error, and finishes.
 #[inline(always)]
 pub fn visit_rest_simd<'a, V>(
     v: &mut V,
@@ -115,7 +108,6 @@ where
     finish(reader, control)
 }
 
-/// Visits to the end of the data, to a SIMD operator or to another error, and finishes.
 #[inline(always)]
 pub fn visit_rest<'a, V: VisitOperator<'a>>(
     v: &mut V,
@@ -137,10 +129,10 @@ where
     finish(reader, control)
 }
 
-/// Visits to the end of the data or to an error, and finishes. Each visit appends an item that is
-/// made in place in the list; an operator that is read would be copied there.
+/// Visits to the end or to an error, and finishes. Each visit makes an item in place in the list;
+/// an operator that is read would be copied there.
 ///
-/// The function is generic over the items, since the prover compares all calls of a known visitor.
+/// Generic over the items, because the prover compares all calls of a known visitor.
 #[inline(always)]
 pub fn collect_rest<'a, T>(
     list: &mut Collector<T>,

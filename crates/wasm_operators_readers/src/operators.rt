@@ -1,4 +1,3 @@
-//! The reader of operators.
 ghost use Rattle.std.specs.Prelude.{◌≡◌, ◌↔◌, ◌≤◌, ◌∷◌, [], IsTrue, IfOk, IfErr};
 ghost use Rattle.wasm_decode.specs.below.Source.{rest, offset_of};
 ghost use Rattle.wasm_operators_readers.specs.Reading.{Finishes, IsFresh};
@@ -20,10 +19,10 @@ use wasm_decode::instr::Operator;
 use wasm_decode::read_after_opcode;
 use wasm_decode::visitors::{VisitOperator, VisitSimdOperator};
 
-/// A reader of the operators of an expression, with the kinds of the open frames.
+/// A reader of the operators of an expression, with its open frames.
 ///
-/// Contracts see the reader of the bytes, the open frames from the outermost to the innermost, and
-/// the field `room`: how many more frames can be opened without allocating.
+/// Contracts see the reader of the bytes, the frames from the outermost to the innermost, and
+/// `room`: how many more frames can be opened without allocating.
 #[derive(Drop)]
 pub struct OperatorsReader<'a> {
     alloc: Global,
@@ -40,14 +39,8 @@ impl<'a> Model for OperatorsReader<'a> {
 }
 
 impl<'a> OperatorsReader<'a> {
-    /// Creates a reader of the expression that starts at the position of `reader`. One frame is
-    /// open, and no operator was read before. Does not allocate.
-    ///
-    /// # Examples
-    ///
-    /// ```
-    /// let mut operators = OperatorsReader::new(alloc, BinaryReader::new(bytes, 0));
-    /// ```
+    /// Creates a reader of the expression that starts at the position of `reader`, with one open
+    /// frame. Does not allocate.
     pub fn new(alloc: Global, reader: BinaryReader<'a>) -> OperatorsReader<'a>
         ensures reader { result.reader ≡ reader.entry }
         ensures fresh { IsFresh result }
@@ -56,8 +49,7 @@ impl<'a> OperatorsReader<'a> {
         OperatorsReader::new_with_allocs(alloc, reader, OperatorsReaderAllocations::new(alloc))
     }
 
-    /// Creates a reader like `new`, with the memory of another reader. Does not allocate, and uses
-    /// none of the capacity.
+    /// Creates a reader like `new`, with the memory of another reader.
     pub fn new_with_allocs(
         alloc: Global,
         reader: BinaryReader<'a>,
@@ -83,7 +75,6 @@ impl<'a> OperatorsReader<'a> {
         control.into_allocations()
     }
 
-    /// Returns a copy of the reader of the bytes, at its current position.
     pub fn get_binary_reader(&self) -> BinaryReader<'a>
         ensures { result ≡ self.now.reader }
     {
@@ -106,22 +97,20 @@ impl<'a> OperatorsReader<'a> {
         self.reader.original_position()
     }
 
-    /// Returns whether the rest is the one byte of `end`.
+    /// Returns whether exactly the byte of `end` is left.
     pub fn is_end_then_eof(&self) -> bool
         ensures { IsTrue result ↔ (rest self.now.reader ≡ 0x0b ∷ []) }
     {
         self.reader.is_end_then_eof()
     }
 
-    /// Reads the next operator, which may be a SIMD operator. The prefix that encodes it is
-    /// consumed, and the open frames change as its role requires. Returns `Ok` if and only if a
-    /// prefix of the rest encodes an operator that the innermost open frame allows, unless
-    /// allocation fails.
+    /// Reads the next operator, SIMD or not. Returns `Ok` if and only if a prefix of the rest
+    /// encodes an operator that the innermost frame allows, unless allocation fails.
     ///
-    /// Fails with `OperatorsRemaining` if no frame is open; otherwise as
-    /// `docs/ERRORS-AND-FEATURES.md` says for operators. May fail with `OutOfMemory` at the
-    /// position, but only if the operator opens a frame and no capacity is left, or owns a list. On
-    /// an error the reader and the frames are unchanged; the capacity may have grown.
+    /// Fails with `OperatorsRemaining` if no frame is open, otherwise as
+    /// `docs/ERRORS-AND-FEATURES.md` says for operators; with `OutOfMemory` only if the operator
+    /// owns a list, or opens a frame without capacity for it. On an error only the capacity may
+    /// have changed.
     ///
     /// # Examples
     ///
@@ -149,16 +138,8 @@ impl<'a> OperatorsReader<'a> {
         }
     }
 
-    /// Visits the next operator, which may be a SIMD operator, and returns the result of the visit.
-    ///
-    /// Fails as `read` does; then no visit was made.
-    ///
-    /// # Examples
-    ///
-    /// ```
-    /// let mut count = Count { operators: 0 };
-    /// operators.visit_operator_simd(&mut count)?;
-    /// ```
+    /// Visits the next operator, SIMD or not, and returns the visit's result. Fails as `read` does,
+    /// before the visit.
     #[inline(always)]
     pub fn visit_operator_simd<V>(&mut self, v: &mut V) -> Result<V::Output>
     where
@@ -168,10 +149,8 @@ impl<'a> OperatorsReader<'a> {
         visit_next_simd(v, self.alloc, &mut self.reader, &mut self.control)
     }
 
-    /// Visits the next operator and returns the result of the visit.
-    ///
-    /// Fails with `UnexpectedSimd` at the position if the next byte is 0xfd; otherwise as
-    /// `visit_operator_simd` does.
+    /// Visits the next operator and returns the visit's result. Fails with `UnexpectedSimd` at the
+    /// position if the next byte is 0xfd, otherwise as `visit_operator_simd` does.
     #[inline(always)]
     pub fn visit_operator<V: VisitOperator<'a>>(&mut self, v: &mut V) -> Result<V::Output>
         ensures { VisitsNextScalar V.visits result self.old self.new v.old v.new }
@@ -181,8 +160,8 @@ impl<'a> OperatorsReader<'a> {
 
     /// Checks that all frames are closed and all data was read.
     ///
-    /// Fails with `FramesRemain` if a frame is open, otherwise with `UnexpectedData` if a byte is
-    /// left; both at the position.
+    /// Fails at the position, with `FramesRemain` if a frame is open, otherwise with
+    /// `UnexpectedData`.
     ///
     /// # Examples
     ///

@@ -1,4 +1,3 @@
-//! Laws about the positions of readers, and about the offsets of errors.
 ghost use Rattle.std.specs.Prelude.{◌≡◌, ◌≤◌, List, ℕ, Err};
 ghost use Rattle.wasm_decode.specs.below.bytes.error.Error.{Error};
 ghost use Rattle.wasm_decode.specs.below.Source.{Reader, offset_of, end_of, Takes, IsAhead};
@@ -9,22 +8,20 @@ ghost use Rattle.wasm_operators_readers.specs.Reading.{State, Finishes, StopsRea
 
 use wasm_decode::below::BinaryReader;
 
-/// Shows that a reader of bytes is within its data or at the end. The call peeks at the next byte
-/// and does nothing else.
+/// Shows that a reader of bytes is within its data. It only peeks at the next byte.
 pub fn within(reader: &BinaryReader<'_>)
     ensures { offset_of reader.now ≤ end_of reader.now }
 {
     let _ = reader.peek();
 }
 
-/// States that after a read the reader is still within its data, and that the end of the data is
-/// the same.
+/// States that after a read the reader is within the same data.
 pub fn taken_within()
     ensures { (old new : Reader) (text : List ℕ) → Takes old new text → offset_of old ≤ end_of old
         → (offset_of old ≤ offset_of new) × (offset_of new ≤ end_of new) × (end_of new ≡ end_of old) }
 {}
 
-/// States that the offset of an error is within the rest, or at the end of the data.
+/// States that the offset of an error is within the rest, or at its end.
 pub fn refusals_ahead()
     ensures read { (e : Error) (s : State) → StopsRead EncodesAllowed OperatorFault (NextMayAllocate EncodesAllowed) e s
         → offset_of s.reader ≤ end_of s.reader → IsAhead s.reader e.offset }

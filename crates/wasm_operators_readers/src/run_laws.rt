@@ -1,4 +1,3 @@
-//! Laws about readers of operators. Each is the contract of a function that does nothing.
 ghost use Rattle.std.specs.Prelude.{◌≡◌, [], ◌∷◌, ◌++◌, ◌+◌, List, Err};
 ghost use Rattle.wasm_decode.specs.below.bytes.error.Error.{Error};
 ghost use Rattle.wasm_decode.specs.below.Source.{rest, source_of};
@@ -18,10 +17,8 @@ pub fn fresh_readers()
     ensures { (s : State) → IsFresh s → ReadSoFar [] s }
 {}
 
-/// States which operators were read before the reader: after a successful read, those before it and
-/// the operator; after an error, those before it.
-/// So the clauses of `read_all` and the other drivers can be used after single reads and visits
-/// too.
+/// States that a successful read adds its operator to those before the reader, and an error none.
+/// So the clauses of drivers apply after single reads and visits too.
 pub fn one_operator()
     ensures any { (before : List Operator) (op : Operator) (old new : State)
         → TakesOperator EncodesAllowed op old new → ReadSoFar before old → ReadSoFar (before ++ op ∷ []) new }
@@ -31,8 +28,7 @@ pub fn one_operator()
         → IsUnchanged old new → ReadSoFar before old → ReadSoFar before new }
 {}
 
-/// States that the number of frames that one operator added, doubled, is at most the number of
-/// bytes that were read.
+/// States that a read consumes at least two bytes for each frame that it adds.
 pub fn one_depth()
     ensures any { AddsFewFrames }
     ensures scalar { (op : Operator) (old new : State) → TakesOperator EncodesScalar op old new
@@ -45,10 +41,9 @@ pub fn memory_adds_up()
     ensures { MemoryAddsUp }
 {}
 
-/// States that single reads, one after the other, read a list. Before the first the list is empty;
-/// a successful read appends its operator, with the offset at which the reader was; an error
-/// appends none.
-/// Each successful read consumes at least one byte. The lists of two runs of reads form one list.
+/// States that single reads, one after another, read a list. The list is empty before the first. A
+/// successful read appends its operator with its offset and consumes at least one byte. An error
+/// appends none. The lists of two runs form one.
 pub fn single_reads()
     ensures first { TakesNone }
     ensures next { TakesOneMore }
@@ -57,11 +52,9 @@ pub fn single_reads()
     ensures progress { TakesBytes }
 {}
 
-/// States that single reads to the end of the data or to an error read what `read_all` reads. If
-/// the data and the frames end, it is the walk of the one tree; otherwise the longest prefix of
-/// one.
-/// If the bytes encode the rest of an expression, only allocation can fail. At the end of the data,
-/// `finish` fails for open frames and for nothing else.
+/// States that single reads to the end or to an error read what `read_all` reads: the walk of the
+/// one tree, or the longest prefix of one. If the bytes encode the rest of an expression, only
+/// allocation can fail. At the end of the data, `finish` fails only for open frames.
 pub fn read_to_the_end()
     ensures tree { (before : List Operator) (old new : State) (placed : Placed) → ReadSoFar before old
         → TakesOperators old new placed → new.frames ≡ [] → rest new.reader ≡ [] → ReadsTree before old new placed }

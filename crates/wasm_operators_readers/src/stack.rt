@@ -1,4 +1,3 @@
-//! The stack of open frames.
 ghost use Rattle.std.specs.Prelude.{◌≡◌, ◌↔◌, ◌+◌, ◌≤◌, ◌<◌, [], ◌∷◌, ◌++◌, length, IsTrue, IsSome, IsOk, Some, OnOk, OnErr, IfOk, IfErr, max, vec_capacity, vec_len};
 ghost use Rattle.wasm_decode.specs.grammar.Frames.{frames_after, innermost, without_innermost};
 ghost use Rattle.wasm_decode.specs.imm.OutOfMemory.{IsOutOfMemoryAt};
@@ -13,11 +12,10 @@ use std::mem::replace;
 use wasm_decode::below::{Error, Message, Result};
 use wasm_decode::grammar::FrameKind;
 
-/// The smallest number of frames to allocate for.
 const LEAST: usize = 8;
 
-/// The kinds of the open frames. The innermost is stored in the value itself, and the frames around
-/// it in a vector. The capacity is that of the vector: pushing onto an empty stack needs none.
+/// The kinds of the open frames. The innermost is in the value itself, the others in a vector. So
+/// pushing onto an empty stack needs no capacity.
 #[derive(Debug, Drop)]
 pub struct ControlStack {
     around: Vec<FrameKind>,
@@ -38,7 +36,7 @@ impl Model for ControlStack {
 }
 
 impl ControlStack {
-    /// Creates a stack without frames and without capacity. Does not allocate.
+    /// Creates a stack without frames and capacity.
     pub fn new(alloc: Global) -> ControlStack
         ensures frames { result.frames ≡ [] }
         ensures room { result.room ≡ 0 }
@@ -49,7 +47,7 @@ impl ControlStack {
         }
     }
 
-    /// Creates a stack with this one frame and the capacity of the allocations. Does not allocate.
+    /// Creates a stack with one frame and the capacity of the allocations.
     pub fn with_allocations(
         allocations: OperatorsReaderAllocations,
         frame: FrameKind,
@@ -63,7 +61,7 @@ impl ControlStack {
         }
     }
 
-    /// Returns the memory: the capacity that is left and the space of the frames.
+    /// Returns the memory of the frames and of the capacity that is left.
     pub fn into_allocations(self) -> OperatorsReaderAllocations
         ensures { result ≡ frame_memory self.frames self.room }
     {
@@ -81,7 +79,6 @@ impl ControlStack {
         self.current = None;
     }
 
-    /// Returns whether no frame is open.
     #[inline(always)]
     pub fn is_empty(&self) -> bool
         ensures { IsTrue result ↔ (self.now.frames ≡ []) }
@@ -89,7 +86,6 @@ impl ControlStack {
         self.current.is_none()
     }
 
-    /// Returns the innermost frame.
     #[inline(always)]
     pub fn last(&self) -> Option<FrameKind>
         ensures { result ≡ innermost self.now.frames }
@@ -97,8 +93,8 @@ impl ControlStack {
         self.current
     }
 
-    /// Reserves capacity for this many more frames. Does not allocate if the capacity suffices.
-    /// Otherwise allocates for at most twice as many frames as needed, and eight.
+    /// Reserves capacity for this many more frames. Allocates, if at all, for at most twice as many
+    /// as needed, and eight.
     ///
     /// Fails with `OutOfMemory` at offset 0. Then nothing changes.
     #[inline(always)]
@@ -116,11 +112,11 @@ impl ControlStack {
         self.grow(frames)
     }
 
-    /// Allocates for this many more frames, for as many as are open, or for the smallest number,
-    /// whichever is most.
+    /// Allocates for this many more frames, for as many as are open, or for `LEAST`, whichever is
+    /// most.
     ///
-    /// The vector is moved into a variable, which is then borrowed. So a stack that is itself in a
-    /// local variable stays in registers.
+    /// The vector is moved into a variable, which is then borrowed. So a stack in a local variable
+    /// stays in registers.
     #[inline(always)]
     fn grow(&mut self, frames: usize) -> Result<()>
         ensures frames { self.new.frames ≡ self.old.frames }
@@ -140,10 +136,9 @@ impl ControlStack {
         Ok(())
     }
 
-    /// Reserves capacity for the frame that this step opens, if it opens one.
+    /// Reserves capacity for the frame that this step opens, if any.
     ///
-    /// Fails with `OutOfMemory` at offset 0, and only if the step opens a frame and no capacity is
-    /// left. Then nothing changes.
+    /// Fails with `OutOfMemory` at offset 0, if no capacity is left. Then nothing changes.
     #[inline(always)]
     pub fn make_room(&mut self, step: FrameStep) -> Result<()>
         ensures frames { self.new.frames ≡ self.old.frames }
@@ -159,10 +154,9 @@ impl ControlStack {
         Ok(())
     }
 
-    /// Opens a frame inside the others, which uses at most one of the capacity.
+    /// Opens a frame inside the others. Does not fail if the stack is empty or has capacity.
     ///
-    /// Fails with `OutOfMemory` at offset 0. Then nothing changes. Succeeds if the stack is empty
-    /// or has capacity.
+    /// Fails with `OutOfMemory` at offset 0. Then nothing changes.
     pub fn push(&mut self, frame: FrameKind) -> Result<()>
         ensures frames { OnOk result (self.new.frames ≡ self.old.frames ++ frame ∷ []) }
         ensures room { self.old.room ≤ self.new.room + 1 }
@@ -177,7 +171,7 @@ impl ControlStack {
         Ok(())
     }
 
-    /// Opens a frame inside the others, with capacity that is reserved, and uses at most one of it.
+    /// Opens a frame inside the others, with reserved capacity.
     #[inline(always)]
     pub fn open(&mut self, frame: FrameKind)
         requires { HasRoom self.old }
@@ -191,7 +185,6 @@ impl ControlStack {
         self.current = Some(frame);
     }
 
-    /// Replaces the innermost frame by a frame of another kind.
     #[inline(always)]
     pub fn turn(&mut self, frame: FrameKind)
         requires { IsSome (innermost self.old.frames) }
@@ -215,8 +208,8 @@ impl ControlStack {
         frame
     }
 
-    /// Changes the frames as an operator of this step does, which the innermost frame allows. A
-    /// step that opens a frame needs capacity and uses at most one of it; other steps use none.
+    /// Changes the frames by a step that the innermost frame allows. A step that opens a frame
+    /// needs reserved capacity.
     #[inline(always)]
     pub fn apply_step(&mut self, step: FrameStep)
         requires allowed { IsSome (frames_after self.old.frames (role_of_step step)) }
@@ -242,8 +235,7 @@ impl ControlStack {
         }
     }
 
-    /// Clones the frames into other memory of the same allocator. The capacity of the clone is not
-    /// specified.
+    /// Clones the frames into memory of the same allocator. The clone's capacity is not specified.
     ///
     /// Fails with `OutOfMemory` at offset 0, and only if more than one frame is open.
     pub fn clone(&self) -> Result<ControlStack>
@@ -261,7 +253,6 @@ impl ControlStack {
     }
 }
 
-/// Allocates capacity for this many more frames and no more.
 #[cold]
 #[inline(never)]
 fn reserve_exact(around: &mut Vec<FrameKind>, more: usize) -> std::result::Result<(), AllocError>

@@ -1,42 +1,31 @@
-//! The changes that operators make to the open frames.
 ghost use Rattle.std.specs.Prelude.{◌≡◌, ◌↔◌, ◌≤◌, IsTrue};
 ghost use Rattle.wasm_operators_readers.specs.Step.{Opens, step_at};
 
-/// The change that an operator makes to the open frames: its role in the structure, without what it
-/// carries.
+/// The change that an operator makes to the open frames: its role, without what it carries.
 ///
 /// Specification: Control Instructions. The last five variants belong to `if`, to legacy exceptions
 /// and to every construct.
 #[derive(Clone, Copy, Debug, PartialEq, Eq)]
 pub enum FrameStep {
-    /// The frames stay.
     Stays,
-    /// A `block` opens.
     OpensBlock,
-    /// A `loop` opens.
     OpensLoop,
-    /// A `try_table` opens.
     OpensTryTable,
-    /// An `if` opens.
     OpensIf,
-    /// A legacy `try` opens.
     OpensTry,
-    /// An `if` turns to its `else`.
+    /// The operator is `else`.
     TurnsElse,
-    /// A legacy `try`, or one of its handlers, turns to a `catch`.
+    /// A legacy `try`, or one of its handlers, becomes a `catch`.
     TurnsCatch,
-    /// A legacy `try`, or one of its handlers, turns to its `catch_all`.
+    /// A legacy `try`, or one of its handlers, becomes a `catch_all`.
     TurnsCatchAll,
-    /// A legacy `try` closes by `delegate`.
     Delegates,
-    /// The innermost frame closes by `end`.
     Ends,
 }
 
 impl FrameStep {
-    /// Returns the step of the operators whose encoding starts with this byte, an opcode or a
-    /// prefix byte. No other operator of one byte changes the frames, and no operator with a prefix
-    /// byte.
+    /// Returns the step of the operators that start with this byte, an opcode or a prefix byte. All
+    /// other operators keep the frames.
     #[inline(always)]
     pub fn at(byte: u8) -> FrameStep
         ensures { result ≡ step_at byte }
@@ -56,7 +45,6 @@ impl FrameStep {
         }
     }
 
-    /// Returns whether one more frame is open after the step.
     #[inline(always)]
     pub fn opens(self) -> bool
         ensures { IsTrue result ↔ Opens self }
@@ -77,7 +65,7 @@ impl FrameStep {
     }
 }
 
-/// Returns whether the opcode is 0x20 or more. No operator with such an opcode changes the frames.
+/// Returns whether the opcode is at least 0x20. No operator with such an opcode changes the frames.
 #[inline(always)]
 pub fn keeps_frames(opcode: u8) -> bool
     ensures { IsTrue result ↔ (0x20 ≤ opcode) }

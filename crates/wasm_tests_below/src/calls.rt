@@ -1,5 +1,3 @@
-//! The calls of a row, on one reader over the row's bytes.
-
 mod immediates;
 mod lists;
 mod names;
@@ -13,7 +11,6 @@ use std::alloc::Global;
 use std::fmt::Debug;
 use wasm_imm::below::{BinaryReader, Error, Message, Result};
 
-/// A call that a row names.
 #[derive(Clone, Copy)]
 enum Call {
     Number(numbers::Number),
@@ -23,7 +20,7 @@ enum Call {
     List(lists::List),
 }
 
-/// Makes the calls of a row one after another, and writes the result of each with `; ` between them.
+/// Makes the calls of a row, and writes the results with `; ` between them.
 pub fn write_calls(alloc: Global, text: &mut String, row: &Row<'_>) -> Written {
     let input = Input::parse(alloc, row.input)?;
     let mut reader = input.reader()?;
@@ -59,7 +56,6 @@ fn write_call(
     }
 }
 
-/// Writes the result of a call, and the offset of the next byte.
 fn write_result<T: Debug + Drop>(
     text: &mut String,
     given: Result<T>,
@@ -72,14 +68,12 @@ fn write_result<T: Debug + Drop>(
     write_next(text, reader)
 }
 
-/// Writes the offset of the next byte.
 fn write_next(text: &mut String, reader: &BinaryReader<'_>) -> Written {
     let offset = reader.original_position();
     write!(text, ", next {offset}")?;
     Ok(())
 }
 
-/// Writes an error. Fails if it says that an allocation failed.
 fn write_error(text: &mut String, e: Error) -> Written {
     let message = e.message();
     if message == Message::OutOfMemory {

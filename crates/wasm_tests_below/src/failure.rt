@@ -1,21 +1,16 @@
-//! Why a row gives no text.
-
 use std::alloc::{AllocError, AllocFailed};
 use std::num::ParseIntError;
 use wasm_imm::below::{Error, ErrorKind};
 
-/// Why a row gives no text.
 #[derive(Clone, Copy, Debug)]
 pub enum Failure {
-    /// The row is malformed.
     Malformed,
     /// An allocation failed in a call that the row tests.
     OutOfMemoryInCall,
-    /// An allocation failed elsewhere: while the row was parsed or its text written.
+    /// An allocation failed while the row was parsed or its text written.
     OutOfMemory,
 }
 
-/// How writing a text ends.
 pub type Written = Result<(), Failure>;
 
 impl From<AllocError> for Failure {

@@ -1,6 +1,6 @@
-//! Evaluates the rows on standard input, and compares the readers of numbers, of types and of memory
-//! arguments with slow functions that are written from the definitions: over all short strings, over
-//! the boundary values of each width, and under all sets of features.
+//! Evaluates the rows on standard input. Compares the readers of numbers, types and memory
+//! arguments with slow functions written from the definitions: on all short strings and on boundary
+//! values, with all feature sets.
 #![tactic(auto)]
 
 use crate::extent::Extent;
@@ -35,7 +35,6 @@ fn main(rt: HostRuntime) -> io::Result<ExitCode> {
     Ok(ExitCode::SUCCESS)
 }
 
-/// Reads the arguments and the table of rows.
 fn read_input<R: Env + Input + AllocGlobal>(rt: &R) -> io::Result<(Extent, String)> {
     let mut extent = Extent::Full;
     for word in env::args(rt)? {
@@ -47,8 +46,7 @@ fn read_input<R: Env + Input + AllocGlobal>(rt: &R) -> io::Result<(Extent, Strin
     Ok((extent, table))
 }
 
-/// Compares the readers with the slow functions, and prints how many texts were read and how many
-/// results differ.
+/// Prints how many texts were read and how many results differ from the slow functions.
 fn print_comparisons<R: Print>(rt: &R, extent: Extent) -> io::Result<()> {
     let short = numbers::short_strings(extent);
     println!(rt;

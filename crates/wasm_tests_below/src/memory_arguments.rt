@@ -1,5 +1,5 @@
-//! Memory arguments under all 64 feature sets: each answer beside that of a slow reading that tries
-//! every memory argument there is.
+//! Memory arguments with all 64 feature sets, compared with a slow reading that tries every memory
+//! argument.
 
 mod slow;
 
@@ -9,7 +9,7 @@ use std::io::{self, Print};
 use wasm_imm::below::{BinaryReader, WasmFeatures};
 use wasm_imm::{MemArg, MemArgKind};
 
-/// What may stand behind the flags number.
+/// What may follow the flags number.
 const TAILS: [[u8; 6]; 4] = [
     [0x05, 0x00, 0x00, 0x00, 0x00, 0x00],
     [0x01, 0x01, 0x08, 0x00, 0x00, 0x00],
@@ -17,7 +17,7 @@ const TAILS: [[u8; 6]; 4] = [
     [0x80, 0x80, 0x80, 0x80, 0x80, 0x00],
 ];
 
-/// How many answers of each sort there were: at 0 what was read, then by the number of the refusal.
+/// How many results of each sort: at 0 what was read, then by the number of the refusal.
 #[derive(Drop)]
 struct Counts {
     outcomes: [u64; 26],
@@ -25,7 +25,6 @@ struct Counts {
     differ: u64,
 }
 
-/// Prints how many were read, and why others were refused.
 pub fn print_memory_arguments<R: Print>(rt: &R, extent: Extent) -> io::Result<()> {
     for kind in [MemArgKind::Plain, MemArgKind::Op, MemArgKind::Rmw] {
         let counts = count(kind, extent);
@@ -42,8 +41,8 @@ pub fn print_memory_arguments<R: Print>(rt: &R, extent: Extent) -> io::Result<()
     Ok(())
 }
 
-/// The answers to each flags number from 0 to 255, cut behind it and before each tail. Where the
-/// extent is short, only with all features and with none.
+/// Counts the results for each flags number from 0 to 255, cut after it and before each tail. A
+/// short run has all features or none.
 fn count(kind: MemArgKind, extent: Extent) -> Counts {
     let mut counts = Counts {
         outcomes: [0; 26],
@@ -65,7 +64,6 @@ fn count(kind: MemArgKind, extent: Extent) -> Counts {
     counts
 }
 
-/// The flags number, and the tail behind it.
 fn text(flags: u8, tail: &[u8; 6]) -> [u8; 8] {
     if flags < 128 {
         [
@@ -78,7 +76,6 @@ fn text(flags: u8, tail: &[u8; 6]) -> [u8; 8] {
     }
 }
 
-/// Counts what is answered to the first bytes of a text.
 fn try_one(
     counts: &mut Counts,
     features: WasmFeatures,

@@ -1,11 +1,8 @@
-//! The messages of errors.
-
 use crate::failure::{Failure, Written};
 use wasm_imm::below::{
     Error, FrameName, InstructionName, LeadingByteName, Message, NumberName, SizeName, TypeName,
 };
 
-/// The messages that rows name, by how `Debug` prints them.
 const MESSAGES: [Message; 38] = [
     Message::EndOfData,
     Message::FeatureRequired(InstructionName::Try),
@@ -53,8 +50,7 @@ const MESSAGES: [Message; 38] = [
     Message::DataAfterSection,
 ];
 
-/// Writes what an error at offset 7 with the message of this name says of itself: number, offset,
-/// kind and text.
+/// Writes number, offset, kind and text of an error at offset 7 with this message.
 pub fn write_message(text: &mut String, name: &str) -> Written {
     for message in MESSAGES {
         write!(text, "{message:?}")?;

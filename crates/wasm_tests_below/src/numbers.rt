@@ -1,8 +1,6 @@
-//! Numbers, read slowly from their definitions.
 use crate::extent::Extent;
 use wasm_imm::below::{BinaryReader, Error, Message, NumberName};
 
-/// How many strings were read, and at how many the answers differ.
 #[derive(Clone, Copy)]
 pub struct Tally {
     pub read: u32,
@@ -10,12 +8,10 @@ pub struct Tally {
 }
 
 impl Tally {
-    /// Nothing compared.
     pub fn new() -> Tally {
         Tally { read: 0, differ: 0 }
     }
 
-    /// One more comparison.
     pub fn count(&mut self, read: bool, same: bool) {
         if read {
             self.read = self.read.wrapping_add(1);
@@ -26,7 +22,7 @@ impl Tally {
     }
 }
 
-/// A width, whether its numbers have a sign, and what its refusals name.
+/// A width, whether its numbers have a sign, and the name in its errors.
 #[derive(Clone, Copy)]
 struct Kind {
     bits: u32,
@@ -34,12 +30,10 @@ struct Kind {
     word: NumberName,
 }
 
-/// Where the last byte that a width has room for stands.
 fn last_place(bits: u32) -> usize {
     if bits > 35 { 9 } else { 4 }
 }
 
-/// The number at the start, without a sign, and its length. No width is looked at.
 fn unsigned_first(bytes: &[u8]) -> Option<(u64, usize)> {
     let (first, others) = bytes.split_first()?;
     if *first < 128 {
@@ -50,7 +44,6 @@ fn unsigned_first(bytes: &[u8]) -> Option<(u64, usize)> {
     Some((value, length.checked_add(1)?))
 }
 
-/// The number at the start, with a sign, and its length. No width is looked at.
 fn signed_first(bytes: &[u8]) -> Option<(i64, usize)> {
     let (first, others) = bytes.split_first()?;
     if *first < 128 {
@@ -62,7 +55,6 @@ fn signed_first(bytes: &[u8]) -> Option<(i64, usize)> {
     Some((value, length.checked_add(1)?))
 }
 
-/// An unsigned number of this many bits, by the definition.
 pub fn slow_unsigned(bytes: &[u8], bits: u32) -> Option<(u64, usize)> {
     let (value, length) = unsigned_first(bytes)?;
     let fits = bits >= 64 || value < 1u64.wrapping_shl(bits);
@@ -73,7 +65,6 @@ pub fn slow_unsigned(bytes: &[u8], bits: u32) -> Option<(u64, usize)> {
     }
 }
 
-/// A signed number of this many bits, by the definition.
 pub fn slow_signed(bytes: &[u8], bits: u32) -> Option<(i64, usize)> {
     let (value, length) = signed_first(bytes)?;
     let half = 1i64.wrapping_shl(bits.wrapping_sub(1));
@@ -85,7 +76,6 @@ pub fn slow_signed(bytes: &[u8], bits: u32) -> Option<(i64, usize)> {
     }
 }
 
-/// Which refusal these bytes have, where they begin with no number.
 pub fn slow_fault(bytes: &[u8], bits: u32, word: NumberName) -> Error {
     let last = last_place(bits);
     match bytes.get(last) {
@@ -97,7 +87,6 @@ pub fn slow_fault(bytes: &[u8], bits: u32, word: NumberName) -> Error {
     }
 }
 
-/// What the reader answers, and how many bytes it takes. A sign is seen in the number's bits.
 fn outcome(bytes: &[u8], kind: Kind) -> (Result<u64, Error>, usize) {
     let mut reader = BinaryReader::new(bytes, 0);
     let value = match (kind.bits, kind.signed) {
@@ -110,7 +99,6 @@ fn outcome(bytes: &[u8], kind: Kind) -> (Result<u64, Error>, usize) {
     (value, reader.current_position())
 }
 
-/// What the definition says.
 fn expected(bytes: &[u8], kind: Kind) -> (Result<u64, Error>, usize) {
     let found = if kind.signed {
         slow_signed(bytes, kind.bits).map(|(n, length)| (n.cast_unsigned(), length))
@@ -123,13 +111,11 @@ fn expected(bytes: &[u8], kind: Kind) -> (Result<u64, Error>, usize) {
     }
 }
 
-/// Compares one string.
 fn compare(tally: &mut Tally, bytes: &[u8], kind: Kind) {
     let got = outcome(bytes, kind);
     tally.count(got.0.is_ok(), got == expected(bytes, kind));
 }
 
-/// Compares one string for all five readers.
 fn compare_all(tally: &mut Tally, bytes: &[u8]) {
     for (bits, signed, word) in [
         (32, false, NumberName::VarU32),
@@ -142,7 +128,7 @@ fn compare_all(tally: &mut Tally, bytes: &[u8]) {
     }
 }
 
-/// Every string of up to two bytes; of up to one byte where the extent is short.
+/// Compares every string of up to two bytes; in a short run, of one byte.
 pub fn short_strings(extent: Extent) -> Tally {
     let mut tally = Tally::new();
     compare_all(&mut tally, &[]);
@@ -157,7 +143,7 @@ pub fn short_strings(extent: Extent) -> Tally {
     tally
 }
 
-/// This number in this many bytes, as far as they go, in eleven.
+/// Returns this number in `length` bytes, as far as they suffice.
 fn encodes(number: i64, length: usize) -> [u8; 11] {
     let mut bytes = [0u8; 11];
     let mut left = number;
@@ -169,7 +155,8 @@ fn encodes(number: i64, length: usize) -> [u8; 11] {
     bytes
 }
 
-/// The boundary values of each width and those beside them, in every length of up to eleven bytes.
+/// Compares the boundary values of each width, and those next to them, in every length of up to
+/// eleven bytes.
 pub fn boundaries() -> Tally {
     let mut tally = Tally::new();
     for power in [0u32, 6, 7, 13, 14, 20, 21, 27, 28, 31, 32, 33, 62, 63] {

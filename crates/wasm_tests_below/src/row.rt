@@ -1,11 +1,11 @@
-//! The rows of the table, whose cells have a tab between them.
+//! The rows of the table: cells with a tab between them.
 
 use crate::failure::Failure;
 use bitflags::Flags;
 use std::alloc::Global;
 use wasm_imm::below::{BinaryReader, WasmFeatures};
 
-/// A row: what is called, with which input, and the text that it has to give.
+/// A row: what is called, with which input, and the expected text.
 #[derive(Clone, Copy)]
 pub struct Row<'r> {
     /// Calls with spaces between them, or `message` or `scenario`.
@@ -15,7 +15,6 @@ pub struct Row<'r> {
 }
 
 impl<'r> Row<'r> {
-    /// Returns the row of a line. `None` if the line has fewer than three cells.
     pub fn of(line: &'r str) -> Option<Row<'r>> {
         let (calls, others) = line.split_once('\t')?;
         let (input, expected) = others.split_once('\t')?;
@@ -32,11 +31,9 @@ impl<'r> Row<'r> {
     }
 }
 
-/// What a row's calls read.
 #[derive(Drop)]
 pub struct Input {
     bytes: Vec<u8>,
-    /// The offset of the first byte.
     offset: u64,
     features: WasmFeatures,
 }
@@ -62,7 +59,6 @@ impl Input {
         Ok(input)
     }
 
-    /// Returns a reader over the bytes.
     pub fn reader(&self) -> Result<BinaryReader<'_>, Failure> {
         if self.bytes.len() > BinaryReader::max_data_len(self.offset) {
             return Err(Failure::Malformed);
@@ -71,7 +67,6 @@ impl Input {
     }
 }
 
-/// Returns the bytes of a word in hexadecimal.
 fn bytes_of(alloc: Global, word: &str) -> Result<Vec<u8>, Failure> {
     let mut bytes = Vec::new(alloc);
     let mut high = None;
@@ -91,7 +86,6 @@ fn bytes_of(alloc: Global, word: &str) -> Result<Vec<u8>, Failure> {
     }
 }
 
-/// Returns the value of a hexadecimal digit.
 fn digit_of(letter: u8) -> Result<u8, Failure> {
     match letter {
         b'0'..=b'9' => Ok(letter.wrapping_sub(b'0')),

@@ -1,5 +1,3 @@
-//! Evaluates the rows of the table, and counts those whose text differs.
-
 use crate::calls::write_calls;
 use crate::failure::{Failure, Written};
 use crate::messages::write_message;
@@ -8,17 +6,14 @@ use crate::scenarios::write_scenario;
 use std::alloc::Global;
 use std::io::{self, Print};
 
-/// How many rows there were.
 #[derive(Clone, Copy)]
 struct Rows {
     rows: u32,
-    /// How many rows gave another text than they expect.
     differ: u32,
-    /// How many rows gave no text because an allocation failed.
     out_of_memory: u32,
 }
 
-/// Evaluates each row of a table. Prints each that differs, and at the end how many there were.
+/// Evaluates each row. Prints each that differs, and how many there were.
 pub fn print_rows<R: Print>(rt: &R, alloc: Global, table: &str) -> io::Result<()> {
     let mut counts = Rows {
         rows: 0,
@@ -38,7 +33,6 @@ pub fn print_rows<R: Print>(rt: &R, alloc: Global, table: &str) -> io::Result<()
 }
 
 impl Rows {
-    /// Evaluates the row of a line and compares its text with the expected one.
     fn compare<R: Print>(&mut self, rt: &R, alloc: Global, line: &str) -> io::Result<()> {
         self.rows = self.rows.saturating_add(1);
         let mut text = String::new(alloc);
@@ -61,9 +55,8 @@ impl Rows {
     }
 }
 
-/// Writes the text that a row gives.
-///
-/// A row of `memory` is evaluated again if an allocation failed outside the calls that it tests.
+/// Writes the text of a row. A row of `memory` is repeated if allocation failed outside the calls
+/// that it tests.
 fn evaluate(alloc: Global, row: &Row<'_>, text: &mut String) -> Written {
     match evaluate_once(alloc, row, text) {
         Err(Failure::OutOfMemory) if row.is_of_memory() => {

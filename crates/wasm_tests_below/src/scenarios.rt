@@ -1,4 +1,3 @@
-//! What takes more than calls on one reader, each under the name that rows give it.
 ghost use Rattle.std.specs.Prelude.{◌≡◌};
 ghost use Rattle.wasm_imm.specs.below.Features.{HasFeature, memory64};
 ghost use Rattle.wasm_imm.specs.below.Source.{Reader};
@@ -9,7 +8,6 @@ use std::alloc::Global;
 use wasm_imm::below::{BinaryReader, HeapType, RefType, TakesMemory, WasmFeatures};
 use wasm_imm::{BrTable, Cast, Ieee32, Members, ReadImmediates, V128};
 
-/// Writes what happens in the scenario of this name.
 pub fn write_scenario(alloc: Global, text: &mut String, name: &str) -> Written {
     match name {
         "features" => write_features(text),
@@ -22,7 +20,6 @@ pub fn write_scenario(alloc: Global, text: &mut String, name: &str) -> Written {
     }
 }
 
-/// How the layers above branch on a feature.
 fn index_bits(reader: &BinaryReader<'_>) -> u32
     ensures wide { HasFeature memory64 reader.now.features → result ≡ 64 }
     ensures narrow { ¬ (HasFeature memory64 reader.now.features) → result ≡ 32 }
@@ -34,13 +31,13 @@ fn index_bits(reader: &BinaryReader<'_>) -> u32
     }
 }
 
-/// How a type that holds a reader is cloned.
 #[derive(Clone, Drop)]
 struct Held<'a> {
     reader: BinaryReader<'a>,
 }
 
-/// Features: a branch on one, a copy of a reader inside a struct, other features, their bits.
+/// Writes a branch on a feature, a copy of a reader inside a struct, other features, and their
+/// bits.
 fn write_features(text: &mut String) -> Written {
     let mut reader = BinaryReader::new(&[1, 2], 0);
     write!(text, "index bits {}", index_bits(&reader))?;
@@ -63,7 +60,7 @@ fn write_features(text: &mut String) -> Written {
     Ok(())
 }
 
-/// That `Debug` prints what has private fields, and how many bytes a reader may have.
+/// Writes what `Debug` prints of private fields, and how many bytes a reader may have.
 fn write_debug(alloc: Global, text: &mut String) -> Written {
     let mut reader = BinaryReader::new(&[1, 1, 0], 0);
     let printed = format!(in alloc; "{reader:?} {:?}", WasmFeatures::all())?;
@@ -79,7 +76,7 @@ fn write_debug(alloc: Global, text: &mut String) -> Written {
     Ok(())
 }
 
-/// Equality of branch tables: that of their bytes.
+/// Writes whether branch tables are equal: by their bytes.
 fn write_branch_tables(text: &mut String) -> Written {
     let mut reader = BinaryReader::new(&[0x01, 0x01, 0x00], 0);
     let short = BrTable::read(&mut reader)?;
@@ -91,7 +88,6 @@ fn write_branch_tables(text: &mut String) -> Written {
     Ok(())
 }
 
-/// Lists that own their memory.
 fn write_members(alloc: Global, text: &mut String) -> Written {
     let members = Members::from_vec(vec![in alloc; 1u32, 2]?);
     let copy = members.clone(alloc)?;
@@ -104,7 +100,6 @@ fn write_members(alloc: Global, text: &mut String) -> Written {
     Ok(())
 }
 
-/// Constants: their bits, and conversions of vectors.
 fn write_constants(text: &mut String) -> Written {
     let quiet = BinaryReader::new(&[0x00, 0x00, 0xc0, 0x7f], 0).read_f32()?;
     write!(text, "f32 equal {}", quiet == Ieee32::from_bits(2143289344))?;
@@ -121,7 +116,6 @@ fn write_constants(text: &mut String) -> Written {
     Ok(())
 }
 
-/// Reference types: the greatest index, the parts of one, and that numbers own no memory.
 fn write_references(text: &mut String) -> Written {
     let last = RefType::new(false, HeapType::Concrete(1048575));
     let beyond = RefType::new(false, HeapType::Concrete(1048576));

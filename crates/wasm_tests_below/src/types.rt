@@ -1,9 +1,7 @@
-//! Types, read slowly from their definitions.
 use crate::extent::Extent;
 use crate::numbers::{Tally, slow_signed, slow_unsigned};
 use wasm_imm::below::{AbstractHeapType, BinaryReader, HeapType, RefType, ValType};
 
-/// The abstract heap types, from the byte 0x68 on.
 const ABSTRACT: [AbstractHeapType; 14] = [
     AbstractHeapType::Cont,
     AbstractHeapType::Exn,
@@ -21,7 +19,6 @@ const ABSTRACT: [AbstractHeapType; 14] = [
     AbstractHeapType::NoCont,
 ];
 
-/// A short form at the start, and its length.
 fn slow_short(bytes: &[u8]) -> Option<(HeapType, usize)> {
     let shared = *bytes.first()? == 0x65;
     let at = usize::from(shared);
@@ -30,7 +27,6 @@ fn slow_short(bytes: &[u8]) -> Option<(HeapType, usize)> {
     Some((HeapType::Abstract { shared, ty }, at + 1))
 }
 
-/// A heap type at the start, and its length.
 fn slow_heap_type(bytes: &[u8]) -> Option<(HeapType, usize)> {
     if let Some(found) = slow_short(bytes) {
         return Some(found);
@@ -53,7 +49,6 @@ fn slow_heap_type(bytes: &[u8]) -> Option<(HeapType, usize)> {
     }
 }
 
-/// A reference type at the start, and its length.
 fn slow_ref_type(bytes: &[u8]) -> Option<(RefType, usize)> {
     if let Some((heap_type, length)) = slow_short(bytes) {
         return Some((RefType::new(true, heap_type)?, length));
@@ -68,7 +63,6 @@ fn slow_ref_type(bytes: &[u8]) -> Option<(RefType, usize)> {
     }
 }
 
-/// A value type at the start, and its length.
 fn slow_value_type(bytes: &[u8]) -> Option<(ValType, usize)> {
     match bytes {
         [0x7f, ..] => Some((ValType::I32, 1)),
@@ -83,7 +77,6 @@ fn slow_value_type(bytes: &[u8]) -> Option<(ValType, usize)> {
     }
 }
 
-/// Compares one string for the three readers.
 fn compare(tally: &mut Tally, bytes: &[u8]) {
     let mut reader = BinaryReader::new(bytes, 0);
     let heap_type = match HeapType::read(&mut reader) {
@@ -105,7 +98,7 @@ fn compare(tally: &mut Tally, bytes: &[u8]) {
     tally.count(value_type.is_some(), value_type == slow_value_type(bytes));
 }
 
-/// Every string of up to three bytes; of up to two bytes where the extent is short.
+/// Compares every string of up to three bytes; in a short run, of two.
 pub fn short_strings(extent: Extent) -> Tally {
     let mut tally = Tally::new();
     compare(&mut tally, &[]);

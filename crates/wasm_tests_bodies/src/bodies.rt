@@ -1,12 +1,10 @@
-//! Bodies of functions and their locals.
-
 use crate::row::Given;
 use crate::words::{write_bytes, write_error, write_position};
 use std::alloc::Global;
 use wasm_listing::operators::{FunctionBody, LocalsReader};
 use wasm_tests_texts::{Written, write_value_type};
 
-/// Writes how many declarations a body announces, as many of them as the argument says, and where its
+/// Writes the number of a body's declarations, as many of them as the argument says, and where its
 /// operators start.
 pub fn write_locals(given: Given<'_>, out: &mut String) -> Written {
     let body = FunctionBody::new(given.reader());
@@ -40,8 +38,8 @@ fn write_declarations(reads: u32, mut locals: LocalsReader<'_>, out: &mut String
     Ok(())
 }
 
-/// Writes the declarations that the iterator over locals returns, each after its `size_hint`, and whether
-/// the operators after them are one `end`.
+/// Writes the declarations of the iterator over locals, each after its `size_hint`, and whether one
+/// `end` follows them.
 pub fn write_locals_items(alloc: Global, given: Given<'_>, out: &mut String) -> Written {
     let mut items = match FunctionBody::new(given.reader()).get_locals_reader() {
         Ok(locals) => locals.into_iter(),
@@ -64,7 +62,6 @@ pub fn write_locals_items(alloc: Global, given: Given<'_>, out: &mut String) -> 
     out.push_str(if is_end { "one end" } else { "not one end" })
 }
 
-/// Writes a body that its size precedes: its bytes, and their range.
 pub fn write_body(alloc: Global, given: Given<'_>, out: &mut String) -> Written {
     let mut reader = given.reader();
     match reader.read::<FunctionBody>(alloc) {
@@ -73,7 +70,6 @@ pub fn write_body(alloc: Global, given: Given<'_>, out: &mut String) -> Written 
     }
 }
 
-/// Writes the body that a reader has left after one byte.
 pub fn write_body_after_byte(given: Given<'_>, out: &mut String) -> Written {
     let mut reader = given.reader();
     match reader.read_u8() {

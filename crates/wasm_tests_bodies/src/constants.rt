@@ -1,13 +1,11 @@
-//! Constant expressions.
-
 use crate::row::Given;
 use crate::words::{is_lacking, write_bytes, write_error, write_position};
 use std::alloc::{AllocError, Global};
 use wasm_listing::operators::{BinaryReader, ConstExpr, Result, SectionLimited};
 use wasm_tests_texts::Written;
 
-/// Reads a constant expression, once more if allocation failed and nothing was consumed, and writes its
-/// bytes and the position after it.
+/// Writes the bytes of a constant expression and the position after it. Reads again if allocation
+/// failed and nothing was consumed.
 pub fn write_constant(alloc: Global, given: Given<'_>, out: &mut String) -> Written {
     let mut reader = given.reader();
     let start = reader.original_position();
@@ -27,8 +25,8 @@ pub fn write_constant(alloc: Global, given: Given<'_>, out: &mut String) -> Writ
     write_position(out, &reader)
 }
 
-/// Writes the range of the only item of a section of constant expressions. If allocation failed in the
-/// item, which starts after the one byte of the count, the section is read once more.
+/// Writes the range of the only item of a section of constant expressions. Reads again if
+/// allocation failed in the item, which starts after the one byte of the count.
 pub fn write_only_constant(alloc: Global, given: Given<'_>, out: &mut String) -> Written {
     let item = u64::from(given.offset).saturating_add(1);
     let mut only = only_constant(alloc, given);
@@ -42,7 +40,6 @@ pub fn write_only_constant(alloc: Global, given: Given<'_>, out: &mut String) ->
     }
 }
 
-/// Returns the range of the only item, also after an error. `None` if there is no item or another one.
 fn only_constant(alloc: Global, given: Given<'_>) -> Result<Option<(u64, u64)>> {
     let mut items = SectionLimited::<ConstExpr>::new(alloc, given.reader())?.into_iter();
     let item = items.next();
@@ -59,8 +56,8 @@ fn only_constant(alloc: Global, given: Given<'_>) -> Result<Option<(u64, u64)>> 
     }
 }
 
-/// Writes which of two equal expressions at different offsets, a clone and another expression are equal,
-/// and whether `Debug` prints one.
+/// Writes whether two equal expressions at different offsets, a clone and another expression are
+/// equal, and what `Debug` prints.
 pub fn write_equal_constants(alloc: Global, out: &mut String) -> Written {
     let first = ConstExpr::new(BinaryReader::new(&[0x41, 0x2a, 0x0b], 0));
     let second = ConstExpr::new(BinaryReader::new(&[0x41, 0x2a, 0x0b], 7));

@@ -1,5 +1,3 @@
-//! Readers and writers that fail at one call.
-
 use crate::listing::write_run;
 use crate::row::Given;
 use std::alloc::{AllocError, Global};
@@ -8,7 +6,7 @@ use wasm_listing::operators::WasmFeatures;
 use wasm_listing::{DumpFault, run};
 use wasm_tests_texts::Written;
 
-/// A reader that gives one byte a call, and fails at one call.
+/// Gives one byte a call, and fails at one call.
 #[derive(Drop)]
 struct OneByte<'a> {
     bytes: &'a [u8],
@@ -34,7 +32,7 @@ impl<'a> Read for OneByte<'a> {
     }
 }
 
-/// A writer that takes one byte a call, and fails at one call of `write` or `flush`.
+/// Takes one byte a call, and fails at one call of `write` or `flush`.
 #[derive(Drop)]
 struct OneTaken {
     taken: Vec<u8>,
@@ -66,7 +64,7 @@ impl Write for OneTaken {
     }
 }
 
-/// Lists a body from a reader whose call with the argument's number fails. The first call has number 0.
+/// Lists a body from a reader whose call with the argument's number, from 0, fails.
 pub fn write_failing_read(alloc: Global, given: Given<'_>, out: &mut String) -> Written {
     let mut reader = OneByte {
         bytes: given.bytes,
@@ -82,7 +80,7 @@ pub fn write_failing_read(alloc: Global, given: Given<'_>, out: &mut String) -> 
     write_run(end, written.as_slice(), out)
 }
 
-/// Lists a body to a writer whose call with the argument's number fails. The first call has number 0.
+/// Lists a body to a writer whose call with the argument's number, from 0, fails.
 pub fn write_failing_write(alloc: Global, given: Given<'_>, out: &mut String) -> Written {
     let mut reader = given.bytes;
     let mut writer = OneTaken {

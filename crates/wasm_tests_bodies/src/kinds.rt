@@ -1,5 +1,3 @@
-//! The kinds of rows.
-
 use crate::bodies::{write_body, write_body_after_byte, write_locals, write_locals_items};
 use crate::constants::{write_constant, write_only_constant};
 use crate::disassembly::{write_disassembly, write_text};
@@ -13,11 +11,10 @@ use crate::single::{Visits, write_clones, write_finish, write_next, write_peek, 
 use std::alloc::Global;
 use wasm_tests_texts::Written;
 
-/// Makes the calls of this kind of row, and writes what they return. Fails if an allocation failure
-/// ended them.
+/// Makes the calls of this kind of row, and writes what they return. Fails if allocation failed.
 ///
-/// A kind whose name starts with `memory_` makes a call once more if it fails for that, and fails itself
-/// only if the second call does, or if the first one changed anything.
+/// A kind that starts with `memory_` repeats such a call. It fails if the second call does, or if
+/// the first changed anything.
 pub fn write_found(
     alloc: Global,
     kind: &str,

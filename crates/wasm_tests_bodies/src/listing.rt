@@ -1,5 +1,3 @@
-//! Listings and operator counts of bodies.
-
 use crate::row::Given;
 use crate::words::{write_error, write_lines};
 use bitflags::Flags;
@@ -8,7 +6,6 @@ use wasm_listing::operators::WasmFeatures;
 use wasm_listing::{DumpFault, census, features_of, proposal_at, run};
 use wasm_tests_texts::Written;
 
-/// Lists a body, once more if allocation failed and nothing was written.
 pub fn write_listing(
     alloc: Global,
     given: Given<'_>,
@@ -24,7 +21,6 @@ pub fn write_listing(
     write_run(end, written.as_slice(), out)
 }
 
-/// Writes how a run ended, and the lines that it wrote.
 pub fn write_run(end: Result<(), DumpFault>, written: &[u8], out: &mut String) -> Written {
     match end {
         Ok(()) => out.push_str("Ok")?,
@@ -41,8 +37,8 @@ fn write_fault(fault: DumpFault, out: &mut String) -> Written {
     write!(out, "{fault}, status {status}")
 }
 
-/// Lists a body of as many `nop` as the argument says and no `end`, and writes the error and the length of
-/// the lines. It takes time in proportion to the number.
+/// Lists a body of as many `nop` as the argument says and no `end`, and writes the error and the
+/// length of the lines. The time is linear.
 pub fn write_nops(alloc: Global, given: Given<'_>, out: &mut String) -> Written {
     let nops = vec![in alloc; 0x01; given.number() as usize]?;
     let mut body = Vec::new(alloc);
@@ -61,7 +57,6 @@ pub fn write_nops(alloc: Global, given: Given<'_>, out: &mut String) -> Written 
     }
 }
 
-/// Counts the operators of a body, once more if allocation failed, and writes the counts that are not 0.
 pub fn write_census(alloc: Global, given: Given<'_>, out: &mut String) -> Written {
     let mut counted = census(alloc, given.features(), given.bytes);
     if matches!(counted, Err(DumpFault::Memory)) {

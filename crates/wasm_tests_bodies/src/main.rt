@@ -1,5 +1,5 @@
-//! Evaluates the rows of a table: each calls one entry point of the crates below and compares the text
-//! of what it found with the text that the row expects.
+//! Evaluates the rows of a table: each calls one entry point of the crates below and compares the
+//! result, as text, with the expected one.
 #![tactic(auto)]
 
 mod bodies;
@@ -32,7 +32,6 @@ fn main(rt: HostRuntime) -> ExitCode {
     }
 }
 
-/// Evaluates the rows on standard input, prints those that differ, and counts them.
 fn evaluate_rows(rt: &HostRuntime) -> io::Result<()> {
     let alloc = rt.alloc();
     let is_short = is_short(rt)?;
@@ -47,7 +46,6 @@ fn evaluate_rows(rt: &HostRuntime) -> io::Result<()> {
     table.print_counts(rt)
 }
 
-/// Returns whether an argument is `short`, which leaves out the rows that take long.
 fn is_short<R: Env + AllocGlobal>(rt: &R) -> io::Result<bool> {
     let mut is_short = false;
     for word in env::args(rt)? {

@@ -1,5 +1,3 @@
-//! The parts of a module.
-
 use crate::row::Given;
 use crate::words::{write_error, write_name, write_position};
 use std::alloc::AllocError;
@@ -13,7 +11,7 @@ use wasm_tests_texts::Written;
 /// At most so many items are written.
 const ITEMS: u32 = 8;
 
-/// Writes the sort of the module, and the number and the range of each of its sections.
+/// Writes the sort of the module, and the number and the range of each section.
 pub fn write_sections(given: Given<'_>, out: &mut String) -> Written {
     let mut reader = given.reader();
     match read_preamble(&mut reader) {
@@ -46,8 +44,8 @@ fn write_range(out: &mut String, reader: &BinaryReader<'_>) -> Written {
     write!(out, "{start}..{end}")
 }
 
-/// Writes the range and the items of the first section of a module with the argument's number: types
-/// (1), imports (2), exports (7), or the names of functions (0).
+/// Writes the range and the items of the first section with the argument's number: types (1),
+/// imports (2), exports (7), or names of functions (0).
 pub fn write_section(given: Given<'_>, out: &mut String) -> Written {
     match contents_of(given) {
         Ok(Some(mut contents)) => {
@@ -64,7 +62,6 @@ pub fn write_section(given: Given<'_>, out: &mut String) -> Written {
     }
 }
 
-/// Returns the contents of the first section with the argument's number.
 fn contents_of<'g>(given: Given<'g>) -> Result<Option<BinaryReader<'g>>> {
     let mut reader = given.reader();
     let _preamble = read_preamble(&mut reader)?;
@@ -80,7 +77,6 @@ fn contents_of<'g>(given: Given<'g>) -> Result<Option<BinaryReader<'g>>> {
     Ok(None)
 }
 
-/// Writes the number of items, and returns it.
 fn count_of(
     contents: &mut BinaryReader<'_>,
     out: &mut String,

@@ -1,4 +1,4 @@
-//! Values that no bytes give.
+//! Values that no bytes encode.
 
 use crate::constants::write_equal_constants;
 use crate::row::Given;
@@ -7,7 +7,6 @@ use wasm_listing::operators::{Error, Message, OperatorsReaderAllocations};
 use wasm_listing::{Census, DumpFault};
 use wasm_tests_texts::Written;
 
-/// Plays the scenario that the argument names.
 pub fn write_scenario(alloc: Global, given: Given<'_>, out: &mut String) -> Written {
     match given.argument {
         "equal_constants" => write_equal_constants(alloc, out),
@@ -23,7 +22,6 @@ pub fn write_scenario(alloc: Global, given: Given<'_>, out: &mut String) -> Writ
     }
 }
 
-/// Writes the texts and the statuses of the faults that carry no error.
 fn write_faults(out: &mut String) -> Written {
     for fault in [DumpFault::Reading, DumpFault::Writing, DumpFault::Memory] {
         let status = fault.status();

@@ -1,12 +1,9 @@
-//! Sections: numbers, and bodies of functions.
-
 use crate::row::Given;
 use crate::words::{write_bytes, write_error};
 use std::alloc::Global;
 use wasm_listing::operators::{CodeSectionReader, FunctionBody, Operator, Result, SectionLimited};
 use wasm_tests_texts::Written;
 
-/// Writes the count of a section of numbers, and what its iterator returns four times.
 pub fn write_numbers(alloc: Global, given: Given<'_>, out: &mut String) -> Written {
     match SectionLimited::<u32>::new(alloc, given.reader()) {
         Ok(section) => write_items(section, out),
@@ -29,7 +26,6 @@ fn write_items(section: SectionLimited<'_, u32>, out: &mut String) -> Written {
     Ok(())
 }
 
-/// Writes the count of a code section, and what its iterator returns three times.
 pub fn write_code(alloc: Global, given: Given<'_>, out: &mut String) -> Written {
     match CodeSectionReader::new(alloc, given.reader()) {
         Ok(section) => write_bodies(section, out),
@@ -52,8 +48,6 @@ fn write_bodies(section: CodeSectionReader<'_>, out: &mut String) -> Written {
     Ok(())
 }
 
-/// Writes the operators of the first body of a code section with their offsets: those of `read_all`, and
-/// those of the iterator.
 pub fn write_code_operators(alloc: Global, given: Given<'_>, out: &mut String) -> Written {
     match first_body(alloc, given) {
         Ok(Some(body)) => {

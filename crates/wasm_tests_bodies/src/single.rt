@@ -1,5 +1,3 @@
-//! Single operators under a frame that the caller keeps.
-
 use crate::row::Given;
 use crate::words::{is_lacking, write_error, write_position};
 use std::alloc::Global;
@@ -10,10 +8,10 @@ use wasm_listing::operators::{
 };
 use wasm_tests_texts::{Written, write_operator};
 
-/// The operator that a visit got. `None` is a branch table, which borrows from the bytes.
+/// `None` is a branch table, which borrows from the bytes.
 type Visited = Option<Operator<'static>>;
 
-/// A visitor that returns the operator, under a frame that does not change, or under none.
+/// Returns the operator, in a frame that does not change, or in none.
 #[derive(Clone, Copy)]
 pub struct Under(pub Option<FrameKind>);
 
@@ -28,7 +26,6 @@ impl FrameStack for Under {
 impl Visitor for Under {
     type Output = Visited;
 
-    // Whatever the operator.
     ghost visits = { λ before op outcome after. Unit {0} };
 
     fn visit_any(&mut self, op: Operator<'static>) -> Visited {
@@ -46,7 +43,6 @@ impl<'a> VisitOperator<'a> for Under {
 
 impl VisitSimdOperator for Under {}
 
-/// Which operators a visit takes.
 #[derive(Clone, Copy, Debug)]
 pub enum Visits {
     /// Those that are no SIMD operators.
@@ -54,7 +50,6 @@ pub enum Visits {
     All,
 }
 
-/// Peeks at the operator, once more if allocation failed, and writes it with all fields.
 pub fn write_peek(alloc: Global, given: Given<'_>, out: &mut String) -> Written {
     let reader = given.reader();
     let stack = Under(given.frame());
@@ -69,8 +64,6 @@ pub fn write_peek(alloc: Global, given: Given<'_>, out: &mut String) -> Written 
     write_position(out, &reader)
 }
 
-/// Visits operators up to the end of the bytes or the first error, and writes each with its fields and
-/// the position after it.
 pub fn write_visits(alloc: Global, given: Given<'_>, visits: Visits, out: &mut String) -> Written {
     let mut reader = given.reader();
     let mut under = Under(given.frame());
@@ -91,7 +84,7 @@ pub fn write_visits(alloc: Global, given: Given<'_>, visits: Visits, out: &mut S
     Ok(())
 }
 
-/// Visits an operator. If allocation failed and nothing was consumed, visits it once more.
+/// Visits an operator. Visits again if allocation failed and nothing was consumed.
 fn visit(
     alloc: Global,
     reader: &mut BinaryReader<'_>,
@@ -125,7 +118,7 @@ fn write_visited(out: &mut String, visited: Visited) -> Written {
     }
 }
 
-/// Clones the operator, visits it borrowed, and clones its resume table: each once more if allocation
+/// Clones the operator, visits it borrowed, and clones its resume table; repeats each if allocation
 /// failed, which the error reports at offset 0.
 pub fn write_clones(alloc: Global, given: Given<'_>, out: &mut String) -> Written {
     let reader = given.reader();
@@ -193,7 +186,6 @@ fn write_equal(out: &mut String, is_equal: bool) -> Written {
     out.push_str(if is_equal { "equal" } else { "not equal" })
 }
 
-/// Reads an operator of an expression, once more if allocation failed and nothing was consumed.
 pub fn write_next(alloc: Global, given: Given<'_>, out: &mut String) -> Written {
     let mut operators = OperatorsReader::new(alloc, given.reader());
     let start = operators.original_position();
@@ -209,7 +201,6 @@ pub fn write_next(alloc: Global, given: Given<'_>, out: &mut String) -> Written 
     write!(out, " at {position}")
 }
 
-/// Writes whether an expression may end before the bytes.
 pub fn write_finish(given: Given<'_>, out: &mut String) -> Written {
     match given.reader().finish_expression(&Under(given.frame())) {
         Ok(()) => out.push_str("Ok"),

@@ -1,38 +1,29 @@
-//! The rows, evaluated one after another.
-
 use crate::kinds::write_found;
 use crate::row::{Given, Row, row_of};
 use std::alloc::{AllocError, Global};
 use std::io::{self, Print};
 use wasm_tests_texts::{Written, read_hex};
 
-/// How many bytes a row may have, and the text that it finds. They are allocated once, so that a row
-/// whose kind starts with `memory_` allocates only what its calls do.
+/// How many bytes a row and its result may have. They are allocated once, so that a row whose kind
+/// starts with `memory_` allocates only what its calls do.
 const CAPACITY: usize = 4096;
 
-/// The counts so far.
 #[derive(Drop)]
 pub struct Table {
     alloc: Global,
-    /// Whether rows that take long are left out.
     is_short: bool,
     rows: u64,
-    /// How many rows found another text than the expected one.
     differ: u64,
-    /// How many rows an allocation failure ended.
     lacking: u64,
-    /// The bytes of the row.
     bytes: Vec<u8>,
-    /// What a writer got.
     written: Vec<u8>,
-    /// What a row found whose kind starts with `memory_`.
+    /// The result of a row whose kind starts with `memory_`.
     reserved: String,
-    /// What another row found. It grows, and each growth may fail.
+    /// The result of another row. It grows, and each growth may fail.
     grown: String,
 }
 
 impl Table {
-    /// Returns a table with no row yet.
     pub fn new(alloc: Global, is_short: bool) -> Result<Table, AllocError> {
         Ok(Table {
             alloc,
@@ -47,8 +38,8 @@ impl Table {
         })
     }
 
-    /// Evaluates the row of a line, and prints it if it differs. A line that is empty or starts with `#`
-    /// is no row. One that starts with `long_` is left out of a short run.
+    /// Evaluates the row of a line, and prints it if it differs. An empty line, or one that starts
+    /// with `#`, is no row. A short run omits rows that start with `long_`.
     pub fn line<R: Print>(&mut self, rt: &R, line: &str) -> io::Result<()> {
         if line.is_empty() || line.starts_with('#') {
             return Ok(());
@@ -74,7 +65,6 @@ impl Table {
         println!(rt; "differs: {line}\n  found: {}", self.found(is_memory))
     }
 
-    /// Returns what the row found.
     fn found(&self, is_memory: bool) -> &str {
         if is_memory {
             self.reserved.as_str()
@@ -83,7 +73,6 @@ impl Table {
         }
     }
 
-    /// Writes what the row's call does. Fails if an allocation failure ended it.
     fn evaluate(&mut self, row: &Row<'_>, is_memory: bool) -> Written {
         let (offset, digits) = row.input.split_once(':').unwrap_or(("0", row.input));
         read_hex(&mut self.bytes, digits)?;
@@ -114,7 +103,6 @@ impl Table {
         }
     }
 
-    /// Prints how many rows there are, how many differ, and how many ran out of memory if any did.
     pub fn print_counts<R: Print>(&self, rt: &R) -> io::Result<()> {
         print!(rt; "{} rows, {} differ", self.rows, self.differ)?;
         if self.lacking > 0 {

@@ -1,10 +1,9 @@
-//! The words in which rows expect errors, positions, bytes and lines.
+//! The form in which rows expect errors, positions, bytes and lines.
 
 use std::alloc::AllocError;
 use wasm_listing::operators::{BinaryReader, Error, Message, Result};
 use wasm_tests_texts::Written;
 
-/// Writes an error as its number and its offset. Fails if it is an allocation failure.
 pub fn write_error(out: &mut String, e: Error) -> Written {
     if matches!(e.message(), Message::OutOfMemory) {
         return Err(AllocError);
@@ -14,7 +13,6 @@ pub fn write_error(out: &mut String, e: Error) -> Written {
     write!(out, "E{number}@{offset}")
 }
 
-/// Returns whether a call failed because an allocation did, with this offset.
 pub fn is_lacking<T>(called: &Result<T>, offset: u64) -> bool {
     match called {
         Ok(_) => false,
@@ -22,13 +20,11 @@ pub fn is_lacking<T>(called: &Result<T>, offset: u64) -> bool {
     }
 }
 
-/// Writes the position of a reader.
 pub fn write_position(out: &mut String, reader: &BinaryReader<'_>) -> Written {
     let position = reader.original_position();
     write!(out, " at {position}")
 }
 
-/// Writes bytes in hexadecimal.
 pub fn write_bytes(out: &mut String, bytes: &[u8]) -> Written {
     for byte in bytes {
         write!(out, "{byte:02x}")?;
@@ -36,7 +32,6 @@ pub fn write_bytes(out: &mut String, bytes: &[u8]) -> Written {
     Ok(())
 }
 
-/// Writes a name that is UTF-8.
 pub fn write_name(out: &mut String, name: &[u8]) -> Written {
     out.push_str(str::from_utf8(name).unwrap_or("(not UTF-8)"))
 }

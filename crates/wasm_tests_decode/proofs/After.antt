@@ -4,7 +4,6 @@ use Rattle.wasm_decode.specs.below.Number.{EncodesUnsigned}
 use Rattle.wasm_decode.specs.below.Source.{Reader, at_position, Takes, Reads, IsByte}
 use Rattle.wasm_decode.specs.opcodes.Decoding.{IsAfterCode}
 
--- The reader is after both, since it read one after the other.
 pub after_both : (old mid new : Reader) (start byte code : ℕ) → start ≡ old.position → Reads IsByte (Ok byte) old mid → Reads (EncodesUnsigned 32) (Ok code) mid new →
     IsAfterCode start (Some byte) code new
 after_both old mid new start byte code same (text, is, first) (number, encodes, second) =

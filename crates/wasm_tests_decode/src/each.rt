@@ -1,5 +1,3 @@
-//! One operator by each call, written into one line.
-
 use crate::half;
 use crate::runs::{
     Reported, is_refused_again, run_both, run_boxed, run_factory, run_lent, run_plain, run_read,
@@ -10,22 +8,16 @@ use crate::teller::Teller;
 use std::alloc::{AllocError, Global};
 use wasm_tests_texts::Written;
 
-/// The buffers for one line.
 #[derive(Drop)]
 pub struct Texts {
-    /// The text of the line.
     pub line: String,
-    /// The result of the reading call.
     pub read: String,
-    /// The result of another call.
     pub other: String,
     pub teller: Teller,
-    /// Another visitor, in a `Box`.
     pub boxed: Box<Teller>,
 }
 
 impl Texts {
-    /// Creates empty buffers.
     pub fn new(alloc: Global) -> Result<Texts, AllocError> {
         Ok(Texts {
             line: String::new(alloc),
@@ -36,7 +28,6 @@ impl Texts {
         })
     }
 
-    /// Clears the buffers for the next line.
     pub fn clear(&mut self) {
         self.line.clear();
         self.read.clear();
@@ -46,14 +37,12 @@ impl Texts {
     }
 }
 
-/// Writes the result of a visit, and the position of the reader after it.
 fn write_visit(texts: &mut Texts, reported: (Reported, usize)) -> Written {
     write_reported(texts, reported.0)?;
     let position = reported.1;
     write!(texts.line, "; at {position}")
 }
 
-/// Writes what was visited, and by which call of the visitor.
 fn write_reported(texts: &mut Texts, outcome: Reported) -> Written {
     let Texts { line, teller, .. } = texts;
     let visited = &teller.text;
@@ -103,7 +92,6 @@ pub fn write_each(alloc: Global, texts: &mut Texts, task: Task, bytes: &[u8]) ->
     Ok(())
 }
 
-/// Returns the first `size` bytes, or all if there are fewer.
 fn start_of(bytes: &[u8], size: usize) -> &[u8] {
     if size < bytes.len() {
         &bytes[..size]
@@ -112,7 +100,6 @@ fn start_of(bytes: &[u8], size: usize) -> &[u8] {
     }
 }
 
-/// Writes whether the factory returns the same as the reading call.
 fn compare_factory(
     alloc: Global,
     texts: &mut Texts,
@@ -130,8 +117,7 @@ fn compare_factory(
     }
 }
 
-/// Writes whether a visit is of the operator that the reading call returned, and by which call of
-/// the visitor.
+/// Writes whether a visit is of the operator that was read, and by which call of the visitor.
 fn compare_visit(texts: &mut Texts, reported: (Reported, usize), end: usize) -> Written {
     let is_same = texts.teller.text == texts.read && reported.1 == end;
     match reported.0 {
@@ -166,9 +152,8 @@ fn compare_ways(
     write_way(line, direct, reported, other, &mut boxed.text)
 }
 
-/// Writes whether `decode_simd_low` or `decode_simd_high` alone visits the same SIMD operator:
-/// directly, through a reference, in a `Box`, and through a reference to the `Box`. For any other
-/// operator, writes nothing.
+/// Writes whether `decode_simd_low` or `decode_simd_high` alone visits the same SIMD operator, in
+/// the same four ways. Writes nothing for other operators.
 fn compare_halves(
     texts: &mut Texts,
     task: Task,
@@ -196,7 +181,6 @@ fn compare_halves(
     write_half(line, direct, reported, other, &mut boxed.text)
 }
 
-/// Returns whether two visits have the same result, and leave the reader at the same position.
 fn is_same_visit(a: (Reported, usize), b: (Reported, usize)) -> bool {
     let is_same = match (a.0, b.0) {
         (Ok(Ok(call)), Ok(Ok(other))) => call == other,
@@ -207,7 +191,7 @@ fn is_same_visit(a: (Reported, usize), b: (Reported, usize)) -> bool {
 }
 
 /// Writes that a visit equals the direct one, whose text is `other`; else what it visited, and the
-/// position of the reader. Clears the text of the visit.
+/// position. Clears the text of the visit.
 fn write_way(
     line: &mut String,
     direct: (Reported, usize),
@@ -225,7 +209,6 @@ fn write_way(
     Ok(())
 }
 
-/// Writes the same of a visit by the call of one half, if it was made.
 fn write_half(
     line: &mut String,
     direct: (Reported, usize),

@@ -9,8 +9,8 @@ use crate::teller::Teller;
 use wasm_decode::below::{BinaryReader, Result};
 use wasm_decode::visitors::{VisitSimdOperator, Visitor};
 
-/// Returns the result of the call for the operator's half, and the position of the reader. Returns
-/// `None` unless the data has the byte 0xfd and a subopcode.
+/// Returns the result of the call, and the position. Returns `None` unless the data has the byte
+/// 0xfd and a subopcode.
 fn run_half<V: VisitSimdOperator>(
     v: &mut V,
     task: Task,
@@ -27,7 +27,7 @@ fn run_half<V: VisitSimdOperator>(
     Some((outcome, reader.current_position()))
 }
 
-/// Reads the byte 0xfd and a subopcode. Returns the subopcode, or `None` if one of them is missing.
+/// Reads the byte 0xfd and a subopcode. Returns the subopcode, or `None` if one is missing.
 fn read_vector_subopcode(reader: &mut BinaryReader<'_>, start: usize) -> Option<u32>
     requires { start ≡ reader.old.position }
     ensures { IfSome result (λ code. IsAfterCode start (Some 0xfd) code reader.new) }
@@ -41,23 +41,19 @@ fn read_vector_subopcode(reader: &mut BinaryReader<'_>, start: usize) -> Option<
     }
 }
 
-/// Visits with the visitor itself.
 pub fn run_own(teller: &mut Teller, task: Task, bytes: &[u8]) -> Option<(Reported, usize)> {
     run_half(teller, task, bytes)
 }
 
-/// Visits through a reference to the visitor.
 pub fn run_lent(teller: &mut Teller, task: Task, bytes: &[u8]) -> Option<(Reported, usize)> {
     let mut lent = teller;
     run_half(&mut lent, task, bytes)
 }
 
-/// Visits with a visitor in a `Box`.
 pub fn run_boxed(boxed: &mut Box<Teller>, task: Task, bytes: &[u8]) -> Option<(Reported, usize)> {
     run_half(boxed, task, bytes)
 }
 
-/// Visits through a reference to the `Box`.
 pub fn run_both(boxed: &mut Box<Teller>, task: Task, bytes: &[u8]) -> Option<(Reported, usize)> {
     let mut lent = boxed;
     run_half(&mut lent, task, bytes)

@@ -11,7 +11,6 @@ use wasm_decode::visitors::{
     Visitor,
 };
 
-/// The call that a visitor received.
 #[derive(Clone, Copy, Debug, PartialEq, Eq)]
 pub enum Call {
     Own,

@@ -1,4 +1,4 @@
-//! One operator, read and visited.
+//! One operator, read and visited. Each result has the position of the reader after it.
 
 use crate::own::Call;
 use crate::task::Task;
@@ -10,21 +10,19 @@ use wasm_decode::visitors::OperatorFactory;
 use wasm_decode::{read_operator, visit_operator, visit_operator_simd};
 use wasm_tests_texts::{Written, write_operator};
 
-/// Creates a reader at the operator of a task, or at the end of the data if they are too short.
+/// Creates a reader at the operator of a task, or at the end of the data if it is too short.
 pub fn reader_at<'a>(task: Task, bytes: &'a [u8]) -> BinaryReader<'a> {
     let mut reader = BinaryReader::new_features(bytes, 0, task.features);
     let _ = reader.read_bytes(task.before);
     reader
 }
 
-/// Reads an operator. Returns the result, and the position of the reader after it.
 pub fn run_read<'a>(alloc: Global, task: Task, bytes: &'a [u8]) -> (Result<Operator<'a>>, usize) {
     let mut reader = reader_at(task, bytes);
     let outcome = read_operator(alloc, &mut reader, task.frame);
     (outcome, reader.current_position())
 }
 
-/// Visits with the factory. Returns the result, and the position of the reader after it.
 pub fn run_factory<'a>(
     alloc: Global,
     task: Task,
@@ -35,17 +33,14 @@ pub fn run_factory<'a>(
     (outcome, reader.current_position())
 }
 
-/// The result of a visit that writes.
 pub type Reported = Result<std::result::Result<Call, AllocError>>;
 
-/// Visits with `visit_operator_simd`. Returns the result, and the position of the reader after it.
 pub fn run_simd(alloc: Global, teller: &mut Teller, task: Task, bytes: &[u8]) -> (Reported, usize) {
     let mut reader = reader_at(task, bytes);
     let outcome = visit_operator_simd(teller, alloc, &mut reader, task.frame);
     (outcome, reader.current_position())
 }
 
-/// Visits with `visit_operator`. Returns the result, and the position of the reader after it.
 pub fn run_plain(
     alloc: Global,
     teller: &mut Teller,
@@ -57,7 +52,6 @@ pub fn run_plain(
     (outcome, reader.current_position())
 }
 
-/// Visits as [`run_simd`] does, through a reference to the visitor.
 pub fn run_lent(alloc: Global, teller: &mut Teller, task: Task, bytes: &[u8]) -> (Reported, usize) {
     let mut reader = reader_at(task, bytes);
     let mut lent = teller;
@@ -65,7 +59,6 @@ pub fn run_lent(alloc: Global, teller: &mut Teller, task: Task, bytes: &[u8]) ->
     (outcome, reader.current_position())
 }
 
-/// Visits as [`run_simd`] does, with a visitor in a `Box`.
 pub fn run_boxed(
     alloc: Global,
     boxed: &mut Box<Teller>,
@@ -77,7 +70,7 @@ pub fn run_boxed(
     (outcome, reader.current_position())
 }
 
-/// Visits as [`run_simd`] does, through a reference to the `Box`.
+/// Visits through a reference to the `Box`.
 pub fn run_both(
     alloc: Global,
     boxed: &mut Box<Teller>,
@@ -90,7 +83,6 @@ pub fn run_both(
     (outcome, reader.current_position())
 }
 
-/// Returns whether each call that fails has the same error if the same reader repeats it.
 pub fn is_refused_again(alloc: Global, teller: &mut Teller, task: Task, bytes: &[u8]) -> bool {
     let mut reader = reader_at(task, bytes);
     let read = read_operator(alloc, &mut reader, task.frame).err();
@@ -106,7 +98,6 @@ pub fn is_refused_again(alloc: Global, teller: &mut Teller, task: Task, bytes: &
         && reader.current_position() == task.before
 }
 
-/// Writes an error: its number, its offset and its text.
 pub fn write_refusal(out: &mut String, e: Error) -> Written {
     let number = e.message().number();
     let offset = e.offset();
@@ -114,7 +105,6 @@ pub fn write_refusal(out: &mut String, e: Error) -> Written {
     write!(out, "E{number} at {offset}: {message}")
 }
 
-/// Writes the operator that was read, or the error.
 pub fn write_outcome(out: &mut String, outcome: &Result<Operator<'_>>) -> Written {
     match outcome {
         Ok(op) => write_operator(out, op),

@@ -1,16 +1,11 @@
-//! The meaning of an input line.
-
 use bitflags::Flags;
 use wasm_decode::below::WasmFeatures;
 use wasm_decode::instr::FrameKind;
 
-/// The settings for reading one operator.
 #[derive(Clone, Copy, Debug)]
 pub struct Task {
     pub features: WasmFeatures,
-    /// The kind of the innermost frame.
     pub frame: Option<FrameKind>,
-    /// The number of bytes before the operator.
     pub before: usize,
 }
 
@@ -24,7 +19,7 @@ pub fn task_of(features: &str, frame: &str, before: &str) -> Option<Task> {
     })
 }
 
-/// Returns the frame kind with this name; the name `None` means that no frame is open.
+/// Returns the frame kind with this name; `None` means that no frame is open.
 fn frame_of(word: &str) -> Option<Option<FrameKind>> {
     Some(Some(match word {
         "None" => return Some(None),

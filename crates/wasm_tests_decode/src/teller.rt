@@ -1,5 +1,3 @@
-//! A visitor that overrides visits in each group.
-
 use crate::own::Call;
 use std::alloc::{AllocError, Global};
 use wasm_decode::below::{BinaryReader, Result};
@@ -12,21 +10,19 @@ use wasm_decode::visitors::{
 };
 use wasm_tests_texts::write_operator;
 
-/// A visitor that writes the operators that it visits, and returns which call it received.
+/// Writes the operators that it visits, and returns which call it received.
 #[derive(Drop)]
 pub struct Teller {
     pub text: String,
 }
 
 impl Teller {
-    /// Creates a visitor that has visited nothing.
     pub fn new(alloc: Global) -> Teller {
         Teller {
             text: String::new(alloc),
         }
     }
 
-    /// Records an overridden visit of this operator.
     pub fn own(&mut self, op: Operator<'static>) -> std::result::Result<Call, AllocError> {
         write_operator(&mut self.text, &op)?;
         Ok(Call::Own)
@@ -36,7 +32,6 @@ impl Teller {
 impl Visitor for Teller {
     type Output = std::result::Result<Call, AllocError>;
 
-    // Holds for every operator.
     ghost visits = { λ before op outcome after. Unit {0} };
 
     fn visit_any(&mut self, op: Operator<'static>) -> Self::Output {

@@ -5,7 +5,6 @@ use Rattle.wasm_visit.specs.imm.control.block_type.BlockType.TheVariants as bloc
 use Rattle.wasm_visit.specs.instr.ModuleFacts.{ModuleFacts}
 use Rattle.wasm_tests_lists.specs.declared.uniform.Uniform.{Uniform}
 
--- One result at an index, and another function's result elsewhere.
 abbrev pub at_index : {X : Type 0} → ℕ → X → (ℕ → Option X) → ℕ → Option X
 at_index index outcome others i = if i == index then Some outcome else others i
 

@@ -6,10 +6,9 @@ use crate::parts::{
 use std::alloc::Global;
 use wasm_visit::instr::{GcOperator, Operator, SimdOperator};
 
-/// The number of operators made here.
 pub const COUNT: u32 = 13;
 
-/// Returns the operator with this number, one that no constant can make. `None` after an allocation failure.
+/// Returns the operator with this number, which no constant can make; `None` if allocation fails.
 pub fn made(alloc: Global, number: u32) -> Option<Operator<'static>> {
     Some(match number {
         0 => Operator::BrTable {

@@ -1,7 +1,6 @@
-//! Prints each operator: its row; its arity in one module; whether it is a SIMD operator; and
-//! whether its clone equals it. Further whether a visitor takes it for an `end`, whether
-//! `OperatorFactory` returns it, and its `Debug` text. Then prints which calls several visitors
-//! receive.
+//! Prints each operator: its row, its arity in one module, whether it is a SIMD operator, whether
+//! its clone is equal, whether a visitor takes it for an `end`, whether `OperatorFactory` returns
+//! it, and its `Debug` text. Then prints which calls several visitors receive.
 #![tactic(auto)]
 
 mod made;
@@ -71,7 +70,6 @@ fn main(rt: HostRuntime) -> io::Result<()> {
     print_visitors(&rt, rt.alloc())
 }
 
-/// Prints the line of an operator.
 fn print<R: Print>(rt: &R, alloc: Global, op: &Operator<'_>) -> io::Result<()> {
     let info = op.info();
     let arity = op.operator_arity(&Module);
@@ -88,7 +86,6 @@ fn print<R: Print>(rt: &R, alloc: Global, op: &Operator<'_>) -> io::Result<()> {
     )
 }
 
-/// Returns whether a visitor takes the operator for an `end`.
 fn ends(alloc: Global, op: &Operator<'_>) -> bool {
     let mut visitor = IsEndOperatorVisitor;
     match visit_operator_with_simd(alloc, &mut visitor, op) {
@@ -97,7 +94,6 @@ fn ends(alloc: Global, op: &Operator<'_>) -> bool {
     }
 }
 
-/// Returns whether the factory returns an operator equal to this one.
 fn returned(alloc: Global, op: &Operator<'_>) -> bool {
     let mut factory = OperatorFactory::new();
     match op.clone(alloc) {

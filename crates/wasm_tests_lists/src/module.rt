@@ -1,12 +1,11 @@
-//! The module in which arities are printed.
 use wasm_visit::imm::BlockType;
 use wasm_visit::instr::{FrameKind, ModuleArity};
 
-/// A module in which each query has a result for the index 0, or for the indices below.
+/// Each query has a result for the index 0, or for the indices below.
 ///
 /// Type 0 is a function type with two parameters and one result, whose last parameter refers to
-/// type 3. Type 1 is a structure type with three fields, type 2 a continuation of type 0, and type
-/// 3 a continuation of type 4. Type 4 is a function type with one parameter and one result.
+/// type 3; type 1 a structure type with three fields; types 2 and 3 continuations of types 0 and 4;
+/// type 4 a function type with one parameter and one result.
 #[derive(Drop)]
 pub struct Module;
 

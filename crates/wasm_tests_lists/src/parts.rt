@@ -7,7 +7,7 @@ use wasm_visit::imm::{
     TryTable, V128,
 };
 
-/// The bytes of a branch table with the target 1 and the default target 0.
+/// The target 1 and the default target 0.
 static TABLE: [u8; 3] = [1, 1, 0];
 
 pub fn float_32() -> Ieee32 {
@@ -34,13 +34,11 @@ pub fn branch_table() -> Option<BrTable<'static>> {
     BrTable::read(&mut BinaryReader::new(&TABLE, 0)).ok()
 }
 
-/// Creates the types of a `select`: `i32` and `i64`.
 pub fn select(alloc: Global) -> Option<SelectTypes> {
     let tys = Vec::from_slice(alloc, &[ValType::I32, ValType::I64]).ok()?;
     Some(SelectTypes::from_vec(tys))
 }
 
-/// Creates a `try_table` with one `catch_all` clause, to label 1.
 pub fn try_table(alloc: Global) -> Option<TryTable> {
     let catches = Vec::from_slice(alloc, &[Catch::All { label: 1 }]).ok()?;
     Some(TryTable {
@@ -49,7 +47,6 @@ pub fn try_table(alloc: Global) -> Option<TryTable> {
     })
 }
 
-/// Creates a resume table with one clause, which switches on tag 0.
 pub fn resume_table(alloc: Global) -> Option<ResumeTable> {
     let handlers = Vec::from_slice(alloc, &[Handle::OnSwitch { tag: 0 }]).ok()?;
     Some(ResumeTable {

@@ -1,4 +1,3 @@
-//! Arities in edge cases.
 use crate::module::Module;
 use crate::uniform::Uniform;
 use std::io::{self, Print};
@@ -15,7 +14,6 @@ pub fn print_rows<R: Print>(rt: &R) -> io::Result<()> {
     print_arrays(rt)
 }
 
-/// Prints the arity of an operator in a module.
 fn print<R: Print, M: ModuleArity>(
     rt: &R,
     what: &str,
@@ -25,7 +23,6 @@ fn print<R: Print, M: ModuleArity>(
     println!(rt; "{what}: {:?}", op.operator_arity(module))
 }
 
-/// Prints arities at other depths and indices than in the list of all operators.
 fn print_elsewhere<R: Print>(rt: &R) -> io::Result<()> {
     let branch = Operator::BrIf { relative_depth: 1 };
     print(rt, "branch to an empty block", &Module, &branch)?;
@@ -35,7 +32,6 @@ fn print_elsewhere<R: Print>(rt: &R) -> io::Result<()> {
     print(rt, "another function", &Module, &call)
 }
 
-/// Prints arities in modules that each lack the result of one query.
 fn print_unanswered<R: Print>(rt: &R) -> io::Result<()> {
     let mut module = Uniform::new();
     module.function = None;
@@ -83,7 +79,6 @@ fn switch() -> Operator<'static> {
     }
 }
 
-/// Prints arities with the largest number of parameters that fits in 32 bits.
 fn print_large<R: Print>(rt: &R) -> io::Result<()> {
     let mut module = Uniform::new();
     module.function = Some((4294967295, 1));
@@ -115,7 +110,6 @@ fn print_large<R: Print>(rt: &R) -> io::Result<()> {
     )
 }
 
-/// Prints arities that would be negative.
 fn print_small<R: Print>(rt: &R) -> io::Result<()> {
     let bound = Operator::ContBind {
         argument_index: 3,
@@ -129,7 +123,6 @@ fn print_small<R: Print>(rt: &R) -> io::Result<()> {
     println!(rt; "nothing carried: {:?}", branch.operator_arity(&Module))
 }
 
-/// Prints arities of operators that access an array.
 fn print_arrays<R: Print>(rt: &R) -> io::Result<()> {
     let module = Uniform::new();
     let memarg = MemArg {

@@ -2,7 +2,6 @@
 use wasm_visit::imm::BlockType;
 use wasm_visit::instr::{FrameKind, ModuleArity};
 
-/// A module whose queries have the same result at all indices.
 #[derive(Drop)]
 pub struct Uniform {
     pub function: Option<(u32, u32)>,
@@ -16,7 +15,6 @@ pub struct Uniform {
 }
 
 impl Uniform {
-    /// Creates a module in which each query has a result.
     pub fn new() -> Uniform {
         Uniform {
             function: Some((2, 1)),

@@ -17,7 +17,6 @@ const MEMARG: MemArg = MemArg {
 /// The lanes of the shuffle.
 const LANES: [u8; 16] = [0, 1, 2, 3, 4, 5, 6, 7, 8, 9, 10, 11, 12, 13, 14, 15];
 
-/// Returns the numeric operators of one byte.
 pub fn numeric() -> [NumericOperator; 128] {
     [
         NumericOperator::I32Eqz,
@@ -151,7 +150,6 @@ pub fn numeric() -> [NumericOperator; 128] {
     ]
 }
 
-/// Returns the operators with the prefix byte 0xfb.
 pub fn gc() -> [GcOperator; 34] {
     [
         GcOperator::StructNew {
@@ -255,7 +253,6 @@ pub fn gc() -> [GcOperator; 34] {
     ]
 }
 
-/// Returns the operators with the prefix byte 0xfc.
 pub fn misc() -> [MiscOperator; 23] {
     [
         MiscOperator::I32TruncSatF32S,
@@ -296,7 +293,6 @@ pub fn misc() -> [MiscOperator; 23] {
     ]
 }
 
-/// Returns the operators with the prefix byte 0xfd.
 pub fn simd() -> [SimdOperator; 255] {
     [
         SimdOperator::V128Load { memarg: MEMARG },
@@ -581,7 +577,6 @@ pub fn simd() -> [SimdOperator; 255] {
     ]
 }
 
-/// Returns the operators with the prefix byte 0xfe.
 pub fn atomic() -> [AtomicOperator; 104] {
     [
         AtomicOperator::MemoryAtomicNotify { memarg: MEMARG },
@@ -809,7 +804,6 @@ pub fn atomic() -> [AtomicOperator; 104] {
     ]
 }
 
-/// Returns a part of the other operators of one byte.
 pub fn first_own() -> [Operator<'static>; 12] {
     [
         Operator::Unreachable,
@@ -836,7 +830,6 @@ pub fn first_own() -> [Operator<'static>; 12] {
     ]
 }
 
-/// Returns a part of the other operators of one byte.
 pub fn second_own() -> [Operator<'static>; 12] {
     [
         Operator::Drop,
@@ -854,7 +847,6 @@ pub fn second_own() -> [Operator<'static>; 12] {
     ]
 }
 
-/// Returns a part of the other operators of one byte.
 pub fn third_own() -> [Operator<'static>; 12] {
     [
         Operator::I32Load8U { memarg: MEMARG },
@@ -872,7 +864,6 @@ pub fn third_own() -> [Operator<'static>; 12] {
     ]
 }
 
-/// Returns a part of the other operators of one byte.
 pub fn fourth_own() -> [Operator<'static>; 12] {
     [
         Operator::F64Store { memarg: MEMARG },
@@ -890,7 +881,6 @@ pub fn fourth_own() -> [Operator<'static>; 12] {
     ]
 }
 
-/// Returns a part of the other operators of one byte.
 pub fn fifth_own() -> [Operator<'static>; 12] {
     [
         Operator::RefNull {
@@ -915,7 +905,6 @@ pub fn fifth_own() -> [Operator<'static>; 12] {
     ]
 }
 
-/// Returns a part of the other operators of one byte.
 pub fn sixth_own() -> [Operator<'static>; 11] {
     [
         Operator::Delegate { relative_depth: 0 },

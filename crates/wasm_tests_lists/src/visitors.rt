@@ -23,7 +23,6 @@ use wasm_visit::{
     OperatorFactory, OperatorMaker, visit_operator, visit_operator_with_simd, visit_owned_simd,
 };
 
-/// Prints the results of all visitors.
 pub fn print_visitors<R: Print>(rt: &R, alloc: Global) -> io::Result<()> {
     print_reports(rt, alloc)?;
     print_counter(rt, alloc)?;
@@ -42,7 +41,6 @@ pub fn print_visitors<R: Print>(rt: &R, alloc: Global) -> io::Result<()> {
     println!(rt; "an operator with a list: {outcome}, {counter:?}")
 }
 
-/// Prints the results of a visitor without fields.
 fn print_reports<R: Print>(rt: &R, alloc: Global) -> io::Result<()> {
     println!(rt; "unit: {:?}", hand_over(&mut Reports, table()))?;
     let mut reports = Reports;
@@ -54,7 +52,6 @@ fn print_reports<R: Print>(rt: &R, alloc: Global) -> io::Result<()> {
     println!(rt; "unit, both: {:?}", hand_over(&mut lent, table()))
 }
 
-/// Prints the counts of a visitor with five fields.
 fn print_counter<R: Print>(rt: &R, alloc: Global) -> io::Result<()> {
     let mut counter = Counter::new(alloc);
     hand_over(&mut counter, table());
@@ -71,7 +68,6 @@ fn print_counter<R: Print>(rt: &R, alloc: Global) -> io::Result<()> {
     println!(rt; "fields, both: {:?}", *boxed)
 }
 
-/// Prints the text of a visitor that holds a reference.
 fn print_printer<R: Print>(rt: &R, alloc: Global) -> io::Result<()> {
     let mut out = String::new(alloc);
     let mut printer = Printer {
@@ -99,7 +95,6 @@ fn print_printer<R: Print>(rt: &R, alloc: Global) -> io::Result<()> {
     print!(rt; "{out}")
 }
 
-/// Prints the counts of a visitor with a lifetime and a type parameter.
 fn print_interp<R: Print>(rt: &R, alloc: Global) -> io::Result<()> {
     let module = Module {
         types: Vec::new(alloc),
@@ -123,14 +118,12 @@ fn print_interp<R: Print>(rt: &R, alloc: Global) -> io::Result<()> {
     println!(rt; "parameter, both: {outcomes:?}, {} unknown", boxed.unknown)
 }
 
-/// Prints the results of the factory.
 fn print_factory<R: Print>(rt: &R) -> io::Result<()> {
     let outcomes = hand_over(&mut OperatorFactory::new(), table());
     println!(rt; "factory: {outcomes:?}")
 }
 
-/// Visits copies of an operator that owns a list of two types, by each of the two calls, and
-/// returns how that ended.
+/// Visits copies of an operator that owns a list of two types, by each of the two calls.
 fn visit_list(alloc: Global) -> (&'static str, Counter) {
     let mut counter = Counter::new(alloc);
     let Ok(tys) = Vec::from_array(alloc, [ValType::I32, ValType::I64]) else {

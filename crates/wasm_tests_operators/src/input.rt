@@ -2,10 +2,8 @@
 
 use std::io::{self, Read};
 
-/// The sets of features under which a row is read.
 #[derive(Clone, Copy, Debug)]
 pub enum Features {
-    /// This set.
     These(u32),
     /// All sets that contain this feature.
     With(u32),
@@ -14,7 +12,6 @@ pub enum Features {
 }
 
 impl Features {
-    /// Returns the set with the lowest number.
     pub fn first(self) -> u32 {
         match self {
             Features::These(set) => set,
@@ -23,7 +20,6 @@ impl Features {
         }
     }
 
-    /// Returns whether the row is read under this set.
     pub fn take(self, bits: u32) -> bool {
         match self {
             Features::These(set) => bits == set,
@@ -49,8 +45,8 @@ pub fn read_input<R: Read>(reader: &mut R, room: &mut [u8]) -> io::Result<usize>
     Ok(size)
 }
 
-/// Parses the features of a row, and writes the bytes of its expression into `room`. Returns the
-/// features and the number of bytes.
+/// Writes the bytes of a row's expression into `room`. Returns the features and the number of
+/// bytes.
 pub fn row_of(room: &mut [u8], line: &str) -> Option<(Features, usize)> {
     let mut words = line.split_whitespace();
     let features = features_of(words.next()?)?;

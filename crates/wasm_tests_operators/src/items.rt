@@ -1,10 +1,7 @@
-//! The iterators.
-
 use crate::reported::{Listed, Reported};
 use std::alloc::Global;
 use wasm_operators::{BinaryReader, OperatorsReader, OperatorsReaderAllocations};
 
-/// Takes the items of `OperatorsIterator`, once more if allocation failed.
 pub fn items<'a>(alloc: Global, reader: &BinaryReader<'a>, list: Listed<'_, 'a>) -> Reported {
     let reported = items_once(alloc, reader, list);
     if reported.lacked_memory() {
@@ -32,8 +29,6 @@ fn items_once<'a>(alloc: Global, reader: &BinaryReader<'a>, list: Listed<'_, 'a>
     reported
 }
 
-/// Takes the items of `OperatorsIteratorWithOffsets`, once more if allocation failed. Also returns
-/// its allocations.
 pub fn items_with_offsets<'a>(
     alloc: Global,
     reader: &BinaryReader<'a>,

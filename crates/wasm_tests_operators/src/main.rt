@@ -38,7 +38,6 @@ fn main(rt: HostRuntime) -> io::Result<()> {
     print_texts(&rt, alloc)
 }
 
-/// Runs one line of the input: a heading, or the features and the bytes of an expression.
 fn run_line<R: Print>(rt: &R, alloc: Global, bytes: &mut [u8], line: &str) -> io::Result<()> {
     if line.starts_with('#') {
         return println!(rt; "{line}");

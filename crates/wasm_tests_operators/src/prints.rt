@@ -1,5 +1,3 @@
-//! A visitor that hashes what it visits.
-
 use crate::reported::Listed;
 use std::fmt::{self, Write};
 use wasm_operators::{
@@ -7,7 +5,7 @@ use wasm_operators::{
     VisitSimdOperator, Visitor, decode, dispatch,
 };
 
-/// The number of operators, and the FNV-1a hash of their texts in 64 bits.
+/// The number of operators, and the 64-bit FNV-1a hash of their texts.
 #[derive(Clone, Copy, Debug, PartialEq, Eq)]
 pub struct Prints {
     pub operators: usize,
@@ -15,7 +13,6 @@ pub struct Prints {
 }
 
 impl Prints {
-    /// Creates the hash of no operators.
     pub fn new() -> Prints {
         Prints {
             operators: 0,
@@ -32,7 +29,6 @@ impl Prints {
         prints
     }
 
-    /// Adds one operator.
     fn add(&mut self, op: &Operator<'_>) {
         self.operators = self.operators.saturating_add(1);
         let _ = write!(self, "{op:?}");
@@ -51,7 +47,6 @@ impl Write for Prints {
 impl Visitor for Prints {
     type Output = ();
 
-    // Holds for every operator.
     ghost visits = { λ before op outcome after. Unit {0} };
 
     fn visit_any(&mut self, op: Operator<'static>) {
@@ -78,7 +73,6 @@ pub struct LargePrints {
 impl Visitor for LargePrints {
     type Output = [u64; 512];
 
-    // Holds for every operator.
     ghost visits = { λ before op outcome after. Unit {0} };
 
     fn visit_any(&mut self, op: Operator<'static>) -> [u64; 512] {
@@ -98,7 +92,7 @@ impl<'a> VisitOperator<'a> for LargePrints {
 
 impl VisitSimdOperator for LargePrints {}
 
-/// A visitor that overrides the visit of each operator with the prefix byte 0xfc, and counts these.
+/// Overrides the visit of each operator with the prefix byte 0xfc, and counts these.
 #[derive(Clone, Copy, Debug, PartialEq, Eq)]
 pub struct OwnPrints {
     pub prints: Prints,
@@ -106,7 +100,6 @@ pub struct OwnPrints {
 }
 
 impl OwnPrints {
-    /// Records an overridden visit.
     pub fn own(&mut self, op: MiscOperator) {
         self.own = self.own.saturating_add(1);
         self.prints.add(&Operator::Misc(op));
@@ -116,7 +109,6 @@ impl OwnPrints {
 impl Visitor for OwnPrints {
     type Output = ();
 
-    // Holds for every operator.
     ghost visits = { λ before op outcome after. Unit {0} };
 
     fn visit_any(&mut self, op: Operator<'static>) {

@@ -1,5 +1,3 @@
-//! The calls that read.
-
 use crate::reported::{Listed, Reported, is_memory};
 use wasm_operators::{FrameStack, Operator, OperatorsReader, Result};
 
@@ -20,8 +18,7 @@ pub fn read_all<'a>(
     reported
 }
 
-/// Calls `read_all`. If allocation fails, what was read is kept, and a second call continues after
-/// it.
+/// Calls `read_all`, again after what was read if allocation fails.
 fn read_to_end<'a>(
     operators: &mut OperatorsReader<'a>,
     list: &mut Vec<(Operator<'a>, u64)>,
@@ -69,8 +66,8 @@ fn read_twice<'a>(
     outcome
 }
 
-/// Reads one operator, once more if allocation failed. A failed read changes nothing. Allocation
-/// may fail only for operators that open a frame or own a list.
+/// Reads one operator, again if allocation failed. A failed read changes nothing. Allocation may
+/// fail only for operators that open a frame or own a list.
 fn read_with_memory<'a>(
     operators: &mut OperatorsReader<'a>,
     reported: &mut Reported,
@@ -89,7 +86,6 @@ fn read_with_memory<'a>(
     outcome
 }
 
-/// Returns whether reading the next operator may allocate.
 fn may_take_memory(operators: &OperatorsReader<'_>) -> bool {
     match operators.get_binary_reader().peek() {
         Ok(code) => matches!(code, 0x02..=0x04 | 0x06 | 0x1c | 0x1f | 0xe3..=0xe5),
@@ -97,7 +93,6 @@ fn may_take_memory(operators: &OperatorsReader<'_>) -> bool {
     }
 }
 
-/// Reads one operator from each of several clones.
 pub fn read_clones<'a>(operators: &mut OperatorsReader<'a>, list: Listed<'_, 'a>) -> Reported {
     let mut reported = Reported::new();
     let count = list.len() as u64;

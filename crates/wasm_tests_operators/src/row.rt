@@ -1,5 +1,3 @@
-//! One row, by each call.
-
 use crate::input::Features;
 use crate::items::{items, items_with_offsets};
 use crate::reads::{read_all, read_clones, read_each};
@@ -15,7 +13,6 @@ use wasm_operators::{
 /// The number of operators that are printed in full, and read by clones.
 const FEW: usize = 16;
 
-/// The results of the calls for an expression.
 #[derive(Clone, Copy, Debug, PartialEq, Eq)]
 struct Outcomes {
     read: Reported,
@@ -24,7 +21,6 @@ struct Outcomes {
     finish: Option<Error>,
     items: Reported,
     plain: Reported,
-    /// Whether the other calls have the same results.
     agree: Agree,
 }
 
@@ -40,7 +36,6 @@ struct Agree {
     own: bool,
 }
 
-/// All calls have the same result.
 const ALL_AGREE: Agree = Agree {
     reads: true,
     clones: true,
@@ -51,8 +46,8 @@ const ALL_AGREE: Agree = Agree {
     own: true,
 };
 
-/// Prints the operators that are read, and the results of the calls. Also prints under how many
-/// sets of features `read_all` has another result than under the first.
+/// Prints the operators that are read, and the results of the calls; also, with how many feature
+/// sets `read_all` has another result than with the first.
 pub fn run_row<R: Print>(
     rt: &R,
     alloc: Global,
@@ -79,7 +74,6 @@ pub fn run_row<R: Print>(
     println!(rt; "; {sets} sets, {others} with another answer")
 }
 
-/// Returns whether `read_all` reads this list under these features, and ends in this way.
 fn is_read(
     alloc: Global,
     bits: u32,
@@ -97,7 +91,7 @@ fn is_read(
     reported == expected
 }
 
-/// Returns the results of the calls under these features. `list` is what `read_all` reads.
+/// Returns the results of the calls. `list` is what `read_all` reads.
 fn outcomes_of<'a>(
     alloc: Global,
     bits: u32,
@@ -131,14 +125,12 @@ fn outcomes_of<'a>(
     }
 }
 
-/// Returns whether the clones read the list.
 fn are_clones<'a>(alloc: Global, reader: &BinaryReader<'a>, list: Listed<'_, 'a>) -> bool {
     let mut operators = OperatorsReader::new(alloc, reader.clone());
     let reported = read_clones(&mut operators, list);
     reported.is_right && reported.operators == list.len()
 }
 
-/// Prints the operators with their offsets, or their number and the last one.
 fn print_list<R: Print>(rt: &R, list: Listed<'_, '_>) -> io::Result<()> {
     match list.last() {
         None => print!(rt; "nothing"),
@@ -155,7 +147,6 @@ fn print_list<R: Print>(rt: &R, list: Listed<'_, '_>) -> io::Result<()> {
     }
 }
 
-/// Prints the results of the calls.
 fn print_outcomes<R: Print>(rt: &R, outcomes: Outcomes) -> io::Result<()> {
     print!(rt; "; ")?;
     print_end(rt, outcomes.read.refusal)?;
@@ -178,7 +169,6 @@ fn print_outcomes<R: Print>(rt: &R, outcomes: Outcomes) -> io::Result<()> {
     }
 }
 
-/// Prints how many operators a call returned, and its error.
 fn print_reported<R: Print>(rt: &R, name: &str, reported: Reported) -> io::Result<()> {
     print!(rt; "; {name}: {}", reported.operators)?;
     if !reported.is_right {
@@ -193,7 +183,6 @@ fn print_reported<R: Print>(rt: &R, name: &str, reported: Reported) -> io::Resul
     }
 }
 
-/// Prints the number of an error, and its offset.
 fn print_end<R: Print>(rt: &R, refusal: Option<Error>) -> io::Result<()> {
     match refusal {
         Some(e) => print!(rt; "E{} at {}", e.message().number(), e.offset()),

@@ -1,5 +1,3 @@
-//! The stack of open frames, and the allocations of readers.
-
 use crate::prints::Prints;
 use crate::reported::is_memory;
 use std::alloc::Global;
@@ -15,7 +13,6 @@ static OPEN: [u8; 6] = [0x02, 0x40, 0x03, 0x40, 0x02, 0x40];
 /// Three nested frames, and the `end` of each.
 static CLOSED: [u8; 10] = [0x02, 0x40, 0x03, 0x40, 0x04, 0x40, 0x0b, 0x0b, 0x0b, 0x0b];
 
-/// Prints the behaviour of a stack and of allocations.
 pub fn print_stacks<R: Print>(rt: &R, alloc: Global) -> io::Result<()> {
     print_stack(rt, alloc)?;
     print_handed_on(rt, alloc)?;
@@ -49,7 +46,6 @@ fn print_stack<R: Print>(rt: &R, alloc: Global) -> io::Result<()> {
     println!(rt; ", is empty {}, pop {:?}", stack.is_empty(), stack.pop())
 }
 
-/// Opens a frame, and tries again if allocation fails.
 fn push_with_memory(stack: &mut ControlStack, kind: FrameKind) -> Result<()> {
     let before = stack.last();
     match stack.push(kind) {
@@ -58,7 +54,6 @@ fn push_with_memory(stack: &mut ControlStack, kind: FrameKind) -> Result<()> {
     }
 }
 
-/// Clones a stack, and tries again if allocation fails.
 fn clone_with_memory(stack: &ControlStack) -> Result<ControlStack> {
     match stack.clone() {
         Err(e) if is_memory(e) && e.offset() == 0 => stack.clone(),
@@ -84,7 +79,7 @@ fn print_handed_on<R: Print>(rt: &R, alloc: Global) -> io::Result<()> {
     println!(rt; ", then in {:?}", operators.current_frame())
 }
 
-/// Opens frames within the capacity that `reserve` has allocated, which does not allocate.
+/// Opens frames within the reserved capacity, which does not allocate.
 fn print_reserved<R: Print>(rt: &R, alloc: Global) -> io::Result<()> {
     let mut allocations = OperatorsReaderAllocations::new(alloc);
     let mut room = allocations.reserve(4);
@@ -102,7 +97,6 @@ fn print_reserved<R: Print>(rt: &R, alloc: Global) -> io::Result<()> {
     println!(rt; ", {} visits, {outcome:?}", prints.operators)
 }
 
-/// Prints what readers return about the rest of their data.
 fn print_rests<R: Print>(rt: &R, alloc: Global) -> io::Result<()> {
     for rest in [&CLOSED[9..], &CLOSED[8..], &CLOSED[10..]] {
         let operators = OperatorsReader::new(alloc, BinaryReader::new(rest, 0));

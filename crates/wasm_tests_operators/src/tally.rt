@@ -1,5 +1,3 @@
-//! A visitor that overrides visits.
-
 use std::alloc::Global;
 use std::io::{self, Print};
 use wasm_operators::{
@@ -17,7 +15,7 @@ static NOPS: [u8; 4] = [0x01, 0x01, 0x1a, 0x0b];
 /// overridden.
 static CONSTANT: [u8; 6] = [0x41, 0x05, 0x20, 0x03, 0x1a, 0x0b];
 
-/// A visitor that counts visits, and overrides those of `Nop`, `LocalGet` and `DataDrop`.
+/// Counts visits, and overrides those of `Nop`, `LocalGet` and `DataDrop`.
 #[derive(Debug, Drop)]
 pub struct Tally {
     pub own: u32,
@@ -27,7 +25,6 @@ pub struct Tally {
 impl Visitor for Tally {
     type Output = ();
 
-    // Holds for every operator.
     ghost visits = { λ before op outcome after. Unit {0} };
 
     fn visit_any(&mut self, _op: Operator<'static>) {

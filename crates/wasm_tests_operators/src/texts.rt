@@ -1,5 +1,3 @@
-//! The texts of `Debug`.
-
 use bitflags::Flags;
 use std::alloc::Global;
 use std::io::{self, Print};
@@ -11,7 +9,6 @@ use wasm_operators::{
 /// A body with two locals of one type.
 static BODY: [u8; 4] = [0x01, 0x02, 0x7f, 0x0b];
 
-/// Prints values of the types that no other row prints.
 pub fn print_texts<R: Print>(rt: &R, alloc: Global) -> io::Result<()> {
     print_errors(rt)?;
     println!(rt; "a row: {:?}", Operator::Nop.info())?;

@@ -1,12 +1,9 @@
-//! The calls that visit.
-
 use crate::prints::{LargePrints, OwnPrints, Prints};
 use crate::reported::{Listed, Reported, is_memory, offset_at};
 use std::alloc::Global;
 use wasm_operators::{BinaryReader, Error, Message, Operator, OperatorsReader, Result};
 
-/// Visits an expression by `visit_all_simd`. A second call must make no visit, and end in the same
-/// way.
+/// Visits by `visit_all_simd`. A second call must make no visit, and end in the same way.
 pub fn visit_all_simd<'a>(operators: &mut OperatorsReader<'a>, list: Listed<'_, 'a>) -> Reported {
     let mut prints = Prints::new();
     let mut reported = Reported::new();
@@ -16,8 +13,7 @@ pub fn visit_all_simd<'a>(operators: &mut OperatorsReader<'a>, list: Listed<'_, 
     end(reported, list, prints, outcome)
 }
 
-/// Calls `visit_all_simd`. If allocation fails, the operator is not visited, and a second call
-/// continues with it.
+/// Calls `visit_all_simd`, again with the operator for which allocation failed.
 fn simd_to_end<'a>(
     operators: &mut OperatorsReader<'a>,
     list: Listed<'_, 'a>,
@@ -32,7 +28,6 @@ fn simd_to_end<'a>(
     outcome
 }
 
-/// Visits an expression by `visit_all`.
 pub fn visit_all<'a>(operators: &mut OperatorsReader<'a>, list: Listed<'_, 'a>) -> Reported {
     let mut prints = Prints::new();
     let mut reported = Reported::new();
@@ -56,7 +51,6 @@ fn plain_to_end<'a>(
     outcome
 }
 
-/// Visits with a visitor whose results are large. Continues after an allocation failure.
 pub fn visit_large<'a>(operators: &mut OperatorsReader<'a>, list: Listed<'_, 'a>) -> Reported {
     let mut large = LargePrints {
         prints: Prints::new(),
@@ -93,7 +87,7 @@ pub fn visit_own<'a>(operators: &mut OperatorsReader<'a>, list: Listed<'_, 'a>) 
     end(reported, list, own.prints, outcome)
 }
 
-/// Visits with a visitor in a `Box`, through a reference to it; once more if allocation failed.
+/// Visits with a visitor in a `Box`, through a reference to it; again if allocation failed.
 pub fn visit_boxed<'a>(alloc: Global, reader: &BinaryReader<'a>, list: Listed<'_, 'a>) -> Reported {
     let reported = boxed_once(alloc, reader, list);
     if reported.lacked_memory() {
@@ -118,7 +112,6 @@ fn boxed_once<'a>(alloc: Global, reader: &BinaryReader<'a>, list: Listed<'_, 'a>
     }
 }
 
-/// Returns the error if it is `OutOfMemory`.
 fn memory_refused(outcome: Result<()>) -> Option<Error> {
     match outcome {
         Err(e) if is_memory(e) => Some(e),
@@ -126,8 +119,7 @@ fn memory_refused(outcome: Result<()>) -> Option<Error> {
     }
 }
 
-/// Checks that the reader is at the operator for which allocation failed, and that the visitor did
-/// not see it.
+/// Checks that the reader is at the operator for which allocation failed, which was not visited.
 fn check_stop(
     reported: &mut Reported,
     operators: &OperatorsReader<'_>,
@@ -141,7 +133,7 @@ fn check_stop(
     reported.check(next == Some(position) || next.is_none());
 }
 
-/// Returns the final result, after checking that the visited operators are the first of the list.
+/// Checks that the visited operators are the first of the list.
 fn end(reported: Reported, list: Listed<'_, '_>, prints: Prints, outcome: Result<()>) -> Reported {
     let mut reported = reported;
     reported.operators = prints.operators;

@@ -1,12 +1,9 @@
-//! The listing of a body.
-
 use crate::outcomes::fingerprint;
 use std::alloc::Global;
 use wasm_listing::operators::{Error, WasmFeatures};
 use wasm_listing::{DumpFault, run};
 use wasm_tests_texts::Written;
 
-/// The lines that `run` wrote, and its result.
 #[derive(Drop)]
 pub struct Listing {
     pub text: Vec<u8>,
@@ -14,7 +11,6 @@ pub struct Listing {
 }
 
 impl Listing {
-    /// Lists a body.
     pub fn of(alloc: Global, features: WasmFeatures, body: &[u8]) -> Listing {
         let mut reader = body;
         let mut text = Vec::new(alloc);
@@ -27,7 +23,6 @@ impl Listing {
         str::from_utf8(self.text.as_slice()).unwrap_or("")
     }
 
-    /// Returns the error, if the body has one.
     pub fn refusal(&self) -> Option<Error> {
         match self.end {
             Err(DumpFault::Refused(e)) => Some(e),
@@ -35,7 +30,6 @@ impl Listing {
         }
     }
 
-    /// Writes the exit status of the program.
     pub fn write_status(&self, out: &mut String) -> Written {
         match self.end {
             Ok(()) => out.push_str("0"),
@@ -46,7 +40,6 @@ impl Listing {
         }
     }
 
-    /// Writes the number of the error, or 0.
     pub fn write_number(&self, out: &mut String) -> Written {
         let number = match self.refusal() {
             None => 0,
@@ -55,7 +48,6 @@ impl Listing {
         write!(out, "{number}")
     }
 
-    /// Writes the offset of the error, or nothing.
     pub fn write_offset(&self, out: &mut String) -> Written {
         match self.refusal() {
             None => Ok(()),
@@ -66,7 +58,6 @@ impl Listing {
         }
     }
 
-    /// Writes the text of the error, or nothing.
     pub fn write_text(&self, out: &mut String) -> Written {
         match self.refusal() {
             None => Ok(()),
@@ -77,13 +68,11 @@ impl Listing {
         }
     }
 
-    /// Writes the number of lines.
     pub fn write_count(&self, out: &mut String) -> Written {
         let count = self.lines().lines().count();
         write!(out, "{count}")
     }
 
-    /// Writes the hash of the lines.
     pub fn write_print(&self, out: &mut String) -> Written {
         let print = fingerprint(self.text.as_slice());
         write!(out, "{print:016x}")

@@ -3,14 +3,12 @@
 use wasm_listing::operators::{Error, Result};
 use wasm_tests_texts::Written;
 
-/// Writes an error: its number and its offset.
 pub fn write_refusal(out: &mut String, e: Error) -> Written {
     let number = e.message().number();
     let offset = e.offset();
     write!(out, "E{number}@{offset}")
 }
 
-/// Writes how many operators a call visited, and how it ended.
 pub fn write_visits(out: &mut String, visits: u64, outcome: Result<()>) -> Written {
     write!(out, "{visits} ")?;
     match outcome {
@@ -19,7 +17,7 @@ pub fn write_visits(out: &mut String, visits: u64, outcome: Result<()>) -> Writt
     }
 }
 
-/// Returns the FNV-1a hash of a text, in 64 bits.
+/// Returns the 64-bit FNV-1a hash of a text.
 pub fn fingerprint(text: &[u8]) -> u64 {
     let mut print = 0xcbf2_9ce4_8422_2325;
     for byte in text {

@@ -7,7 +7,6 @@ use wasm_listing::operators::{
 };
 use wasm_tests_texts::{Written, write_value_type};
 
-/// Writes the offset at which a constant expression ends, or the error.
 pub fn write_constant(
     alloc: Global,
     features: WasmFeatures,
@@ -24,7 +23,7 @@ pub fn write_constant(
     }
 }
 
-/// Writes the number of local declarations, the first five of them, and the error.
+/// Writes the number of local declarations, the first five, and the error.
 pub fn write_locals(features: WasmFeatures, bytes: &[u8], out: &mut String) -> Written {
     let reader = BinaryReader::new_features(bytes, 0, features);
     match LocalsReader::new(reader) {

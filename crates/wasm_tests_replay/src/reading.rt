@@ -1,10 +1,8 @@
-//! The operators of a body, with all fields.
-
 use std::alloc::{AllocError, Global};
 use wasm_listing::operators::{BinaryReader, FunctionBody, Operator, Result, WasmFeatures};
 use wasm_tests_texts::{Written, write_operator};
 
-/// Reads a body, and writes a line for each operator: its offset, its name and its fields.
+/// Writes a line for each operator of a body: its offset, its name and its fields.
 pub fn write_fields(
     alloc: Global,
     features: WasmFeatures,
@@ -19,7 +17,6 @@ pub fn write_fields(
     Ok(outcome)
 }
 
-/// Reads the operators after the locals.
 fn read_body<'a>(
     alloc: Global,
     features: WasmFeatures,

@@ -1,5 +1,3 @@
-//! The comparison of results with those of wasmparser.
-
 use crate::listing::Listing;
 use crate::outcomes::{fingerprint, write_visits};
 use crate::parts::{write_constant, write_locals, write_section};
@@ -12,21 +10,16 @@ use std::io::{self, Print};
 use wasm_listing::operators::WasmFeatures;
 use wasm_tests_texts::read_hex;
 
-/// The state of the comparison.
 #[derive(Drop)]
 pub struct Replay {
     alloc: Global,
     pub cases: u64,
-    /// The number of rows that differ.
     pub differ: u64,
-    /// Whether the current row differs.
     differs: bool,
-    /// The result of a call as text.
     outcome: String,
 }
 
 impl Replay {
-    /// Creates a comparison without rows.
     pub fn new(alloc: Global) -> Replay {
         Replay {
             alloc,
@@ -58,7 +51,6 @@ impl Replay {
         Ok(())
     }
 
-    /// Compares the results of each call for one body.
     fn row<R: Print>(&mut self, rt: &R, row: &Row<'_>) -> io::Result<()> {
         let mut bytes = Vec::new(self.alloc);
         read_hex(&mut bytes, row.body)?;
@@ -69,7 +61,6 @@ impl Replay {
         self.parts(rt, row, body)
     }
 
-    /// Compares the listing, and how it ends.
     fn listing<R: Print>(&mut self, rt: &R, row: &Row<'_>, body: &[u8]) -> io::Result<()> {
         let listing = Listing::of(self.alloc, row.features, body);
         listing.write_status(&mut self.outcome)?;
@@ -88,7 +79,6 @@ impl Replay {
         self.compare(rt, "lines", row.lines)
     }
 
-    /// Compares the operators with all fields, and prints these if they differ.
     fn reading<R: Print>(&mut self, rt: &R, row: &Row<'_>, body: &[u8]) -> io::Result<()> {
         let mut text = String::new(self.alloc);
         let end = write_fields(self.alloc, row.features, body, &mut text)?;
@@ -102,7 +92,6 @@ impl Replay {
         self.compare_end(rt, "read_all", row)
     }
 
-    /// Compares the number of visits of visitors that count.
     fn visits<R: Print>(&mut self, rt: &R, row: &Row<'_>, body: &[u8]) -> io::Result<()> {
         write_all(self.alloc, row.features, body, &mut self.outcome)?;
         self.compare_end(rt, "visit_all_simd", row)?;
@@ -110,7 +99,6 @@ impl Replay {
         self.compare(rt, "visit_all", row.plain)
     }
 
-    /// Compares the results for the same bytes as a constant expression, locals and a code section.
     fn parts<R: Print>(&mut self, rt: &R, row: &Row<'_>, body: &[u8]) -> io::Result<()> {
         write_constant(self.alloc, row.features, body, &mut self.outcome)?;
         self.compare(rt, "constant expression", row.constant)?;
@@ -120,8 +108,7 @@ impl Replay {
         self.compare(rt, "code section", row.section)
     }
 
-    /// Compares the result with the number of operators that wasmparser reads, and with how that
-    /// ends.
+    /// Compares the number of operators and the end with those of wasmparser.
     fn compare_end<R: Print>(&mut self, rt: &R, what: &str, row: &Row<'_>) -> io::Result<()> {
         let mut expected = String::new(self.alloc);
         match row.status {
@@ -131,7 +118,6 @@ impl Replay {
         self.compare(rt, what, expected.as_str())
     }
 
-    /// Compares the result with the expected one, and clears it.
     fn compare<R: Print>(&mut self, rt: &R, what: &str, expected: &str) -> io::Result<()> {
         if self.outcome.as_str() != expected {
             self.differs = true;
@@ -141,7 +127,7 @@ impl Replay {
         Ok(())
     }
 
-    /// Compares one operator in a body: its line in the listing, and its line with all fields.
+    /// Compares the two lines of one operator in a body: of the listing, and with all fields.
     fn sample<R: Print>(&mut self, rt: &R, sample: &Sample<'_>) -> io::Result<()> {
         let hexadecimal = format!(in self.alloc;
             "{}{}{}",
@@ -162,7 +148,6 @@ impl Replay {
         self.find(rt, text.as_str(), expected.as_str())
     }
 
-    /// Searches for a line, and prints the whole text if it is missing.
     fn find<R: Print>(&mut self, rt: &R, text: &str, expected: &str) -> io::Result<()> {
         if text.lines().any(|line| line == expected) {
             return Ok(());

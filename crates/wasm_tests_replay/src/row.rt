@@ -3,18 +3,15 @@
 use bitflags::Flags;
 use wasm_listing::operators::WasmFeatures;
 
-/// The results of wasmparser for one body.
 #[derive(Clone, Copy, Debug)]
 pub struct Row<'r> {
     pub features: WasmFeatures,
-    /// The body in hexadecimal.
     pub body: &'r str,
-    /// How a listing ends: the exit status, and the number, the offset and the text of the error.
+    /// The exit status, and the number, the offset and the text of the error.
     pub status: &'r str,
     pub number: &'r str,
     pub offset: &'r str,
     pub text: &'r str,
-    /// The number of operators that are read.
     pub operators: &'r str,
     /// The hashes of the listing, and of the listing with all fields.
     pub listing: &'r str,
@@ -29,7 +26,6 @@ pub struct Row<'r> {
     pub section: &'r str,
 }
 
-/// Parses a line with the results for one body.
 pub fn row_of<'r>(line: &'r str) -> Option<Row<'r>> {
     let mut columns = line.split('\t');
     let _group = columns.next()?;
@@ -52,19 +48,17 @@ pub fn row_of<'r>(line: &'r str) -> Option<Row<'r>> {
     })
 }
 
-/// An operator in a valid body, under all features.
+/// An operator in a valid body, with all features.
 #[derive(Clone, Copy, Debug)]
 pub struct Sample<'r> {
     pub name: &'r str,
-    /// The bytes before the operator, those of the operator, and those after it, in hexadecimal.
+    /// The bytes before the operator, its own, and those after it, in hexadecimal.
     pub before: &'r str,
     pub operator: &'r str,
     pub after: &'r str,
-    /// The operator's name and its fields.
     pub fields: &'r str,
 }
 
-/// Parses a line with a sample.
 pub fn sample_of<'r>(line: &'r str) -> Option<Sample<'r>> {
     let mut columns = line.split('\t');
     let name = columns.next()?;
@@ -80,7 +74,6 @@ pub fn sample_of<'r>(line: &'r str) -> Option<Sample<'r>> {
     })
 }
 
-/// Returns whether a line has the names of columns.
 pub fn is_heading(line: &str) -> bool {
     line.starts_with("group\tfeatures\t") || line.starts_with("name\tfeatures\t")
 }

@@ -1,5 +1,3 @@
-//! Visitors that count.
-
 use crate::outcomes::write_visits;
 use std::alloc::Global;
 use wasm_listing::operators::{
@@ -8,7 +6,6 @@ use wasm_listing::operators::{
 };
 use wasm_tests_texts::Written;
 
-/// A visitor that counts visits, without SIMD operators.
 #[derive(Debug, Drop)]
 struct Plain {
     visits: u64,
@@ -17,7 +14,6 @@ struct Plain {
 impl Visitor for Plain {
     type Output = ();
 
-    // Holds for every operator.
     ghost visits = { λ before op outcome after. Unit {0} };
 
     fn visit_any(&mut self, _op: Operator<'static>) {
@@ -33,7 +29,7 @@ impl<'a> VisitOperator<'a> for Plain {
     }
 }
 
-/// A visitor that counts visits, also of SIMD operators.
+/// Counts visits, also of SIMD operators.
 #[derive(Debug, Drop)]
 struct All {
     visits: u64,
@@ -42,7 +38,6 @@ struct All {
 impl Visitor for All {
     type Output = ();
 
-    // Holds for every operator.
     ghost visits = { λ before op outcome after. Unit {0} };
 
     fn visit_any(&mut self, _op: Operator<'static>) {
@@ -60,7 +55,6 @@ impl<'a> VisitOperator<'a> for All {
 
 impl VisitSimdOperator for All {}
 
-/// Creates a reader after the locals of a body.
 fn after_locals<'a>(
     alloc: Global,
     features: WasmFeatures,
@@ -69,7 +63,6 @@ fn after_locals<'a>(
     FunctionBody::new(BinaryReader::new_features(body, 0, features)).get_operators_reader(alloc)
 }
 
-/// Writes how many visits `visit_all` makes of a visitor without SIMD operators, and how it ends.
 pub fn write_plain(
     alloc: Global,
     features: WasmFeatures,
@@ -84,7 +77,6 @@ pub fn write_plain(
     write_visits(out, plain.visits, outcome)
 }
 
-/// Writes how many visits `visit_all_simd` makes, and how it ends.
 pub fn write_all(alloc: Global, features: WasmFeatures, body: &[u8], out: &mut String) -> Written {
     let mut all = All { visits: 0 };
     let outcome = match after_locals(alloc, features, body) {

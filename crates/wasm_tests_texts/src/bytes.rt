@@ -1,9 +1,6 @@
-//! The input, and bytes in hexadecimal.
-
 use std::alloc::{AllocError, Global};
 use std::io::{self, Read};
 
-/// Reads to the end of the data.
 pub fn read_input<R: Read>(alloc: Global, reader: &mut R) -> io::Result<Vec<u8>> {
     let mut input = Vec::new(alloc);
     let mut chunk = [0u8; 4096];
@@ -17,8 +14,8 @@ pub fn read_input<R: Read>(alloc: Global, reader: &mut R) -> io::Result<Vec<u8>>
     Ok(input)
 }
 
-/// Replaces the contents of `out` by the bytes that `text` has in hexadecimal. A character that is
-/// not a digit counts as 0.
+/// Replaces the contents of `out` by bytes in hexadecimal. A character that is not a digit counts
+/// as 0.
 pub fn read_hex(out: &mut Vec<u8>, text: &str) -> Result<(), AllocError> {
     out.clear();
     let mut high = None;

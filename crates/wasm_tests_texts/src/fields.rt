@@ -1,5 +1,3 @@
-//! The fields of operators, printed.
-
 pub mod atomic;
 pub mod gc;
 pub mod misc;
@@ -10,7 +8,6 @@ pub mod simd;
 use crate::values::Written;
 use wasm_instr::Operator;
 
-/// Writes the operator's name and its fields.
 pub fn write_operator(out: &mut String, op: &Operator<'_>) -> Written {
     out.push_str(op.info().name)?;
     own::own(out, op)

@@ -7,7 +7,6 @@ use wasm_instr::imm::{
     Ordering, ResumeTable, SelectTypes, TryTable, V128,
 };
 
-/// The result of writing into a `String`.
 pub type Written = Result<(), AllocError>;
 
 pub fn number(out: &mut String, name: &str, value: &u32) -> Written {
@@ -93,7 +92,6 @@ pub fn block_type(out: &mut String, name: &str, value: &BlockType) -> Written {
     write_block_type(out, *value)
 }
 
-/// Writes the targets, and then the default target.
 pub fn branch_table(out: &mut String, name: &str, value: &BrTable<'_>) -> Written {
     write!(out, " {name}=[")?;
     let mut is_first = true;

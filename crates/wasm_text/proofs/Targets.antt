@@ -23,13 +23,10 @@ first_number width (c ∷ d ∷ text) after n (w, le, lt, high, sum, p) =
     let value : 128 * high + (c - 128) ≡ n = omega arith in
     ap (with_byte c) below ∙ with_more c high (numbers_of after) le ∙ ap (λ z. z ∷ numbers_of after) value
 
--- Reading the bytes of encoded numbers returns these numbers.
 pub numbers_are : (text : List ℕ) (numbers : List ℕ) → EncodesEach (EncodesUnsigned 32) text numbers → numbers_of text ≡ numbers
 numbers_are text [] p = ap numbers_of p
 numbers_are text (n ∷ numbers) (first, after, e, p, ps) =
     ap numbers_of e ∙ first_number 32 first after n p ∙ ap (λ z. n ∷ z) (numbers_are after numbers ps)
-
--- ---- the targets that an iterator has left; it returns each as `Ok`
 
 abbrev oks : List ℕ → List (Result ℕ Error)
 oks ns = map Ok ns

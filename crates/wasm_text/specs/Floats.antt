@@ -1,5 +1,5 @@
--- Floating-point numbers as text, in hexadecimal.
--- WebAssembly Core Specification 3.0: Text Format, Values, Floating-Point; Numerics, Representations.
+-- Floating-point numbers as text, in hexadecimal. Specification: Text Format, Values,
+-- Floating-Point; Numerics, Representations.
 use Rattle.std.specs.Prelude.{◌==◌, ℕ, ◌-◌, ◌*◌, ◌/◌, ◌%◌, ◌^◌, ltb, false, List, [], ◌∷◌, ◌++◌, codes, decimal, if◌then◌else◌, zero, suc}
 use Rattle.std.specs.Fmt.{digit_glyph, radix_digits}
 
@@ -8,16 +8,16 @@ abbrev pub fraction_digits : ℕ → ℕ → List ℕ
 fraction_digits zero fraction = []
 fraction_digits (suc n) fraction = if fraction == 0 then [] else digit_glyph false (fraction / 2 ^ 48) ∷ fraction_digits n (fraction % 2 ^ 48 * 16)
 
--- A point and the digits of a fraction of 52 bits; nothing if the fraction is 0.
+-- A point and the digits of a fraction of 52 bits; nothing if it is 0.
 abbrev pub fraction_text : ℕ → List ℕ
 fraction_text fraction = if fraction == 0 then [] else 46 ∷ fraction_digits 13 fraction
 
--- The exponent of two with its sign, which is `biased` less `bias`.
+-- The exponent of two, `biased` less `bias`, with its sign.
 abbrev pub exponent_text : ℕ → ℕ → List ℕ
 exponent_text biased bias = if ltb biased bias then codes "p-" ++ decimal (bias - biased) else codes "p+" ++ decimal (biased - bias)
 
--- A finite number by its biased exponent and its fraction of 52 bits. The integer part is 1, or 0 if the biased exponent is 0; the biased exponent then counts
--- as 1.
+-- A finite number by its biased exponent and its fraction of 52 bits. With the biased exponent 0,
+-- the integer part is 0 instead of 1, and the exponent counts as 1.
 abbrev pub finite_text : ℕ → ℕ → ℕ → List ℕ
 finite_text bias biased fraction =
     if biased == 0
@@ -28,17 +28,17 @@ finite_text bias biased fraction =
 abbrev pub nan_text : ℕ → ℕ → List ℕ
 nan_text canonical payload = if payload == canonical then codes "nan" else codes "nan:0x" ++ radix_digits 16 false payload
 
--- A number whose biased exponent is the largest: infinity if the payload is 0, else a NaN.
+-- A number with the largest exponent: infinity if the payload is 0, else a NaN.
 abbrev pub special_text : ℕ → ℕ → List ℕ
 special_text canonical payload = if payload == 0 then codes "inf" else nan_text canonical payload
 
 abbrev pub sign_text : ℕ → List ℕ
 sign_text sign = if sign == 0 then codes " " else codes " -"
 
--- A number of 32 bits: the sign, 8 bits of the exponent and 23 bits of the fraction.
+-- The sign, 8 bits of the exponent and 23 bits of the fraction.
 abbrev pub float_32_text : ℕ → List ℕ
 float_32_text bits = sign_text (bits / 2 ^ 31) ++ (if bits / 2 ^ 23 % 2 ^ 8 == 255 then special_text (2 ^ 22) (bits % 2 ^ 23) else finite_text 127 (bits / 2 ^ 23 % 2 ^ 8) (bits % 2 ^ 23 * 2 ^ 29))
 
--- A number of 64 bits: the sign, 11 bits of the exponent and 52 bits of the fraction.
+-- The sign, 11 bits of the exponent and 52 bits of the fraction.
 abbrev pub float_64_text : ℕ → List ℕ
 float_64_text bits = sign_text (bits / 2 ^ 63) ++ (if bits / 2 ^ 52 % 2 ^ 11 == 2047 then special_text (2 ^ 51) (bits % 2 ^ 52) else finite_text 1023 (bits / 2 ^ 52 % 2 ^ 11) (bits % 2 ^ 52))

@@ -1,6 +1,6 @@
 -- Written by tools/lists.py from tools/operators.tsv.
 -- The names of the operators in the text format.
--- WebAssembly Core Specification 3.0, Text Format, Instructions; and the proposals.
+-- Specification: Text Format, Instructions; and the proposals.
 use Rattle.std.specs.Prelude.{ℕ, List, codes}
 use Rattle.wasm_instr.specs.declared.operator.Operator.{Operator}
 use Rattle.wasm_instr.specs.declared.operator.Operator.TheVariants as operator

@@ -1,5 +1,4 @@
--- The text of an operator: its name and its operands, each after a space.
--- WebAssembly Core Specification 3.0, Text Format, Instructions.
+-- Specification: Text Format, Instructions.
 use Rattle.std.specs.Prelude.{ℕ, true, false, List, ◌++◌, codes, decimal, flat_map}
 use Rattle.wasm_instr.specs.Immediate.{Immediate, unsigned_32, signed_32, signed_64, float_32, float_64, vector, one_lane, sixteen_lanes, memory_argument, memory_index, table_index_32, order, fence_order, heap_type, cast, block_type, branch_table, select_types, try_clauses, resume_clauses}
 use Rattle.wasm_instr.specs.Row.{immediates_of}
@@ -21,7 +20,6 @@ select_text (select.Multi tys) = flat_map value_type_text tys
 abbrev pub cast_text : Cast → List ℕ
 cast_text c = number_text c.relative_depth ++ (reference_text c.from.nullable c.from.heap_type ++ reference_text c.to.nullable c.to.heap_type)
 
--- The text of an immediate.
 abbrev pub immediate_text : Immediate → List ℕ
 immediate_text (unsigned_32 n) = number_text n
 immediate_text (signed_32 n) = signed_text n
@@ -44,7 +42,6 @@ immediate_text (select_types types) = select_text types
 immediate_text (try_clauses t) = try_table_text t
 immediate_text (resume_clauses t) = resume_table_text t
 
--- The texts of several immediates, in the order of their bytes.
 abbrev pub immediates_text : List Immediate → List ℕ
 immediates_text is = flat_map immediate_text is
 
@@ -52,7 +49,8 @@ immediates_text is = flat_map immediate_text is
 abbrev pub indirect_text : ℕ → ℕ → List ℕ
 indirect_text ty table = number_text table ++ (codes " (type " ++ (decimal ty ++ codes ")"))
 
--- The operands of an operator with the prefix byte 0xfb. A test of, or a cast to, one type shows that type as a reference type.
+-- The operands of an operator with the prefix byte 0xfb. A test of, or a cast to, one type shows a
+-- reference type.
 abbrev pub gc_operands : GcOperator → List ℕ
 gc_operands (gc.RefTestNonNull hty) = reference_text false hty
 gc_operands (gc.RefTestNullable hty) = reference_text true hty
@@ -62,7 +60,7 @@ gc_operands (gc.RefCastDescEqNonNull hty) = reference_text false hty
 gc_operands (gc.RefCastDescEqNullable hty) = reference_text true hty
 gc_operands op = immediates_text (immediates_of (operator.Gc op))
 
--- The operands of an operator: its immediates, unless the text format has another order or form.
+-- The immediates, unless the text format has another order or form.
 abbrev pub operands_of : Operator → List ℕ
 operands_of (operator.CallIndirect type_index table_index) = indirect_text type_index table_index
 operands_of (operator.ReturnCallIndirect type_index table_index) = indirect_text type_index table_index

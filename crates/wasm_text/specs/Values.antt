@@ -1,6 +1,5 @@
--- The values of immediates as text, each after a space.
--- WebAssembly Core Specification 3.0, Text Format: Values, Types, Instructions. Where a disassembly uses another form than the text format, the comment says
--- so.
+-- Specification: Text Format, Values, Types, Instructions; proposals stack switching and
+-- shared-everything threads. Comments in parentheses say where the text format has another form.
 use Rattle.std.specs.Prelude.{ℕ, ℤ, ◌+◌, ◌/◌, ◌%◌, eqb, Bool, true, false, List, [], ◌∷◌, ◌++◌, Option, Some, None, codes, decimal, flat_map, cond, slice_index}
 use Rattle.std.specs.Fmt.{digit_glyph, signed_decimal}
 use Rattle.wasm_instr.specs.below.declared.types.AbstractHeapType.{AbstractHeapType}
@@ -45,12 +44,11 @@ spaced_byte byte = 32 ∷ byte_text byte
 abbrev pub word_text : List ℕ → ℕ → List ℕ
 word_text bytes at = codes " 0x" ++ (byte_text (slice_index bytes (at + 3)) ++ (byte_text (slice_index bytes (at + 2)) ++ (byte_text (slice_index bytes (at + 1)) ++ byte_text (slice_index bytes at))))
 
--- Sixteen bytes as four words, the lowest word first: a vector or the lane indices of a shuffle. (The text format writes a shape before the words of a vector,
--- and each lane index as a number.)
+-- Four words, the lowest first. (The text format writes a vector's shape before them, and lanes as
+-- numbers.)
 abbrev pub words_text : List ℕ → List ℕ
 words_text bytes = word_text bytes 0 ++ (word_text bytes 4 ++ (word_text bytes 8 ++ word_text bytes 12))
 
--- The name of an abstract heap type.
 abbrev pub abstract_name : AbstractHeapType → List ℕ
 abstract_name ty.Func = codes "func"
 abstract_name ty.Extern = codes "extern"
@@ -77,7 +75,7 @@ abbrev pub reference_words : Bool → HeapType → List ℕ
 reference_words true heap = codes " (ref null" ++ (heap_type_text heap ++ codes ")")
 reference_words false heap = codes " (ref" ++ (heap_type_text heap ++ codes ")")
 
--- A reference type, in the short form `funcref` or `externref` if it has one.
+-- A reference type, as `funcref` or `externref` if it has that short form.
 abbrev pub reference_text : Bool → HeapType → List ℕ
 reference_text true (heap.Abstract false ty.Func) = codes " funcref"
 reference_text true (heap.Abstract false ty.Extern) = codes " externref"
@@ -91,13 +89,13 @@ value_type_text value.F64 = codes " f64"
 value_type_text value.V128 = codes " v128"
 value_type_text (value.Ref r) = reference_text r.nullable r.heap_type
 
--- A block type: nothing, the one result type, or the index of a function type. (The text format writes `(result i32)` and `(type 1)`.)
+-- Nothing, the one result type, or the index of a function type. (The text format: `(result i32)`,
+-- `(type 1)`.)
 abbrev pub block_type_text : BlockType → List ℕ
 block_type_text block.Empty = []
 block_type_text (block.Value ty) = value_type_text ty
 block_type_text (block.FuncType index) = codes " type[" ++ (decimal index ++ codes "]")
 
--- The targets of a branch table, and then the default target.
 abbrev pub branch_table_text : BranchTable → List ℕ
 branch_table_text t = flat_map number_text (numbers_of t.targets) ++ number_text t.default
 
@@ -110,7 +108,7 @@ catch_text (clause.AllRef label) = codes " (catch_all_ref" ++ (number_text label
 abbrev pub try_table_text : TryTable → List ℕ
 try_table_text t = block_type_text t.ty ++ flat_map catch_text t.catches
 
--- A clause of a resume table. Proposal stack switching.
+-- A clause of a resume table.
 abbrev pub handle_text : Handle → List ℕ
 handle_text (handle.OnLabel tag label) = codes " (on" ++ (number_text tag ++ (number_text label ++ codes ")"))
 handle_text (handle.OnSwitch tag) = codes " (on" ++ (number_text tag ++ codes " switch)")
@@ -118,17 +116,17 @@ handle_text (handle.OnSwitch tag) = codes " (on" ++ (number_text tag ++ codes " 
 abbrev pub resume_table_text : ResumeTable → List ℕ
 resume_table_text t = flat_map handle_text t.handlers
 
--- A memory ordering. Proposal shared-everything threads.
+-- A memory ordering.
 abbrev pub order_text : Ordering → List ℕ
 order_text SeqCst = codes " seq_cst"
 order_text AcqRel = codes " acq_rel"
 
--- The ordering of a fence: the byte 0 for the one ordering of the proposal threads. (The text format writes nothing.)
+-- The ordering of a fence: 0 for that of the proposal threads. (The text format writes nothing.)
 abbrev pub fence_text : Ordering → List ℕ
 fence_text SeqCst = codes " 0"
 fence_text AcqRel = codes " acq_rel"
 
--- What a memory argument accesses: the index of a memory, unless it is 0, or the type of an array.
+-- The index of the memory that is accessed, unless it is 0, or the type of the array.
 abbrev pub target_text : MemArgTarget → List ℕ
 target_text (target.Memory index) = cond (eqb index 0) [] (number_text index)
 target_text (target.Array index) = codes " (type " ++ (decimal index ++ codes ")")
@@ -138,7 +136,7 @@ announced_text None = []
 announced_text (Some (ordering.Op o)) = order_text o
 announced_text (Some (ordering.Rmw o)) = order_text o
 
--- The alignment as the exponent of a power of two, what is accessed, the offset in bytes, and the ordering. (The text format has `offset=` and `align=`, and
--- the alignment itself.)
+-- Alignment as an exponent of two, what is accessed, offset in bytes, ordering. (The text format:
+-- `offset=`, `align=`, and the alignment.)
 abbrev pub memory_argument_text : MemArg → List ℕ
 memory_argument_text m = number_text m.align ++ (target_text m.target ++ (number_text m.offset ++ announced_text m.ordering))

@@ -5,7 +5,6 @@ ghost use Rattle.wasm_text.specs.Values.{byte_text, spaced_byte};
 
 use crate::values::Written;
 
-/// The two digits of each byte.
 static BYTES: [&str; 256] = [
     "00", "01", "02", "03", "04", "05", "06", "07", "08", "09", "0a", "0b", "0c", "0d", "0e", "0f",
     "10", "11", "12", "13", "14", "15", "16", "17", "18", "19", "1a", "1b", "1c", "1d", "1e", "1f",
@@ -49,7 +48,6 @@ static SPACED: [&str; 256] = [
     " f7", " f8", " f9", " fa", " fb", " fc", " fd", " fe", " ff",
 ];
 
-/// Returns the text of `byte` in a table with one entry per byte.
 #[inline(always)]
 fn text_in(texts: &[&'static str; 256], byte: u8) -> &'static str
     ensures { (text : ℕ → List ℕ) → map (λ t. t.now) texts.now ≡ map text (range_with_len 0 256) → result.now ≡ text byte }
@@ -57,14 +55,12 @@ fn text_in(texts: &[&'static str; 256], byte: u8) -> &'static str
     texts[byte as usize]
 }
 
-/// Writes the two hexadecimal digits of a byte.
 pub fn write_byte(out: &mut String, byte: u8) -> Written
     ensures { OnOk result (string_bytes out.new ≡ string_bytes out.old ++ byte_text byte) }
 {
     out.push_str(text_in(&BYTES, byte))
 }
 
-/// Writes a space and the two hexadecimal digits of a byte.
 pub fn write_spaced_byte(out: &mut String, byte: u8) -> Written
     ensures { OnOk result (string_bytes out.new ≡ string_bytes out.old ++ spaced_byte byte) }
 {

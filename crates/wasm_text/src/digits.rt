@@ -1,4 +1,3 @@
-//! Digits, and words of four bytes, in hexadecimal.
 ghost use Rattle.std.specs.Prelude.{◌≡◌, ◌++◌, OnOk, string_bytes, false, ◌∷◌, [], ◌<◌};
 ghost use Rattle.std.specs.Fmt.{digit_glyph};
 ghost use Rattle.wasm_text.specs.Values.{words_text, word_text};
@@ -6,12 +5,10 @@ ghost use Rattle.wasm_text.specs.Values.{words_text, word_text};
 use crate::bytes::write_byte;
 use crate::values::Written;
 
-/// The sixteen digits, in lower case.
 static DIGITS: [&str; 16] = [
     "0", "1", "2", "3", "4", "5", "6", "7", "8", "9", "a", "b", "c", "d", "e", "f",
 ];
 
-/// Returns the digit of a number below 16.
 fn digit_of(value: u8) -> &'static str
     requires { value < 16 }
     ensures { result.now ≡ digit_glyph false value ∷ [] }
@@ -19,7 +16,6 @@ fn digit_of(value: u8) -> &'static str
     DIGITS[value as usize]
 }
 
-/// Writes one hexadecimal digit.
 pub fn write_digit(out: &mut String, value: u8) -> Written
     requires { value < 16 }
     ensures { OnOk result (string_bytes out.new ≡ string_bytes out.old ++ digit_glyph false value ∷ []) }

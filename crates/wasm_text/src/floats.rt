@@ -1,4 +1,3 @@
-//! Floating-point numbers in hexadecimal.
 ghost use Rattle.std.specs.Prelude.{◌≡◌, ◌++◌, ◌^◌, ◌<◌, OnOk, string_bytes};
 ghost use Rattle.wasm_text.specs.Floats.{fraction_digits, fraction_text, exponent_text, finite_text, special_text, nan_text, sign_text, float_32_text, float_64_text};
 
@@ -6,7 +5,7 @@ use crate::digits::write_digit;
 use crate::values::Written;
 use wasm_instr::{Ieee32, Ieee64};
 
-/// The weight of the first hexadecimal digit of a fraction of 52 bits, 2 to the power of 48.
+/// The weight of the first hexadecimal digit of a fraction of 52 bits.
 const FIRST_DIGIT: u64 = 0x1_0000_0000_0000;
 
 /// Writes the hexadecimal digits of a fraction of 52 bits, up to its last digit that is not 0.
@@ -25,7 +24,6 @@ fn write_digits(out: &mut String, fraction: u64) -> Written
     Ok(())
 }
 
-/// Writes a point and the digits of a fraction of 52 bits; nothing if the fraction is 0.
 fn write_fraction(out: &mut String, fraction: u64) -> Written
     requires { fraction < 2 ^ 52 }
     ensures { OnOk result (string_bytes out.new ≡ string_bytes out.old ++ fraction_text fraction) }
@@ -37,7 +35,6 @@ fn write_fraction(out: &mut String, fraction: u64) -> Written
     write_digits(out, fraction)
 }
 
-/// Writes the exponent of two, `biased - bias`, with its sign.
 fn write_exponent(out: &mut String, biased: u64, bias: u64) -> Written
     ensures { OnOk result (string_bytes out.new ≡ string_bytes out.old ++ exponent_text biased bias) }
 {
@@ -50,7 +47,6 @@ fn write_exponent(out: &mut String, biased: u64, bias: u64) -> Written
     }
 }
 
-/// Writes a finite number without its sign, from its biased exponent and its fraction of 52 bits.
 fn write_finite(out: &mut String, bias: u64, biased: u64, fraction: u64) -> Written
     requires { fraction < 2 ^ 52 }
     ensures { OnOk result (string_bytes out.new ≡ string_bytes out.old ++ finite_text bias biased fraction) }
@@ -81,7 +77,6 @@ fn write_special(out: &mut String, canonical: u64, payload: u64) -> Written
     write!(out, "nan:0x{payload:x}")
 }
 
-/// Writes a space, and a minus sign if `sign` is not 0.
 fn write_sign(out: &mut String, sign: u64) -> Written
     ensures { OnOk result (string_bytes out.new ≡ string_bytes out.old ++ sign_text sign) }
 {
@@ -92,7 +87,6 @@ fn write_sign(out: &mut String, sign: u64) -> Written
     }
 }
 
-/// Writes a space and a floating-point number of 32 bits.
 pub fn write_float_32(out: &mut String, value: Ieee32) -> Written
     ensures { OnOk result (string_bytes out.new ≡ string_bytes out.old ++ float_32_text value) }
 {
@@ -106,7 +100,6 @@ pub fn write_float_32(out: &mut String, value: Ieee32) -> Written
     write_finite(out, 127, biased, fraction * 0x2000_0000)
 }
 
-/// Writes a space and a floating-point number of 64 bits.
 pub fn write_float_64(out: &mut String, value: Ieee64) -> Written
     ensures { OnOk result (string_bytes out.new ≡ string_bytes out.old ++ float_64_text value) }
 {

@@ -2,8 +2,8 @@
 //!
 //! The main theorem is the contract of [`write_operator`].
 //!
-//! Every call that writes may allocate, and fails with `AllocError` if allocation fails. `out` may
-//! then end with a part of the text.
+//! A call that writes fails with `AllocError` if allocation fails. `out` may then end with a part
+//! of the text.
 #![tactic(auto)]
 
 mod bytes;

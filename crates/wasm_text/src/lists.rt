@@ -1,4 +1,3 @@
-//! Branch targets, types, catch clauses and resume clauses, one after another.
 ghost use Rattle.std.specs.Prelude.{◌≡◌, ◌++◌, OnOk, string_bytes, flat_map};
 ghost use Rattle.wasm_text.specs.Values.{catch_text, handle_text, value_type_text, branch_table_text};
 
@@ -19,7 +18,6 @@ pub fn write_branch_table(out: &mut String, table: &BrTable<'_>) -> Written
     write_number(out, table.default())
 }
 
-/// Writes value types.
 pub fn write_types(out: &mut String, types: &[ValType]) -> Written
     ensures { OnOk result (string_bytes out.new ≡ string_bytes out.old ++ flat_map value_type_text types.now) }
 {
@@ -29,7 +27,6 @@ pub fn write_types(out: &mut String, types: &[ValType]) -> Written
     Ok(())
 }
 
-/// Writes one clause of a `try_table`.
 fn write_catch(out: &mut String, catch: Catch) -> Written
     ensures { OnOk result (string_bytes out.new ≡ string_bytes out.old ++ catch_text catch) }
 {
@@ -41,7 +38,6 @@ fn write_catch(out: &mut String, catch: Catch) -> Written
     }
 }
 
-/// Writes the clauses of a `try_table`.
 pub fn write_catches(out: &mut String, catches: &[Catch]) -> Written
     ensures { OnOk result (string_bytes out.new ≡ string_bytes out.old ++ flat_map catch_text catches.now) }
 {
@@ -51,7 +47,6 @@ pub fn write_catches(out: &mut String, catches: &[Catch]) -> Written
     Ok(())
 }
 
-/// Writes one clause of a resume table.
 fn write_handle(out: &mut String, handle: Handle) -> Written
     ensures { OnOk result (string_bytes out.new ≡ string_bytes out.old ++ handle_text handle) }
 {
@@ -61,7 +56,6 @@ fn write_handle(out: &mut String, handle: Handle) -> Written
     }
 }
 
-/// Writes the clauses of a resume table.
 pub fn write_handles(out: &mut String, handles: &[Handle]) -> Written
     ensures { OnOk result (string_bytes out.new ≡ string_bytes out.old ++ flat_map handle_text handles.now) }
 {

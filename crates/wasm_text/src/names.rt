@@ -98,7 +98,6 @@ pub fn text_name(op: &Operator<'_>) -> &'static str
     }
 }
 
-/// Returns the name of the `NumericOperator` in the text format.
 fn numeric_text_name(op: &NumericOperator) -> &'static str
     ensures { result.now ≡ numeric_text_name op.now }
 {
@@ -234,7 +233,6 @@ fn numeric_text_name(op: &NumericOperator) -> &'static str
     }
 }
 
-/// Returns the name of the `GcOperator` in the text format.
 fn gc_text_name(op: &GcOperator) -> &'static str
     ensures { result.now ≡ gc_text_name op.now }
 {
@@ -280,7 +278,6 @@ fn gc_text_name(op: &GcOperator) -> &'static str
     }
 }
 
-/// Returns the name of the `MiscOperator` in the text format.
 fn misc_text_name(op: &MiscOperator) -> &'static str
     ensures { result.now ≡ misc_text_name op.now }
 {
@@ -311,7 +308,6 @@ fn misc_text_name(op: &MiscOperator) -> &'static str
     }
 }
 
-/// Returns the name of the `SimdOperator` in the text format.
 fn simd_text_name(op: &SimdOperator) -> &'static str
     ensures { result.now ≡ simd_text_name op.now }
 {
@@ -575,7 +571,6 @@ fn simd_text_name(op: &SimdOperator) -> &'static str
     }
 }
 
-/// Returns the name of the `AtomicOperator` in the text format.
 fn atomic_text_name(op: &AtomicOperator) -> &'static str
     ensures { result.now ≡ atomic_text_name op.now }
 {

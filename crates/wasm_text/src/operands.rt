@@ -18,14 +18,12 @@ use wasm_instr::{
     BlockType, BrTable, Ieee32, Ieee64, MemArg, Ordering, ResumeTable, SelectTypes, TryTable, V128,
 };
 
-/// Writes an index or another number of 32 bits.
 pub fn one_number(out: &mut String, value: &u32) -> Written
     ensures { OnOk result (string_bytes out.new ≡ string_bytes out.old ++ (immediates_text (unsigned_32 value.now ∷ []))) }
 {
     write_number(out, *value)
 }
 
-/// Writes two indices.
 pub fn two_numbers(out: &mut String, first: &u32, second: &u32) -> Written
     ensures { OnOk result (string_bytes out.new ≡ string_bytes out.old ++ (immediates_text (unsigned_32 first.now ∷ unsigned_32 second.now ∷ []))) }
 {
@@ -33,49 +31,42 @@ pub fn two_numbers(out: &mut String, first: &u32, second: &u32) -> Written
     write_number(out, *second)
 }
 
-/// Writes the table of an indirect call, and then the type of the called function.
 pub fn indirect(out: &mut String, type_index: &u32, table_index: &u32) -> Written
     ensures { OnOk result (string_bytes out.new ≡ string_bytes out.old ++ (indirect_text type_index.now table_index.now)) }
 {
     write!(out, " {table_index} (type {type_index})")
 }
 
-/// Writes the constant of `i32.const`.
 pub fn signed_32(out: &mut String, value: &i32) -> Written
     ensures { OnOk result (string_bytes out.new ≡ string_bytes out.old ++ (immediates_text (signed_32 value.now ∷ []))) }
 {
     write_signed(out, i64::from(*value))
 }
 
-/// Writes the constant of `i64.const`.
 pub fn signed_64(out: &mut String, value: &i64) -> Written
     ensures { OnOk result (string_bytes out.new ≡ string_bytes out.old ++ (immediates_text (signed_64 value.now ∷ []))) }
 {
     write_signed(out, *value)
 }
 
-/// Writes the constant of `f32.const`.
 pub fn float_32(out: &mut String, value: &Ieee32) -> Written
     ensures { OnOk result (string_bytes out.new ≡ string_bytes out.old ++ (immediates_text (float_32 value.now ∷ []))) }
 {
     write_float_32(out, *value)
 }
 
-/// Writes the constant of `f64.const`.
 pub fn float_64(out: &mut String, value: &Ieee64) -> Written
     ensures { OnOk result (string_bytes out.new ≡ string_bytes out.old ++ (immediates_text (float_64 value.now ∷ []))) }
 {
     write_float_64(out, *value)
 }
 
-/// Writes the constant of `v128.const` as four words.
 pub fn vector(out: &mut String, value: &V128) -> Written
     ensures { OnOk result (string_bytes out.new ≡ string_bytes out.old ++ (immediates_text (vector value.now ∷ []))) }
 {
     write_words(out, value.bytes())
 }
 
-/// Writes a lane index.
 pub fn lane(out: &mut String, lane: &u8) -> Written
     ensures { OnOk result (string_bytes out.new ≡ string_bytes out.old ++ (immediates_text (one_lane lane.now ∷ []))) }
 {
@@ -89,14 +80,12 @@ pub fn lanes(out: &mut String, lanes: &[u8; 16]) -> Written
     write_words(out, lanes)
 }
 
-/// Writes a memory argument.
 pub fn memory_argument(out: &mut String, memarg: &MemArg) -> Written
     ensures { OnOk result (string_bytes out.new ≡ string_bytes out.old ++ (memory_argument_text memarg.now ++ [])) }
 {
     write_memory_argument(out, memarg)
 }
 
-/// Writes a memory argument and the index of a lane.
 pub fn memory_argument_and_lane(out: &mut String, memarg: &MemArg, lane: &u8) -> Written
     ensures { OnOk result (string_bytes out.new ≡ string_bytes out.old ++ (memory_argument_text memarg.now ++ immediates_text (one_lane lane.now ∷ []))) }
 {
@@ -104,14 +93,12 @@ pub fn memory_argument_and_lane(out: &mut String, memarg: &MemArg, lane: &u8) ->
     write_number(out, u32::from(*lane))
 }
 
-/// Writes an ordering.
 pub fn order(out: &mut String, ordering: &Ordering) -> Written
     ensures { OnOk result (string_bytes out.new ≡ string_bytes out.old ++ (immediates_text (order ordering.now ∷ []))) }
 {
     write_order(out, *ordering)
 }
 
-/// Writes an ordering and an index.
 pub fn ordered_number(out: &mut String, ordering: &Ordering, value: &u32) -> Written
     ensures { OnOk result (string_bytes out.new ≡ string_bytes out.old ++ (immediates_text (order ordering.now ∷ unsigned_32 value.now ∷ []))) }
 {
@@ -119,7 +106,6 @@ pub fn ordered_number(out: &mut String, ordering: &Ordering, value: &u32) -> Wri
     write_number(out, *value)
 }
 
-/// Writes an ordering and two indices.
 pub fn ordered_numbers(out: &mut String, ordering: &Ordering, first: &u32, second: &u32) -> Written
     ensures { OnOk result (string_bytes out.new ≡ string_bytes out.old ++ (immediates_text (order ordering.now ∷ unsigned_32 first.now ∷ unsigned_32 second.now ∷ []))) }
 {
@@ -128,35 +114,30 @@ pub fn ordered_numbers(out: &mut String, ordering: &Ordering, first: &u32, secon
     write_number(out, *second)
 }
 
-/// Writes the ordering of a fence.
 pub fn fence(out: &mut String, ordering: &Ordering) -> Written
     ensures { OnOk result (string_bytes out.new ≡ string_bytes out.old ++ (immediates_text (fence_order ordering.now ∷ []))) }
 {
     write_fence(out, *ordering)
 }
 
-/// Writes a heap type.
 pub fn heap_type(out: &mut String, hty: &HeapType) -> Written
     ensures { OnOk result (string_bytes out.new ≡ string_bytes out.old ++ (immediates_text (heap_type hty.now ∷ []))) }
 {
     write_heap_type(out, *hty)
 }
 
-/// Writes a nullable reference type to this heap type.
 pub fn reference_with_null(out: &mut String, hty: &HeapType) -> Written
     ensures { OnOk result (string_bytes out.new ≡ string_bytes out.old ++ (reference_text true hty.now)) }
 {
     write_reference(out, true, *hty)
 }
 
-/// Writes a non-nullable reference type to this heap type.
 pub fn reference_without_null(out: &mut String, hty: &HeapType) -> Written
     ensures { OnOk result (string_bytes out.new ≡ string_bytes out.old ++ (reference_text false hty.now)) }
 {
     write_reference(out, false, *hty)
 }
 
-/// Writes a label and the two reference types of a cast.
 pub fn cast(
     out: &mut String,
     relative_depth: &u32,
@@ -170,35 +151,30 @@ pub fn cast(
     write_reference_type(out, *to_ref_type)
 }
 
-/// Writes a block type.
 pub fn block_type(out: &mut String, blockty: &BlockType) -> Written
     ensures { OnOk result (string_bytes out.new ≡ string_bytes out.old ++ (immediates_text (block_type blockty.now ∷ []))) }
 {
     write_block_type(out, *blockty)
 }
 
-/// Writes a branch table.
 pub fn branch_table(out: &mut String, targets: &BrTable<'_>) -> Written
     ensures { OnOk result (string_bytes out.new ≡ string_bytes out.old ++ (immediates_text (branch_table targets.now ∷ []))) }
 {
     write_branch_table(out, targets)
 }
 
-/// Writes the result type of a `select` that has one.
 pub fn one_type(out: &mut String, ty: &ValType) -> Written
     ensures { OnOk result (string_bytes out.new ≡ string_bytes out.old ++ (immediates_text (select_types (select.One ty.now) ∷ []))) }
 {
     write_value_type(out, *ty)
 }
 
-/// Writes the result types of a `select`.
 pub fn types(out: &mut String, tys: &SelectTypes) -> Written
     ensures { OnOk result (string_bytes out.new ≡ string_bytes out.old ++ (immediates_text (select_types (select.Multi tys.now) ∷ []))) }
 {
     write_types(out, tys.as_slice())
 }
 
-/// Writes the block type and the clauses of a `try_table`.
 pub fn try_table(out: &mut String, try_table: &TryTable) -> Written
     ensures { OnOk result (string_bytes out.new ≡ string_bytes out.old ++ (immediates_text (try_clauses try_table.now ∷ []))) }
 {
@@ -206,14 +182,12 @@ pub fn try_table(out: &mut String, try_table: &TryTable) -> Written
     write_catches(out, try_table.catches.as_slice())
 }
 
-/// Writes the clauses of a resume table.
 pub fn clauses(out: &mut String, table: &ResumeTable) -> Written
     ensures { OnOk result (string_bytes out.new ≡ string_bytes out.old ++ (immediates_text (resume_clauses table.now ∷ []))) }
 {
     write_handles(out, table.handlers.as_slice())
 }
 
-/// Writes an index and the clauses of a resume table.
 pub fn number_and_clauses(out: &mut String, index: &u32, table: &ResumeTable) -> Written
     ensures { OnOk result (string_bytes out.new ≡ string_bytes out.old ++ (immediates_text (unsigned_32 index.now ∷ resume_clauses table.now ∷ []))) }
 {
@@ -221,7 +195,6 @@ pub fn number_and_clauses(out: &mut String, index: &u32, table: &ResumeTable) ->
     write_handles(out, table.handlers.as_slice())
 }
 
-/// Writes two indices and the clauses of a resume table.
 pub fn numbers_and_clauses(
     out: &mut String,
     first: &u32,

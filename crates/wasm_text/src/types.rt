@@ -6,7 +6,6 @@ use crate::values::{Written, write_number};
 use wasm_instr::BlockType;
 use wasm_instr::below::{AbstractHeapType, HeapType, RefType, ValType};
 
-/// Returns the name of an abstract heap type.
 fn abstract_name(ty: AbstractHeapType) -> &'static str
     ensures { result.now ≡ abstract_name ty }
 {
@@ -28,7 +27,6 @@ fn abstract_name(ty: AbstractHeapType) -> &'static str
     }
 }
 
-/// Writes a heap type.
 pub fn write_heap_type(out: &mut String, value: HeapType) -> Written
     ensures { OnOk result (string_bytes out.new ≡ string_bytes out.old ++ heap_type_text value) }
 {
@@ -59,7 +57,7 @@ fn write_reference_words(out: &mut String, nullable: bool, heap_type: HeapType) 
     out.push_str(")")
 }
 
-/// Writes a reference type to this heap type, in its short form if it has one.
+/// Writes a reference type, in its short form if it has one.
 pub fn write_reference(out: &mut String, nullable: bool, heap_type: HeapType) -> Written
     ensures { OnOk result (string_bytes out.new ≡ string_bytes out.old ++ reference_text nullable heap_type) }
 {
@@ -79,14 +77,12 @@ pub fn write_reference(out: &mut String, nullable: bool, heap_type: HeapType) ->
     }
 }
 
-/// Writes a reference type.
 pub fn write_reference_type(out: &mut String, value: RefType) -> Written
     ensures { OnOk result (string_bytes out.new ≡ string_bytes out.old ++ reference_text value.nullable value.heap_type) }
 {
     write_reference(out, value.is_nullable(), value.heap_type())
 }
 
-/// Writes a space and a value type.
 pub fn write_value_type(out: &mut String, value: ValType) -> Written
     ensures { OnOk result (string_bytes out.new ≡ string_bytes out.old ++ value_type_text value) }
 {
@@ -100,7 +96,6 @@ pub fn write_value_type(out: &mut String, value: ValType) -> Written
     }
 }
 
-/// Writes a block type.
 pub fn write_block_type(out: &mut String, value: BlockType) -> Written
     ensures { OnOk result (string_bytes out.new ≡ string_bytes out.old ++ block_type_text value) }
 {

@@ -8,28 +8,24 @@ use wasm_instr::{MemArg, MemArgOrdering, MemArgTarget, Ordering};
 /// The result of writing into a `String`.
 pub type Written = Result<(), AllocError>;
 
-/// Writes an unsigned number of 32 bits.
 pub fn write_number(out: &mut String, value: u32) -> Written
     ensures { OnOk result (string_bytes out.new ≡ string_bytes out.old ++ number_text value) }
 {
     write!(out, " {value}")
 }
 
-/// Writes an unsigned number of 64 bits.
 pub fn write_long(out: &mut String, value: u64) -> Written
     ensures { OnOk result (string_bytes out.new ≡ string_bytes out.old ++ number_text value) }
 {
     write!(out, " {value}")
 }
 
-/// Writes a signed number of 64 bits.
 pub fn write_signed(out: &mut String, value: i64) -> Written
     ensures { OnOk result (string_bytes out.new ≡ string_bytes out.old ++ signed_text value) }
 {
     write!(out, " {value}")
 }
 
-/// Writes a memory ordering.
 pub fn write_order(out: &mut String, value: Ordering) -> Written
     ensures { OnOk result (string_bytes out.new ≡ string_bytes out.old ++ order_text value) }
 {
@@ -49,7 +45,6 @@ pub fn write_fence(out: &mut String, value: Ordering) -> Written
     }
 }
 
-/// Writes the memory or the array type that a memory argument accesses; nothing for memory 0.
 fn write_target(out: &mut String, target: MemArgTarget) -> Written
     ensures { OnOk result (string_bytes out.new ≡ string_bytes out.old ++ target_text target) }
 {
@@ -65,7 +60,6 @@ fn write_target(out: &mut String, target: MemArgTarget) -> Written
     }
 }
 
-/// Writes the ordering of a memory argument, if it has one.
 fn write_announced(out: &mut String, ordering: Option<MemArgOrdering>) -> Written
     ensures { OnOk result (string_bytes out.new ≡ string_bytes out.old ++ announced_text ordering) }
 {

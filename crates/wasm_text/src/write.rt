@@ -1,4 +1,3 @@
-//! The text of an operator.
 ghost use Rattle.std.specs.Prelude.{◌≡◌, ◌++◌, OnOk, string_bytes};
 ghost use Rattle.wasm_text.specs.Operands.{text_of};
 

@@ -1,4 +1,3 @@
--- An operator by its opcode, and the opcode by its number.
 use Rattle.std.proofs.Common.{◌≡◌, ℕ, ◌<◌, List, [], Option, Some, None, map, refl, sym, ap, ◌∙◌, arith, lit<}
 use Rattle.wasm_instr.specs.Immediate.{Kind, kind_of}
 use Rattle.wasm_instr.specs.Atomic.{atomic_subopcode}
@@ -22,7 +21,6 @@ use Rattle.wasm_instr.specs.simd.simd.SimdOperator.TheVariants as simd
 use Rattle.wasm_instr.proofs.OperatorPrefixCode.{operator_at}
 use Rattle.wasm_view.specs.View.{opcode_number}
 
--- The operator that has an opcode and these immediates.
 numeric_again : (op : NumericOperator) → operator_at (prefix_of (operator.Numeric op)) (numeric_opcode op) (immediates_of (operator.Numeric op)) ≡ operator.Numeric op
 numeric_again numeric.I32Eqz = refl
 numeric_again _ = refl
@@ -51,7 +49,6 @@ again (operator.Simd op) = simd_again op
 again (operator.Atomic op) = atomic_again op
 again _ = refl
 
--- The kinds of the immediates after an opcode.
 abbrev kinds_at : Option ℕ → ℕ → List Kind
 kinds_at prefix code = map kind_of (immediates_of (operator_at prefix code []))
 
@@ -83,7 +80,6 @@ kinds_by_opcode (operator.Simd op) = simd_kinds op
 kinds_by_opcode (operator.Atomic op) = atomic_kinds op
 kinds_by_opcode _ = refl
 
--- Opcodes and subopcodes fit in 16 bits.
 numeric_small : (op : NumericOperator) → numeric_opcode op < 65536
 numeric_small numeric.I32Eqz = lit< tt
 numeric_small _ = lit< tt
@@ -112,7 +108,6 @@ small (operator.Simd op) = simd_small op
 small (operator.Atomic op) = atomic_small op
 small _ = lit< tt
 
--- A prefix byte is not 0.
 abbrev IsPrefix : Option ℕ → Type 0
 IsPrefix None = Unit {0}
 IsPrefix (Some prefix) = 0 < prefix
@@ -134,18 +129,15 @@ number_parts (Some p) (Some q) c d s t a b e =
     let code : c ≡ d = omega (arith, e, a, b) in
     (ap Some prefix, code)
 
--- The number of an operator determines its prefix byte and its opcode.
 pub same_opcode : (op other : Operator) → opcode_number (prefix_of op) (opcode_of op) ≡ opcode_number (prefix_of other) (opcode_of other) →
     (prefix_of op ≡ prefix_of other) × (opcode_of op ≡ opcode_of other)
 same_opcode op other e = number_parts (prefix_of op) (prefix_of other) (opcode_of op) (opcode_of other) (prefixed op) (prefixed other) (small op) (small other) e
 
--- Operators with the same opcode have immediates of the same kinds.
 pub same_kinds : (op other : Operator) → prefix_of op ≡ prefix_of other → opcode_of op ≡ opcode_of other →
     map kind_of (immediates_of op) ≡ map kind_of (immediates_of other)
 same_kinds op other p c =
     kinds_by_opcode op ∙ ap (λ q. kinds_at q (opcode_of op)) p ∙ ap (kinds_at (prefix_of other)) c ∙ sym (kinds_by_opcode other)
 
--- If their immediates are the same too, they are the same operator.
 pub same_operator : (op other : Operator) → prefix_of op ≡ prefix_of other → opcode_of op ≡ opcode_of other → immediates_of op ≡ immediates_of other → op ≡ other
 same_operator op other p c is =
     sym (again op) ∙ ap (λ q. operator_at q (opcode_of op) (immediates_of op)) p ∙ ap (λ d. operator_at (prefix_of other) d (immediates_of op)) c ∙

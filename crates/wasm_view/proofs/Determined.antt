@@ -66,7 +66,6 @@ offsets op other offset at same =
     sym (view_offset offset (opcode_number (prefix_of op) (opcode_of op)) (immediates_of op)) ∙ ap (λ (v : WasmOperator). v.offset) same ∙
     view_offset at (opcode_number (prefix_of other) (opcode_of other)) (immediates_of other)
 
--- The shape distinguishes the two variants of `select` with types.
 selects : (op other : Operator) (offset at : ℕ) → IsTypedSelect op → IsTypedSelect other → view_of (op, offset) ≡ view_of (other, at) → name_of op ≡ name_of other
 selects (operator.TypedSelect _) (operator.TypedSelect _) offset at s t same = refl
 selects (operator.TypedSelectMulti _) (operator.TypedSelectMulti _) offset at s t same = refl

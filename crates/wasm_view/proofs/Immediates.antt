@@ -24,7 +24,6 @@ use Rattle.wasm_view.specs.Numbers.{heap_kind, heap_index, reference_kind, value
 use Rattle.wasm_view.specs.View.{view}
 use Rattle.wasm_view.specs.declared.view.WasmOperator.{WasmOperator}
 
--- The types with these numbers, so that a kind and an index determine a type.
 abbrev abstract_at : ℕ → AbstractHeapType
 abstract_at n = cond (eqb n 0x75) ty.NoCont (cond (eqb n 0x74) ty.NoExn (cond (eqb n 0x73) ty.NoFunc (cond (eqb n 0x72) ty.NoExtern (cond (eqb n 0x71) ty.None
     (cond (eqb n 0x70) ty.Func (cond (eqb n 0x6f) ty.Extern (cond (eqb n 0x6e) ty.Any (cond (eqb n 0x6d) ty.Eq (cond (eqb n 0x6c) ty.I31
@@ -71,7 +70,6 @@ abbrev reference_at : ℕ → ℕ → Reference
 reference_at kind index =
     cond (ltb kind 512) (record { nullable = false; heap_type = heap_at kind index }) (record { nullable = true; heap_type = heap_at (kind - 512) index })
 
--- The kind and the index of a reference type determine it.
 reference_again : (null : Bool) (h : HeapType) → (let r : Reference = record { nullable = null; heap_type = h } in reference_at (reference_kind r) (heap_index h) ≡ r)
 reference_again false (heap.Abstract false ty.NoCont) = refl
 reference_again false (heap.Abstract false ty.NoExn) = refl
@@ -285,7 +283,6 @@ block_again (block.Value value.V128) = refl
 block_again (block.Value (value.Ref r)) = reference_block r.nullable r.heap_type
 block_again (block.FuncType index) = refl
 
--- The targets and the orderings of memory arguments with these numbers.
 abbrev target_at : ℕ → ℕ → MemArgTarget
 target_at number index = cond (eqb number 0) (target.Memory index) (target.Array index)
 
@@ -347,7 +344,6 @@ read_back (is_block_type ∷ []) v = block_type (block_at v.kind v.first) ∷ []
 read_back (is_select_types ∷ []) v = select_types (select.One (value_at v.kind v.first)) ∷ []
 read_back _ v = []
 
--- The immediates that the struct determines completely.
 abbrev pub AreWhole : List Immediate → Type 0
 AreWhole [] = Unit {0}
 AreWhole (unsigned_32 a ∷ []) = Unit {0}
@@ -402,13 +398,11 @@ read_back_same offset opcode (block_type ty ∷ []) whole = ap (λ (b : BlockTyp
 read_back_same offset opcode (select_types (select.One ty) ∷ []) whole = ap (λ (v : ValType). select_types (select.One v) ∷ []) (value_again ty)
 read_back_same offset opcode _ whole = absurd whole
 
--- So the struct and the kinds determine the immediates.
 pub same_immediates : (offset opcode at code : ℕ) (is js : List Immediate) → AreWhole is → AreWhole js → map kind_of is ≡ map kind_of js →
     view offset opcode is ≡ view at code js → is ≡ js
 same_immediates offset opcode at code is js w x kinds same =
     sym (read_back_same offset opcode is w) ∙ ap (λ ks. read_back ks (view offset opcode is)) kinds ∙ ap (read_back (map kind_of js)) same ∙ read_back_same at code js x
 
--- The opcode and the offset are in fields of their own.
 pub view_offset : (offset opcode : ℕ) (is : List Immediate) → (view offset opcode is).offset ≡ offset
 view_offset offset opcode [] = refl
 view_offset offset opcode (unsigned_32 a ∷ []) = refl

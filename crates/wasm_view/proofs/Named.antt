@@ -1,4 +1,3 @@
--- The names of operators, by their numbers.
 use Rattle.std.proofs.Common.{◌≡◌, ℕ, ◌+◌, ◌*◌, refl, ap, ◌∙◌}
 use Rattle.wasm_instr.specs.Atomic.{atomic_subopcode, atomic_name}
 use Rattle.wasm_instr.specs.Gc.{gc_subopcode, gc_name}
@@ -42,7 +41,6 @@ atomic_named : (op : AtomicOperator) (shape : ℕ) → name_at (65536 * 0xfe + a
 atomic_named (atomic.MemoryAtomicNotify memarg) shape = refl
 atomic_named _ shape = refl
 
--- The shape distinguishes the two operators with the same number.
 abbrev HasShape : Operator → ℕ → Type 0
 HasShape (operator.TypedSelect ty) shape = shape ≡ 19
 HasShape (operator.TypedSelectMulti tys) shape = shape ≡ 20
@@ -63,7 +61,6 @@ named (operator.Simd op) shape has = simd_named op shape
 named (operator.Atomic op) shape has = atomic_named op shape
 named _ shape has = refl
 
--- The name that the number and the shape in a C struct determine.
 pub name_agrees : (op : Operator) (offset : ℕ) → name_at (view_of (op, offset)).opcode (view_of (op, offset)).shape ≡ name_of op
 name_agrees op offset =
     let number = view_opcode offset (opcode_number (prefix_of op) (opcode_of op)) (immediates_of op) in

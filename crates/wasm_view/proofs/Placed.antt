@@ -27,7 +27,6 @@ written_full items [] x full = refl
 written_full [] (y ∷ ys) x full = absurd (omega (arith, full))
 written_full (i ∷ is) (y ∷ ys) x full = ap (λ list. i ∷ list) (written_full is ys x (omega (arith, full)))
 
--- What follows an index that is at most the length, if one member is added.
 drop_more : {X : Type 0} (seen : List X) (x : X) (from : ℕ) → from ≤ length seen → drop from (seen ++ x ∷ []) ≡ drop from seen ++ x ∷ []
 drop_more seen x zero within = refl
 drop_more [] x (suc n) within = absurd (omega (arith, within))
@@ -44,7 +43,6 @@ drop_all [] (suc n) past = refl
 drop_all (y ∷ ys) zero past = absurd (omega (arith, past))
 drop_all (y ∷ ys) (suc n) past = drop_all ys n (omega (arith, past))
 
--- A member that is written because the array has an element for it.
 pub member_set : {X : Type 0} (member : X) (index from place : ℕ) (old new : List X) → from ≤ index → place ≡ index - from → place < length old →
     new ≡ set old place member → PlacesOne member index from old new
 member_set member index from place old new after at within put seen base is placed =
@@ -54,7 +52,6 @@ member_set member index from place old new after at within put seen base is plac
     put ∙ ap (λ list. set list place member) placed ∙ ap (λ m. set (written (drop from seen) base) m member) n ∙
     written_one (drop from seen) base member fits ∙ ap (λ list. written list base) (sym (drop_more seen member from there))
 
--- A member after the end of the array.
 pub member_after : {X : Type 0} (member : X) (index from place : ℕ) (old : List X) → from ≤ index → place ≡ index - from → length old ≤ place →
     PlacesOne member index from old old
 member_after member index from place old after at full seen base is placed =
@@ -63,7 +60,6 @@ member_after member index from place old after at full seen base is placed =
     omega (arith, full, at, is, drop_length seen from there, ap length placed, written_length (drop from seen) base) in
     placed ∙ written_full (drop from seen) base member past ∙ ap (λ list. written list base) (sym (drop_more seen member from there))
 
--- A member before the first that is requested.
 pub member_before : {X : Type 0} (member : X) (index from : ℕ) (old : List X) → index < from → PlacesOne member index from old old
 member_before member index from old before seen base is placed =
     let more : length (seen ++ member ∷ []) ≤ from = omega (arith, before, is, length-append seen (member ∷ [])) in
@@ -86,7 +82,6 @@ taken_all [] (suc n) past = refl
 taken_all (x ∷ xs) zero past = absurd (omega (arith, past))
 taken_all (x ∷ xs) (suc n) past = ap (λ list. x ∷ list) (taken_all xs n (omega (arith, past)))
 
--- The next member of a list, as a C struct.
 pub next_placed : {X Y : Type 0} (f : X → Y) (list : List X) (index after from : ℕ) (x : X) (y : Y) (base old new : List Y) →
     PlacesOne y index from old new → index < length list → x ≡ get_or list index x → y ≡ f x → after ≡ suc index →
     old ≡ written (drop from (map f (take index list))) base → new ≡ written (drop from (map f (take after list))) base
@@ -95,7 +90,6 @@ next_placed f list index after from x y base old new one within is same next pla
     one (map f (take index list)) base few placed ∙ ap (λ z. written (drop from (map f (take index list) ++ z ∷ [])) base) same ∙
     ap (λ list. written (drop from list) base) (sym (next_mapped f list index x within is) ∙ ap (λ n. map f (take n list)) (sym next))
 
--- All members.
 pub all_placed : {X Y : Type 0} (f : X → Y) (list : List X) (n count from : ℕ) (base new : List Y) → count ≡ length list → count ≤ n →
     new ≡ written (drop from (map f (take n list))) base → PlacesMembers (map f list) from base count new
 all_placed f list n count from base new is end placed = (
@@ -103,12 +97,10 @@ all_placed f list n count from base new is end placed = (
   placed ∙ ap (λ l. written (drop from (map f l)) base) (taken_all list n (omega (arith, is, end))),
 )
 
--- No member yet.
 pub none_placed : {X : Type 0} (from : ℕ) (base : List X) → base ≡ written (drop from []) base
 none_placed zero base = sym (written_none base)
 none_placed (suc n) base = sym (written_none base)
 
--- The type of a `select` that has one type, without a list.
 pub lone_placed : (op : Operator) (ty : ValType) (from : ℕ) (plain : WasmType) (base new : List WasmType) → op ≡ operator.TypedSelect ty → plain ≡ type_of ty →
     PlacesOne plain 0 from base new → ReturnsMembers (types_of op) from base (Some 1) new
 lone_placed op ty from plain base new is same one =

@@ -22,13 +22,10 @@ first_number width (c ∷ d ∷ text) after n (w, le, lt, high, sum, p) =
     let value : 128 * high + (c - 128) ≡ n = omega arith in
     ap (with_byte c) below ∙ with_more c high (numbers_of after) le ∙ ap (λ z. z ∷ numbers_of after) value
 
--- Reading the bytes of encoded numbers returns these numbers.
 pub numbers_are : (text : List ℕ) (numbers : List ℕ) → EncodesEach (EncodesUnsigned 32) text numbers → numbers_of text ≡ numbers
 numbers_are text [] p = ap numbers_of p
 numbers_are text (n ∷ numbers) (first, after, e, p, ps) =
     ap numbers_of e ∙ first_number 32 first after n p ∙ ap (λ z. n ∷ z) (numbers_are after numbers ps)
-
--- ---- the targets that an iterator has left; it returns each as `Ok`
 
 abbrev oks : List ℕ → List (Result ℕ Error)
 oks ns = map Ok ns
@@ -59,9 +56,6 @@ firsts_ok (n ∷ ns) = tt
 pub never_refused : (old new : List ℕ) (target : Result ℕ Error) (e : Error) → oks old ≡ target ∷ oks new → target ≡ Err e → ⊥
 never_refused old new target e steps is = subst (λ t. IsFirstOk (t ∷ oks new)) is (subst IsFirstOk steps (firsts_ok old))
 
--- ---- the targets that are written, and those that are left
-
--- If at least one is left, the index is below the count.
 pub fits_below : (all seen old left : List ℕ) (label index count : ℕ) → old ≡ label ∷ left → all ≡ seen ++ old → index ≡ length seen → count ≡ length all →
     count < 2 ^ 32 → index + 1 < 2 ^ 64
 fits_below all seen old left label index count is parts at n few =

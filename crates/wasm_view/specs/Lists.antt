@@ -1,5 +1,4 @@
--- The list that an operator carries, and arrays that it is copied to.
--- WebAssembly Core Specification 3.0: Binary Format, Instructions, Control Instructions and Parametric Instructions; proposal stack switching (clauses).
+-- Specification: Binary Format, Control and Parametric Instructions; proposal stack switching.
 use Rattle.std.specs.Prelude.{◌≡◌, ℕ, List, [], ◌∷◌, ◌++◌, length, map, drop, Option, Some, None}
 use Rattle.wasm_instr.specs.declared.operator.Operator.{Operator}
 use Rattle.wasm_instr.specs.declared.operator.Operator.TheVariants as operator
@@ -8,7 +7,7 @@ use Rattle.wasm_view.specs.Members.{type_of, catch_of, handle_of}
 use Rattle.wasm_view.specs.declared.members.WasmType.{WasmType}
 use Rattle.wasm_view.specs.declared.members.WasmHandler.{WasmHandler}
 
--- The second list, whose prefix is replaced by the first list, or as much of that as fits.
+-- The second list, with its start replaced by as much of the first as fits.
 abbrev pub written : {X : Type 0} → List X → List X → List X
 written items [] = []
 written [] (old ∷ olds) = old ∷ olds
@@ -37,12 +36,12 @@ handles_of (operator.ResumeThrow ty tag t) = Some (map handle_of t.handlers)
 handles_of (operator.ResumeThrowRef ty t) = Some (map handle_of t.handlers)
 handles_of _ = None
 
--- The members from index `from` on are written to the start of the array, as far as it has space. Its other elements are unchanged, and `count` is the number
--- of all members.
+-- The members from index `from` on are at the start of the array, as far as they fit; the rest is
+-- unchanged. `count` is the number of all members.
 abbrev pub PlacesMembers : {X : Type 0} → List X → ℕ → List X → ℕ → List X → Type 0
 PlacesMembers members from old count new = (count ≡ length members) × (new ≡ written (drop from members) old)
 
--- The same for the list of an operator; if it has none, nothing changes.
+-- As `PlacesMembers`, for the list of an operator; if it has none, nothing changes.
 abbrev pub ReturnsMembers : {X : Type 0} → Option (List X) → ℕ → List X → Option ℕ → List X → Type 0
 ReturnsMembers None from old result new = (result ≡ None) × (new ≡ old)
 ReturnsMembers (Some members) from old result new = (count : ℕ) × (result ≡ Some count) × PlacesMembers members from old count new

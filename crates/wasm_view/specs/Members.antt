@@ -1,5 +1,4 @@
--- The C structs of list members.
--- WebAssembly Core Specification 3.0: Binary Format, Instructions, Control Instructions and Parametric Instructions; proposal stack switching (clauses).
+-- Specification: Binary Format, Control and Parametric Instructions; proposal stack switching.
 use Rattle.std.specs.Prelude.{ℕ}
 use Rattle.wasm_instr.specs.below.declared.types.ValType.{ValType}
 use Rattle.wasm_instr.specs.imm.control.handlers.Catch.{Catch}
@@ -15,18 +14,17 @@ use Rattle.wasm_view.specs.declared.members.WasmHandler.{WasmHandler}
 abbrev pub type_of : ValType → WasmType
 type_of ty = record { kind = value_kind ty; index = value_index ty }
 
--- A clause: its first byte, a tag and a label.
 abbrev pub handler : ℕ → ℕ → ℕ → WasmHandler
 handler kind tag label = record { kind = kind; tag = tag; label = label }
 
--- A clause of a `try_table`: the byte that it starts with, its tag if it has one, else 0, and its label.
+-- A clause of a `try_table`; without a tag, 0.
 abbrev pub catch_of : Catch → WasmHandler
 catch_of (clause.One tag label) = handler (catch_byte (clause.One tag label)) tag label
 catch_of (clause.OneRef tag label) = handler (catch_byte (clause.OneRef tag label)) tag label
 catch_of (clause.All label) = handler (catch_byte (clause.All label)) 0 label
 catch_of (clause.AllRef label) = handler (catch_byte (clause.AllRef label)) 0 label
 
--- A clause of a resume table: the byte that it starts with, its tag, and its label if it has one, else 0.
+-- A clause of a resume table; without a label, 0.
 abbrev pub handle_of : Handle → WasmHandler
 handle_of (handle.OnLabel tag label) = handler (handle_byte (handle.OnLabel tag label)) tag label
 handle_of (handle.OnSwitch tag) = handler (handle_byte (handle.OnSwitch tag)) tag 0

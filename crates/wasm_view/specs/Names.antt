@@ -1,9 +1,9 @@
 -- Written by tools/lists.py from tools/operators.tsv.
 -- The names of operators by their numbers.
--- WebAssembly Core Specification 3.0: Appendix, Index of Instructions.
+-- Specification: Appendix, Index of Instructions.
 use Rattle.std.specs.Prelude.{◌==◌, ℕ, List, [], codes, if◌then◌else◌}
 
--- The name of the operator with this number, or an empty text if no operator has it.
+-- The name of the operator with this number, or an empty text.
 abbrev pub atomic_names_2 : ℕ → List ℕ
 atomic_names_2 number =
     if number == 0xfe006c then codes "ArrayAtomicRmwSub" else (
@@ -679,7 +679,7 @@ own_names_0 number =
     if number == 0x42 then codes "I64Const" else (
     if number == 0x43 then codes "F32Const" else (own_names_1 number))))))))))))))))))))))))))))))))))))))))))))))))
 
--- The name by number and shape: two operators share a number, and the shape 19 selects the first of them.
+-- The name by number and shape: two operators share a number, and the shape 19 selects the first.
 abbrev pub name_at : ℕ → ℕ → List ℕ
 name_at number shape =
     if number == 0x1c then (if shape == 19 then codes "TypedSelect" else codes "TypedSelectMulti") else own_names_0 number

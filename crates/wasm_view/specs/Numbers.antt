@@ -1,5 +1,4 @@
--- Types, orderings and lengths as numbers.
--- WebAssembly Core Specification 3.0: Binary Format, Types; Binary Format, Instructions, Control Instructions.
+-- Specification: Binary Format, Types; Control Instructions.
 use Rattle.std.specs.Prelude.{ℕ, ◌+◌, List, true, false, if◌then◌else◌, Option, Some, None, length, min}
 use Rattle.wasm_instr.specs.below.declared.types.HeapType.{HeapType}
 use Rattle.wasm_instr.specs.below.declared.types.HeapType.TheVariants as heap
@@ -16,24 +15,23 @@ use Rattle.wasm_instr.specs.imm.declared.memory_argument.MemArgOrdering.TheVaria
 use Rattle.wasm_instr.specs.imm.declared.ordering.Ordering.{Ordering}
 use Rattle.wasm_instr.specs.imm.MemoryArgument.{ordering_byte}
 
--- The kind of a heap type: the byte of an abstract one, plus 256 if it is shared. A type index has 1, and an exact type index 2.
+-- The byte of an abstract heap type, plus 256 if shared; 1 for a type index, 2 for an exact one.
 abbrev pub heap_kind : HeapType → ℕ
 heap_kind (heap.Abstract false ty) = heap_type_byte ty
 heap_kind (heap.Abstract true ty) = heap_type_byte ty + 256
 heap_kind (heap.Concrete index) = 1
 heap_kind (heap.Exact index) = 2
 
--- The type index of a heap type, or 0 if it has none.
+-- The type index of a heap type, or 0.
 abbrev pub heap_index : HeapType → ℕ
 heap_index (heap.Abstract shared ty) = 0
 heap_index (heap.Concrete index) = index
 heap_index (heap.Exact index) = index
 
--- The kind of a reference type: the kind of its heap type, plus 512 if it is nullable.
 abbrev pub reference_kind : Reference → ℕ
 reference_kind r = heap_kind r.heap_type + (if r.nullable then 512 else 0)
 
--- The kind of a value type: the byte of a number or vector type; for a reference type, its kind and 1024.
+-- The byte of a number or vector type; for a reference type, its kind plus 1024.
 abbrev pub value_kind : ValType → ℕ
 value_kind value.I32 = 0x7f
 value_kind value.I64 = 0x7e
@@ -46,7 +44,7 @@ abbrev pub value_index : ValType → ℕ
 value_index (value.Ref r) = heap_index r.heap_type
 value_index _ = 0
 
--- The kind of a block type: 0x40 for an empty one, the kind of its value type, or 0 for a function type index.
+-- 0x40 for an empty block type, the kind of its value type, or 0 for a type index.
 abbrev pub block_kind : BlockType → ℕ
 block_kind block.Empty = 0x40
 block_kind (block.Value ty) = value_kind ty
@@ -57,7 +55,7 @@ block_index block.Empty = 0
 block_index (block.Value ty) = value_index ty
 block_index (block.FuncType index) = index
 
--- What a memory argument accesses: 0 for a memory and 1 for an array; and the index of that.
+-- 0 for a memory, 1 for an array; and its index.
 abbrev pub target_number : MemArgTarget → ℕ
 target_number (target.Memory index) = 0
 target_number (target.Array index) = 1
@@ -66,16 +64,16 @@ abbrev pub target_index : MemArgTarget → ℕ
 target_index (target.Memory index) = index
 target_index (target.Array index) = index
 
--- The number of an ordering: 1 for `seq_cst`, 2 for `acq_rel`.
+-- 1 for `seq_cst`, 2 for `acq_rel`.
 abbrev pub order_number : Ordering → ℕ
 order_number o = 1 + ordering_byte o
 
--- The number of a memory argument's ordering: 0 if it has none, 1 or 2 for an atomic operator, 3 or 4 for a read-modify-write.
+-- 0 without an ordering, 1 or 2 for an atomic operator, 3 or 4 for a read-modify-write.
 abbrev pub ordering_number : Option MemArgOrdering → ℕ
 ordering_number None = 0
 ordering_number (Some (ordering.Op o)) = 1 + ordering_byte o
 ordering_number (Some (ordering.Rmw o)) = 3 + ordering_byte o
 
--- The length of a list, but at most the largest number of 32 bits.
+-- The length of a list, at most the largest `u32`.
 abbrev pub count : {X : Type 0} → List X → ℕ
 count items = min (length items) 4294967295

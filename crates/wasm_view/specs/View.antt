@@ -1,5 +1,4 @@
--- Operators as C structs.
--- WebAssembly Core Specification 3.0: Binary Format, Instructions.
+-- Specification: Binary Format, Instructions.
 use Rattle.std.specs.Prelude.{ℕ, ◌+◌, ◌*◌, List, [], ◌∷◌, Option, Some, None, map, replicate}
 use Rattle.std.specs.Int.{w64, cast_unsigned}
 use Rattle.wasm_instr.specs.Immediate.{Immediate, unsigned_32, signed_32, signed_64, float_32, float_64, vector, one_lane, sixteen_lanes, memory_argument, memory_index, table_index_32, order, fence_order, heap_type, cast, block_type, branch_table, select_types, try_clauses, resume_clauses}
@@ -34,7 +33,7 @@ bare offset opcode shape = record {
   bytes = replicate 16 0;
 }
 
--- An operator with these immediates. The shape determines their kinds.
+-- An operator with these immediates, whose kinds determine the shape.
 abbrev pub view : ℕ → ℕ → List Immediate → WasmOperator
 view offset opcode [] = bare offset opcode 0
 view offset opcode (unsigned_32 a ∷ []) = record (bare offset opcode 1) { first = a }
@@ -89,6 +88,5 @@ view offset opcode _ = bare offset opcode 255
 abbrev pub view_of : Operator × ℕ → WasmOperator
 view_of p = view p.1 (opcode_number (prefix_of p.0) (opcode_of p.0)) (immediates_of p.0)
 
--- The C structs of operators, in their order.
 abbrev pub views : List (Operator × ℕ) → List WasmOperator
 views placed = map view_of placed

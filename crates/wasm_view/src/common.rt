@@ -9,7 +9,7 @@ use crate::view::WasmOperator;
 use crate::views::own;
 use wasm_instr::Operator;
 
-/// Converts an operator to a C struct, without allocating. `offset` is the offset of its first byte.
+/// Converts an operator to a C struct. `offset` is the offset of its first byte.
 #[inline(always)]
 pub fn view_of(op: &Operator<'_>, offset: u64) -> WasmOperator
     ensures { result ≡ view_of (op.now, offset) }
@@ -17,7 +17,7 @@ pub fn view_of(op: &Operator<'_>, offset: u64) -> WasmOperator
     common(offset, opcode_of(op), op)
 }
 
-/// Converts an operator with this number. Frequent operators are handled here, the others by a call.
+/// Converts frequent operators here, and the others by a call.
 #[inline(always)]
 fn common(offset: u64, opcode: u32, op: &Operator<'_>) -> WasmOperator
     ensures { result ≡ view offset opcode (immediates_of op.now) }

@@ -1,7 +1,5 @@
-//! Operators as C structs of fixed size, without references or allocations, for callers in other
-//! languages.
-//!
-//! No call allocates.
+//! Operators as C structs of fixed size, without references, for callers in other languages. No
+//! call allocates.
 #![tactic(auto)]
 
 mod common;

@@ -1,4 +1,3 @@
-//! Copies of the list that an operator carries, in an array of the caller.
 ghost use Rattle.std.specs.Prelude.{◌≡◌, [], ◌∷◌, ◌<◌, ◌^◌, map, length};
 ghost use Rattle.wasm_instr.specs.imm.BranchTables.{numbers_of};
 ghost use Rattle.wasm_view.specs.Members.{type_of, catch_of, handle_of};
@@ -8,7 +7,7 @@ use crate::members::{WasmHandler, WasmType, catch_of, handle_of, type_of};
 use wasm_instr::below::ValType;
 use wasm_instr::{BrTable, Catch, Handle, Operator};
 
-/// Writes `member`, whose index in the list is `index`, to `out[index - from]`, if there is such an
+/// Writes `member`, which has this index in the list, to `out[index - from]`, if there is such an
 /// element.
 fn place<T: Copy>(member: T, index: usize, from: usize, out: &mut [T])
     ensures { PlacesOne member index from out.old out.new }
@@ -18,8 +17,6 @@ fn place<T: Copy>(member: T, index: usize, from: usize, out: &mut [T])
     }
 }
 
-/// Writes the targets of a branch table from index `from` on, without the default target. Returns
-/// the length of the whole list.
 fn place_targets(table: &BrTable<'_>, from: usize, out: &mut [u32]) -> usize
     ensures { PlacesMembers (numbers_of table.now.targets) from out.old result out.new }
 {
@@ -34,7 +31,6 @@ fn place_targets(table: &BrTable<'_>, from: usize, out: &mut [u32]) -> usize
     count
 }
 
-/// Writes the value types from index `from` on. Returns the length of the whole list.
 fn place_types(types: &[ValType], from: usize, out: &mut [WasmType]) -> usize
     ensures { PlacesMembers (map type_of types.now) from out.old result out.new }
 {
@@ -45,7 +41,6 @@ fn place_types(types: &[ValType], from: usize, out: &mut [WasmType]) -> usize
     count
 }
 
-/// Writes the catch clauses from index `from` on. Returns the length of the whole list.
 fn place_catches(catches: &[Catch], from: usize, out: &mut [WasmHandler]) -> usize
     ensures { PlacesMembers (map catch_of catches.now) from out.old result out.new }
 {
@@ -56,7 +51,6 @@ fn place_catches(catches: &[Catch], from: usize, out: &mut [WasmHandler]) -> usi
     count
 }
 
-/// Writes the resume clauses from index `from` on. Returns the length of the whole list.
 fn place_handles(handles: &[Handle], from: usize, out: &mut [WasmHandler]) -> usize
     ensures { PlacesMembers (map handle_of handles.now) from out.old result out.new }
 {
@@ -68,8 +62,8 @@ fn place_handles(handles: &[Handle], from: usize, out: &mut [WasmHandler]) -> us
 }
 
 /// Writes the targets of a `br_table` from index `from` on, without the default target, as far as
-/// `out` has space. Returns how many targets the operator has. For any other operator, returns
-/// `None` and leaves `out` unchanged.
+/// `out` has space. Returns how many targets the operator has. Returns `None` for any other
+/// operator, with `out` unchanged.
 pub fn targets_of(op: &Operator<'_>, from: usize, out: &mut [u32]) -> Option<usize>
     ensures { ReturnsMembers (targets_of op.now) from out.old result out.new }
 {
@@ -79,7 +73,7 @@ pub fn targets_of(op: &Operator<'_>, from: usize, out: &mut [u32]) -> Option<usi
     }
 }
 
-/// Writes the types of a `select` that has types, in the same way as [`targets_of`].
+/// Writes the types of a `select` that has types, as [`targets_of`] does.
 pub fn types_of(op: &Operator<'_>, from: usize, out: &mut [WasmType]) -> Option<usize>
     ensures { ReturnsMembers (types_of op.now) from out.old result out.new }
 {
@@ -93,7 +87,7 @@ pub fn types_of(op: &Operator<'_>, from: usize, out: &mut [WasmType]) -> Option<
     }
 }
 
-/// Writes the clauses of a `try_table`, in the same way as [`targets_of`].
+/// Writes the clauses of a `try_table`, as [`targets_of`] does.
 pub fn catches_of(op: &Operator<'_>, from: usize, out: &mut [WasmHandler]) -> Option<usize>
     ensures { ReturnsMembers (catches_of op.now) from out.old result out.new }
 {
@@ -105,8 +99,7 @@ pub fn catches_of(op: &Operator<'_>, from: usize, out: &mut [WasmHandler]) -> Op
     }
 }
 
-/// Writes the clauses of a `resume`, a `resume_throw` or a `resume_throw_ref`, in the same way as
-/// [`targets_of`].
+/// Writes the clauses of a `resume`, `resume_throw` or `resume_throw_ref`, as [`targets_of`] does.
 pub fn handles_of(op: &Operator<'_>, from: usize, out: &mut [WasmHandler]) -> Option<usize>
     ensures { ReturnsMembers (handles_of op.now) from out.old result out.new }
 {

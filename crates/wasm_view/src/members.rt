@@ -1,4 +1,3 @@
-//! The C structs of list members.
 ghost use Rattle.std.specs.Prelude.{◌≡◌};
 ghost use Rattle.wasm_view.specs.Members.{type_of, handler, catch_of, handle_of};
 
@@ -10,25 +9,24 @@ use wasm_instr::{Catch, Handle};
 #[repr(C)]
 #[derive(Clone, Copy, Debug, PartialEq, Eq)]
 pub struct WasmType {
-    /// The byte of a number or vector type; for a reference type, its kind and 1024.
+    /// The byte of a number or vector type; for a reference type, its kind plus 1024.
     pub kind: u32,
     /// The type index of a reference type, else 0.
     pub index: u32,
 }
 
-/// A clause of a `try_table`, or of a resume table, as a C struct of 12 bytes without padding.
+/// A clause of a `try_table` or resume table as a C struct of 12 bytes without padding.
 #[repr(C)]
 #[derive(Clone, Copy, Debug, PartialEq, Eq)]
 pub struct WasmHandler {
-    /// The byte that the clause starts with: 0 to 3 in a `try_table`, 0 or 1 in a resume table.
+    /// The first byte of the clause: 0 to 3 in a `try_table`, 0 or 1 in a resume table.
     pub kind: u32,
-    /// The tag index, or 0 if the clause has none.
+    /// The tag index, or 0.
     pub tag: u32,
-    /// The label, or 0 if the clause has none.
+    /// The label, or 0.
     pub label: u32,
 }
 
-/// Returns the C struct of a value type.
 pub fn type_of(ty: &ValType) -> WasmType
     ensures { result ≡ type_of ty.now }
 {
@@ -44,7 +42,6 @@ fn handler(kind: u32, tag: u32, label: u32) -> WasmHandler
     WasmHandler { kind, tag, label }
 }
 
-/// Returns the C struct of a clause of a `try_table`.
 pub fn catch_of(catch: &Catch) -> WasmHandler
     ensures { result ≡ catch_of catch.now }
 {
@@ -56,7 +53,6 @@ pub fn catch_of(catch: &Catch) -> WasmHandler
     }
 }
 
-/// Returns the C struct of a clause of a resume table.
 pub fn handle_of(handle: &Handle) -> WasmHandler
     ensures { result ≡ handle_of handle.now }
 {

@@ -2,7 +2,7 @@
 ghost use Rattle.std.specs.Prelude.{◌≡◌};
 ghost use Rattle.wasm_view.specs.Names.{atomic_names_0, atomic_names_1, atomic_names_2, gc_names_0, misc_names_0, numeric_names_0, numeric_names_1, numeric_names_2, own_names_0, own_names_1, simd_names_0, simd_names_1, simd_names_2, simd_names_3, simd_names_4, simd_names_5, name_at};
 
-/// Returns the name of the operator with this number and shape, or an empty name if no operator has them.
+/// Returns the name of the operator with this number and shape, or an empty name.
 /// The number is the opcode, or the subopcode plus 65536 times the prefix byte.
 pub fn name_at(number: u32, shape: u8) -> &'static str
     ensures { result.now ≡ name_at number shape }
@@ -17,7 +17,6 @@ pub fn name_at(number: u32, shape: u8) -> &'static str
     own_names_0(number)
 }
 
-/// Returns the name of an operator of this part or of a later one.
 fn own_names_0(number: u32) -> &'static str
     ensures { result.now ≡ own_names_0 number }
 {
@@ -74,7 +73,6 @@ fn own_names_0(number: u32) -> &'static str
     }
 }
 
-/// Returns the name of an operator of this part or of a later one.
 fn own_names_1(number: u32) -> &'static str
     ensures { result.now ≡ own_names_1 number }
 {
@@ -113,7 +111,6 @@ fn own_names_1(number: u32) -> &'static str
     }
 }
 
-/// Returns the name of an operator of this part or of a later one.
 fn numeric_names_0(number: u32) -> &'static str
     ensures { result.now ≡ numeric_names_0 number }
 {
@@ -170,7 +167,6 @@ fn numeric_names_0(number: u32) -> &'static str
     }
 }
 
-/// Returns the name of an operator of this part or of a later one.
 fn numeric_names_1(number: u32) -> &'static str
     ensures { result.now ≡ numeric_names_1 number }
 {
@@ -227,7 +223,6 @@ fn numeric_names_1(number: u32) -> &'static str
     }
 }
 
-/// Returns the name of an operator of this part or of a later one.
 fn numeric_names_2(number: u32) -> &'static str
     ensures { result.now ≡ numeric_names_2 number }
 {
@@ -268,7 +263,6 @@ fn numeric_names_2(number: u32) -> &'static str
     }
 }
 
-/// Returns the name of an operator of this part or of a later one.
 fn gc_names_0(number: u32) -> &'static str
     ensures { result.now ≡ gc_names_0 number }
 {
@@ -315,7 +309,6 @@ fn gc_names_0(number: u32) -> &'static str
     }
 }
 
-/// Returns the name of an operator of this part or of a later one.
 fn misc_names_0(number: u32) -> &'static str
     ensures { result.now ≡ misc_names_0 number }
 {
@@ -347,7 +340,6 @@ fn misc_names_0(number: u32) -> &'static str
     }
 }
 
-/// Returns the name of an operator of this part or of a later one.
 fn simd_names_0(number: u32) -> &'static str
     ensures { result.now ≡ simd_names_0 number }
 {
@@ -404,7 +396,6 @@ fn simd_names_0(number: u32) -> &'static str
     }
 }
 
-/// Returns the name of an operator of this part or of a later one.
 fn simd_names_1(number: u32) -> &'static str
     ensures { result.now ≡ simd_names_1 number }
 {
@@ -461,7 +452,6 @@ fn simd_names_1(number: u32) -> &'static str
     }
 }
 
-/// Returns the name of an operator of this part or of a later one.
 fn simd_names_2(number: u32) -> &'static str
     ensures { result.now ≡ simd_names_2 number }
 {
@@ -518,7 +508,6 @@ fn simd_names_2(number: u32) -> &'static str
     }
 }
 
-/// Returns the name of an operator of this part or of a later one.
 fn simd_names_3(number: u32) -> &'static str
     ensures { result.now ≡ simd_names_3 number }
 {
@@ -575,7 +564,6 @@ fn simd_names_3(number: u32) -> &'static str
     }
 }
 
-/// Returns the name of an operator of this part or of a later one.
 fn simd_names_4(number: u32) -> &'static str
     ensures { result.now ≡ simd_names_4 number }
 {
@@ -632,7 +620,6 @@ fn simd_names_4(number: u32) -> &'static str
     }
 }
 
-/// Returns the name of an operator of this part or of a later one.
 fn simd_names_5(number: u32) -> &'static str
     ensures { result.now ≡ simd_names_5 number }
 {
@@ -657,7 +644,6 @@ fn simd_names_5(number: u32) -> &'static str
     }
 }
 
-/// Returns the name of an operator of this part or of a later one.
 fn atomic_names_0(number: u32) -> &'static str
     ensures { result.now ≡ atomic_names_0 number }
 {
@@ -714,7 +700,6 @@ fn atomic_names_0(number: u32) -> &'static str
     }
 }
 
-/// Returns the name of an operator of this part or of a later one.
 fn atomic_names_1(number: u32) -> &'static str
     ensures { result.now ≡ atomic_names_1 number }
 {
@@ -771,7 +756,6 @@ fn atomic_names_1(number: u32) -> &'static str
     }
 }
 
-/// Returns the name of an operator of this part or of a later one.
 fn atomic_names_2(number: u32) -> &'static str
     ensures { result.now ≡ atomic_names_2 number }
 {

@@ -1,4 +1,3 @@
-//! Types, orderings and lengths as numbers.
 ghost use Rattle.std.specs.Prelude.{◌≡◌, ◌≤◌, length, min};
 ghost use Rattle.wasm_instr.specs.below.TypeEncoding.{heap_type_byte};
 ghost use Rattle.wasm_instr.specs.imm.MemoryArgument.{ordering_byte};
@@ -7,7 +6,6 @@ ghost use Rattle.wasm_view.specs.Numbers.{heap_kind, heap_index, reference_kind,
 use wasm_instr::below::{AbstractHeapType, HeapType, RefType, ValType};
 use wasm_instr::imm::{BlockType, MemArgOrdering, MemArgTarget, Ordering};
 
-/// Returns the byte of an abstract heap type (section Heap Types).
 fn heap_type_byte(ty: AbstractHeapType) -> u32
     ensures is { result ≡ heap_type_byte ty }
     ensures byte { result ≤ 0x75 }
@@ -30,8 +28,6 @@ fn heap_type_byte(ty: AbstractHeapType) -> u32
     }
 }
 
-/// Returns the kind of a heap type: the byte of an abstract one, plus 256 if it is shared. A type
-/// index has 1, and an exact type index 2.
 pub fn heap_kind(ty: HeapType) -> u32
     ensures is { result ≡ heap_kind ty }
     ensures small { result ≤ 0x175 }
@@ -44,7 +40,6 @@ pub fn heap_kind(ty: HeapType) -> u32
     }
 }
 
-/// Returns the type index of a heap type, or 0 if it has none.
 pub fn heap_index(ty: HeapType) -> u32
     ensures { result ≡ heap_index ty }
 {
@@ -54,7 +49,6 @@ pub fn heap_index(ty: HeapType) -> u32
     }
 }
 
-/// Returns the kind of a reference type: the kind of its heap type, plus 512 if it is nullable.
 pub fn reference_kind(ty: RefType) -> u32
     ensures is { result ≡ reference_kind ty }
     ensures small { result ≤ 0x375 }
@@ -63,15 +57,12 @@ pub fn reference_kind(ty: RefType) -> u32
     if ty.is_nullable() { kind + 512 } else { kind }
 }
 
-/// Returns the type index of a reference type, or 0 if it has none.
 pub fn reference_index(ty: RefType) -> u32
     ensures { result ≡ heap_index ty.heap_type }
 {
     heap_index(ty.heap_type())
 }
 
-/// Returns the kind of a value type: the byte of a number or vector type; for a reference type, its
-/// kind and 1024.
 pub fn value_kind(ty: &ValType) -> u32
     ensures { result ≡ value_kind ty.now }
 {
@@ -85,7 +76,6 @@ pub fn value_kind(ty: &ValType) -> u32
     }
 }
 
-/// Returns the type index of a value type, or 0 if it has none.
 pub fn value_index(ty: &ValType) -> u32
     ensures { result ≡ value_index ty.now }
 {
@@ -95,8 +85,6 @@ pub fn value_index(ty: &ValType) -> u32
     }
 }
 
-/// Returns the kind of a block type: 0x40 for an empty one, the kind of its value type, or 0 for a
-/// function type index.
 pub fn block_kind(ty: &BlockType) -> u32
     ensures { result ≡ block_kind ty.now }
 {
@@ -107,7 +95,6 @@ pub fn block_kind(ty: &BlockType) -> u32
     }
 }
 
-/// Returns the type index of a block type, or 0 if it has none.
 pub fn block_index(ty: &BlockType) -> u32
     ensures { result ≡ block_index ty.now }
 {
@@ -118,7 +105,6 @@ pub fn block_index(ty: &BlockType) -> u32
     }
 }
 
-/// Returns what a memory argument accesses: 0 for a memory, 1 for an array.
 #[inline(always)]
 pub fn target_number(target: MemArgTarget) -> u16
     ensures { result ≡ target_number target }
@@ -129,7 +115,6 @@ pub fn target_number(target: MemArgTarget) -> u16
     }
 }
 
-/// Returns the index of the memory or of the array's type.
 #[inline(always)]
 pub fn target_index(target: MemArgTarget) -> u32
     ensures { result ≡ target_index target }
@@ -139,7 +124,6 @@ pub fn target_index(target: MemArgTarget) -> u32
     }
 }
 
-/// Returns the number of an ordering: 1 for `seq_cst`, 2 for `acq_rel`.
 pub fn order_number(order: Ordering) -> u16
     ensures { result ≡ order_number order }
 {
@@ -149,8 +133,6 @@ pub fn order_number(order: Ordering) -> u16
     }
 }
 
-/// Returns the number of a memory argument's ordering: 0 if it has none, else as `order_number`,
-/// plus 2 for a read-modify-write.
 #[inline(always)]
 pub fn ordering_number(ordering: Option<MemArgOrdering>) -> u16
     ensures { result ≡ ordering_number ordering }

@@ -105,7 +105,6 @@ pub fn opcode_of(op: &Operator<'_>) -> u32
     }
 }
 
-/// Returns the number of a numeric operator of one byte.
 fn numeric_opcode(op: NumericOperator) -> u32
     ensures { result ≡ numeric_opcode op }
 {
@@ -241,7 +240,6 @@ fn numeric_opcode(op: NumericOperator) -> u32
     }
 }
 
-/// Returns the number of an operator with the prefix byte 0xfb.
 fn gc_subopcode(op: GcOperator) -> u32
     ensures { result ≡ opcode_number (Some 0xfb) (gc_subopcode op) }
 {
@@ -287,7 +285,6 @@ fn gc_subopcode(op: GcOperator) -> u32
     }
 }
 
-/// Returns the number of an operator with the prefix byte 0xfc.
 fn misc_subopcode(op: MiscOperator) -> u32
     ensures { result ≡ opcode_number (Some 0xfc) (misc_subopcode op) }
 {
@@ -318,7 +315,6 @@ fn misc_subopcode(op: MiscOperator) -> u32
     }
 }
 
-/// Returns the number of an operator with the prefix byte 0xfd.
 fn simd_subopcode(op: SimdOperator) -> u32
     ensures { result ≡ opcode_number (Some 0xfd) (simd_subopcode op) }
 {
@@ -582,7 +578,6 @@ fn simd_subopcode(op: SimdOperator) -> u32
     }
 }
 
-/// Returns the number of an operator with the prefix byte 0xfe.
 fn atomic_subopcode(op: AtomicOperator) -> u32
     ensures { result ≡ opcode_number (Some 0xfe) (atomic_subopcode op) }
 {

@@ -16,7 +16,6 @@ use wasm_instr::imm::{
     BlockType, BrTable, Ieee32, Ieee64, MemArg, Ordering, ResumeTable, SelectTypes, TryTable, V128,
 };
 
-/// Creates the struct of an operator without immediates.
 #[inline(always)]
 pub fn nothing(offset: u64, opcode: u32) -> WasmOperator
     ensures { result ≡ view offset opcode [] }
@@ -24,7 +23,6 @@ pub fn nothing(offset: u64, opcode: u32) -> WasmOperator
     WasmOperator::bare(offset, opcode, 0)
 }
 
-/// Creates the struct of an operator with an index.
 #[inline(always)]
 pub fn index(offset: u64, opcode: u32, first: u32) -> WasmOperator
     ensures unsigned { result ≡ view offset opcode (unsigned_32 first ∷ []) }
@@ -36,7 +34,6 @@ pub fn index(offset: u64, opcode: u32, first: u32) -> WasmOperator
     }
 }
 
-/// Creates the struct of an operator with two indices.
 #[inline(always)]
 pub fn two_indices(offset: u64, opcode: u32, first: u32, second: u32) -> WasmOperator
     ensures unsigned { result ≡ view offset opcode (unsigned_32 first ∷ unsigned_32 second ∷ []) }
@@ -49,8 +46,8 @@ pub fn two_indices(offset: u64, opcode: u32, first: u32, second: u32) -> WasmOpe
     }
 }
 
-/// Creates the struct of an operator with a memory argument. The contract names one operator kind
-/// and alignment; neither changes the struct.
+/// Creates the struct of a memory argument. The contract names one operator kind and alignment;
+/// neither changes the struct.
 #[inline(always)]
 pub fn memory(offset: u64, opcode: u32, argument: MemArg) -> WasmOperator
     ensures { result ≡ view offset opcode (memory_argument kind.Plain 0 argument ∷ []) }
@@ -66,7 +63,6 @@ pub fn memory(offset: u64, opcode: u32, argument: MemArg) -> WasmOperator
     }
 }
 
-/// Creates the struct of an operator with a memory argument and a lane index.
 #[inline(always)]
 pub fn memory_lane(offset: u64, opcode: u32, argument: MemArg, lane: u8) -> WasmOperator
     ensures { result ≡ view offset opcode (memory_argument kind.Plain 0 argument ∷ one_lane lane ∷ []) }
@@ -83,7 +79,6 @@ pub fn memory_lane(offset: u64, opcode: u32, argument: MemArg, lane: u8) -> Wasm
     }
 }
 
-/// Creates the struct of an operator with a lane index.
 pub fn lane(offset: u64, opcode: u32, lane: u8) -> WasmOperator
     ensures { result ≡ view offset opcode (one_lane lane ∷ []) }
 {
@@ -93,7 +88,6 @@ pub fn lane(offset: u64, opcode: u32, lane: u8) -> WasmOperator
     }
 }
 
-/// Creates the struct of an `i32.const`.
 #[inline(always)]
 pub fn integer_32(offset: u64, opcode: u32, value: i32) -> WasmOperator
     ensures { result ≡ view offset opcode (signed_32 value ∷ []) }
@@ -104,7 +98,6 @@ pub fn integer_32(offset: u64, opcode: u32, value: i32) -> WasmOperator
     }
 }
 
-/// Creates the struct of an `i64.const`.
 #[inline(always)]
 pub fn integer_64(offset: u64, opcode: u32, value: i64) -> WasmOperator
     ensures { result ≡ view offset opcode (signed_64 value ∷ []) }
@@ -115,7 +108,6 @@ pub fn integer_64(offset: u64, opcode: u32, value: i64) -> WasmOperator
     }
 }
 
-/// Creates the struct of an `f32.const`.
 #[inline(always)]
 pub fn float_32(offset: u64, opcode: u32, value: Ieee32) -> WasmOperator
     ensures { result ≡ view offset opcode (float_32 value ∷ []) }
@@ -126,7 +118,6 @@ pub fn float_32(offset: u64, opcode: u32, value: Ieee32) -> WasmOperator
     }
 }
 
-/// Creates the struct of an `f64.const`.
 #[inline(always)]
 pub fn float_64(offset: u64, opcode: u32, value: Ieee64) -> WasmOperator
     ensures { result ≡ view offset opcode (float_64 value ∷ []) }
@@ -137,7 +128,6 @@ pub fn float_64(offset: u64, opcode: u32, value: Ieee64) -> WasmOperator
     }
 }
 
-/// Creates the struct of a `v128.const`.
 pub fn vector(offset: u64, opcode: u32, value: V128) -> WasmOperator
     ensures { result ≡ view offset opcode (vector value ∷ []) }
 {
@@ -148,7 +138,6 @@ pub fn vector(offset: u64, opcode: u32, value: V128) -> WasmOperator
     }
 }
 
-/// Creates the struct of a shuffle.
 pub fn lanes(offset: u64, opcode: u32, lanes: [u8; 16]) -> WasmOperator
     ensures { result ≡ view offset opcode (sixteen_lanes lanes ∷ []) }
 {
@@ -158,7 +147,6 @@ pub fn lanes(offset: u64, opcode: u32, lanes: [u8; 16]) -> WasmOperator
     }
 }
 
-/// Creates the struct of an operator with an ordering and an index.
 pub fn ordered(offset: u64, opcode: u32, ordering: Ordering, first: u32) -> WasmOperator
     ensures { result ≡ view offset opcode (order ordering ∷ unsigned_32 first ∷ []) }
 {
@@ -169,7 +157,6 @@ pub fn ordered(offset: u64, opcode: u32, ordering: Ordering, first: u32) -> Wasm
     }
 }
 
-/// Creates the struct of an operator with an ordering and two indices.
 pub fn ordered_two(
     offset: u64,
     opcode: u32,
@@ -187,7 +174,6 @@ pub fn ordered_two(
     }
 }
 
-/// Creates the struct of a fence.
 pub fn fence(offset: u64, opcode: u32, ordering: Ordering) -> WasmOperator
     ensures { result ≡ view offset opcode (fence_order ordering ∷ []) }
 {
@@ -197,7 +183,6 @@ pub fn fence(offset: u64, opcode: u32, ordering: Ordering) -> WasmOperator
     }
 }
 
-/// Creates the struct of an operator with a heap type.
 pub fn heap(offset: u64, opcode: u32, ty: HeapType) -> WasmOperator
     ensures { result ≡ view offset opcode (heap_type ty ∷ []) }
 {
@@ -208,7 +193,6 @@ pub fn heap(offset: u64, opcode: u32, ty: HeapType) -> WasmOperator
     }
 }
 
-/// Creates the struct of a branch on a cast, with a label and two reference types.
 pub fn cast(offset: u64, opcode: u32, first: u32, from: RefType, to: RefType) -> WasmOperator
     ensures { result ≡ view offset opcode (cast (record { relative_depth = first; from = from; to = to }) ∷ []) }
 {
@@ -222,7 +206,6 @@ pub fn cast(offset: u64, opcode: u32, first: u32, from: RefType, to: RefType) ->
     }
 }
 
-/// Creates the struct of an operator with a block type.
 #[inline(always)]
 pub fn block(offset: u64, opcode: u32, ty: &BlockType) -> WasmOperator
     ensures { result ≡ view offset opcode (block_type ty.now ∷ []) }
@@ -234,7 +217,6 @@ pub fn block(offset: u64, opcode: u32, ty: &BlockType) -> WasmOperator
     }
 }
 
-/// Creates the struct of a `br_table`, with the number of its targets and the default target.
 pub fn table(offset: u64, opcode: u32, targets: &BrTable<'_>) -> WasmOperator
     ensures { result ≡ view offset opcode (branch_table targets.now ∷ []) }
 {
@@ -245,7 +227,6 @@ pub fn table(offset: u64, opcode: u32, targets: &BrTable<'_>) -> WasmOperator
     }
 }
 
-/// Creates the struct of a `select` with one type.
 pub fn select_one(offset: u64, opcode: u32, ty: &ValType) -> WasmOperator
     ensures { result ≡ view offset opcode (select_types (select.One ty.now) ∷ []) }
 {
@@ -256,7 +237,6 @@ pub fn select_one(offset: u64, opcode: u32, ty: &ValType) -> WasmOperator
     }
 }
 
-/// Creates the struct of a `select` with a list of types, with their number.
 pub fn select_many(offset: u64, opcode: u32, tys: &SelectTypes) -> WasmOperator
     ensures { result ≡ view offset opcode (select_types (select.Multi tys.now) ∷ []) }
 {
@@ -266,7 +246,6 @@ pub fn select_many(offset: u64, opcode: u32, tys: &SelectTypes) -> WasmOperator
     }
 }
 
-/// Creates the struct of a `try_table`, with its block type and the number of its clauses.
 pub fn try_table(offset: u64, opcode: u32, table: &TryTable) -> WasmOperator
     ensures { result ≡ view offset opcode (try_clauses table.now ∷ []) }
 {
@@ -278,8 +257,6 @@ pub fn try_table(offset: u64, opcode: u32, table: &TryTable) -> WasmOperator
     }
 }
 
-/// Creates the struct of an operator with an index and a resume table, with the number of its
-/// clauses.
 pub fn resume(offset: u64, opcode: u32, first: u32, table: &ResumeTable) -> WasmOperator
     ensures { result ≡ view offset opcode (unsigned_32 first ∷ resume_clauses table.now ∷ []) }
 {
@@ -290,8 +267,6 @@ pub fn resume(offset: u64, opcode: u32, first: u32, table: &ResumeTable) -> Wasm
     }
 }
 
-/// Creates the struct of an operator with two indices and a resume table, with the number of its
-/// clauses.
 pub fn resume_throw(
     offset: u64,
     opcode: u32,

@@ -11,7 +11,6 @@ use crate::shapes;
 use crate::view::WasmOperator;
 use wasm_instr::{AtomicOperator, GcOperator, MiscOperator, Operator, SimdOperator};
 
-/// Converts an operator with this number.
 pub fn own(offset: u64, opcode: u32, op: &Operator<'_>) -> WasmOperator
     ensures { result ≡ view offset opcode (immediates_of op.now) }
 {
@@ -126,7 +125,6 @@ pub fn own(offset: u64, opcode: u32, op: &Operator<'_>) -> WasmOperator
     }
 }
 
-/// Converts an operator with the prefix byte 0xfb.
 fn gc(offset: u64, opcode: u32, op: GcOperator) -> WasmOperator
     ensures { result ≡ view offset opcode (gc_immediates op) }
 {
@@ -240,7 +238,6 @@ fn gc(offset: u64, opcode: u32, op: GcOperator) -> WasmOperator
     }
 }
 
-/// Converts an operator with the prefix byte 0xfc.
 fn misc(offset: u64, opcode: u32, op: MiscOperator) -> WasmOperator
     ensures { result ≡ view offset opcode (misc_immediates op) }
 {
@@ -283,7 +280,6 @@ fn misc(offset: u64, opcode: u32, op: MiscOperator) -> WasmOperator
     }
 }
 
-/// Converts an operator with the prefix byte 0xfd.
 fn simd(offset: u64, opcode: u32, op: SimdOperator) -> WasmOperator
     ensures { result ≡ view offset opcode (simd_immediates op) }
 {
@@ -549,7 +545,6 @@ fn simd(offset: u64, opcode: u32, op: SimdOperator) -> WasmOperator
     }
 }
 
-/// Converts an operator with the prefix byte 0xfe.
 fn atomic(offset: u64, opcode: u32, op: AtomicOperator) -> WasmOperator
     ensures { result ≡ view offset opcode (atomic_immediates op) }
 {

@@ -1,4 +1,3 @@
-//! Reading types: each is identified by its first byte.
 ghost use Rattle.std.specs.Prelude.{◌≡◌, ◌≢◌, ℕ, ◌+◌, ◌≤◌, ◌⊎◌, ◌∷◌, [], IsTrue, ◌↔◌, IfSome, IfNone, IfErr};
 ghost use Rattle.wasm_below.specs.declared.types.AbstractHeapType.{AbstractHeapType};
 ghost use Rattle.wasm_below_bytes.specs.Source.{Reads, BeginsWith, rest};
@@ -7,20 +6,19 @@ ghost use Rattle.wasm_below.specs.TypeEncoding.{heap_type_byte, ref_byte, after_
 use super::{AbstractHeapType, HeapType, MAX_TYPE_INDEX, RefType, ValType};
 use wasm_below_bytes::{BinaryReader, Message, Result, TypeName};
 
-/// The prefix byte of an abstract heap type that is shared.
+/// Precedes an abstract heap type that is shared.
 const SHARED: u8 = 0x65;
 
-/// The prefix byte of the index of an exact heap type.
+/// Precedes the index of an exact heap type.
 const EXACT: u8 = 0x62;
 
-/// The prefix byte of the heap type of a reference type with null.
+/// Precedes the heap type of a reference type with null.
 const REF_NULL: u8 = 0x63;
 
-/// The prefix byte of the heap type of a reference type without null.
+/// Precedes the heap type of a reference type without null.
 const REF: u8 = 0x64;
 
 impl AbstractHeapType {
-    /// Returns the abstract heap type with this byte, if there is one.
     fn from_byte(code: u8) -> Option<AbstractHeapType>
         ensures some { IfSome result (λ ty. heap_type_byte ty ≡ code) }
         ensures none { IfNone result ((ty : AbstractHeapType) → heap_type_byte ty ≢ code) }
@@ -46,12 +44,12 @@ impl AbstractHeapType {
 }
 
 impl HeapType {
-    /// Reads a heap type. Types, Heap Types.
+    /// Reads a heap type. Specification: Types, Heap Types.
     ///
-    /// Fails with `InvalidType` of `heap type` at the start of the type. The reason is a byte after
-    /// 0x65 that is not an abstract heap type, or an index that is negative or above 1048575.
-    /// Otherwise fails with `EndOfData` at the end of the data, like `read_var_u32` at an index
-    /// after 0x62, or like `read_var_s33` at another index.
+    /// Fails with `InvalidType` of `heap type` at the start of the type, if the byte after 0x65 is
+    /// no abstract heap type, or an index is negative or above 1048575. Otherwise fails with
+    /// `EndOfData`, like `read_var_u32` at an index after 0x62, or like `read_var_s33` at another
+    /// index.
     #[inline(never)]
     pub fn read(reader: &mut BinaryReader<'_>) -> Result<HeapType>
         ensures reads { Reads EncodesHeapType result reader.old reader.new }
@@ -92,7 +90,6 @@ impl HeapType {
         }
     }
 
-    /// Reads a type index.
     fn read_concrete(reader: &mut BinaryReader<'_>) -> Result<HeapType>
         ensures reads { Reads EncodesConcrete result reader.old reader.new }
         ensures fault { IfErr result (λ e. ConcreteFault e.message reader.old e.offset) }
@@ -105,7 +102,6 @@ impl HeapType {
         Ok(HeapType::Concrete(index as u32))
     }
 
-    /// Reads the byte 0x62 and a type index.
     fn read_exact(reader: &mut BinaryReader<'_>) -> Result<HeapType>
         requires { BeginsWith 0x62 (rest reader.old) }
         ensures reads { Reads EncodesExact result reader.old reader.new }
@@ -129,12 +125,11 @@ impl HeapType {
 }
 
 impl RefType {
-    /// Reads a reference type. Types, Reference Types.
+    /// Reads a reference type. Specification: Types, Reference Types.
     ///
-    /// Fails with `InvalidType` of `reference type` at the start of the type. The reason is a first
-    /// byte of no reference type, or a byte after 0x65 that is not an abstract heap type. Otherwise
-    /// fails with `EndOfData` at the end of the data, or after the byte 0x63 or 0x64 like
-    /// `HeapType::read`.
+    /// Fails with `InvalidType` of `reference type` at the start of the type, if its first byte
+    /// starts none, or the byte after 0x65 is no abstract heap type. Otherwise fails with
+    /// `EndOfData`, or after the byte 0x63 or 0x64 like `HeapType::read`.
     #[inline(never)]
     pub fn read(reader: &mut BinaryReader<'_>) -> Result<RefType>
         ensures reads { Reads EncodesRefType result reader.old reader.new }
@@ -150,7 +145,6 @@ impl RefType {
         RefType::read_short(reader)
     }
 
-    /// Reads a reference type in the short form.
     fn read_short(reader: &mut BinaryReader<'_>) -> Result<RefType>
         ensures reads { Reads EncodesShortRef result reader.old reader.new }
         ensures fault { IfErr result (λ e. ShortFault TypeName.ReferenceType e.message reader.old e.offset) }
@@ -159,7 +153,6 @@ impl RefType {
         Ok(RefType::of(true, heap_type))
     }
 
-    /// Reads the byte 0x63 or 0x64 and a heap type.
     fn read_long(reader: &mut BinaryReader<'_>, nullable: bool) -> Result<RefType>
         requires { BeginsWith (ref_byte nullable) (rest reader.old) }
         ensures reads { Reads EncodesLongRef result reader.old reader.new }
@@ -178,10 +171,10 @@ impl RefType {
 }
 
 impl ValType {
-    /// Reads a value type. Types, Value Types.
+    /// Reads a value type. Specification: Types, Value Types.
     ///
-    /// Fails with `InvalidType` of `value type` at the start of the type if no value type starts
-    /// with the first byte. Otherwise fails like `RefType::read`.
+    /// Fails with `InvalidType` of `value type` at the start of the type, if its first byte starts
+    /// none; otherwise like `RefType::read`.
     #[inline(always)]
     pub fn read(reader: &mut BinaryReader<'_>) -> Result<ValType>
         ensures reads { Reads EncodesValType result reader.old reader.new }
@@ -194,8 +187,8 @@ impl ValType {
         ValType::read_number(reader)
     }
 
-    /// Reads a value type that starts like a reference type. It is a separate function so that the
-    /// result of the call that is not inlined is only on this path.
+    /// Reads a value type that starts like a reference type. The call is not inlined; its result is
+    /// only on this path.
     #[inline(always)]
     fn read_reference(reader: &mut BinaryReader<'_>) -> Result<ValType>
         requires { LedBy LeadsRefType (rest reader.old) }
@@ -208,7 +201,6 @@ impl ValType {
         }
     }
 
-    /// Reads a value type that is not a reference type.
     #[inline(always)]
     fn read_number(reader: &mut BinaryReader<'_>) -> Result<ValType>
         ensures reads { Reads EncodesNumberType result reader.old reader.new }
@@ -226,7 +218,6 @@ impl ValType {
     }
 }
 
-/// Returns whether a short form starts with this byte.
 #[inline(always)]
 fn leads_short(byte: u8) -> bool
     ensures { IsTrue result ↔ LeadsShort byte }
@@ -234,7 +225,6 @@ fn leads_short(byte: u8) -> bool
     byte == SHARED || matches!(byte, 0x68..=0x75)
 }
 
-/// Returns whether a reference type starts with this byte.
 #[inline(always)]
 fn leads_ref_type(byte: u8) -> bool
     ensures { IsTrue result ↔ LeadsRefType byte }

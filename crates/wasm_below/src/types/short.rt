@@ -7,7 +7,6 @@ ghost use Rattle.wasm_below.specs.ShortTypes.{heap_type_of};
 use super::{AbstractHeapType, HeapType};
 use std::marker::Model;
 
-/// A type index below 2^24, stored in three bytes.
 #[derive(Clone, Copy, PartialEq, Eq)]
 pub struct ShortIndex {
     high: u8,
@@ -36,7 +35,6 @@ impl Model for ShortIndex {
 }
 
 impl ShortIndex {
-    /// Creates a `ShortIndex` from an index.
     #[inline(always)]
     fn new(index: u32) -> ShortIndex
         requires { index < 16777216 }
@@ -50,7 +48,6 @@ impl ShortIndex {
         }
     }
 
-    /// Returns the index.
     #[inline(always)]
     fn index(self) -> u32
         ensures { result ≡ self }
@@ -68,7 +65,6 @@ pub enum ShortHeapType {
 }
 
 impl ShortHeapType {
-    /// Converts a heap type to four bytes.
     #[inline(always)]
     pub fn new(heap_type: HeapType) -> ShortHeapType
         requires { IsIndexed heap_type }
@@ -81,7 +77,6 @@ impl ShortHeapType {
         }
     }
 
-    /// Returns the heap type as callers see it.
     #[inline(always)]
     pub fn heap_type(self) -> HeapType
         ensures { result ≡ heap_type_of self }

@@ -1,4 +1,4 @@
-//! LEB128 numbers: seven bits a byte, the lowest first. Values, Integers.
+//! LEB128 numbers. Specification: Values, Integers.
 ghost use Rattle.std.specs.Prelude.{◌≡◌, ◌<◌, [], ◌∷◌, IfErr, IfSome, IfNone};
 ghost use Rattle.wasm_below_bytes.specs.Source.{Takes, Reads, U32Fault, U64Fault, I32Fault, S33Fault, I64Fault, as_too_long, offset_of, end_of};
 ghost use Rattle.wasm_below_bytes.specs.Number.{EncodesUnsigned, EncodesSigned};
@@ -13,7 +13,7 @@ use crate::message::{Message, NumberName};
 use crate::number_calls::{coded_error, long_i64, long_u32, long_u64};
 
 impl<'a> BinaryReader<'a> {
-    /// Reads an unsigned LEB128 number of 32 bits, in at most five bytes. Values, Integers.
+    /// Reads an unsigned LEB128 number of at most five bytes.
     ///
     /// Fails with `EndOfData` at the end of the data, or with `IntegerTooLong` or `IntegerTooLarge`
     /// at the fifth byte.
@@ -28,8 +28,8 @@ impl<'a> BinaryReader<'a> {
         self.read_long_u32()
     }
 
-    /// Reads what `read_var_u32` reads, with all code inline. It is for a loop that skips many
-    /// numbers: their values are then not computed.
+    /// Reads what `read_var_u32` reads, with all code inline. A loop that skips many numbers does
+    /// not compute their values then.
     #[inline(always)]
     pub fn read_var_u32_in_place(&mut self) -> Result<u32>
         ensures reads { Reads (EncodesUnsigned 32) result self.old self.new }
@@ -44,7 +44,7 @@ impl<'a> BinaryReader<'a> {
         }
     }
 
-    /// Reads an unsigned LEB128 number of 64 bits, in at most ten bytes. Values, Integers.
+    /// Reads an unsigned LEB128 number of at most ten bytes.
     ///
     /// Fails with `EndOfData` at the end of the data, or with `IntegerTooLong` or `IntegerTooLarge`
     /// at the tenth byte.
@@ -59,10 +59,7 @@ impl<'a> BinaryReader<'a> {
         self.read_long_u64()
     }
 
-    /// Reads a signed LEB128 number of 32 bits, in at most five bytes. Values, Integers.
-    ///
-    /// Fails with `EndOfData` at the end of the data, or with `IntegerTooLong` or `IntegerTooLarge`
-    /// at the fifth byte.
+    /// Reads a signed LEB128 number of at most five bytes. Fails like `read_var_u32`.
     #[inline(always)]
     pub fn read_var_i32(&mut self) -> Result<i32>
         ensures reads { Reads (EncodesSigned 32) result self.old self.new }
@@ -74,7 +71,7 @@ impl<'a> BinaryReader<'a> {
         self.read_long_i32()
     }
 
-    /// Reads a signed LEB128 number of 33 bits, in at most five bytes. Values, Integers.
+    /// Reads a signed LEB128 number of 33 bits, in at most five bytes.
     ///
     /// Fails with `EndOfData` at the end of the data, or with `IntegerTooLong` at the fifth byte.
     #[inline(always)]
@@ -88,10 +85,7 @@ impl<'a> BinaryReader<'a> {
         self.read_long_s33()
     }
 
-    /// Reads a signed LEB128 number of 64 bits, in at most ten bytes. Values, Integers.
-    ///
-    /// Fails with `EndOfData` at the end of the data, or with `IntegerTooLong` or `IntegerTooLarge`
-    /// at the tenth byte.
+    /// Reads a signed LEB128 number of at most ten bytes. Fails like `read_var_u64`.
     #[inline(always)]
     pub fn read_var_i64(&mut self) -> Result<i64>
         ensures reads { Reads (EncodesSigned 64) result self.old self.new }
@@ -103,7 +97,7 @@ impl<'a> BinaryReader<'a> {
         self.read_long_i64()
     }
 
-    /// Reads the next byte if it is below 128, and so a LEB128 number of one byte.
+    /// Reads the next byte if it is below 128, and so a LEB128 number.
     #[inline(always)]
     fn take_last_byte(&mut self) -> Option<u8>
         ensures taken { IfSome result (λ b. (b < 128) × Takes self.old self.new (b ∷ [])) }
@@ -120,7 +114,6 @@ impl<'a> BinaryReader<'a> {
         Some(byte)
     }
 
-    /// Reads the number for `read_var_u32` if it is longer than one byte.
     #[inline(always)]
     fn read_long_u32(&mut self) -> Result<u32>
         ensures reads { Reads (EncodesUnsigned 32) result self.old self.new }
@@ -138,7 +131,6 @@ impl<'a> BinaryReader<'a> {
         Ok(number.value as u32)
     }
 
-    /// Reads the number for `read_var_u64` if it is longer than one byte.
     #[inline(always)]
     fn read_long_u64(&mut self) -> Result<u64>
         ensures reads { Reads (EncodesUnsigned 64) result self.old self.new }
@@ -156,7 +148,6 @@ impl<'a> BinaryReader<'a> {
         Ok(number.value)
     }
 
-    /// Reads the number for `read_var_i32` if it is longer than one byte.
     #[inline(always)]
     fn read_long_i32(&mut self) -> Result<i32>
         ensures reads { Reads (EncodesSigned 32) result self.old self.new }
@@ -171,7 +162,6 @@ impl<'a> BinaryReader<'a> {
         }
     }
 
-    /// Reads the number for `read_var_s33` if it is longer than one byte.
     #[inline(always)]
     fn read_long_s33(&mut self) -> Result<i64>
         ensures reads { Reads (EncodesSigned 33) result self.old self.new }
@@ -186,7 +176,6 @@ impl<'a> BinaryReader<'a> {
         }
     }
 
-    /// Reads the number for `read_var_i64` if it is longer than one byte.
     #[inline(always)]
     fn read_long_i64(&mut self) -> Result<i64>
         ensures reads { Reads (EncodesSigned 64) result self.old self.new }
@@ -212,7 +201,6 @@ impl<'a> BinaryReader<'a> {
         coded_error(code, self.original_position(), end, bits, name)
     }
 
-    /// Returns the error for a number of at most this many bits at this position.
     #[inline(always)]
     fn no_number(&self, refusal: NumberRefusal, bits: u32, name: NumberName) -> Error
         requires some { 0 < bits }
@@ -225,8 +213,7 @@ impl<'a> BinaryReader<'a> {
     }
 }
 
-/// Returns the error with `IntegerTooLong` in place of `IntegerTooLarge`: both faults of the fifth
-/// byte have one text.
+/// Replaces `IntegerTooLarge` by `IntegerTooLong`: both faults of the fifth byte have one text.
 fn as_too_long(e: Error) -> Error
     ensures offset { result.offset ≡ e.offset }
     ensures message { result.message ≡ as_too_long e.message }

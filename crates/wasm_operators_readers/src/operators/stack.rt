@@ -1,4 +1,3 @@
-//! The innermost open frame of a reader, and clones of readers with all their frames.
 ghost use Rattle.std.specs.Prelude.{◌≡◌, ◌<◌, length, IfOk, IfErr};
 ghost use Rattle.wasm_decode.specs.imm.OutOfMemory.{IsOutOfMemoryAt};
 
@@ -8,8 +7,8 @@ use wasm_decode::grammar::FrameKind;
 use wasm_decode::instr::FrameStack;
 
 impl<'a> OperatorsReader<'a> {
-    /// Clones the reader: the clone is at the same position of the same bytes, with the same open
-    /// frames, in memory of the same allocator. Its capacity is not specified.
+    /// Clones the reader with its open frames, in memory of the same allocator. The clone's
+    /// capacity is not specified.
     ///
     /// Fails with `OutOfMemory` at offset 0, and only if more than one frame is open.
     pub fn clone(&self) -> Result<OperatorsReader<'a>>
@@ -28,7 +27,6 @@ impl<'a> OperatorsReader<'a> {
     }
 }
 
-/// The open frames are those of the reader.
 impl<'a> FrameStack for OperatorsReader<'a> {
     ghost use Rattle.wasm_decode.specs.grammar.Frames.{innermost};
 

@@ -1,5 +1,4 @@
-//! Visiting to the end of the data. Meanwhile the reader of the bytes is in a local variable, and
-//! for visits the stack of open frames too.
+//! Visiting to the end, with the reader, and for visits the stack, in local variables.
 ghost use Rattle.std.specs.Prelude.{◌≡◌, ◌+◌, ◌<◌, ◌⊎◌, IfErr, vec_capacity, vec_len};
 ghost use Rattle.wasm_decode.specs.opcodes.Allowed.{EncodesAllowed, EncodesScalar};
 ghost use Rattle.wasm_decode.specs.opcodes.OperatorFaults.{OperatorFault, ScalarOperatorFault};
@@ -17,8 +16,6 @@ use wasm_decode::below::{Message, Result};
 use wasm_decode::visitors::{HoldTable, VisitOperator, VisitSimdOperator};
 
 impl<'a> OperatorsReader<'a> {
-    /// Visits to the end of the data or to an error, and finishes. Each visit appends an item to
-    /// the list.
     pub(crate) fn collect_to_end<T>(&mut self, list: &mut Collector<T>) -> Result<()>
     where
         T: HoldTable<'a> + Drop,
@@ -34,7 +31,6 @@ impl<'a> OperatorsReader<'a> {
         outcome
     }
 
-    /// Visits to the end of the data or to an error, and finishes.
     pub(crate) fn visit_to_end_simd<V>(&mut self, v: &mut V) -> Result<()>
     where
         V: VisitOperator<'a> + VisitSimdOperator,
@@ -50,7 +46,6 @@ impl<'a> OperatorsReader<'a> {
         outcome
     }
 
-    /// Visits to the end of the data, to a SIMD operator or to another error, and finishes.
     pub(crate) fn visit_to_end<V: VisitOperator<'a>>(&mut self, v: &mut V) -> Result<()>
     where
         V::Output: Copy,

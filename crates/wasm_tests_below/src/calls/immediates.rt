@@ -1,5 +1,3 @@
-//! Immediates that own no memory.
-
 use super::write_result;
 use crate::failure::Written;
 use wasm_imm::below::BinaryReader;
@@ -8,7 +6,6 @@ use wasm_imm::{
     read_memory_index, read_table_index,
 };
 
-/// A call that reads an immediate.
 #[derive(Clone, Copy)]
 pub enum Immediate {
     MemArg(MemArgKind),
@@ -25,8 +22,8 @@ pub enum Immediate {
 }
 
 impl Immediate {
-    /// Makes the call and writes its result. The argument is the natural alignment of a memory
-    /// argument, or the offset of a fence.
+    /// Writes the call's result. The argument is the natural alignment of a memory argument, or the
+    /// offset of a fence.
     pub fn write(self, text: &mut String, argument: u8, reader: &mut BinaryReader<'_>) -> Written {
         match self {
             Immediate::MemArg(kind) => {

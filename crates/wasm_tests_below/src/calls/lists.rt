@@ -1,12 +1,10 @@
-//! Lists: those that own memory, branch tables, and lists of items that are read one by one.
-
 use super::{write_error, write_next, write_result};
 use crate::failure::Written;
 use std::alloc::Global;
 use wasm_imm::below::{BinaryReader, Error, FromReader, Message, Result, SizeName};
 use wasm_imm::{BrTable, ResumeTable, Select, TryTable};
 
-/// A call that reads a list. One that ends in `Again` is made again after an allocation failed.
+/// A call that reads a list. If its name ends in `Again`, it is repeated after allocation failed.
 #[derive(Clone, Copy)]
 pub enum List {
     BrTable,
@@ -23,7 +21,7 @@ pub enum List {
 }
 
 impl List {
-    /// Makes the call and writes its result. The argument is the limit of a count of items.
+    /// Writes the call's result. The argument is the limit of a count of items.
     pub fn write(
         self,
         alloc: Global,
@@ -52,7 +50,6 @@ impl List {
     }
 }
 
-/// Writes a branch table: what it says of itself, its targets and its default target.
 fn write_branch_table(text: &mut String, reader: &mut BinaryReader<'_>) -> Written {
     match BrTable::read(reader) {
         Ok(table) => {
@@ -69,7 +66,6 @@ fn write_branch_table(text: &mut String, reader: &mut BinaryReader<'_>) -> Writt
     write_next(text, reader)
 }
 
-/// Writes a list of numbers, whose count may be at most the limit.
 fn write_items(
     alloc: Global,
     text: &mut String,
@@ -92,7 +88,7 @@ fn write_items(
     write_next(text, reader)
 }
 
-/// Writes whether a list of numbers is read, which is dropped before any of them is asked for.
+/// Writes whether a list of numbers is read that is dropped before any item is read.
 fn write_dropped(
     alloc: Global,
     text: &mut String,
@@ -106,8 +102,7 @@ fn write_dropped(
     write_next(text, reader)
 }
 
-/// Writes a try table and whether its copy is equal. Each call is made again after an allocation
-/// failed.
+/// Writes a try table and whether its copy is equal. Each call is repeated after allocation failed.
 fn write_try_table(alloc: Global, text: &mut String, reader: &mut BinaryReader<'_>) -> Written {
     let table = read_again::<TryTable>(alloc, reader)?;
     let copy = match table.clone(alloc) {
@@ -130,8 +125,8 @@ fn write_resume_table(alloc: Global, text: &mut String, reader: &mut BinaryReade
     write_next(text, reader)
 }
 
-/// Reads a value. Reads again after an allocation failed, if the error has the offset at which the
-/// call began and the reader has not moved.
+/// Reads a value. Reads again if allocation failed at the offset where the call began and the
+/// reader has not moved.
 fn read_again<'a, T: FromReader<'a>>(alloc: Global, reader: &mut BinaryReader<'a>) -> Result<T> {
     let offset = reader.original_position();
     match T::from_reader(alloc, reader) {
@@ -142,7 +137,6 @@ fn read_again<'a, T: FromReader<'a>>(alloc: Global, reader: &mut BinaryReader<'a
     }
 }
 
-/// Reads the types of a select as `read_again` reads a value.
 fn select_again(alloc: Global, reader: &mut BinaryReader<'_>) -> Result<Select> {
     let offset = reader.original_position();
     match Select::read(alloc, reader) {
@@ -153,7 +147,6 @@ fn select_again(alloc: Global, reader: &mut BinaryReader<'_>) -> Result<Select> 
     }
 }
 
-/// Returns whether an error says that an allocation failed in a call at this offset.
 fn is_out_of_memory(e: Error, offset: u64) -> bool {
     e == Error::new(Message::OutOfMemory, offset)
 }

@@ -1,5 +1,3 @@
-//! The names of calls.
-
 use super::Call;
 use super::immediates::Immediate;
 use super::lists::List;
@@ -8,7 +6,6 @@ use super::types::Type;
 use super::views::View;
 use wasm_imm::MemArgKind;
 
-/// The calls that rows name.
 const CALLS: [(&str, Call); 51] = [
     ("read_u8", Call::Number(Number::U8)),
     ("read_u32", Call::Number(Number::U32)),
@@ -72,7 +69,6 @@ const CALLS: [(&str, Call); 51] = [
     ("memory:Select", Call::List(List::SelectAgain)),
 ];
 
-/// Returns the call of a name.
 pub fn call_of(name: &str) -> Option<Call> {
     for (named, call) in CALLS {
         if named == name {

@@ -1,11 +1,8 @@
-//! Bytes, numbers and counts.
-
 use super::write_result;
 use crate::failure::Written;
 use wasm_imm::ReadImmediates;
 use wasm_imm::below::{BinaryReader, SizeName};
 
-/// A call that reads bytes or a number.
 #[derive(Clone, Copy)]
 pub enum Number {
     U8,
@@ -23,8 +20,7 @@ pub enum Number {
 }
 
 impl Number {
-    /// Makes the call and writes its result. The argument is how many bytes are read, or the limit of
-    /// a count.
+    /// Writes the call's result. The argument is how many bytes are read, or the limit of a count.
     pub fn write(self, text: &mut String, argument: u8, reader: &mut BinaryReader<'_>) -> Written {
         let argument = usize::from(argument);
         match self {

@@ -1,12 +1,9 @@
-//! Types.
-
 use super::write_result;
 use crate::failure::Written;
 use std::alloc::Global;
 use wasm_imm::BlockType;
 use wasm_imm::below::{BinaryReader, HeapType, RefType, ValType};
 
-/// A call that reads a type, by a function of the type or by the reader's `read`.
 #[derive(Clone, Copy)]
 pub enum Type {
     Value,
@@ -20,7 +17,6 @@ pub enum Type {
 }
 
 impl Type {
-    /// Makes the call and writes its result.
     pub fn write(self, alloc: Global, text: &mut String, reader: &mut BinaryReader<'_>) -> Written {
         match self {
             Type::Value => write_result(text, ValType::read(reader), reader),

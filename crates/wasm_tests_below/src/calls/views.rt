@@ -1,10 +1,9 @@
-//! What a reader says of its bytes.
+//! What a reader reports about its bytes.
 
 use super::{write_error, write_next, write_result};
 use crate::failure::Written;
 use wasm_imm::below::BinaryReader;
 
-/// A call that returns what a reader has.
 #[derive(Clone, Copy)]
 pub enum View {
     Range,
@@ -17,7 +16,6 @@ pub enum View {
 }
 
 impl View {
-    /// Makes the call and writes its result.
     pub fn write(self, text: &mut String, reader: &mut BinaryReader<'_>) -> Written {
         match self {
             View::Range => write!(text, "{:?}", reader.range())?,
@@ -32,7 +30,6 @@ impl View {
     }
 }
 
-/// Writes the bytes and the offsets of a part of the bytes.
 fn write_part(text: &mut String, reader: &mut BinaryReader<'_>) -> Written {
     match reader.read_reader() {
         Ok(part) => write!(text, "{:?} of {:?}", part.remaining_buffer(), part.range())?,

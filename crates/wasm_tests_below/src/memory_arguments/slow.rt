@@ -1,8 +1,6 @@
-//! Memory arguments, read slowly from their definition.
 use wasm_imm::below::WasmFeatures;
 use wasm_imm::{MemArg, MemArgKind, MemArgOrdering, MemArgTarget, Ordering};
 
-/// The orderings that a memory argument may give, with the byte of each.
 const ORDERINGS: [(Option<MemArgOrdering>, u8); 5] = [
     (None, 0),
     (Some(MemArgOrdering::Op(Ordering::SeqCst)), 0x00),
@@ -18,8 +16,8 @@ const ARRAY: u64 = 32;
 
 const MEMORY: u64 = 64;
 
-/// The memory argument that a prefix of the bytes encodes, and how many bytes it is: each alignment,
-/// ordering and target is tried.
+/// Returns the memory argument that a prefix of the bytes encodes, and its length. Tries each
+/// alignment, ordering and target.
 pub fn memory_argument(
     bytes: &[u8],
     features: WasmFeatures,
@@ -52,14 +50,12 @@ pub fn memory_argument(
     None
 }
 
-/// The flags number of these parts.
 fn sum(align: u8, ordering: Option<MemArgOrdering>, part: u64) -> u64 {
     u64::from(align)
         .saturating_add(if ordering.is_some() { 16 } else { 0 })
         .saturating_add(part)
 }
 
-/// Whether such an ordering may stand there.
 fn may_order(features: WasmFeatures, kind: MemArgKind, ordering: Option<MemArgOrdering>) -> bool {
     let on = features.contains(WasmFeatures::ACQUIRE_RELEASE_ATOMICS);
     match ordering {
@@ -69,7 +65,6 @@ fn may_order(features: WasmFeatures, kind: MemArgKind, ordering: Option<MemArgOr
     }
 }
 
-/// Whether such a target may be announced.
 fn may_reach(features: WasmFeatures, part: u64) -> bool {
     match part {
         ARRAY => features.contains(WasmFeatures::MULTIBYTE_ARRAY_ACCESS),
@@ -78,7 +73,6 @@ fn may_reach(features: WasmFeatures, part: u64) -> bool {
     }
 }
 
-/// The target, the offset and the end of a memory argument whose flags number ends at `at`.
 fn parts(
     bytes: &[u8],
     at: usize,
@@ -114,7 +108,7 @@ fn parts(
     Some((target, offset, at.checked_add(size)?))
 }
 
-/// The number of at most this many bits that a prefix of the bytes encodes, and how many bytes it is.
+/// Returns the number of at most `width` bits that a prefix of the bytes encodes, and its length.
 fn number(bytes: &[u8], width: u32) -> Option<(u64, usize)> {
     let mut value = 0u128;
     let mut weight = 1u128;

@@ -3,7 +3,7 @@ use std::alloc::Global;
 use wasm_visit::instr::{BrTable, MiscOperator, Operator};
 use wasm_visit::{VisitGroups, VisitMisc, VisitOperator, VisitSimdOperator, Visitor, dispatch};
 
-/// A visitor that counts its visits. It overrides the visit of `DataDrop` to keep the index.
+/// Counts its visits, and overrides the visit of `DataDrop` to keep the index.
 #[derive(Debug, Drop)]
 pub struct Counter {
     pub dropped: Vec<u32>,
@@ -14,7 +14,6 @@ pub struct Counter {
 }
 
 impl Counter {
-    /// Creates a visitor that has visited nothing.
     pub fn new(alloc: Global) -> Counter {
         Counter {
             dropped: Vec::new(alloc),
@@ -31,7 +30,6 @@ impl Visitor for Counter {
 
     type Output = ();
 
-    // A visit lowers no count.
     ghost visits = { λ before op outcome after. (before.own ≤ after.own) × (before.any ≤ after.any)
         × (before.tables ≤ after.tables) };
 

@@ -1,14 +1,12 @@
-//! The operators that all visitors of this program visit.
 use wasm_visit::below::BinaryReader;
 use wasm_visit::instr::{
     BrTable, GcOperator, MiscOperator, NumericOperator, Operator, SimdOperator,
 };
 use wasm_visit::{VisitOperator, VisitSimdOperator, visit_owned_simd};
 
-/// The bytes of a branch table with the target 1 and the default target 0.
+/// The target 1 and the default target 0.
 static TABLE: [u8; 3] = [1, 1, 0];
 
-/// Creates a branch table with one target.
 pub fn table() -> Option<BrTable<'static>> {
     BrTable::read(&mut BinaryReader::new(&TABLE, 0)).ok()
 }

@@ -4,7 +4,6 @@ ghost use Rattle.std.specs.Prelude.{◌≤◌};
 use wasm_visit::instr::{BrTable, GcOperator, Operator};
 use wasm_visit::{VisitGc, VisitGroups, VisitOperator, VisitSimdOperator, Visitor, dispatch};
 
-/// A visitor that counts the operators that it knows and those that it does not know, for a module.
 #[derive(Drop)]
 pub struct Interp<'m, M> {
     pub module: &'m M,
@@ -12,7 +11,6 @@ pub struct Interp<'m, M> {
     pub unknown: u64,
 }
 
-/// A module with structure types alone.
 #[derive(Drop)]
 pub struct Module {
     pub types: Vec<u32>,
@@ -22,7 +20,6 @@ pub struct Module {
 impl<'m, M> Visitor for Interp<'m, M> {
     type Output = bool;
 
-    // A visit does not lower the count.
     ghost visits = { λ before op outcome after. before.unknown ≤ after.unknown };
 
     fn visit_any(&mut self, _op: Operator<'static>) -> bool {

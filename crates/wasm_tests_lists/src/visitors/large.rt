@@ -1,15 +1,12 @@
-//! A large result.
 use wasm_visit::instr::{BrTable, Operator};
 use wasm_visit::{HoldOperator, HoldTable};
 
-/// A result of 4096 bytes.
 #[derive(Drop)]
 pub struct Large {
     pub bytes: [u8; 4096],
 }
 
 impl HoldOperator for Large {
-    // Holds for every operator.
     ghost holds = { λ op large. Unit {0} };
 
     fn hold_operator(_op: Operator<'static>) -> Large {

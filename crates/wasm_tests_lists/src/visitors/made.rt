@@ -1,11 +1,10 @@
-//! The operators that the factory of the decoder's crates makes, by the dispatch of each group.
+//! The operators that the factory makes, by the dispatch of each group.
 use wasm_visit::dispatch;
 use wasm_visit::instr::{
     AtomicOperator, GcOperator, MiscOperator, NumericOperator, Operator, Ordering, SimdOperator,
 };
 use wasm_visit::layer_factory::Factory;
 
-/// Makes an operator of each group.
 pub fn made() -> [Operator<'static>; 7] {
     let factory = &mut Factory;
     [

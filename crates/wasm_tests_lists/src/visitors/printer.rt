@@ -5,7 +5,7 @@ use std::alloc::AllocError;
 use wasm_visit::instr::{BrTable, MiscOperator, Operator};
 use wasm_visit::{VisitGroups, VisitMisc, VisitOperator, VisitSimdOperator, Visitor, dispatch};
 
-/// A visitor that writes the names of two operators, and counts the visits of all others.
+/// Writes the names of two operators, and counts the visits of all others.
 #[derive(Drop)]
 pub struct Printer<'w> {
     pub out: &'w mut String,
@@ -15,7 +15,6 @@ pub struct Printer<'w> {
 impl<'w> Visitor for Printer<'w> {
     type Output = Result<(), AllocError>;
 
-    // A visit does not lower the count.
     ghost visits = { λ before op outcome after. before.others ≤ after.others };
 
     fn visit_any(&mut self, _op: Operator<'static>) -> Result<(), AllocError> {

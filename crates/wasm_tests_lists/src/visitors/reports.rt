@@ -2,7 +2,6 @@
 use wasm_visit::instr::{BrTable, MiscOperator, Operator};
 use wasm_visit::{VisitGroups, VisitMisc, VisitOperator, VisitSimdOperator, Visitor, dispatch};
 
-/// The call that a visitor received.
 #[derive(Clone, Copy, Debug)]
 pub enum Call {
     Own,
@@ -10,14 +9,13 @@ pub enum Call {
     Table,
 }
 
-/// A visitor that returns which call it received. It overrides the visit of `DataDrop`.
+/// Returns which call it received. Overrides the visit of `DataDrop`.
 #[derive(Debug, Drop)]
 pub struct Reports;
 
 impl Visitor for Reports {
     type Output = Call;
 
-    // Holds for every operator.
     ghost visits = { λ before op outcome after. Unit {0} };
 
     fn visit_any(&mut self, _op: Operator<'static>) -> Call {

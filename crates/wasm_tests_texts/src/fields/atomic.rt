@@ -3,7 +3,6 @@ use crate::fields::shapes;
 use crate::values::{self, Written};
 use wasm_instr::AtomicOperator;
 
-/// Prints the fields of the operators with the prefix byte 0xfe, and nothing for an operator without fields.
 pub fn atomic(out: &mut String, op: &AtomicOperator) -> Written {
     match op {
         AtomicOperator::MemoryAtomicNotify { memarg }

@@ -3,7 +3,6 @@ use crate::fields::shapes;
 use crate::values::{self, Written};
 use wasm_instr::GcOperator;
 
-/// Prints the fields of the operators with the prefix byte 0xfb, and nothing for an operator without fields.
 pub fn gc(out: &mut String, op: &GcOperator) -> Written {
     match op {
         GcOperator::StructNew { struct_type_index }

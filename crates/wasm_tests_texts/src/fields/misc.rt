@@ -3,7 +3,6 @@ use crate::fields::shapes;
 use crate::values::{self, Written};
 use wasm_instr::MiscOperator;
 
-/// Prints the fields of the operators with the prefix byte 0xfc, and nothing for an operator without fields.
 pub fn misc(out: &mut String, op: &MiscOperator) -> Written {
     match op {
         MiscOperator::MemoryInit { data_index, mem } => shapes::write_data_index_and_mem(

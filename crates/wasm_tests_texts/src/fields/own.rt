@@ -7,7 +7,6 @@ use crate::fields::simd::simd;
 use crate::values::{self, Written};
 use wasm_instr::Operator;
 
-/// Prints the fields of an operator, and nothing for an operator without fields.
 pub fn own(out: &mut String, op: &Operator<'_>) -> Written {
     match op {
         Operator::Block { blockty }

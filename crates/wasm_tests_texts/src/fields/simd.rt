@@ -3,7 +3,6 @@ use crate::fields::shapes;
 use crate::values::{self, Written};
 use wasm_instr::SimdOperator;
 
-/// Prints the fields of the operators with the prefix byte 0xfd, and nothing for an operator without fields.
 pub fn simd(out: &mut String, op: &SimdOperator) -> Written {
     match op {
         SimdOperator::V128Load { memarg }

@@ -6,7 +6,6 @@ ghost use Rattle.wasm_text.specs.Operands.{immediates_text};
 use crate::operands::{self, Written};
 use wasm_instr::AtomicOperator;
 
-/// Writes the operands of the operators with the prefix byte 0xfe, with a space before each.
 pub fn atomic(out: &mut String, op: &AtomicOperator) -> Written
     ensures { OnOk result (string_bytes out.new ≡ string_bytes out.old ++ immediates_text (atomic_immediates op.now)) }
 {

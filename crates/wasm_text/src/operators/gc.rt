@@ -5,7 +5,6 @@ ghost use Rattle.wasm_text.specs.Operands.{gc_operands};
 use crate::operands::{self, Written};
 use wasm_instr::GcOperator;
 
-/// Writes the operands of the operators with the prefix byte 0xfb, with a space before each.
 pub fn gc(out: &mut String, op: &GcOperator) -> Written
     ensures { OnOk result (string_bytes out.new ≡ string_bytes out.old ++ gc_operands op.now) }
 {

@@ -6,7 +6,6 @@ ghost use Rattle.wasm_text.specs.Operands.{immediates_text};
 use crate::operands::{self, Written};
 use wasm_instr::MiscOperator;
 
-/// Writes the operands of the operators with the prefix byte 0xfc, with a space before each.
 pub fn misc(out: &mut String, op: &MiscOperator) -> Written
     ensures { OnOk result (string_bytes out.new ≡ string_bytes out.old ++ immediates_text (misc_immediates op.now)) }
 {

@@ -6,7 +6,6 @@ use crate::operands::{self, Written};
 use crate::operators::{atomic, gc, misc, simd};
 use wasm_instr::Operator;
 
-/// Writes the operands of an operator, with a space before each.
 pub fn own(out: &mut String, op: &Operator<'_>) -> Written
     ensures { OnOk result (string_bytes out.new ≡ string_bytes out.old ++ operands_of op.now) }
 {

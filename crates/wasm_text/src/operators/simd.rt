@@ -6,7 +6,6 @@ ghost use Rattle.wasm_text.specs.Operands.{immediates_text};
 use crate::operands::{self, Written};
 use wasm_instr::SimdOperator;
 
-/// Writes the operands of the operators with the prefix byte 0xfd, with a space before each.
 pub fn simd(out: &mut String, op: &SimdOperator) -> Written
     ensures { OnOk result (string_bytes out.new ≡ string_bytes out.old ++ immediates_text (simd_immediates op.now)) }
 {

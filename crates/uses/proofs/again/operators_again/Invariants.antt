@@ -2,6 +2,5 @@ use Rattle.wasm_operators.specs.below.Source.{reader_of}
 use Rattle.uses.specs.Again.{HasFound}
 use Rattle.uses.proofs.again.operators_again.Given as goal
 
--- The operators found so far are before the reader's position.
 abbrev pub invariant-tries : goal.invariant-tries
 invariant-tries l = HasFound (reader_of l.fn.features 0 l.fn.bytes) l.reader l.found.items

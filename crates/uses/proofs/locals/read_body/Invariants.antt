@@ -2,7 +2,6 @@ use Rattle.wasm_operators.specs.below.Source.{reader_of}
 use Rattle.wasm_operators.specs.Locals.{HasStepped}
 use Rattle.uses.proofs.locals.read_body.Given as goal
 
--- The iterator has returned these declarations.
 abbrev pub invariant-declarations : goal.invariant-declarations
 invariant-declarations l = HasStepped l.locals.items (reader_of l.fn.features 0 l.fn.bytes) l.items
 

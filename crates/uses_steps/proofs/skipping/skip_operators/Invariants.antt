@@ -1,6 +1,5 @@
 use Rattle.uses_steps.proofs.Skipped.{HasSkipped}
 use Rattle.uses_steps.proofs.skipping.skip_operators.Given as goal
 
--- As many operators are taken as the loop counts, and the frames and their memory are within bounds.
 abbrev pub invariant-loop-operator : goal.invariant-loop-operator
 invariant-loop-operator l = HasSkipped l.operator l.fn.operators l.operators

@@ -1,6 +1,5 @@
 use Rattle.std.proofs.Common.{◌≡◌, ◌+◌, ◌^◌, ◌<◌}
 use Rattle.uses_steps.proofs.tally.tally_list.Given as goal
 
--- As many operators are counted as were visited.
 abbrev pub invariant-loop-op : goal.invariant-loop-op
 invariant-loop-op l = l.fn.tally.operators + l.op-index < 2 ^ 64 → l.tally.operators ≡ l.fn.tally.operators + l.op-index

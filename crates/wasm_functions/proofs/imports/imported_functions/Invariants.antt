@@ -5,7 +5,6 @@ use Rattle.wasm_functions.specs.Items.{ItemsOccur}
 use Rattle.wasm_functions.specs.ModuleFunctions.{functions_in, IsKnownImport}
 use Rattle.wasm_functions.proofs.imports.imported_functions.Given as goal
 
--- This many imports were read, and among them this many functions.
 abbrev pub invariant-loop-import : goal.invariant-loop-import
 invariant-loop-import l = (imports : List ImportParts) × ItemsOccur EncodesImport l.initial.reader imports l.reader × (length imports ≡ l._import) ×
     All IsKnownImport imports × (l.functions ≡ functions_in imports) × (l.functions ≤ l._import)

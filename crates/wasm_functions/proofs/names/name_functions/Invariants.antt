@@ -4,7 +4,6 @@ use Rattle.wasm_module.specs.Module.{SectionParts}
 use Rattle.wasm_functions.specs.Sections.{SectionsOccur, first_with}
 use Rattle.wasm_functions.proofs.names.name_functions.Given as goal
 
--- These subsections were read, and none of them names functions.
 abbrev pub invariant-sections : goal.invariant-sections
 invariant-sections l = (before : List SectionParts) × SectionsOccur l.initial.reader before l.reader × (first_with 1 before ≡ None) ×
     (l.names ≡ l.initial.names)

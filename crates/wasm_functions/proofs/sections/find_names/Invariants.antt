@@ -5,7 +5,6 @@ use Rattle.wasm_functions.specs.Names.{LastNames}
 use Rattle.wasm_functions.specs.Sections.{SectionsOccur}
 use Rattle.wasm_functions.proofs.sections.find_names.Given as goal
 
--- These sections were read, and this is the last custom section `name` among them.
 abbrev pub invariant-customs : goal.invariant-customs
 invariant-customs l = (sections : List SectionParts) × SectionsOccur l.initial.reader sections l.reader × LastNames sections l.found
 

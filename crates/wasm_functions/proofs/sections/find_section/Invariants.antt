@@ -4,7 +4,6 @@ use Rattle.wasm_module.specs.Module.{SectionParts}
 use Rattle.wasm_functions.specs.Sections.{SectionsOccur, first_with}
 use Rattle.wasm_functions.proofs.sections.find_section.Given as goal
 
--- These sections were read, and this is the first of them with the number.
 abbrev pub invariant-sections : goal.invariant-sections
 invariant-sections l = (sections : List SectionParts) × SectionsOccur l.initial.reader sections l.reader × (l.found ≡ first_with l.id sections)
 

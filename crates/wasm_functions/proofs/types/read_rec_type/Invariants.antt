@@ -6,7 +6,6 @@ use Rattle.wasm_functions.specs.Items.{ItemsOccur}
 use Rattle.wasm_functions.specs.Parameters.{parameter_count, IsKnownType}
 use Rattle.wasm_functions.proofs.types.read_rec_type.Given as goal
 
--- This many types were read, and their numbers of parameters appended.
 abbrev pub invariant-loop-ty : goal.invariant-loop-ty
 invariant-loop-ty l = (types : List CompositeType) × ItemsOccur EncodesSubType l.initial.reader types l.reader × (length types ≡ l._ty) × All IsKnownType types ×
     (l.counts.items ≡ l.initial.counts.items ++ map parameter_count types)

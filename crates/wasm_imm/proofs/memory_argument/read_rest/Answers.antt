@@ -121,8 +121,6 @@ returns-in-Ok-read_offset-clause-reads c =
     (all_read f c.args.kind c.args.max_align c.args.flags old mid c.requires.flagged c.read_target.new.reader last new c.in-Ok.target
     c.in-Ok-read_ordering.ordering offset t o b whole one)
 
----- which error, and at which offset
-
 pub returns-in-Err-clause-fault : goal.returns-in-Err-clause-fault
 returns-in-Err-clause-fault c =
     let mid = c.args.reader.now in

@@ -5,7 +5,6 @@ use Rattle.wasm_operators_readers.specs.Reading.{TakesOperators}
 use Rattle.wasm_operators.specs.Constant.{HasNoEnd}
 use Rattle.wasm_operators.proofs.passing.pass_constant.Given as goal
 
--- Operators without `end` were read.
 abbrev pub invariant-loop-is_end : goal.invariant-loop-is_end
 invariant-loop-is_end l = (placed : Placed) × TakesOperators l.fn.operators l.operators placed × HasNoEnd (operators placed)
 

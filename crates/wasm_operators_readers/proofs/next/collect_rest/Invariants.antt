@@ -6,7 +6,6 @@ use Rattle.wasm_operators_readers.specs.Next.{state_of}
 use Rattle.wasm_operators_readers.specs.Reading.{TakesOperators}
 use Rattle.wasm_operators_readers.proofs.next.collect_rest.Given as goal
 
--- The items so far are made of the operators that were read so far.
 abbrev pub invariant-operators : goal.invariant-operators
 invariant-operators g l = (placed : Placed) × Collects g.T.HoldOperator.holds l.fn.list.items.items l.list.items.items placed × TakesOperators (state_of l.fn.reader l.fn.control) (state_of l.reader l.control) placed
 

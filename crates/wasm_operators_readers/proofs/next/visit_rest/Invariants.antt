@@ -6,7 +6,6 @@ use Rattle.wasm_operators_readers.specs.Next.{state_of}
 use Rattle.wasm_operators_readers.specs.Reading.{TakesOperators}
 use Rattle.wasm_operators_readers.proofs.next.visit_rest.Given as goal
 
--- The visitor ran along the operators that were visited so far.
 abbrev pub invariant-scalar_visits : goal.invariant-scalar_visits
 invariant-scalar_visits g l = (placed : Placed) × VisitedScalar g.V.Visitor.visits l.fn.v l.v placed × TakesOperators (state_of l.fn.reader l.fn.control) (state_of l.reader l.control) placed
 

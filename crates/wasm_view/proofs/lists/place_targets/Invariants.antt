@@ -3,7 +3,6 @@ use Rattle.wasm_instr.specs.imm.BranchTables.{numbers_of}
 use Rattle.wasm_view.specs.Lists.{written}
 use Rattle.wasm_view.proofs.lists.place_targets.Given as goal
 
--- The targets before the index are written, and the iterator has the others left.
 abbrev pub invariant-loop-target : goal.invariant-loop-target
 invariant-loop-target l =
     (goal.iterator-loop-target).can_next l.target-iterator ×

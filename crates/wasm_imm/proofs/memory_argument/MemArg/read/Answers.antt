@@ -40,8 +40,6 @@ returns-in-Err-read_announced-clause-reads c =
     IsRefusal (EncodesMemArg z.features c.args.kind c.args.max_align) c.in-Err-read_announced.e z)
     (back old mid (at_position mid start) r.0 start r.2 c.current_position-start.ensures refl) c.in-Err-read_announced.ensures.reads
 
----- which error, and at which offset
-
 pub returns-in-Err-clause-fault : goal.returns-in-Err-clause-fault
 returns-in-Err-clause-fault c =
     inl (refused_now (EncodesUnsigned 32) c.in-Err.e c.args.reader.now c.in-Err.ensures.reads.1, c.in-Err.ensures.fault)

@@ -2,7 +2,6 @@ use Rattle.std.proofs.Common.{subst}
 use Rattle.wasm_operators.specs.Single.{PeeksOperator}
 use Rattle.wasm_operators.proofs.read_operators.BinaryReaderReadOperators.peek_operator.Goals as goal
 
--- What was read of the copy, with the stack's frame as the innermost, is the result of a reading.
 pub returns : goal.returns
 returns g c =
     let copy = c.clone-ahead.result in
