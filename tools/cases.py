@@ -5,17 +5,20 @@
     tools/cases.py --program PATH NAME    runs the program PATH on the cases of NAME
 
 Without `--program`, each of the two builds of a program is run: `rt ci` and `rt run` make `crates/NAME/out/NAME`, and
-`rt ci` also makes `NAME.by-rattle`. The program is run once for each row. A row has these columns, separated by tabs:
+`rt ci` also makes `NAME.by-rattle`. The program is run once for each row, in the folder `crates/NAME/data` if there is
+one. A row has these columns, separated by tabs:
 
     case       what the case shows
     words      the arguments, with spaces between them; `""` is an empty argument, and \\xNN a byte
     input      standard input, in hexadecimal, or `unreadable` for a folder
     status     the exit status
-    output     standard output, with \\n for a line feed and \\t for a tab, or `unwritable` for a full device
-    complaint  standard error, without its last line feed
+    output     what the program writes, with \\n for a line feed and \\t for a tab; `unwritable` if the device is full,
+               `closed` if the output is a pipe that nothing reads
+    complaint  what it writes to standard error, with a line feed behind it
 """
 
 import csv
+import os
 import re
 import subprocess
 import sys
@@ -54,16 +57,25 @@ def opened(folder, case):
     return given, taken
 
 
-def ended(program, case):
-    """Runs the program. Returns status, output and complaint as a row has them."""
+def closed_pipe():
+    """A file that writes into a pipe that nothing reads."""
+    reads, writes = os.pipe()
+    os.close(reads)
+    return open(writes, "wb")
+
+
+def ended(program, case, data=None):
+    """How a run of the program in a folder ends: status, output and complaint as a row has them."""
     with tempfile.TemporaryDirectory() as folder:
         given, taken = opened(folder, case)
-        # (a shell opens the files, since Python cannot open a folder)
-        script = 'exec "$@" < "$GIVEN" > "$TAKEN"'
-        words = ["sh", "-c", script, "", program, *words_of(case["words"])]
-        env = {"PATH": "/usr/bin:/bin", "GIVEN": given, "TAKEN": taken}
-        ran = subprocess.run(words, env=env, stderr=subprocess.PIPE, timeout=SECONDS)
-        wrote = b"unwritable" if taken == "/dev/full" else Path(taken).read_bytes()
+        # (a shell opens the input, since Python opens no folder)
+        words = ["sh", "-c", 'exec "$@" < "$GIVEN"', "", program, *words_of(case["words"])]
+        env = {"PATH": "/usr/bin:/bin", "GIVEN": given}
+        is_closed = case["output"] == "closed"
+        with closed_pipe() if is_closed else open(taken, "wb") as output:
+            ran = subprocess.run(words, env=env, stdout=output, stderr=subprocess.PIPE, timeout=SECONDS, cwd=data or folder)
+        is_lost = is_closed or taken == "/dev/full"
+        wrote = case["output"].encode() if is_lost else Path(taken).read_bytes()
     texts = [wrote.decode(errors="replace"), ran.stderr.decode(errors="replace")]
     wrote, complained = [text.replace("\n", "\\n").replace("\t", "\\t") for text in texts]
     return str(ran.returncode), wrote, complained.removesuffix("\\n")
@@ -72,9 +84,10 @@ def ended(program, case):
 def run_cases(program, path):
     """Returns the number of cases, and how many end wrongly."""
     cases, wrong = cases_of(path), 0
+    data = path.parent / "data"
     for case in cases:
         expected = (case["status"], case["output"], case["complaint"])
-        found = ended(program, case)
+        found = ended(program, case, data if data.is_dir() else None)
         if found != expected:
             wrong += 1
             print(f"{program.name}, {case['case']}:\n  expected {expected}\n  found    {found}")

@@ -35,6 +35,7 @@ print(os.waitstatus_to_exitcode(status), used.ru_utime + used.ru_stime, used.ru_
 # What wabt writes otherwise: a name behind an operand, a constant without its sign, the indices of locals, and the type
 # of a tail call.
 NAME = re.compile(r"^( [0-9a-f]+:(?: [0-9a-f]{2}){1,9} *\| .*?) <.*>(\)?)$")
+TABLE = re.compile(r"^(.*\| +(?:return_)?call_indirect \d+) <.*>( \(type \d+.*\))$")
 CONSTANT = re.compile(r"^(.*\| +i(32|64)\.const )(\d+)$")
 TAIL = re.compile(r"^(.*\| +return_call_indirect) (\d+) (\d+)$")
 LOCALS = re.compile(r"^(.*\| local)\[(\d+)(?:\.\.(\d+))?\]( type=.*)$")
@@ -47,7 +48,7 @@ def signed(text, width):
 
 
 def without_names(line):
-    return NAME.sub(r"\1\2", line)
+    return NAME.sub(r"\1\2", TABLE.sub(r"\1\2", line))
 
 
 def with_sign(line):

@@ -4,9 +4,10 @@
     tools/disassemblies.py                                runs the two programs that `rt ci` built
     tools/disassemblies.py --program PATH [wasm_objdump]  runs the program PATH
 
-For each module NAME.wasm, the program must write NAME.txt, which `wasm-objdump -d` of wabt 1.0.32 wrote. Then it runs
-on each proper prefix of the module, and on the module with each byte changed once. Each run must end in time, with
-status 0 and no message, or with status 1 and messages, a line each.
+For each module NAME.wasm, the program must write NAME.txt, which `wasm-objdump -d` of wabt 1.0.32 wrote, and end with
+status 0. With `-h` it must write NAME.sections.txt, which `wasm-objdump -h` wrote. Then it is run on each proper prefix of the module, and on the module with each of its bytes changed once.
+Each of these runs must end in time, with status 0 and no message, or with status 1 and messages, a line each. The exit
+status is 1 if a run ends otherwise, or if no program is built.
 """
 
 import subprocess
@@ -49,6 +50,11 @@ def compared(program, path):
     if ended(program, [path.name], folder=path.parent) != (0, path.with_suffix(".txt").read_bytes(), b""):
         wrong.append(f"{program.name}, {path.name}: not what wabt wrote")
     runs = 1
+    sections = path.with_suffix(".sections.txt")
+    if sections.exists():
+        runs += 1
+        if ended(program, ["-h", path.name], folder=path.parent) != (0, sections.read_bytes(), b""):
+            wrong.append(f"{program.name}, {path.name}: not the sections that wabt wrote")
     for what, module in spoiled(path.read_bytes()):
         status, _, complained = ended(program, [], module)
         runs += 1

@@ -224,6 +224,9 @@ class Cases(unittest.TestCase):
         status, wrote, _ = self.ended("echo one 2>/dev/null", output="unwritable")
         self.assertEqual((status != "0", wrote), (True, "unwritable"))
 
+    def test_closed_pipe(self):
+        self.assertEqual(self.ended("trap '' PIPE; echo one 2>/dev/null || exit 7", output="closed"), ("7", "closed", ""))
+
     def test_files_of_the_repository(self):
         for path in cases.TOP.glob("crates/*/cases.tsv"):
             for case in cases.cases_of(path):

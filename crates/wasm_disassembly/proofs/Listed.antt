@@ -119,7 +119,7 @@ same_end a b text t =
 
 -- The operators are read to the end of the expression, or up to an error.
 pub operators_ended : (h : Heading) (r : Result (Unit {0}) DisassemblyFault) (body reader : Reader) (before listed after : Option (List ℕ)) → IsBodyAfterLocals →
-    IsListedTo h body reader before listed → ListsOperators (offset_of body) (rest body) r reader listed after → Disassembles h r body before after
+    IsListedTo h body reader before listed → ListsOperators h.names (offset_of body) (rest body) r reader listed after → Disassembles h r body before after
 operators_ended h (Ok x) body reader before listed after law to (placed, encodes, is) =
     let past = locals_past body to.unread to.read to.locals to.reads to.all in
     let s = source_of body in
@@ -127,8 +127,8 @@ operators_ended h (Ok x) body reader before listed after law to (placed, encodes
     let end : offset_of reader + length (rest reader) ≡ offset_of body + length (rest body) =
     ap (λ (z : Reader). offset_of z + length (rest z)) to.occurs ∙ same_end body to.read.reader past.0 past.2 in
     let locals = local_lines h s to.locals (offset_of to.read.reader) in
-    let ops = operator_lines s placed (offset_of body + length (rest body)) in
-    let wrote : Appends listed after ops = subst (λ n. Appends listed after (operator_lines s placed n)) end is in (
+    let ops = operator_lines h s placed (offset_of body + length (rest body)) in
+    let wrote : Appends listed after ops = subst (λ n. Appends listed after (operator_lines h s placed n)) end is in (
       header h s ++ (locals ++ ops),
       appends_three before listed after (header h s) locals ops to.is wrote,
       record {
@@ -146,7 +146,7 @@ operators_ended h (Err (fault.Refused e)) body reader before listed after law to
     let past = locals_past body to.unread to.read to.locals to.reads to.all in
     let s = source_of body in
     let locals = local_lines h s to.locals (offset_of to.read.reader) in
-    let ops = operator_lines s placed (offset_of stopped.reader) in (
+    let ops = operator_lines h s placed (offset_of stopped.reader) in (
       header h s ++ (locals ++ ops),
       appends_three before listed after (header h s) locals ops to.is is,
       inr (inr (record {

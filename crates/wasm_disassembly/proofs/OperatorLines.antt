@@ -14,25 +14,24 @@ use Rattle.wasm_operators.specs.Laws.{TakesNone, TakesOneMore, TakesBytes}
 use Rattle.wasm_operators.specs.Reading.{State, IsFresh, Anywhere, TakesOperator, TakesOperators}
 use Rattle.wasm_lines.specs.Rows.{line_of}
 use Rattle.wasm_lines.specs.Lines.{opens, closes, depth_of, depth_after, between, next_offset, lines_from, lines_of}
-use Rattle.wasm_lines.specs.text.Operands.{text_of}
 use Rattle.wasm_disassembly.specs.declared.fault.DisassemblyFault.TheVariants as fault
-use Rattle.wasm_disassembly.specs.Disassembly.{ListsOperators}
+use Rattle.wasm_disassembly.specs.Disassembly.{called_text, ListsOperators}
 use Rattle.wasm_disassembly.proofs.Written.{appends_none, appends_both}
 
 -- ---- along the loop
 
 -- These operators are read and their lines written; the lines of whatever follows come after them.
-pub record AreListed (start : ℕ) (bytes : List ℕ) (opened now : State) (depth : ℕ) (before later : Option (List ℕ)) : Type 0 where
+pub record AreListed (names : List (List ℕ)) (start : ℕ) (bytes : List ℕ) (opened now : State) (depth : ℕ) (before later : Option (List ℕ)) : Type 0 where
   pub placed : Placed
   pub ran : TakesOperators opened now placed
   pub written : List ℕ
   pub appends : Appends before later written
   pub after : (end : ℕ) (more : Placed) → next_offset end more ≡ offset_of now.reader →
-      lines_of text_of start bytes end (placed ++ more) ≡ written ++ lines_from text_of start bytes end depth more
+      lines_of (called_text names) start bytes end (placed ++ more) ≡ written ++ lines_from (called_text names) start bytes end depth more
   pub few : depth ≤ offset_of now.reader
 
-pub listed_none : (start : ℕ) (bytes : List ℕ) (opened : State) (before : Option (List ℕ)) → TakesNone → AreListed start bytes opened opened 0 before before
-listed_none start bytes opened before first = record {
+pub listed_none : (names : List (List ℕ)) (start : ℕ) (bytes : List ℕ) (opened : State) (before : Option (List ℕ)) → TakesNone → AreListed names start bytes opened opened 0 before before
+listed_none names start bytes opened before first = record {
   placed = [];
   ran = first opened;
   written = [];
@@ -46,15 +45,15 @@ one_deeper true c n = omega arith
 one_deeper false true n = omega arith
 one_deeper false false n = omega arith
 
-pub listed_more : (start depth deeper at : ℕ) (bytes shown : List ℕ) (opened mid new : State) (before between_lines after : Option (List ℕ)) (op : Operator) →
-    TakesOneMore → TakesBytes → AreListed start bytes opened mid depth before between_lines → TakesOperator EncodesAllowed op mid new →
+pub listed_more : (names : List (List ℕ)) (start depth deeper at : ℕ) (bytes shown : List ℕ) (opened mid new : State) (before between_lines after : Option (List ℕ)) (op : Operator) →
+    TakesOneMore → TakesBytes → AreListed names start bytes opened mid depth before between_lines → TakesOperator EncodesAllowed op mid new →
     at ≡ offset_of mid.reader → shown ≡ between start bytes at (offset_of new.reader) →
-    Appends between_lines after (line_of (depth_of (slice_index shown 0) depth) at shown (text_of op)) → deeper ≡ depth_after (slice_index shown 0) depth →
-    AreListed start bytes opened new deeper before after
-listed_more start depth deeper at bytes shown opened mid new before between_lines after op next_law progresses l takes occurs shows wrote goes =
+    Appends between_lines after (line_of (depth_of (slice_index shown 0) depth) at shown (called_text names op)) → deeper ≡ depth_after (slice_index shown 0) depth →
+    AreListed names start bytes opened new deeper before after
+listed_more names start depth deeper at bytes shown opened mid new before between_lines after op next_law progresses l takes occurs shows wrote goes =
     let p : Operator × ℕ = (op, offset_of mid.reader) in
     let code = slice_index shown 0 in
-    let line : List ℕ = line_of (depth_of code depth) at shown (text_of op) in
+    let line : List ℕ = line_of (depth_of code depth) at shown (called_text names op) in
     let on = progresses op mid new takes in
     let most = one_deeper (opens code) (closes code) depth in
     record {
@@ -65,13 +64,13 @@ listed_more start depth deeper at bytes shown opened mid new before between_line
       after = λ end more follows.
           let here : shown ≡ between start bytes (offset_of mid.reader) (next_offset end more) =
           shows ∙ ap (λ n. between start bytes n (offset_of new.reader)) occurs ∙ ap (λ n. between start bytes (offset_of mid.reader) n) (sym follows) in
-          ap (lines_of text_of start bytes end) (append_assoc l.placed (p ∷ []) more) ∙ l.after end (p ∷ more) refl ∙
-          ap (λ t. l.written ++ (line_of (depth_of (slice_index t 0) depth) (offset_of mid.reader) t (text_of op) ++
-          lines_from text_of start bytes end (depth_after (slice_index t 0) depth) more)) (sym here) ∙
-          ap (λ n. l.written ++ (line_of (depth_of code depth) n shown (text_of op) ++
-          lines_from text_of start bytes end (depth_after code depth) more)) (sym occurs) ∙
-          ap (λ d. l.written ++ (line ++ lines_from text_of start bytes end d more)) (sym goes) ∙
-          sym (append_assoc l.written line (lines_from text_of start bytes end deeper more));
+          ap (lines_of (called_text names) start bytes end) (append_assoc l.placed (p ∷ []) more) ∙ l.after end (p ∷ more) refl ∙
+          ap (λ t. l.written ++ (line_of (depth_of (slice_index t 0) depth) (offset_of mid.reader) t (called_text names op) ++
+          lines_from (called_text names) start bytes end (depth_after (slice_index t 0) depth) more)) (sym here) ∙
+          ap (λ n. l.written ++ (line_of (depth_of code depth) n shown (called_text names op) ++
+          lines_from (called_text names) start bytes end (depth_after code depth) more)) (sym occurs) ∙
+          ap (λ d. l.written ++ (line ++ lines_from (called_text names) start bytes end d more)) (sym goes) ∙
+          sym (append_assoc l.written line (lines_from (called_text names) start bytes end deeper more));
       few = let f = l.few in omega (arith, f, on, most, goes);
     }
 
@@ -84,35 +83,35 @@ fewer_left op old new progresses t =
     omega (arith, on, place, sum)
 
 -- All operators that are read have their lines.
-all_listed : (start : ℕ) (bytes : List ℕ) (opened now : State) (depth end : ℕ) (before after : Option (List ℕ))
-    (l : AreListed start bytes opened now depth before after) → end ≡ offset_of now.reader →
-    Appends before after (lines_of text_of start bytes end l.placed)
-all_listed start bytes opened now depth end before after l occurs =
-    let all : l.written ≡ lines_of text_of start bytes end l.placed =
-    sym (append-nil l.written) ∙ sym (l.after end [] occurs) ∙ ap (lines_of text_of start bytes end) (append-nil l.placed) in
+all_listed : (names : List (List ℕ)) (start : ℕ) (bytes : List ℕ) (opened now : State) (depth end : ℕ) (before after : Option (List ℕ))
+    (l : AreListed names start bytes opened now depth before after) → end ≡ offset_of now.reader →
+    Appends before after (lines_of (called_text names) start bytes end l.placed)
+all_listed names start bytes opened now depth end before after l occurs =
+    let all : l.written ≡ lines_of (called_text names) start bytes end l.placed =
+    sym (append-nil l.written) ∙ sym (l.after end [] occurs) ∙ ap (lines_of (called_text names) start bytes end) (append-nil l.placed) in
     subst (Appends before after) all l.appends
 
 -- ---- at the end
 
 -- All bytes are read, and all frames are closed.
-pub listed_whole : (x : Unit {0}) (start depth : ℕ) (bytes : List ℕ) (reader : Reader) (opened now : State) (before after : Option (List ℕ))
-    (l : AreListed start bytes opened now depth before after) → opened.reader ≡ reader → ReadsTree [] opened now l.placed →
-    ListsOperators start bytes (Ok x) reader before after
-listed_whole x start depth bytes reader opened now before after l same tree =
+pub listed_whole : (x : Unit {0}) (names : List (List ℕ)) (start depth : ℕ) (bytes : List ℕ) (reader : Reader) (opened now : State) (before after : Option (List ℕ))
+    (l : AreListed names start bytes opened now depth before after) → opened.reader ≡ reader → ReadsTree [] opened now l.placed →
+    ListsOperators names start bytes (Ok x) reader before after
+listed_whole x names start depth bytes reader opened now before after l same tree =
     let all = tree.takes in
     let end : offset_of reader + length (rest reader) ≡ offset_of now.reader =
     ap (λ (r : Reader). offset_of r + length (rest r)) (sym same) ∙ omega arith ∙ sym (ap offset_of all.moved) in (
       l.placed,
       subst (λ r. EncodesExpression (source_of r) l.placed) same tree.encodes,
-      all_listed start bytes opened now depth (offset_of reader + length (rest reader)) before after l end,
+      all_listed names start bytes opened now depth (offset_of reader + length (rest reader)) before after l end,
     )
 
 -- A read failed, or frames are open at the end of the data.
-pub listed_part : (start depth : ℕ) (bytes : List ℕ) (reader : Reader) (e : Error) (opened now stopped : State) (before after : Option (List ℕ))
-    (l : AreListed start bytes opened now depth before after) → opened.reader ≡ reader → IsFresh opened → stopped.reader ≡ now.reader →
+pub listed_part : (names : List (List ℕ)) (start depth : ℕ) (bytes : List ℕ) (reader : Reader) (e : Error) (opened now stopped : State) (before after : Option (List ℕ))
+    (l : AreListed names start bytes opened now depth before after) → opened.reader ≡ reader → IsFresh opened → stopped.reader ≡ now.reader →
     ReadsBeginning IsAny EncodesAllowed OperatorFault Anywhere [] e opened stopped l.placed → e.message ≢ message.OutOfMemory →
-    ListsOperators {X = Unit {0}} start bytes (Err (fault.Refused e)) reader before after
-listed_part start depth bytes reader e opened now stopped before after l same fresh still b other = (
+    ListsOperators {X = Unit {0}} names start bytes (Err (fault.Refused e)) reader before after
+listed_part names start depth bytes reader e opened now stopped before after l same fresh still b other = (
   other,
   opened,
   stopped,
@@ -120,5 +119,5 @@ listed_part start depth bytes reader e opened now stopped before after l same fr
   fresh,
   l.placed,
   b,
-  all_listed start bytes opened now depth (offset_of stopped.reader) before after l (ap offset_of still),
+  all_listed names start bytes opened now depth (offset_of stopped.reader) before after l (ap offset_of still),
 )

@@ -1,6 +1,6 @@
 -- The text of a function: its header, the lines of its locals, and the lines of its operators.
 -- WebAssembly Core Specification 3.0: Binary Format, Modules, Code Section.
-use Rattle.std.specs.Prelude.{◌≡◌, ◌≢◌, ◌<◌, ◌⊎◌, ℕ, ◌+◌, List, [], ◌++◌, length, Option, Result, Ok, Err}
+use Rattle.std.specs.Prelude.{◌≡◌, ◌≢◌, ◌<◌, ◌⊎◌, ℕ, ◌+◌, List, [], ◌++◌, length, slice_index_or, Option, Result, Ok, Err}
 use Rattle.std.specs.Io.KnownBytes.{Appends}
 use Rattle.wasm_operators.specs.below.bytes.error.Error.{Error}
 use Rattle.wasm_operators.specs.below.bytes.message.Message.TheVariants as message
@@ -12,29 +12,43 @@ use Rattle.wasm_operators.specs.Expression.{Placed, IsAny, EncodesExpression}
 use Rattle.wasm_operators.specs.MainTheorem.{ReadsBeginning}
 use Rattle.wasm_operators.specs.Locals.{Locals, OpensLocals, ReadsDeclaration}
 use Rattle.wasm_operators.specs.Reading.{State, IsFresh, Anywhere}
-use Rattle.wasm_lines.specs.Lines.{header_of, lines_of}
+use Rattle.wasm_operators.specs.instr.declared.operator.Operator.{Operator}
+use Rattle.wasm_operators.specs.instr.declared.operator.Operator.TheVariants as operator
+use Rattle.wasm_lines.specs.Lines.{shown_name, header_of, lines_of}
 use Rattle.wasm_lines.specs.text.Operands.{text_of}
 use Rattle.wasm_disassembly.specs.declared.fault.DisassemblyFault.{DisassemblyFault}
 use Rattle.wasm_disassembly.specs.declared.fault.DisassemblyFault.TheVariants as fault
 use Rattle.wasm_disassembly.specs.LocalLines.{PlacedLocals, declarations_of, TakesDeclarations, declaration_lines}
 
--- What is known of a function besides its body: its index, its name and the number of its parameters. The name may be empty; the parameters are the first
--- locals.
+-- What is known of a function besides its body: its index, the names of all functions by their indices, and the number of its parameters. A name may be
+-- empty; the parameters are the first locals.
 pub record Heading : Type 0 where
   pub index : ℕ
-  pub name : List ℕ
+  pub names : List (List ℕ)
   pub parameters : ℕ
 
+abbrev pub name_of : List (List ℕ) → ℕ → List ℕ
+name_of names index = slice_index_or names index []
+
 abbrev pub header : Heading → Source → List ℕ
-header h body = header_of body.offset h.index h.name
+header h body = header_of body.offset h.index (name_of h.names h.index)
+
+-- The name of the function that `call` calls. As in wabt 1.0.32, no other operator has the name of a function.
+abbrev pub callee_of : List (List ℕ) → Operator → List ℕ
+callee_of names (operator.Call index) = name_of names index
+callee_of names op = []
+
+-- The text of an operator, and the name of the function that it calls in angle brackets.
+abbrev pub called_text : List (List ℕ) → Operator → List ℕ
+called_text names op = text_of op ++ shown_name (callee_of names op)
 
 -- The lines of the locals of a body, the last of which ends at the offset `after`.
 abbrev pub local_lines : Heading → Source → PlacedLocals → ℕ → List ℕ
 local_lines h body locals after = declaration_lines body.offset body.bytes after h.parameters locals
 
 -- The lines of the operators of a body, the last of which ends at the offset `end`.
-abbrev pub operator_lines : Source → Placed → ℕ → List ℕ
-operator_lines body placed end = lines_of text_of body.offset body.bytes end placed
+abbrev pub operator_lines : Heading → Source → Placed → ℕ → List ℕ
+operator_lines h body placed end = lines_of (called_text h.names) body.offset body.bytes end placed
 
 -- Some of the declarations that a body announces are read.
 pub record ReadsLocals (body : Reader) (unread read : Locals) (locals : PlacedLocals) : Type 0 where
@@ -51,7 +65,7 @@ pub record IsWhole (h : Heading) (body : Reader) (text : List ℕ) : Type 0 wher
   pub placed : Placed
   pub encodes : EncodesBody (source_of body) (declarations_of locals) placed
   pub is : text ≡ header h (source_of body) ++ (local_lines h (source_of body) locals (offset_of read.reader) ++
-      operator_lines (source_of body) placed (offset_of body + length (rest body)))
+      operator_lines h (source_of body) placed (offset_of body + length (rest body)))
 
 -- The number of the declarations is an error: only the header is written.
 abbrev pub StopsAtCount : Heading → Error → Reader → List ℕ → Type 0
@@ -78,7 +92,7 @@ pub record StopsAtOperators (h : Heading) (e : Error) (body : Reader) (text : Li
   pub stops : NoExpression e body placed
   pub other : e.message ≢ message.OutOfMemory
   pub is : text ≡ header h (source_of body) ++ (local_lines h (source_of body) locals (offset_of read.reader) ++
-      operator_lines (source_of body) placed (offset_of stops.stopped.reader))
+      operator_lines h (source_of body) placed (offset_of stops.stopped.reader))
 
 -- The text of a function, by how reading its body ended.
 abbrev pub IsText : {X : Type 0} → Heading → Result X Error → Reader → List ℕ → Type 0
@@ -91,13 +105,14 @@ Disassembles {X} h (Ok x) body before after = (text : List ℕ) × Appends befor
 Disassembles {X} h (Err (fault.Refused e)) body before after = (text : List ℕ) × Appends before after text × IsText {X = X} h (Err e) body text
 Disassembles h (Err _) body before after = Unit {0}
 
--- The operators of an expression are read and their lines written; `bytes` start at the offset `start`, and contain those of the body.
-abbrev pub ListsOperators : {X : Type 0} → ℕ → List ℕ → Result X DisassemblyFault → Reader → Option (List ℕ) → Option (List ℕ) → Type 0
-ListsOperators start bytes (Ok x) reader before after =
+-- The operators of an expression are read and their lines written, with the names of functions; `bytes` start at the offset `start`, and contain those of
+-- the body.
+abbrev pub ListsOperators : {X : Type 0} → List (List ℕ) → ℕ → List ℕ → Result X DisassemblyFault → Reader → Option (List ℕ) → Option (List ℕ) → Type 0
+ListsOperators names start bytes (Ok x) reader before after =
     (placed : Placed) × EncodesExpression (source_of reader) placed ×
-    Appends before after (lines_of text_of start bytes (offset_of reader + length (rest reader)) placed)
-ListsOperators start bytes (Err (fault.Refused e)) reader before after =
+    Appends before after (lines_of (called_text names) start bytes (offset_of reader + length (rest reader)) placed)
+ListsOperators names start bytes (Err (fault.Refused e)) reader before after =
     (e.message ≢ message.OutOfMemory) × (opened stopped : State) × (opened.reader ≡ reader) × IsFresh opened × (placed : Placed) ×
     ReadsBeginning IsAny EncodesAllowed OperatorFault Anywhere [] e opened stopped placed ×
-    Appends before after (lines_of text_of start bytes (offset_of stopped.reader) placed)
-ListsOperators start bytes (Err _) reader before after = Unit {0}
+    Appends before after (lines_of (called_text names) start bytes (offset_of stopped.reader) placed)
+ListsOperators names start bytes (Err _) reader before after = Unit {0}

@@ -1,12 +1,11 @@
 //! The lines of a body's operators.
-ghost use Rattle.std.specs.Prelude.{◌≡◌, ◌+◌, ◌^◌, ◌<◌, IfErr, IfOk, OnOk, length, slice_index};
+ghost use Rattle.std.specs.Prelude.{◌≡◌, ◌+◌, ◌^◌, ◌<◌, IfErr, IfOk, OnOk, length, map, slice_index, string_bytes};
 ghost use Rattle.std.specs.Io.KnownBytes.{Appends};
 ghost use Rattle.wasm_operators.specs.below.Source.{source_of};
 ghost use Rattle.wasm_operators.specs.Expression.{Placed, EncodesExpression};
 ghost use Rattle.wasm_lines.specs.Rows.{line_of};
 ghost use Rattle.wasm_lines.specs.Lines.{depth_of, depth_after};
-ghost use Rattle.wasm_lines.specs.text.Operands.{text_of};
-ghost use Rattle.wasm_disassembly.specs.Disassembly.{ListsOperators};
+ghost use Rattle.wasm_disassembly.specs.Disassembly.{callee_of, called_text, name_of, ListsOperators};
 ghost use Rattle.wasm_disassembly.specs.Faults.{IsHalt};
 
 use crate::fault::{DisassemblyFault, fault_of};
@@ -16,6 +15,26 @@ use std::io::Write;
 use wasm_lines::{bytes_between, write_line};
 use wasm_operators::{BinaryReader, Operator, OperatorsReader, run_laws};
 
+/// Returns the name of the function with this index, which is empty if it has none.
+pub fn name_of<'a>(names: &'a [String], index: u32) -> &'a str
+    ensures { result.now ≡ name_of (map string_bytes names.now) index }
+{
+    match names.get(index as usize) {
+        Some(name) => name.as_str(),
+        None => "",
+    }
+}
+
+/// Returns the name of the function that an operator calls, which is empty if there is none.
+fn callee_of<'a>(names: &'a [String], op: &Operator<'_>) -> &'a str
+    ensures { result.now ≡ callee_of (map string_bytes names.now) op.now }
+{
+    match op {
+        Operator::Call { function_index } => name_of(names, *function_index),
+        _ => "",
+    }
+}
+
 /// Writes the lines of the operator at `offset` through the buffer `line`, and returns how many
 /// constructs are open after it. `depth` constructs are open before it. Drops the operator.
 fn write_operator<W: Write>(
@@ -24,17 +43,18 @@ fn write_operator<W: Write>(
     depth: usize,
     offset: u64,
     bytes: &[u8],
+    names: &[String],
     op: Operator<'_>,
 ) -> Result<usize, DisassemblyFault>
     requires fits { offset + length bytes.now < 2 ^ 64 }
     requires deep { depth + 1 < 2 ^ 64 }
     ensures lines { OnOk result (Appends (W.contents writer.old) (W.contents writer.new)
-        (line_of (depth_of (slice_index bytes.now 0) depth) offset bytes.now (text_of op.entry))) }
+        (line_of (depth_of (slice_index bytes.now 0) depth) offset bytes.now (called_text (map string_bytes names.now) op.entry))) }
     ensures after { IfOk result (λ after. after ≡ depth_after (slice_index bytes.now 0) depth) }
     ensures halts { IfErr result (λ fault. IsHalt fault) }
 {
     line.clear();
-    let Ok(after) = write_line(line, depth, offset, bytes, &op) else {
+    let Ok(after) = write_line(line, depth, offset, bytes, &op, callee_of(names, &op)) else {
         return Err(DisassemblyFault::Memory);
     };
     match write_text(writer, line.as_str()) {
@@ -45,16 +65,17 @@ fn write_operator<W: Write>(
 
 /// Reads the operators of the expression at the reader's position, and writes the lines of each
 /// before it reads the next. `bytes` are the bytes of the body, and `start` is the offset of the
-/// first of them.
+/// first of them. `names` are the names of all functions.
 pub fn write_operators<W: Write>(
     alloc: Global,
     writer: &mut W,
     line: &mut String,
     bytes: &[u8],
     start: u64,
+    names: &[String],
     reader: BinaryReader<'_>,
 ) -> Result<(), DisassemblyFault>
-    ensures lists { ListsOperators start bytes.now result reader.entry (W.contents writer.old) (W.contents writer.new) }
+    ensures lists { ListsOperators (map string_bytes names.now) start bytes.now result reader.entry (W.contents writer.old) (W.contents writer.new) }
     // If an expression starts at the reader's position, only allocation and the writer can fail.
     ensures whole { (placed : Placed) → EncodesExpression (source_of reader.entry) placed
         → IfErr result (λ fault. IsHalt fault) }
@@ -70,7 +91,7 @@ pub fn write_operators<W: Write>(
             Err(e) => return Err(fault_of(e)),
         };
         let shown = bytes_between(bytes, start, offset, operators.original_position());
-        depth = match write_operator(writer, line, depth, offset, shown, op) {
+        depth = match write_operator(writer, line, depth, offset, shown, names, op) {
             Ok(after) => after,
             Err(fault) => return Err(fault),
         };

@@ -1,5 +1,5 @@
 //! The text of a function.
-ghost use Rattle.std.specs.Prelude.{◌≡◌, ◌≤◌, List, IfErr, OnOk};
+ghost use Rattle.std.specs.Prelude.{◌≡◌, ◌≤◌, List, IfErr, OnOk, map, string_bytes};
 ghost use Rattle.std.specs.Io.KnownBytes.{Appends};
 ghost use Rattle.wasm_operators.specs.below.Source.{source_of};
 ghost use Rattle.wasm_operators.specs.Body.{EncodesBody};
@@ -11,7 +11,7 @@ ghost use Rattle.wasm_disassembly.specs.Disassembly.{Disassembles};
 ghost use Rattle.wasm_disassembly.specs.Faults.{IsHalt};
 
 use crate::declarations::write_declarations;
-use crate::expression::write_operators;
+use crate::expression::{name_of, write_operators};
 use crate::fault::DisassemblyFault;
 use crate::writing::write_text;
 use std::alloc::Global;
@@ -38,8 +38,9 @@ fn write_heading<W: Write>(
 }
 
 /// Writes the text of a function: its header, a line for each declaration of its locals, and a line
-/// for each of its operators. `name` may be empty; the `parameters` are the first locals. Each line
-/// is written before the data after it is read.
+/// for each of its operators. `names` are the names of all functions by their indices; a name may be
+/// empty. The `parameters` are the first locals. Each line is written before the data after it is
+/// read.
 ///
 /// Fails with `Refused` if the bytes are not a body. The lines that are then written end before the
 /// error: after the header, after some declarations, or after the longest prefix of an expression.
@@ -48,11 +49,11 @@ pub fn disassemble<W: Write>(
     alloc: Global,
     writer: &mut W,
     index: u32,
-    name: &str,
+    names: &[String],
     parameters: u32,
     body: &FunctionBody<'_>,
 ) -> Result<(), DisassemblyFault>
-    ensures text { Disassembles (record { index = index; name = name.now; parameters = parameters }) result body.now
+    ensures text { Disassembles (record { index = index; names = map string_bytes names.now; parameters = parameters }) result body.now
         (W.contents writer.old) (W.contents writer.new) }
     // If the bytes encode a body with at most `max_locals` locals, only allocation and the writer
     // can fail.
@@ -64,7 +65,7 @@ pub fn disassemble<W: Write>(
     byte_laws::unsigned_numbers();
     let start = body.get_binary_reader().original_position();
     let mut line = String::new(alloc);
-    match write_heading(writer, &mut line, start, index, name) {
+    match write_heading(writer, &mut line, start, index, name_of(names, index)) {
         Ok(()) => {}
         Err(fault) => return Err(fault),
     }
@@ -90,6 +91,7 @@ pub fn disassemble<W: Write>(
         &mut line,
         body.as_bytes(),
         start,
+        names,
         locals.get_binary_reader(),
     )
 }

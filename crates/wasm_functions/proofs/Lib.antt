@@ -1,6 +1,5 @@
 pub mod Occurring
 pub mod Listed
-pub mod Texts
 pub mod RecTypes
 pub mod Named
 pub mod Unique

@@ -1,9 +1,11 @@
 -- Names of functions, and one more; the last custom section `name`.
-use Rattle.std.proofs.Common.{◌≡◌, ℕ, ◌-◌, ◌≤◌, Bool, true, false, List, [], ◌∷◌, ◌++◌, length, set, zero, suc, Option, Some, None, Ok, refl, sym, subst, ap, ◌∙◌, append_assoc, append-nil, arith, cond}
-use Rattle.std.specs.Prelude.{◌==◌, nat_eq}
+use Rattle.std.proofs.Common.{◌≡◌, ℕ, ◌+◌, ◌≤◌, Bool, true, false, List, [], ◌∷◌, ◌++◌, length, set, zero, suc, Option, Some, None, Ok, refl, sym, subst, ap, ◌∙◌, append_assoc, append-nil, arith, cond}
+use Rattle.std.specs.Prelude.{◌==◌, nat_eq, codes, flat_map, replicate}
+use borrow.Author.Tests.{eq-eqb}
 use Rattle.std.specs.Borrow.{Bor}
-use Rattle.std.proofs.lemmas.Bool.{le-leb, eqb-true}
-use Rattle.std.proofs.lemmas.List.{map-set}
+use Rattle.std.proofs.lemmas.Bool.{eqb-true}
+use Rattle.std.proofs.lemmas.Grind.{flat_map-append}
+use Rattle.std.proofs.lemmas.List.{map-append, map-set, replicate-append-replicate}
 use Rattle.wasm_module.specs.below.bytes.error.Error.{Error}
 use Rattle.wasm_module.specs.below.bytes.message.Message.{Message}
 use Rattle.wasm_module.specs.below.bytes.message.Message.TheVariants as message
@@ -11,25 +13,50 @@ use Rattle.wasm_module.specs.below.Refusal.{IsReadFault}
 use Rattle.wasm_module.specs.below.Sequence.{PrefixCode}
 use Rattle.wasm_module.specs.below.Source.{Reader, rest, MayFollow, IsRefusal, Reads}
 use Rattle.wasm_module.specs.Exports.{ExportParts}
+use Rattle.wasm_module.specs.Imports.{ImportParts}
 use Rattle.wasm_module.specs.Module.{SectionParts}
 use Rattle.wasm_module.specs.Names.{NameParts}
 use Rattle.wasm_functions.specs.Sections.{first_with}
-use Rattle.wasm_functions.specs.Names.{bytes_of, with_name, with_exports, with_names, IsNames, NoneIsNames, LastNames}
+use Rattle.wasm_functions.specs.Names.{name_bytes, bytes_of, function_name, with_exports, with_names, IsNames, NoneIsNames, LastNames}
+use Rattle.wasm_functions.specs.declared.function_name.FunctionName.{FunctionName}
+use Rattle.wasm_functions.specs.declared.function_name.FunctionName.TheVariants as name
 
 pub set_past_end : {X : Type 0} (xs : List X) (i : ℕ) (x : X) → length xs ≤ i → set xs i x ≡ xs
 set_past_end [] i x h = refl
 set_past_end (y ∷ ys) zero x h = absurd (omega (arith, h))
 set_past_end (y ∷ ys) (suc i) x h = ap (λ zs. y ∷ zs) (set_past_end ys i x (omega (arith, h)))
 
-pub exports_more : (imported : ℕ) (names : List (List ℕ)) (es : List ExportParts) (e : ExportParts) →
-    with_exports imported names (es ++ e ∷ []) ≡ with_exports imported (with_exports imported names es) (e ∷ [])
-exports_more imported names [] e = refl
-exports_more imported names (d ∷ ds) e = exports_more imported (cond (d.kind == 0) (with_name imported names d.index d.name) names) ds e
+pub exports_more : (names : List (List ℕ)) (es : List ExportParts) (e : ExportParts) →
+    with_exports names (es ++ e ∷ []) ≡ with_exports (with_exports names es) (e ∷ [])
+exports_more names [] e = refl
+exports_more names (d ∷ ds) e = exports_more (cond (d.kind == 0) (set names d.index d.name) names) ds e
 
-pub names_more : (imported : ℕ) (names : List (List ℕ)) (ns : List NameParts) (n : NameParts) →
-    with_names imported names (ns ++ n ∷ []) ≡ with_name imported (with_names imported names ns) n.index n.name
-names_more imported names [] n = refl
-names_more imported names (m ∷ ms) n = names_more imported (with_name imported names m.index m.name) ms n
+pub names_more : (names : List (List ℕ)) (ns : List NameParts) (n : NameParts) →
+    with_names names (ns ++ n ∷ []) ≡ set (with_names names ns) n.index n.name
+names_more names [] n = refl
+names_more names (m ∷ ms) n = names_more (set names m.index m.name) ms n
+
+-- One more imported function, or an import of another kind.
+pub imports_more : (is : List ImportParts) (i : ImportParts) → flat_map function_name (is ++ i ∷ []) ≡ flat_map function_name is ++ function_name i
+imports_more is i =
+    flat_map-append function_name is (i ∷ []) ∙ ap (λ z. flat_map function_name is ++ z) (append-nil (function_name i))
+
+-- The name of an imported function is appended.
+pub import_pushed : (names : List FunctionName) (i : ImportParts) (from item : Bor (List ℕ)) → i.kind ≡ 0 → from.now ≡ i.module_name → item.now ≡ i.name →
+    bytes_of (names ++ name.Imported from item ∷ []) ≡ bytes_of names ++ function_name i
+import_pushed names i from item is same_from same_item =
+    let whole : List ℕ = i.module_name ++ (codes "." ++ i.name) in
+    map-append name_bytes names (name.Imported from item ∷ []) ∙
+    ap (λ (z : List (List ℕ)). bytes_of names ++ z)
+    (ap (λ m. (m ++ (codes "." ++ item.now)) ∷ []) same_from ∙ ap (λ n. (i.module_name ++ (codes "." ++ n)) ∷ []) same_item ∙
+    sym (ap (λ b. cond b (whole ∷ []) []) (eq-eqb i.kind 0 is)))
+
+-- One more function without a name.
+pub unnamed_more : (before now : List FunctionName) (f : FunctionName) (n : ℕ) → name_bytes f ≡ [] → bytes_of now ≡ bytes_of before ++ replicate n [] →
+    bytes_of (now ++ f ∷ []) ≡ bytes_of before ++ replicate (n + 1) []
+unnamed_more before now f n none is =
+    map-append name_bytes now (f ∷ []) ∙ ap (λ x. bytes_of now ++ x ∷ []) none ∙ ap (λ z. z ++ [] ∷ []) is ∙
+    append_assoc (bytes_of before) (replicate n []) ([] ∷ []) ∙ ap (λ z. bytes_of before ++ z) (replicate-append-replicate n 1 [])
 
 none_more : (ss : List SectionParts) (s : SectionParts) → NoneIsNames ss → ((contents : Reader) → IsNames s contents → ⊥) → NoneIsNames (ss ++ s ∷ [])
 none_more [] s none other = (other, tt)
@@ -54,11 +81,18 @@ pub not_both : {X : Type 0} (P : List ℕ → X → Type 0) (e : Error) (r b : R
 not_both P e r b x refused (text, is, takes) =
     refused.refuses [] (may_end e.message refused.fault) text (rest b) x is (append-nil (rest r) ∙ takes.parts)
 
+<<<<<<< HEAD
 pub own_named : (imported index : ℕ) (names : List (Bor (List ℕ))) (name : Bor (List ℕ)) → imported ≤ index →
     bytes_of (set names (index - imported) name) ≡ with_name imported (bytes_of names) index name.now
 own_named imported index names name own =
     map-set (λ (n : Bor (List ℕ)). n.now) names (index - imported) name ∙
     sym (ap (λ b. cond b (set (bytes_of names) (index - imported) name.now) (bytes_of names)) (le-leb imported index own))
+=======
+-- A function is named.
+pub one_named : (index : ℕ) (names : List FunctionName) (given : Bor (List ℕ)) →
+    bytes_of (set names index (name.Given given)) ≡ set (bytes_of names) index given.now
+one_named index names given = map-set name_bytes names index (name.Given given)
+>>>>>>> e461b76a9dfb6556365173cd6d600572fa6cf5ca
 
 abbrev IsNot : Bool → Type 0
 IsNot true = ⊥

@@ -1,4 +1,9 @@
+<<<<<<< HEAD
 use Rattle.std.proofs.Common.{◌≡◌, ◌<◌, ℕ, List, [], length, replicate, Option, Some, None, Ok, refl, sym, subst, ap, ◌∙◌, inl, inr, arith}
+=======
+-- If the functions of a module are not known, it has at most one fault; otherwise none except `Memory`.
+use Rattle.std.proofs.Common.{◌≡◌, ◌<◌, ℕ, List, [], ◌++◌, length, replicate, Option, Some, None, Ok, refl, sym, subst, ap, ◌∙◌, inl, inr, arith}
+>>>>>>> e461b76a9dfb6556365173cd6d600572fa6cf5ca
 use Rattle.std.specs.Int.{w32}
 use Rattle.std.specs.List.{All}
 use Rattle.wasm_module.specs.below.bytes.error.Error.{Error}
@@ -103,9 +108,9 @@ module _ (numbers : PrefixCode (EncodesUnsigned 32)) where
   one_functions_fault u32 (fault.TypeKind byte offset) g contents p q other other' = absurd p
 
   module _ (code : PrefixCode EncodesExport) where
-    no_exports_fault : (f : ModuleFault) (contents : Reader) (imported : ℕ) (before after : List (List ℕ)) → ExportsFault f contents →
-        NamesExported imported (Some contents) before after → ⊥
-    no_exports_fault f contents imported before after p (exports, list, is) =
+    no_exports_fault : (f : ModuleFault) (contents : Reader) (before after : List (List ℕ)) → ExportsFault f contents →
+        NamesExported (Some contents) before after → ⊥
+    no_exports_fault f contents before after p (exports, list, is) =
         no_refusal (λ e. ListFault EncodesExport ExportFault IsAny e contents)
         (λ e refused. no_list_fault EncodesExport code IsAny numbers ExportFault e contents exports refused list (any_items exports)) f p
 
@@ -158,12 +163,12 @@ module _ (numbers : PrefixCode (EncodesUnsigned 32)) (fixed : PrefixCode (Encode
       not_at numbers fixed FunctionsFault ListsTypes f whole 3
       (λ contents types fault list. no_functions_fault numbers f contents types fault other list) p section types there listed
 
-  no_names : (f : ModuleFault) (whole : Reader) (imported : ℕ) (before : List (List ℕ)) (section : Option Reader) (after : List (List ℕ)) → IsNotMemory f →
-      NamesFault f whole → IsSection whole 7 section → NamesExported imported section before after → ⊥
-  no_names f whole imported before section after other (inl memory) there named = other memory
-  no_names f whole imported before section after other (inr p) there named =
-      not_at numbers fixed ExportsFault (λ s names. NamesExported imported s before names) f whole 7
-      (λ contents names fault exported. no_exports_fault numbers exports f contents imported before names fault exported) p section after there named
+  no_names : (f : ModuleFault) (whole : Reader) (before : List (List ℕ)) (section : Option Reader) (after : List (List ℕ)) → IsNotMemory f →
+      NamesFault f whole → IsSection whole 7 section → NamesExported section before after → ⊥
+  no_names f whole before section after other (inl memory) there named = other memory
+  no_names f whole before section after other (inr p) there named =
+      not_at numbers fixed ExportsFault (λ s names. NamesExported s before names) f whole 7
+      (λ contents names fault exported. no_exports_fault numbers exports f contents before names fault exported) p section after there named
 
   no_fault : (f : ModuleFault) (whole : Reader) (t : ModuleFunctions) → IsNotMemory f → ModuleFunctionsFault f whole → DescribesFunctions whole t → ⊥
   no_fault f whole t other (inl p) is = no_types f whole other p (is.signatures, t.parameters, is.section_of_types, is.parameters)
@@ -172,7 +177,7 @@ module _ (numbers : PrefixCode (EncodesUnsigned 32)) (fixed : PrefixCode (Encode
       no_functions f whole other p (is.functions, t.types, is.section_of_functions, is.types)
   no_fault f whole t other (inr (inr (inr (types, imported, functions, p)))) is =
       let names = is.names in
-      no_names f whole t.imported (replicate (length t.types) []) names.exports names.exported other p names.section_of_exports names.from_exports
+      no_names f whole (names.imported ++ replicate (length t.types) []) names.exports names.exported other p names.section_of_exports names.from_exports
 
   pub memory_alone : (whole : Reader) (f : ModuleFault) (t : ModuleFunctions) → ModuleFunctionsFault f whole → DescribesFunctions whole t → f ≡ fault.Memory
   memory_alone whole fault.Memory t p is = refl

@@ -1,16 +1,26 @@
+<<<<<<< HEAD
 -- Specification: Binary Format, Modules, Export Section and Custom Section; Appendix, Custom
 -- Sections, Name Section.
 use Rattle.std.specs.Prelude.{◌≡◌, ◌==◌, ◌≢◌, ◌⊎◌, ◌-◌, ◌<◌, ℕ, List, [], ◌∷◌, ◌++◌, length, map, set, Option, Some, None, Ok, codes, nat_le, if◌then◌else◌}
 use Rattle.std.specs.Borrow.{Bor}
+=======
+-- The names of a module's functions, and the name of the module.
+-- WebAssembly Core Specification 3.0: Binary Format, Modules, Export Section and Custom Section; Appendix, Custom Sections, Name Section.
+use Rattle.std.specs.Prelude.{◌≡◌, ◌==◌, ◌≢◌, ◌⊎◌, ◌<◌, ℕ, List, [], ◌∷◌, ◌++◌, length, map, flat_map, set, Option, Some, None, Ok, codes, if◌then◌else◌}
+>>>>>>> e461b76a9dfb6556365173cd6d600572fa6cf5ca
 use Rattle.wasm_module.specs.below.bytes.error.Error.{Error}
 use Rattle.wasm_module.specs.below.Number.{EncodesUnsigned}
 use Rattle.wasm_module.specs.below.Source.{Reader, rest, IsRefusal, Reads}
 use Rattle.wasm_module.specs.Exports.{ExportParts, EncodesExport}
+use Rattle.wasm_module.specs.Imports.{ImportParts, EncodesImport}
 use Rattle.wasm_module.specs.Module.{SectionParts, EncodesSection}
 use Rattle.wasm_module.specs.Names.{NameParts, EncodesName, EncodesNameAssociation}
 use Rattle.wasm_functions.specs.Items.{ItemsOccur, IsList}
 use Rattle.wasm_functions.specs.Sections.{SectionsOccur, IsModule, first_with}
+use Rattle.wasm_functions.specs.declared.function_name.FunctionName.{FunctionName}
+use Rattle.wasm_functions.specs.declared.function_name.FunctionName.TheVariants as name
 
+<<<<<<< HEAD
 abbrev pub bytes_of : List (Bor (List ℕ)) → List (List ℕ)
 bytes_of names = map (λ name. name.now) names
 
@@ -31,6 +41,31 @@ NamesExported imported (Some contents) before after = (exports : List ExportPart
 abbrev pub with_names : ℕ → List (List ℕ) → List NameParts → List (List ℕ)
 with_names imported names [] = names
 with_names imported names (n ∷ ns) = with_names imported (with_name imported names n.index n.name) ns
+=======
+-- The bytes of a name. The name of an import is the name of its module, a dot, and its own name.
+abbrev pub name_bytes : FunctionName → List ℕ
+name_bytes (name.Given given) = given.now
+name_bytes (name.Imported from item) = from.now ++ (codes "." ++ item.now)
+
+-- The bytes of each name.
+abbrev pub bytes_of : List FunctionName → List (List ℕ)
+bytes_of names = map name_bytes names
+
+-- The names after these exports, by the indices of functions. Each export of a function names it; the last export wins.
+abbrev pub with_exports : List (List ℕ) → List ExportParts → List (List ℕ)
+with_exports names [] = names
+with_exports names (e ∷ es) = with_exports (if e.kind == 0 then set names e.index e.name else names) es
+
+-- The names before and after an export section, if this is it.
+abbrev pub NamesExported : Option Reader → List (List ℕ) → List (List ℕ) → Type 0
+NamesExported None before after = after ≡ before
+NamesExported (Some contents) before after = (exports : List ExportParts) × IsList EncodesExport contents exports × (after ≡ with_exports before exports)
+
+-- The names after these indices with names.
+abbrev pub with_names : List (List ℕ) → List NameParts → List (List ℕ)
+with_names names [] = names
+with_names names (n ∷ ns) = with_names (set names n.index n.name) ns
+>>>>>>> e461b76a9dfb6556365173cd6d600572fa6cf5ca
 
 -- After these items of a list, the next item is in error.
 pub record StopsList {X : Type 0} (Encodes : List ℕ → X → Type 0) (contents : Reader) (items : List X) : Type 0 where
@@ -48,8 +83,22 @@ abbrev pub ReadsItems : {X : Type 0} → (List ℕ → X → Type 0) → Reader 
 ReadsItems Encodes contents items =
     IsList Encodes contents items ⊎ (StopsList Encodes contents items ⊎ ((error : Error) × IsRefusal (EncodesUnsigned 32) error contents × (items ≡ [])))
 
+<<<<<<< HEAD
 -- The names of functions in a custom section `name`, up to an error: in the first subsection with
 -- the number 1, if there is one.
+=======
+-- The name of an imported function; nothing for an import of another kind.
+abbrev pub function_name : ImportParts → List (List ℕ)
+function_name i = if i.kind == 0 then (i.module_name ++ (codes "." ++ i.name)) ∷ [] else []
+
+-- The names of the imported functions in an import section, if this is it, up to an error.
+abbrev pub NamesImported : Option Reader → List (List ℕ) → Type 0
+NamesImported None names = names ≡ []
+NamesImported (Some contents) names = (imports : List ImportParts) × ReadsItems EncodesImport contents imports × (names ≡ flat_map function_name imports)
+
+-- The names of functions in the contents of a custom section `name`, up to an error. The first subsection with the number 1 has these names.
+-- If the contents end before it, or a subsection before it is in error, there are none.
+>>>>>>> e461b76a9dfb6556365173cd6d600572fa6cf5ca
 pub record GivesNames (contents : Reader) (names : List NameParts) : Type 0 where
   pub before : List SectionParts
   pub mid : Reader
@@ -59,9 +108,16 @@ pub record GivesNames (contents : Reader) (names : List NameParts) : Type 0 wher
       ((s : SectionParts) × (next : Reader) × Reads (EncodesSection mid.features) (Ok s) mid next × (s.id ≡ 1) × ReadsItems EncodesNameAssociation s.contents names) ⊎
       ((names ≡ []) × ((rest mid ≡ []) ⊎ ((error : Error) × IsRefusal (EncodesSection mid.features) error mid)))
 
+<<<<<<< HEAD
 abbrev pub NamesGiven : ℕ → Option Reader → List (List ℕ) → List (List ℕ) → Type 0
 NamesGiven imported None before after = after ≡ before
 NamesGiven imported (Some contents) before after = (names : List NameParts) × GivesNames contents names × (after ≡ with_names imported before names)
+=======
+-- The names before and after a custom section `name`, if this is it.
+abbrev pub NamesGiven : Option Reader → List (List ℕ) → List (List ℕ) → Type 0
+NamesGiven None before after = after ≡ before
+NamesGiven (Some contents) before after = (names : List NameParts) × GivesNames contents names × (after ≡ with_names before names)
+>>>>>>> e461b76a9dfb6556365173cd6d600572fa6cf5ca
 
 abbrev pub IsNames : SectionParts → Reader → Type 0
 IsNames s contents = (s.id ≡ 0) × Reads EncodesName (Ok (codes "name")) s.contents contents

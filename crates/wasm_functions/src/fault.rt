@@ -38,13 +38,16 @@ impl fmt::Display for ModuleFault {
             ModuleFault::Refused(error) => {
                 let offset = error.offset();
                 let message = error.message();
-                write!(f, "error at {offset}: {message}")
+                write!(f, "error at {offset:06x}: {message}")
             }
             ModuleFault::ImportKind(kind, offset) => {
-                write!(f, "error at {offset}: unknown kind of import: 0x{kind:x}")
+                write!(
+                    f,
+                    "error at {offset:06x}: unknown kind of import: 0x{kind:x}"
+                )
             }
             ModuleFault::TypeKind(kind, offset) => {
-                write!(f, "error at {offset}: unknown type: 0x{kind:x}")
+                write!(f, "error at {offset:06x}: unknown type: 0x{kind:x}")
             }
             ModuleFault::Memory => f.write_str("out of memory"),
         }

@@ -1,15 +1,17 @@
 //! The parts of a module that describe its functions, each from its section.
-ghost use Rattle.std.specs.Prelude.{◌≡◌, ℕ, [], List, Option, Some, replicate, IfOk, IfErr};
+ghost use Rattle.std.specs.Prelude.{◌≡◌, ◌⊎◌, ◌++◌, ℕ, [], List, Option, Some, replicate, IfOk, IfErr, OnOk};
 ghost use Rattle.wasm_module.specs.below.Source.{Reader, reader_of};
+ghost use Rattle.wasm_module.specs.Module.{SectionParts};
 ghost use Rattle.wasm_functions.specs.Items.{IsList};
-ghost use Rattle.wasm_functions.specs.Names.{bytes_of, NamesExported, NamesGiven, HasNames};
+ghost use Rattle.wasm_functions.specs.Names.{bytes_of, NamesImported, NamesExported, NamesGiven, HasNames};
 ghost use Rattle.wasm_functions.specs.Parameters.{CountsParameters};
 ghost use Rattle.wasm_functions.specs.Refusals.{SectionsFault, SectionFaultAt, TypesFault, ImportsFault, FunctionsFault, ExportsFault, NamesFault};
-ghost use Rattle.wasm_functions.specs.Sections.{IsSection};
+ghost use Rattle.wasm_functions.specs.Sections.{IsModule, IsSection};
 ghost use Rattle.wasm_functions.specs.ModuleFunctions.{CountsImports, ListsTypes, NamesFunctions};
 
 use crate::fault::ModuleFault;
-use crate::imports::imported_functions;
+use crate::function_name::FunctionName;
+use crate::imports::{import_names, imported_functions};
 use crate::names::{name_exports, name_functions};
 use crate::sections::{find_names, find_section};
 use crate::types::{function_types, parameter_counts};
@@ -85,36 +87,64 @@ pub fn find_types(
     }
 }
 
+<<<<<<< HEAD
 fn no_names<'a>(alloc: Global, count: usize) -> Result<Vec<&'a [u8]>, ModuleFault>
     ensures ok { IfOk result (λ names. bytes_of names.items ≡ replicate count []) }
+=======
+/// Returns the names of the imported functions, up to an error in the import section.
+///
+/// Fails as `find_section` does. Fails with `Memory` if allocation fails.
+fn find_import_names<'a>(
+    alloc: Global,
+    features: WasmFeatures,
+    bytes: &'a [u8],
+) -> Result<Vec<FunctionName<'a>>, ModuleFault>
+    ensures ok { IfOk result (λ names. (section : Option Reader) × IsSection (reader_of features 0 bytes.now) 2 section
+        × NamesImported section (bytes_of names.items)) }
+    ensures refused { IfErr result (λ fault. (sections : List SectionParts) → IsModule (reader_of features 0 bytes.now) sections
+        → fault ≡ ModuleFault.Memory) }
+    ensures fault { IfErr result (λ fault. (fault ≡ ModuleFault.Memory) ⊎ SectionsFault fault (reader_of features 0 bytes.now)) }
+{
+    match find_section(features, bytes, IMPORTS) {
+        Ok(Some(contents)) => import_names(alloc, contents),
+        Ok(None) => Ok(Vec::new(alloc)),
+        Err(fault) => Err(fault),
+    }
+}
+
+#[tactic(auto, using(crate::proofs::Named::unnamed_more))]
+/// Appends an empty name for each of `count` functions.
+///
+/// Fails with `Memory` only.
+fn push_unnamed<'a>(names: &mut Vec<FunctionName<'a>>, count: usize) -> Result<(), ModuleFault>
+    ensures ok { OnOk result (bytes_of names.new.items ≡ bytes_of names.old.items ++ replicate count []) }
+>>>>>>> e461b76a9dfb6556365173cd6d600572fa6cf5ca
     ensures memory { IfErr result (λ fault. fault ≡ ModuleFault.Memory) }
 {
-    let mut names: Vec<&'a [u8]> = Vec::new(alloc);
     for _function in 0..count {
-        if names.push(&[]).is_err() {
+        if names.push(FunctionName::Given(&[])).is_err() {
             return Err(ModuleFault::Memory);
         }
     }
-    Ok(names)
+    Ok(())
 }
 
 /// Sets the names of exported functions. Fails as `find_section` and `name_exports` do.
 fn set_exports<'a>(
     features: WasmFeatures,
     bytes: &'a [u8],
-    imported: u32,
-    names: &mut Vec<&'a [u8]>,
+    names: &mut Vec<FunctionName<'a>>,
 ) -> Result<(), ModuleFault>
     ensures ok { IfOk result (λ done. (section : Option Reader) × IsSection (reader_of features 0 bytes.now) 7 section
-        × NamesExported imported section (bytes_of names.old.items) (bytes_of names.new.items)) }
+        × NamesExported section (bytes_of names.old.items) (bytes_of names.new.items)) }
     ensures refused { IfErr result (λ fault. (section : Option Reader) → (before after : List (List ℕ)) → IsSection (reader_of features 0 bytes.now) 7 section
-        → NamesExported imported section before after → ⊥) }
+        → NamesExported section before after → ⊥) }
     ensures fault { IfErr result (λ fault. SectionFaultAt fault (reader_of features 0 bytes.now) 7 ExportsFault) }
 {
     unsigned_numbers();
     fixed_numbers();
     match find_section(features, bytes, EXPORTS) {
-        Ok(Some(contents)) => name_exports(contents, imported, names),
+        Ok(Some(contents)) => name_exports(contents, names),
         Ok(None) => Ok(()),
         Err(fault) => Err(fault),
     }
@@ -123,17 +153,16 @@ fn set_exports<'a>(
 fn set_names<'a>(
     features: WasmFeatures,
     bytes: &'a [u8],
-    imported: u32,
-    names: &mut Vec<&'a [u8]>,
+    names: &mut Vec<FunctionName<'a>>,
 ) -> Result<(), ModuleFault>
     ensures ok { IfOk result (λ done. (section : Option Reader) × HasNames (reader_of features 0 bytes.now) section
-        × NamesGiven imported section (bytes_of names.old.items) (bytes_of names.new.items)) }
+        × NamesGiven section (bytes_of names.old.items) (bytes_of names.new.items)) }
     ensures refused { IfErr result (λ fault. (section : Option Reader) → HasNames (reader_of features 0 bytes.now) section → ⊥) }
     ensures fault { IfErr result (λ fault. SectionsFault fault (reader_of features 0 bytes.now)) }
 {
     match find_names(features, bytes) {
         Ok(Some(contents)) => {
-            name_functions(contents, imported, names);
+            name_functions(contents, names);
             Ok(())
         }
         Ok(None) => Ok(()),
@@ -141,31 +170,40 @@ fn set_names<'a>(
     }
 }
 
+<<<<<<< HEAD
 /// Returns the names of this many defined functions: those of exports, replaced by those of the
 /// custom section `name`.
+=======
+/// Returns the names of all functions, by their indices: the imported functions, and then `count`
+/// functions that the module defines. The names of imports are replaced by the names of exports,
+/// and these by the names of the custom section `name`.
+>>>>>>> e461b76a9dfb6556365173cd6d600572fa6cf5ca
 ///
 /// Fails with `Memory`, otherwise as finding or reading the export section does.
 pub fn find_function_names<'a>(
     alloc: Global,
     features: WasmFeatures,
     bytes: &'a [u8],
-    imported: u32,
     count: usize,
-) -> Result<Vec<&'a [u8]>, ModuleFault>
-    ensures ok { IfOk result (λ names. NamesFunctions (reader_of features 0 bytes.now) imported count (bytes_of names.items)) }
-    ensures refused { IfErr result (λ fault. (names : List (List ℕ)) → NamesFunctions (reader_of features 0 bytes.now) imported count names
+) -> Result<Vec<FunctionName<'a>>, ModuleFault>
+    ensures ok { IfOk result (λ names. NamesFunctions (reader_of features 0 bytes.now) count (bytes_of names.items)) }
+    ensures refused { IfErr result (λ fault. (names : List (List ℕ)) → NamesFunctions (reader_of features 0 bytes.now) count names
         → fault ≡ ModuleFault.Memory) }
     ensures fault { IfErr result (λ fault. NamesFault fault (reader_of features 0 bytes.now)) }
 {
-    let mut names = match no_names(alloc, count) {
+    let mut names = match find_import_names(alloc, features, bytes) {
         Ok(names) => names,
         Err(fault) => return Err(fault),
     };
-    match set_exports(features, bytes, imported, &mut names) {
+    match push_unnamed(&mut names, count) {
         Ok(()) => {}
         Err(fault) => return Err(fault),
     }
-    match set_names(features, bytes, imported, &mut names) {
+    match set_exports(features, bytes, &mut names) {
+        Ok(()) => {}
+        Err(fault) => return Err(fault),
+    }
+    match set_names(features, bytes, &mut names) {
         Ok(()) => Ok(names),
         Err(fault) => Err(fault),
     }

@@ -1,28 +1,38 @@
+<<<<<<< HEAD
 ghost use Rattle.std.specs.Prelude.{◌≡◌, ◌↔◌, [], List, IsTrue, IfOk, IfErr};
+=======
+//! The functions of a module.
+ghost use Rattle.std.specs.Prelude.{◌≡◌, ◌↔◌, [], List, length, IsTrue, IfOk, IfErr};
+>>>>>>> e461b76a9dfb6556365173cd6d600572fa6cf5ca
 ghost use Rattle.wasm_module.specs.below.Source.{reader_of};
 ghost use Rattle.wasm_module.specs.Module.{SectionParts};
+ghost use Rattle.wasm_functions.specs.Names.{bytes_of};
 ghost use Rattle.wasm_functions.specs.Refusals.{ModuleFunctionsFault};
 ghost use Rattle.wasm_functions.specs.Sections.{IsModule};
-ghost use Rattle.wasm_functions.specs.ModuleFunctions.{ModuleFunctions, DescribesFunctions, IsOwn, index_of, parameters_at, text_of_name, name_at, NamesModule};
+ghost use Rattle.wasm_functions.specs.ModuleFunctions.{ModuleFunctions, DescribesFunctions, IsOwn, index_of, parameters_at, NamesModule};
 
 use crate::fault::ModuleFault;
 use crate::found::{find_function_names, find_imported, find_parameters, find_types};
+use crate::function_name::FunctionName;
 use crate::names::name_of_module;
 use crate::sections::find_names;
 use std::alloc::Global;
 use std::marker::Model;
-use std::str::from_utf8;
 use wasm_module::below::WasmFeatures;
 use wasm_module::below::byte_laws::{fixed_numbers, unsigned_numbers};
-use wasm_module::module_laws;
 
+<<<<<<< HEAD
 /// The functions that a module defines, by their ordinals after the imported functions.
+=======
+/// The functions of a module: the functions that it defines, each by its ordinal after the imported
+/// functions, and the names of all functions.
+>>>>>>> e461b76a9dfb6556365173cd6d600572fa6cf5ca
 #[derive(Debug, Drop)]
 pub struct Functions<'a> {
     imported: u32,
     parameters: Vec<u32>,
     types: Vec<u32>,
-    names: Vec<&'a [u8]>,
+    names: Vec<FunctionName<'a>>,
 }
 
 impl<'a> Model for Functions<'a> {
@@ -35,9 +45,10 @@ impl<'a> Model for Functions<'a> {
 }
 
 impl<'a> Functions<'a> {
-    /// Reads what the sections of a module say about its functions. The name in the custom section
-    /// replaces the name of an export; of two exports, the last names the function. After an error
-    /// in the custom section, no more functions are named.
+    /// Reads what the sections of a module say about its functions. The name of an export replaces
+    /// the name of an import, and the name in the custom section `name` replaces both. Of two
+    /// exports, the last names the function. After an error in the custom section, no more
+    /// functions are named.
     ///
     /// Fails with `NotModule` if the bytes do not start with the preamble of a module, and with
     /// `Refused` if the preamble or a section is in error. Otherwise fails with the fault of the
@@ -55,7 +66,6 @@ impl<'a> Functions<'a> {
     {
         unsigned_numbers();
         fixed_numbers();
-        module_laws::imports();
         let parameters = match find_parameters(alloc, features, bytes) {
             Ok(parameters) => parameters,
             Err(fault) => return Err(fault),
@@ -68,7 +78,7 @@ impl<'a> Functions<'a> {
             Ok(types) => types,
             Err(fault) => return Err(fault),
         };
-        let names = match find_function_names(alloc, features, bytes, imported, types.len()) {
+        let names = match find_function_names(alloc, features, bytes, types.len()) {
             Ok(names) => names,
             Err(fault) => return Err(fault),
         };
@@ -80,7 +90,25 @@ impl<'a> Functions<'a> {
         })
     }
 
+<<<<<<< HEAD
     /// Returns the function's index, at most 4294967295.
+=======
+    /// Returns the number of imported functions.
+    pub fn imported(&self) -> u32
+        ensures { result ≡ self.now.imported }
+    {
+        self.imported
+    }
+
+    /// Returns the number of functions that the module defines.
+    pub fn defined(&self) -> usize
+        ensures { result ≡ length self.now.types }
+    {
+        self.types.len()
+    }
+
+    /// Returns the index of the function with this ordinal, at most 4294967295.
+>>>>>>> e461b76a9dfb6556365173cd6d600572fa6cf5ca
     pub fn index(&self, ordinal: u32) -> u32
         ensures { result ≡ index_of self.now ordinal }
     {
@@ -105,17 +133,21 @@ impl<'a> Functions<'a> {
         }
     }
 
+<<<<<<< HEAD
     /// Returns the function's name, or an empty one if it has none or if the name is not UTF-8.
     pub fn name(&self, ordinal: u32) -> &'a str
         ensures { result.now ≡ name_at self.now ordinal }
+=======
+    /// Returns the names of all functions, by their indices.
+    pub fn names(&self) -> &[FunctionName<'a>]
+        ensures { bytes_of result.now ≡ self.now.names }
+>>>>>>> e461b76a9dfb6556365173cd6d600572fa6cf5ca
     {
-        match self.names.get(ordinal as usize) {
-            Some(name) => text_of(name),
-            None => "",
-        }
+        self.names.as_slice()
     }
 }
 
+<<<<<<< HEAD
 #[tactic(auto, using(crate::proofs::Texts::name_is_text, crate::proofs::Texts::name_is_none))]
 fn text_of<'a>(name: &'a [u8]) -> &'a str
     ensures { result.now ≡ text_of_name name.now }
@@ -129,14 +161,19 @@ fn text_of<'a>(name: &'a [u8]) -> &'a str
 /// Returns the name of a module, or an empty one if it has none, if the name is not UTF-8, or if
 /// the bytes are no module.
 pub fn module_name<'a>(features: WasmFeatures, bytes: &'a [u8]) -> &'a str
+=======
+/// Returns the name of a module. It is empty if the module has none, or if the bytes are no module.
+/// Whether it is UTF-8 is not checked.
+pub fn module_name<'a>(features: WasmFeatures, bytes: &'a [u8]) -> &'a [u8]
+>>>>>>> e461b76a9dfb6556365173cd6d600572fa6cf5ca
     ensures names { (sections : List SectionParts) → IsModule (reader_of features 0 bytes.now) sections
         → NamesModule (reader_of features 0 bytes.now) result.now }
     ensures none { ((sections : List SectionParts) → IsModule (reader_of features 0 bytes.now) sections → ⊥)
         → result.now ≡ [] }
 {
     match find_names(features, bytes) {
-        Ok(Some(contents)) => text_of(name_of_module(contents)),
-        Ok(None) => "",
-        Err(_) => "",
+        Ok(Some(contents)) => name_of_module(contents),
+        Ok(None) => &[],
+        Err(_) => &[],
     }
 }

@@ -1,12 +1,27 @@
+<<<<<<< HEAD
 ghost use Rattle.std.specs.Prelude.{ℕ, Some, IfOk, IfErr};
+=======
+//! The number of imported functions, and their names.
+ghost use Rattle.std.specs.Prelude.{◌≡◌, ◌++◌, ℕ, Some, IfOk, IfErr, OnOk};
+ghost use Rattle.wasm_functions.specs.Names.{bytes_of, function_name, NamesImported};
+>>>>>>> e461b76a9dfb6556365173cd6d600572fa6cf5ca
 ghost use Rattle.wasm_functions.specs.Refusals.{ImportsFault};
 ghost use Rattle.wasm_functions.specs.ModuleFunctions.{CountsImports};
 
 use crate::fault::ModuleFault;
+use crate::function_name::FunctionName;
+use std::alloc::Global;
 use wasm_module::below::BinaryReader;
 use wasm_module::below::byte_laws::unsigned_numbers;
 use wasm_module::{Import, module_laws};
 
+<<<<<<< HEAD
+=======
+/// The byte of the kind of functions.
+const FUNCTION: u8 = 0;
+
+/// The byte of the last kind, that of tags.
+>>>>>>> e461b76a9dfb6556365173cd6d600572fa6cf5ca
 const TAG: u8 = 4;
 
 /// Returns the number of functions among the imports of a section.
@@ -38,4 +53,52 @@ pub fn imported_functions(contents: BinaryReader<'_>) -> Result<u32, ModuleFault
         functions += u32::from(kind == 0);
     }
     Ok(functions)
+}
+
+#[tactic(auto, using(crate::proofs::Named::import_pushed))]
+/// Appends the name of an import, if it is a function.
+fn push_import<'a>(
+    names: &mut Vec<FunctionName<'a>>,
+    import: &Import<'a>,
+) -> Result<(), ModuleFault>
+    ensures ok { OnOk result (bytes_of names.new.items ≡ bytes_of names.old.items ++ function_name import.now) }
+    ensures memory { IfErr result (λ fault. fault ≡ ModuleFault.Memory) }
+{
+    if import.kind() != FUNCTION {
+        return Ok(());
+    }
+    let name = FunctionName::Imported(import.module_name(), import.name());
+    if names.push(name).is_err() {
+        return Err(ModuleFault::Memory);
+    }
+    Ok(())
+}
+
+/// Returns the names of the functions among the imports of a section, up to an error.
+///
+/// Fails with `Memory` only.
+pub fn import_names<'a>(
+    alloc: Global,
+    contents: BinaryReader<'a>,
+) -> Result<Vec<FunctionName<'a>>, ModuleFault>
+    ensures ok { IfOk result (λ names. NamesImported (Some contents.entry) (bytes_of names.items)) }
+    ensures memory { IfErr result (λ fault. fault ≡ ModuleFault.Memory) }
+{
+    let mut reader = contents;
+    let mut names: Vec<FunctionName<'a>> = Vec::new(alloc);
+    let count = match reader.read_var_u32() {
+        Ok(count) => count,
+        Err(_) => return Ok(names),
+    };
+    for _import in 0..count {
+        let import = match Import::read(&mut reader) {
+            Ok(import) => import,
+            Err(_) => return Ok(names),
+        };
+        match push_import(&mut names, &import) {
+            Ok(()) => {}
+            Err(fault) => return Err(fault),
+        }
+    }
+    Ok(names)
 }

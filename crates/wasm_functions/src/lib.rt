@@ -7,6 +7,7 @@
 mod fault;
 mod found;
 pub mod function_laws;
+mod function_name;
 mod functions;
 mod imports;
 mod names;
@@ -14,6 +15,7 @@ mod sections;
 mod types;
 
 pub use fault::ModuleFault;
+pub use function_name::FunctionName;
 pub use functions::{Functions, module_name};
-pub use sections::find_section;
+pub use sections::{find_section, open_sections};
 pub use wasm_module as module;

@@ -1,11 +1,17 @@
+<<<<<<< HEAD
 ghost use Rattle.std.specs.Prelude.{◌≡◌, ◌∷◌, [], List, Some, IfOk, IfErr};
+=======
+//! The names of functions: those of exports, and those of the custom section `name`.
+ghost use Rattle.std.specs.Prelude.{◌≡◌, ◌∷◌, [], List, set, Some, IfOk, IfErr};
+>>>>>>> e461b76a9dfb6556365173cd6d600572fa6cf5ca
 ghost use Rattle.wasm_module.specs.Exports.{ExportParts, EncodesExport};
 ghost use Rattle.wasm_module.specs.Names.{NameParts, EncodesNameAssociation};
 ghost use Rattle.wasm_functions.specs.Items.{IsList};
-ghost use Rattle.wasm_functions.specs.Names.{bytes_of, with_name, with_exports, with_names, ReadsItems, GivesNames, GivesModule};
+ghost use Rattle.wasm_functions.specs.Names.{bytes_of, with_exports, with_names, ReadsItems, GivesNames, GivesModule};
 ghost use Rattle.wasm_functions.specs.Refusals.{ExportsFault};
 
 use crate::fault::ModuleFault;
+use crate::function_name::FunctionName;
 use wasm_module::below::BinaryReader;
 use wasm_module::below::byte_laws::unsigned_numbers;
 use wasm_module::{Export, Name, NameAssociation, module_laws, read_section};
@@ -16,23 +22,32 @@ const MODULE_NAME: u8 = 0;
 
 const FUNCTION_NAMES: u8 = 1;
 
+<<<<<<< HEAD
 fn set_name<'a>(names: &mut Vec<&'a [u8]>, imported: u32, index: u32, name: &'a [u8])
     ensures { bytes_of names.new.items ≡ with_name imported (bytes_of names.old.items) index name.now }
+=======
+/// Sets the name of the function with this index, if the module has it.
+fn set_name<'a>(names: &mut Vec<FunctionName<'a>>, index: u32, name: &'a [u8])
+    ensures { bytes_of names.new.items ≡ set (bytes_of names.old.items) index name.now }
+>>>>>>> e461b76a9dfb6556365173cd6d600572fa6cf5ca
 {
-    if index < imported {
-        return;
-    }
-    let ordinal = (index - imported) as usize;
-    if ordinal < names.len() {
-        names[ordinal] = name;
+    let place = index as usize;
+    if place < names.len() {
+        names[place] = FunctionName::Given(name);
     }
 }
 
+<<<<<<< HEAD
 fn set_exported<'a>(names: &mut Vec<&'a [u8]>, imported: u32, export: &Export<'a>)
     ensures { bytes_of names.new.items ≡ with_exports imported (bytes_of names.old.items) (export.now ∷ []) }
+=======
+/// Sets the name of the exported function, if the export is a function.
+fn set_exported<'a>(names: &mut Vec<FunctionName<'a>>, export: &Export<'a>)
+    ensures { bytes_of names.new.items ≡ with_exports (bytes_of names.old.items) (export.now ∷ []) }
+>>>>>>> e461b76a9dfb6556365173cd6d600572fa6cf5ca
 {
     if export.kind() == FUNCTION {
-        set_name(names, imported, export.index(), export.name());
+        set_name(names, export.index(), export.name());
     }
 }
 
@@ -41,11 +56,10 @@ fn set_exported<'a>(names: &mut Vec<&'a [u8]>, imported: u32, export: &Export<'a
 /// Fails as the number of the exports or an export does.
 pub fn name_exports<'a>(
     contents: BinaryReader<'a>,
-    imported: u32,
-    names: &mut Vec<&'a [u8]>,
+    names: &mut Vec<FunctionName<'a>>,
 ) -> Result<(), ModuleFault>
     ensures ok { IfOk result (λ done. (exports : List ExportParts) × IsList EncodesExport contents.entry exports
-        × (bytes_of names.new.items ≡ with_exports imported (bytes_of names.old.items) exports)) }
+        × (bytes_of names.new.items ≡ with_exports (bytes_of names.old.items) exports)) }
     ensures refused { IfErr result (λ fault. (exports : List ExportParts) → IsList EncodesExport contents.entry exports → ⊥) }
     ensures fault { IfErr result (λ fault. ExportsFault fault contents.entry) }
 {
@@ -58,7 +72,7 @@ pub fn name_exports<'a>(
     };
     for _export in 0..count {
         match Export::read(&mut reader) {
-            Ok(export) => set_exported(names, imported, &export),
+            Ok(export) => set_exported(names, &export),
             Err(e) => return Err(ModuleFault::from(e)),
         }
     }
@@ -66,9 +80,9 @@ pub fn name_exports<'a>(
 }
 
 /// Sets the names of the functions in a subsection, up to an error.
-fn name_associations<'a>(contents: BinaryReader<'a>, imported: u32, names: &mut Vec<&'a [u8]>)
+fn name_associations<'a>(contents: BinaryReader<'a>, names: &mut Vec<FunctionName<'a>>)
     ensures { (given : List NameParts) × ReadsItems EncodesNameAssociation contents.entry given
-        × (bytes_of names.new.items ≡ with_names imported (bytes_of names.old.items) given) }
+        × (bytes_of names.new.items ≡ with_names (bytes_of names.old.items) given) }
 {
     let mut reader = contents;
     let count = match reader.read_var_u32() {
@@ -77,16 +91,16 @@ fn name_associations<'a>(contents: BinaryReader<'a>, imported: u32, names: &mut 
     };
     for _name in 0..count {
         match NameAssociation::read(&mut reader) {
-            Ok(named) => set_name(names, imported, named.index(), named.name()),
+            Ok(named) => set_name(names, named.index(), named.name()),
             Err(_) => return,
         }
     }
 }
 
 /// Sets the names of the functions in the custom section `name`, up to an error.
-pub fn name_functions<'a>(contents: BinaryReader<'a>, imported: u32, names: &mut Vec<&'a [u8]>)
+pub fn name_functions<'a>(contents: BinaryReader<'a>, names: &mut Vec<FunctionName<'a>>)
     ensures { (given : List NameParts) × GivesNames contents.entry given
-        × (bytes_of names.new.items ≡ with_names imported (bytes_of names.old.items) given) }
+        × (bytes_of names.new.items ≡ with_names (bytes_of names.old.items) given) }
 {
     let mut reader = contents;
     'sections: while !reader.eof() {
@@ -95,7 +109,7 @@ pub fn name_functions<'a>(contents: BinaryReader<'a>, imported: u32, names: &mut
             Err(_) => return,
         };
         if section.id() == FUNCTION_NAMES {
-            name_associations(section.contents(), imported, names);
+            name_associations(section.contents(), names);
             return;
         }
     }

@@ -11,11 +11,15 @@ use wasm_module::below::{BinaryReader, WasmFeatures};
 use wasm_module::module_laws::names;
 use wasm_module::{CustomSection, PreambleKind, Section, read_preamble, read_section};
 
-/// Reads the preamble of a module and returns a reader of its sections.
+/// Reads the preamble of a module and returns a reader of its sections, with the offsets of the
+/// module.
 ///
 /// Fails with `NotModule` if the preamble is that of something else, and with `Refused` if the data
 /// ends within it.
-fn open_module<'a>(features: WasmFeatures, bytes: &'a [u8]) -> Result<BinaryReader<'a>, ModuleFault>
+pub fn open_sections<'a>(
+    features: WasmFeatures,
+    bytes: &'a [u8],
+) -> Result<BinaryReader<'a>, ModuleFault>
     ensures ok { IfOk result (λ after. BeginsModule (reader_of features 0 bytes.now) after) }
     ensures refused { IfErr result (λ fault. (after : Reader) → BeginsModule (reader_of features 0 bytes.now) after → ⊥) }
     ensures fault { IfErr result (λ fault. SectionsFault fault (reader_of features 0 bytes.now)) }
@@ -67,7 +71,7 @@ pub fn find_section<'a>(
 {
     unsigned_numbers();
     fixed_numbers();
-    let mut reader = match open_module(features, bytes) {
+    let mut reader = match open_sections(features, bytes) {
         Ok(reader) => reader,
         Err(fault) => return Err(fault),
     };
@@ -121,7 +125,7 @@ pub fn find_names<'a>(
 {
     unsigned_numbers();
     fixed_numbers();
-    let mut reader = match open_module(features, bytes) {
+    let mut reader = match open_sections(features, bytes) {
         Ok(reader) => reader,
         Err(fault) => return Err(fault),
     };

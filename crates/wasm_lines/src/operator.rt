@@ -1,8 +1,9 @@
 ghost use Rattle.std.specs.Prelude.{◌≡◌, ◌++◌, ◌+◌, ◌^◌, ◌<◌, OnOk, IfOk, string_bytes, length, slice_index};
 ghost use Rattle.wasm_lines.specs.Rows.{line_of};
-ghost use Rattle.wasm_lines.specs.Lines.{is_outside, opens, closes, depth_of, depth_after, between};
+ghost use Rattle.wasm_lines.specs.Lines.{shown_name, is_outside, opens, closes, depth_of, depth_after, between};
 ghost use Rattle.wasm_text.specs.Operands.{text_of};
 
+use crate::function::write_name;
 use crate::rows::{begin_line, end_line};
 use std::alloc::AllocError;
 use wasm_text::instr::Operator;
@@ -79,23 +80,30 @@ pub fn bytes_between(bytes: &[u8], start: u64, from: u64, to: u64) -> &[u8]
 }
 
 /// Writes the lines of the operator at `offset`, and returns how many constructs are open after it.
+<<<<<<< HEAD
 /// `depth` are open before it. `bytes` are the operator's bytes.
+=======
+/// `depth` constructs are open before it. `bytes` are the operator's bytes, and start with its
+/// opcode. `callee` is the name of the function that it calls; it may be empty.
+>>>>>>> e461b76a9dfb6556365173cd6d600572fa6cf5ca
 pub fn write_line(
     out: &mut String,
     depth: usize,
     offset: u64,
     bytes: &[u8],
     op: &Operator<'_>,
+    callee: &str,
 ) -> Result<usize, AllocError>
     requires fits { offset + length bytes.now < 2 ^ 64 }
     requires deep { depth + 1 < 2 ^ 64 }
     ensures lines { OnOk result (string_bytes out.new ≡ string_bytes out.old
-        ++ line_of (depth_of (slice_index bytes.now 0) depth) offset bytes.now (text_of op.now)) }
+        ++ line_of (depth_of (slice_index bytes.now 0) depth) offset bytes.now (text_of op.now ++ shown_name callee.now)) }
     ensures after { IfOk result (λ after. after ≡ depth_after (slice_index bytes.now 0) depth) }
 {
     let opcode = opcode_of(bytes);
     begin_line(out, depth_of(opcode, depth), offset, bytes)?;
     write_operator(out, op)?;
+    write_name(out, callee)?;
     end_line(out, offset, bytes)?;
     Ok(depth_after(opcode, depth))
 }

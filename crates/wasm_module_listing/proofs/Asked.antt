@@ -30,15 +30,15 @@ asked_only A B asked given same is requested = subst (λ b. WhereAsked b A B) (s
 pub halts_later : (f : Fault) → IsHalt f → IsLater f
 halts_later (fault.Module _) h = h
 halts_later (fault.NoFunction _) h = h
+halts_later (fault.Section _) h = h
 halts_later (fault.Code _) h = tt
-halts_later fault.Reading h = h
 halts_later fault.Writing h = h
 halts_later fault.Memory h = h
 
 pub later_writes : (f : Fault) → IsLater f → WritesNothing f → ⊥
 later_writes (fault.Module _) h w = h
 later_writes (fault.NoFunction _) h w = h
+later_writes (fault.Section _) h w = h
 later_writes (fault.Code _) h w = w
-later_writes fault.Reading h w = h
 later_writes fault.Writing h w = w
 later_writes fault.Memory h w = w

@@ -30,6 +30,6 @@ pub tabulates_none : {S : Type 0} (reports : S → ℕ → Error → S → Type 
 tabulates_none reports features only bytes (fault.Code e) before after old counts = (counts, refl)
 tabulates_none reports features only bytes (fault.Module f) before after old (refuses, same) = (refuses, same, refl)
 tabulates_none reports features only bytes (fault.NoFunction i) before after old (refuses, same) = (refuses, same, refl)
-tabulates_none reports features only bytes fault.Reading before after old (refuses, same) = (refuses, same, refl)
+tabulates_none reports features only bytes (fault.Section e) before after old (refuses, same) = (refuses, same, refl)
 tabulates_none reports features only bytes fault.Writing before after old counts = tt
 tabulates_none reports features only bytes fault.Memory before after old counts = tt

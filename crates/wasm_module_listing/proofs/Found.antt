@@ -59,11 +59,11 @@ asked_there one_section same_functions Is features only bytes t code o h =
 pub refused_outside : SameFunctions → (Is : Reader → Type 0) (features : WasmFeatures) (only : Option ℕ) (bytes : List ℕ) (f : Fault) →
     RefusesModule features only bytes f → IsModuleOf Is features only bytes → IsOutside f
 refused_outside same_functions Is features only bytes (fault.Module f) refuses h = refuses.1 h.functions h.opens.described
-refused_outside same_functions Is features only bytes (fault.NoFunction index) (is, lacks) h =
+refused_outside same_functions Is features only bytes (fault.NoFunction missing) (is, lacks) h =
     let same = same_functions (reader_of features 0 bytes) h.functions lacks.functions h.opens.described lacks.described in
-    let own : IsOwn h.functions index = subst (λ o. IsThere h.functions o) is h.opens.is_there in
-    absurd (lacks.is_not (same_own h.functions lacks.functions index same.0 same.1 own))
+    let own : IsOwn h.functions missing.index = subst (λ o. IsThere h.functions o) is h.opens.is_there in
+    absurd (lacks.is_not (same_own h.functions lacks.functions missing.index same.0 same.1 own))
+refused_outside same_functions Is features only bytes (fault.Section e) refuses h = absurd refuses
 refused_outside same_functions Is features only bytes (fault.Code e) refuses h = absurd refuses
-refused_outside same_functions Is features only bytes fault.Reading refuses h = absurd refuses
 refused_outside same_functions Is features only bytes fault.Writing refuses h = absurd refuses
 refused_outside same_functions Is features only bytes fault.Memory refuses h = absurd refuses

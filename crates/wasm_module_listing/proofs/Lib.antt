@@ -1,3 +1,4 @@
+pub mod Escaped
 pub mod Bodies
 pub mod Written
 pub mod Added
@@ -10,3 +11,4 @@ pub mod Ended
 pub mod Modules
 pub mod Chosen
 pub mod Texts
+pub mod Shown

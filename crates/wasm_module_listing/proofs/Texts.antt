@@ -8,12 +8,12 @@ use Rattle.wasm_disassembly.specs.declared.fault.DisassemblyFault.TheVariants as
 use Rattle.wasm_disassembly.specs.Faults.{IsHalt}
 use Rattle.wasm_disassembly.specs.Disassembly.{Heading, IsText, Disassembles}
 
-abbrev heading_by : ℕ → List ℕ → ℕ → Heading
-heading_by index name parameters = record { index = index; name = name; parameters = parameters }
+abbrev heading_by : ℕ → List (List ℕ) → ℕ → Heading
+heading_by index names parameters = record { index = index; names = names; parameters = parameters }
 
-pub same_heading : (i j : ℕ) (a b : List ℕ) (n m : ℕ) → i ≡ j → a ≡ b → n ≡ m → heading_by i a n ≡ heading_by j b m
-same_heading i j a b n m index name parameters =
-    ap (λ z. heading_by z a n) index ∙ ap (λ z. heading_by j z n) name ∙ ap (λ z. heading_by j b z) parameters
+pub same_heading : (i j : ℕ) (a b : List (List ℕ)) (n m : ℕ) → i ≡ j → a ≡ b → n ≡ m → heading_by i a n ≡ heading_by j b m
+same_heading i j a b n m index names parameters =
+    ap (λ z. heading_by z a n) index ∙ ap (λ z. heading_by j z n) names ∙ ap (λ z. heading_by j b z) parameters
 
 -- The text with the heading that the module determines.
 pub text_whole : (h k : Heading) (body : Reader) (old new : Option (List ℕ)) → h ≡ k → Disassembles {X = Unit {0}} h (Ok tt) body old new →

@@ -1,3 +1,5 @@
+pub mod Escapes
 pub mod Listing
 pub mod CountTable
 pub mod ModuleCensus
+pub mod Headers

@@ -15,10 +15,12 @@ use Rattle.wasm_disassembly.specs.Disassembly.{Heading, IsText}
 use Rattle.wasm_disassembly.specs.LocalLines.{locals_in}
 use Rattle.wasm_functions.specs.Refusals.{ModuleFunctionsFault}
 use Rattle.wasm_functions.specs.Sections.{IsSection}
-use Rattle.wasm_functions.specs.ModuleFunctions.{ModuleFunctions, DescribesFunctions, IsOwn, index_of, name_at, parameters_at, NamesModule}
+use Rattle.wasm_functions.specs.ModuleFunctions.{ModuleFunctions, DescribesFunctions, IsOwn, index_of, parameters_at, NamesModule}
 use Rattle.wasm_functions.specs.declared.fault.ModuleFault.TheVariants as whole_fault
+use Rattle.wasm_module_listing.specs.Escapes.{escaped, all_escaped}
 use Rattle.wasm_module_listing.specs.declared.fault.Fault.{Fault}
 use Rattle.wasm_module_listing.specs.declared.fault.Fault.TheVariants as fault
+use Rattle.wasm_module_listing.specs.declared.fault.MissingFunction.{MissingFunction}
 
 -- Between the two readers, the bytes encode these bodies, each with its length before it, one after another.
 -- Their offsets are those of the section.
@@ -70,9 +72,9 @@ abbrev pub Reported : {S : Type 0} → (S → ℕ → Error → S → Type 0) �
 Reported reports [] old new = new ≡ old
 Reported {S} reports (r ∷ rs) old new = (mid : S) × reports old r.0 r.1 mid × Reported reports rs mid new
 
--- The heading of the text of the defined function at a place.
+-- The heading of the text of the defined function at a place. Names are escaped.
 abbrev pub heading_at : ModuleFunctions → ℕ → Heading
-heading_at t place = record { index = index_of t place; name = name_at t place; parameters = parameters_at t place }
+heading_at t place = record { index = index_of t place; names = all_escaped t.names; parameters = parameters_at t place }
 
 -- The reports of a body that was read with this result.
 abbrev pub refusals_of : {X : Type 0} → ℕ → Result X Error → Refusals
@@ -121,16 +123,24 @@ ListsFound reports t only (Some contents) result before after old new = ListsCod
 ListsFound reports t only None (Ok whole) before after old new = (whole ≡ true) × (after ≡ before) × Keeps old new
 ListsFound reports t only None (Err f) before after old new = Unit {0}
 
--- The title: the name of the file, and the name of the module, if it has one.
+-- The title: the name of the file, and the name of the module, if it has one. Both are escaped.
 abbrev pub name_line : List ℕ → List ℕ
 name_line [] = []
-name_line (n ∷ ns) = codes "module name: <" ++ ((n ∷ ns) ++ codes ">\n")
+name_line (n ∷ ns) = codes "module name: <" ++ (escaped (n ∷ ns) ++ codes ">\n")
 
 abbrev pub file_line : List ℕ → List ℕ
-file_line file = codes "\n" ++ (file ++ codes ":\tfile format wasm 0x1\n")
+file_line file = codes "\n" ++ (escaped file ++ codes ":\tfile format wasm 0x1\n")
 
 abbrev pub title_of : List ℕ → List ℕ → List ℕ
-title_of file name = file_line file ++ (name_line name ++ codes "\nCode Disassembly:\n\n")
+title_of file name = file_line file ++ name_line name
+
+-- The heading of a listing: the title, unless the file has none because it was written before, and what is listed.
+abbrev pub heading_of : Option (List ℕ) → List ℕ → List ℕ → List ℕ
+heading_of None name listed = listed
+heading_of (Some file) name listed = title_of file name ++ listed
+
+abbrev pub code_heading : List ℕ
+code_heading = codes "\nCode Disassembly:\n\n"
 
 -- All functions are requested, or one that the module defines.
 abbrev pub IsThere : ModuleFunctions → Option ℕ → Type 0
@@ -143,22 +153,24 @@ pub record OpensModule (features : WasmFeatures) (only : Option ℕ) (bytes : Li
   pub is_there : IsThere functions only
   pub is_code : IsSection (reader_of features 0 bytes) 10 code
 
--- The bytes are a module that defines no function with this index.
-pub record LacksFunction (features : WasmFeatures) (bytes : List ℕ) (index : ℕ) : Type 0 where
+-- The bytes are a module that does not define this function, and imports and defines so many.
+pub record LacksFunction (features : WasmFeatures) (bytes : List ℕ) (missing : MissingFunction) : Type 0 where
   pub functions : ModuleFunctions
   pub described : DescribesFunctions (reader_of features 0 bytes) functions
-  pub is_not : IsOwn functions index → ⊥
+  pub is_not : IsOwn functions missing.index → ⊥
+  pub imported : missing.imported ≡ functions.imported
+  pub defined : missing.defined ≡ length functions.types
 
 -- Nothing is written. The functions of the bytes are not known, and this is their fault, or allocation failed;
 -- or the module does not define the one function that is requested.
 abbrev pub RefusesModule : WasmFeatures → Option ℕ → List ℕ → Fault → Type 0
 RefusesModule features only bytes (fault.Module f) =
     ModuleFunctionsFault f (reader_of features 0 bytes) × ((functions : ModuleFunctions) → DescribesFunctions (reader_of features 0 bytes) functions → f ≡ whole_fault.Memory)
-RefusesModule features only bytes (fault.NoFunction index) = (only ≡ Some index) × LacksFunction features bytes index
+RefusesModule features only bytes (fault.NoFunction missing) = (only ≡ Some missing.index) × LacksFunction features bytes missing
 RefusesModule features only bytes _ = ⊥
 
--- A module is written: a title with its name, followed by the functions of its code section.
-pub record WritesModule {S : Type 0} (reports : S → ℕ → Error → S → Type 0) (features : WasmFeatures) (only : Option ℕ) (file bytes : List ℕ)
+-- A module is written: a title with its name, unless that was written before, and the functions of its code section.
+pub record WritesModule {S : Type 0} (reports : S → ℕ → Error → S → Type 0) (features : WasmFeatures) (only : Option ℕ) (file : Option (List ℕ)) (bytes : List ℕ)
     (result : Result Bool Fault) (before after : S) (old new : Option (List ℕ)) : Type 0 where
   pub functions : ModuleFunctions
   pub code : Option Reader
@@ -166,12 +178,12 @@ pub record WritesModule {S : Type 0} (reports : S → ℕ → Error → S → Ty
   pub name : List ℕ
   pub is_name : NamesModule (reader_of features 0 bytes) name
   pub titled : Option (List ℕ)
-  pub title : Appends old titled (title_of file name)
+  pub title : Appends old titled (heading_of file name code_heading)
   pub lists : ListsFound reports functions only code result before after titled new
 
 -- The disassembly of a module: it is written, or its code section is in error after the functions that were written, or nothing is written.
 -- If writing failed, or allocation after the start, nothing is said here.
-abbrev pub ListsModule : {S : Type 0} → (S → ℕ → Error → S → Type 0) → WasmFeatures → Option ℕ → List ℕ → List ℕ → Result Bool Fault → S → S →
+abbrev pub ListsModule : {S : Type 0} → (S → ℕ → Error → S → Type 0) → WasmFeatures → Option ℕ → Option (List ℕ) → List ℕ → Result Bool Fault → S → S →
     Option (List ℕ) → Option (List ℕ) → Type 0
 ListsModule reports features only file bytes (Ok whole) before after old new = WritesModule reports features only file bytes (Ok whole) before after old new
 ListsModule reports features only file bytes (Err (fault.Code e)) before after old new =
@@ -201,7 +213,7 @@ pub record IsModuleOf (Is : Reader → Type 0) (features : WasmFeatures) (only :
   pub opens : OpensModule features only bytes functions code
   pub bodies : HasAsked Is functions only code
 
--- The faults before anything is written.
+-- The faults of a module in which nothing is listed: its functions are not known, or it does not define the requested function.
 abbrev pub WritesNothing : Fault → Type 0
 WritesNothing (fault.Module _) = Unit {0}
 WritesNothing (fault.NoFunction _) = Unit {0}
@@ -233,4 +245,5 @@ status_of (fault.Module whole_fault.Memory) = 3
 status_of (fault.Module _) = 1
 status_of (fault.Code _) = 1
 status_of (fault.NoFunction _) = 1
+status_of (fault.Section _) = 1
 status_of _ = 3

@@ -1,15 +1,17 @@
 //! The texts of the functions of a code section.
-ghost use Rattle.std.specs.Prelude.{◌≡◌, true, List, ℕ, IsOk, IfOk, IfErr};
+ghost use Rattle.std.specs.Prelude.{◌≡◌, true, List, ℕ, IsOk, IfOk, IfErr, map, string_bytes};
 ghost use Rattle.std.specs.Io.KnownBytes.{Appends, Keeps};
 ghost use Rattle.wasm_disassembly.specs.Disassembly.{IsText};
 ghost use Rattle.wasm_disassembly.specs.operators.below.Source.{Reader};
 ghost use Rattle.wasm_functions.specs.ModuleFunctions.{index_of};
+ghost use Rattle.wasm_module_listing.specs.Escapes.{all_escaped};
 ghost use Rattle.wasm_module_listing.specs.Listing.{is_asked, are_none, heading_at, Refusals, Reported, WhereAsked, IsWritten};
 ghost use Rattle.wasm_module_listing.specs.Listing.{IsCode, ListsCode, IsFunction, AreAsked, Succeeds, IsHalt, IsLater};
 
 use crate::code_laws;
 use crate::complaints::Complaints;
 use crate::fault::Fault;
+use crate::names::shown_names;
 use std::alloc::Global;
 use std::io::Write;
 use wasm_disassembly::operators::{BinaryReader, CodeSectionReader, Error, FunctionBody};
@@ -17,23 +19,24 @@ use wasm_disassembly::{DisassemblyFault, disassemble};
 use wasm_functions::Functions;
 
 /// Writes the text of the function at a place, a line at a time, and returns the result of reading
-/// it.
+/// it. `names` are the escaped names of all functions.
 fn list_function<W: Write>(
     alloc: Global,
     functions: &Functions<'_>,
+    names: &[String],
     place: u32,
     body: &FunctionBody<'_>,
     writer: &mut W,
 ) -> Result<Result<(), Error>, Fault>
+    requires { map string_bytes names.now ≡ all_escaped functions.now.names }
     ensures lists { IfOk result (λ outcome. (text : List ℕ) × Appends (W.contents writer.old) (W.contents writer.new) text
         × IsText (heading_at functions.now place) outcome body.now text) }
     ensures whole { IfOk result (λ outcome. IsFunction body.now → IsOk outcome) }
     ensures halts { IfErr result (λ fault. IsHalt fault) }
 {
     let index = functions.index(place);
-    let name = functions.name(place);
     let parameters = functions.parameters(place);
-    match disassemble(alloc, writer, index, name, parameters, body) {
+    match disassemble(alloc, writer, index, names, parameters, body) {
         Ok(()) => Ok(Ok(())),
         Err(DisassemblyFault::Refused(e)) => Ok(Err(e)),
         Err(DisassemblyFault::Memory) => Err(Fault::Memory),
@@ -76,12 +79,14 @@ pub fn is_asked(only: Option<u32>, index: u32) -> bool
 fn list_asked<W: Write, C: Complaints>(
     alloc: Global,
     functions: &Functions<'_>,
+    names: &[String],
     only: Option<u32>,
     place: u32,
     body: &FunctionBody<'_>,
     writer: &mut W,
     complaints: &mut C,
 ) -> Result<bool, Fault>
+    requires { map string_bytes names.now ≡ all_escaped functions.now.names }
     ensures lists { IfOk result (λ whole. (reported : Refusals) × (text : List ℕ)
         × Appends (W.contents writer.old) (W.contents writer.new) text
         × IsWritten functions.now only place body.now reported text
@@ -94,7 +99,7 @@ fn list_asked<W: Write, C: Complaints>(
     if !is_asked(only, index) {
         return Ok(true);
     }
-    let outcome = match list_function(alloc, functions, place, body, writer) {
+    let outcome = match list_function(alloc, functions, names, place, body, writer) {
         Ok(outcome) => outcome,
         Err(fault) => return Err(fault),
     };
@@ -133,6 +138,9 @@ pub fn list_code<W: Write, C: Complaints>(
         Ok(section) => section,
         Err(e) => return Err(Fault::Code(e)),
     };
+    let Ok(names) = shown_names(alloc, functions) else {
+        return Err(Fault::Memory);
+    };
     let mut items = section.into_iter();
     let mut place: u32 = 0;
     let mut whole = true;
@@ -141,7 +149,16 @@ pub fn list_code<W: Write, C: Complaints>(
             Ok(body) => body,
             Err(e) => return Err(Fault::Code(e)),
         };
-        let one = match list_asked(alloc, functions, only, place, &body, writer, complaints) {
+        let one = match list_asked(
+            alloc,
+            functions,
+            names.as_slice(),
+            only,
+            place,
+            &body,
+            writer,
+            complaints,
+        ) {
             Ok(one) => one,
             Err(fault) => return Err(fault),
         };

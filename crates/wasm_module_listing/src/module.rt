@@ -1,65 +1,90 @@
 //! The disassembly and the operator counts of a module.
-ghost use Rattle.std.specs.Prelude.{◌≡◌, ◌++◌, IfErr, OnOk, string_bytes};
+ghost use Rattle.std.specs.Prelude.{◌≡◌, ◌++◌, IfErr, OnOk, option_map, string_bytes};
 ghost use Rattle.std.specs.Io.KnownBytes.{Appends};
-ghost use Rattle.wasm_module_listing.specs.Listing.{file_line, name_line, title_of, IsHalt, ListsModule, IsModuleOf, IsFunction, Succeeds, WritesNothing};
+ghost use Rattle.wasm_module_listing.specs.Listing.{file_line, name_line, heading_of, IsHalt, ListsModule, IsModuleOf, IsFunction, Succeeds, WritesNothing};
+ghost use Rattle.wasm_module_listing.specs.Headers.{ListsHeaders};
 ghost use Rattle.wasm_module_listing.specs.ModuleCensus.{CountsModule, IsCounted, CountsAll};
 
 use crate::complaints::Complaints;
 use crate::counts::{ModuleCounts, count_code};
 use crate::fault::Fault;
+use crate::headers::list_sections;
 use crate::listing::list_code;
+use crate::names::write_escaped;
 use crate::opened::open_module;
 use crate::writing::write_text;
 use std::alloc::{AllocError, Global};
 use std::io::Write;
 use wasm_disassembly::operators::WasmFeatures;
-use wasm_functions::{function_laws, module_name};
+use wasm_functions::{function_laws, module_name, open_sections};
+
+/// The heading of the functions.
+const CODE_HEADING: &str = "\nCode Disassembly:\n\n";
+
+/// The heading of the sections.
+const SECTIONS_HEADING: &str = "\nSections:\n\n";
 
 /// Appends the line with the name of a module, if it has one.
-fn push_name(out: &mut String, name: &str) -> Result<(), AllocError>
+fn push_name(alloc: Global, out: &mut String, name: &[u8]) -> Result<(), AllocError>
     ensures { OnOk result (string_bytes out.new ≡ string_bytes out.old ++ name_line name.now) }
 {
     if name.is_empty() {
         return Ok(());
     }
     out.push_str("module name: <")?;
-    out.push_str(name)?;
+    write_escaped(alloc, out, name)?;
     out.push_str(">\n")
 }
 
 /// Appends the line with the name of a file.
-fn push_file(out: &mut String, file: &str) -> Result<(), AllocError>
+fn push_file(alloc: Global, out: &mut String, file: &str) -> Result<(), AllocError>
     ensures { OnOk result (string_bytes out.new ≡ string_bytes out.old ++ file_line file.now) }
 {
     out.push_str("\n")?;
-    out.push_str(file)?;
+    write_escaped(alloc, out, file.as_bytes())?;
     out.push_str(":\tfile format wasm 0x1\n")
 }
 
-/// Appends a title.
-fn push_title(out: &mut String, file: &str, name: &str) -> Result<(), AllocError>
-    ensures { OnOk result (string_bytes out.new ≡ string_bytes out.old ++ title_of file.now name.now) }
+/// Appends the heading of a listing: a title, unless `file` is `None`, and what is listed.
+fn push_heading(
+    alloc: Global,
+    out: &mut String,
+    file: Option<&str>,
+    name: &[u8],
+    listed: &str,
+) -> Result<(), AllocError>
+    ensures { OnOk result (string_bytes out.new ≡ string_bytes out.old ++ heading_of (option_map (λ text. text.now) file.entry) name.now listed.now) }
 {
-    push_file(out, file)?;
-    push_name(out, name)?;
-    out.push_str("\nCode Disassembly:\n\n")
+    if let Some(file) = file {
+        push_file(alloc, out, file)?;
+        push_name(alloc, out, name)?;
+    }
+    out.push_str(listed)
 }
 
-/// Writes the title: the name of the file, and the name of the module, if it has one.
-fn write_title<W: Write>(alloc: Global, file: &str, name: &str, writer: &mut W) -> Result<(), Fault>
-    ensures ok { OnOk result (Appends (W.contents writer.old) (W.contents writer.new) (title_of file.now name.now)) }
+/// Writes the heading of a listing.
+fn write_heading<W: Write>(
+    alloc: Global,
+    file: Option<&str>,
+    name: &[u8],
+    listed: &str,
+    writer: &mut W,
+) -> Result<(), Fault>
+    ensures ok { OnOk result (Appends (W.contents writer.old) (W.contents writer.new)
+        (heading_of (option_map (λ text. text.now) file.entry) name.now listed.now)) }
     ensures err { IfErr result (λ fault. IsHalt fault) }
 {
-    let mut title = String::new(alloc);
-    if push_title(&mut title, file, name).is_err() {
+    let mut heading = String::new(alloc);
+    if push_heading(alloc, &mut heading, file, name, listed).is_err() {
         return Err(Fault::Memory);
     }
-    write_text(writer, title.as_str())
+    write_text(writer, heading.as_str())
 }
 
-/// Writes the disassembly of a module: a title with the name of its file, and the texts of the
-/// functions of its code section, or of the function with an index. Returns whether none of them
-/// has an error. Reports each function with an error, and goes on with the others.
+/// Writes the disassembly of a module: a title with the name of its file, unless `file` is `None`,
+/// and the texts of the functions of its code section, or of the function with an index. Returns
+/// whether none of them has an error. Reports each function with an error, and goes on with the
+/// others.
 ///
 /// On `Module` and `NoFunction` nothing is written. Fails with `Code` if the code section is in
 /// error, after the functions before the error.
@@ -67,12 +92,12 @@ pub fn list_module<W: Write, C: Complaints>(
     alloc: Global,
     features: WasmFeatures,
     only: Option<u32>,
-    file: &str,
+    file: Option<&str>,
     bytes: &[u8],
     writer: &mut W,
     complaints: &mut C,
 ) -> Result<bool, Fault>
-    ensures lists { ListsModule C.reports features only file.now bytes.now result complaints.old complaints.new
+    ensures lists { ListsModule C.reports features only (option_map (λ text. text.now) file.entry) bytes.now result complaints.old complaints.new
         (W.contents writer.old) (W.contents writer.new) }
     // If each requested function has a body within the limit of locals, the result is `Ok(true)`,
     // unless writing or allocation fails.
@@ -85,7 +110,13 @@ pub fn list_module<W: Write, C: Complaints>(
         Ok(opened) => opened,
         Err(fault) => return Err(fault),
     };
-    match write_title(alloc, file, module_name(features, bytes), writer) {
+    match write_heading(
+        alloc,
+        file,
+        module_name(features, bytes),
+        CODE_HEADING,
+        writer,
+    ) {
         Ok(()) => {}
         Err(fault) => return Err(fault),
     }
@@ -93,6 +124,39 @@ pub fn list_module<W: Write, C: Complaints>(
         Some(code) => list_code(alloc, &functions, code, only, writer, complaints),
         None => Ok(true),
     }
+}
+
+/// Writes the sections of a module: a title with the name of its file, unless `file` is `None`, and
+/// a line for each section.
+///
+/// Fails with `Module` if the bytes do not start with the preamble of a module; nothing is then
+/// written. Fails with `Section` at a section that can't be read, after the lines of the sections
+/// before it.
+pub fn list_headers<W: Write>(
+    alloc: Global,
+    features: WasmFeatures,
+    file: Option<&str>,
+    bytes: &[u8],
+    writer: &mut W,
+) -> Result<(), Fault>
+    ensures { ListsHeaders features (option_map (λ text. text.now) file.entry) bytes.now result
+        (W.contents writer.old) (W.contents writer.new) }
+{
+    let sections = match open_sections(features, bytes) {
+        Ok(sections) => sections,
+        Err(fault) => return Err(Fault::Module(fault)),
+    };
+    match write_heading(
+        alloc,
+        file,
+        module_name(features, bytes),
+        SECTIONS_HEADING,
+        writer,
+    ) {
+        Ok(()) => {}
+        Err(fault) => return Err(fault),
+    }
+    list_sections(alloc, sections, writer)
 }
 
 /// Counts the operators of a module by proposal, or those of the function with an index. Reports

@@ -1,10 +1,10 @@
 //! The functions of a module, and the place of their bodies.
-ghost use Rattle.std.specs.Prelude.{◌≡◌, Some, MatchOption, IfOk, IfErr};
+ghost use Rattle.std.specs.Prelude.{◌≡◌, Some, MatchOption, IfOk, IfErr, length};
 ghost use Rattle.wasm_disassembly.specs.operators.below.Source.{reader_of};
 ghost use Rattle.wasm_functions.specs.ModuleFunctions.{IsOwn};
 ghost use Rattle.wasm_module_listing.specs.Listing.{IsThere, OpensModule, RefusesModule};
 
-use crate::fault::Fault;
+use crate::fault::{Fault, MissingFunction};
 use std::alloc::Global;
 use wasm_disassembly::operators::{BinaryReader, WasmFeatures};
 use wasm_functions::{Functions, find_section};
@@ -12,10 +12,11 @@ use wasm_functions::{Functions, find_section};
 /// The number of the code section.
 const CODE: u8 = 10;
 
-/// Returns the requested index if the module defines no function with it.
-fn lacking(functions: &Functions<'_>, only: Option<u32>) -> Option<u32>
+/// Returns the requested function if the module does not define it.
+fn lacking(functions: &Functions<'_>, only: Option<u32>) -> Option<MissingFunction>
     ensures { MatchOption result (IsThere functions.now only)
-        (λ index. (only ≡ Some index) × (IsOwn functions.now index → ⊥)) }
+        (λ missing. (only ≡ Some missing.index) × (IsOwn functions.now missing.index → ⊥)
+        × (missing.imported ≡ functions.now.imported) × (missing.defined ≡ length functions.now.types)) }
 {
     match only {
         None => None,
@@ -23,7 +24,11 @@ fn lacking(functions: &Functions<'_>, only: Option<u32>) -> Option<u32>
             if functions.has(index) {
                 None
             } else {
-                Some(index)
+                Some(MissingFunction {
+                    index,
+                    imported: functions.imported(),
+                    defined: functions.defined(),
+                })
             }
         }
     }
@@ -46,8 +51,8 @@ pub fn open_module<'a>(
         Ok(functions) => functions,
         Err(fault) => return Err(Fault::Module(fault)),
     };
-    if let Some(index) = lacking(&functions, only) {
-        return Err(Fault::NoFunction(index));
+    if let Some(missing) = lacking(&functions, only) {
+        return Err(Fault::NoFunction(missing));
     }
     match find_section(features, bytes, CODE) {
         Ok(code) => Ok((functions, code)),

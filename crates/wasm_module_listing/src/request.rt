@@ -1,5 +1,5 @@
 //! The output of the program for a module.
-ghost use Rattle.std.specs.Prelude.{◌≡◌, IfErr};
+ghost use Rattle.std.specs.Prelude.{◌≡◌, IfErr, option_map};
 ghost use Rattle.std.specs.Bool.{OnTrue, OnFalse};
 ghost use Rattle.wasm_module_listing.specs.Listing.{IsFunction, IsModuleOf, ListsModule, Succeeds, WritesNothing};
 ghost use Rattle.wasm_module_listing.specs.ModuleCensus.{IsCounted, TabulatesModule};
@@ -24,13 +24,14 @@ pub struct ModuleRequest {
 }
 
 /// Writes the disassembly of a module, or its operator counts as a table. Returns whether none of
-/// its functions has an error. Reports each function with an error.
+/// its functions has an error. Reports each function with an error. `file` is the name in the title
+/// of the disassembly, which has no title if `file` is `None`.
 ///
 /// Fails as `list_module` and `count_module` do. On `Module` and `NoFunction` nothing is written.
 pub fn run<W: Write, C: Complaints>(
     alloc: Global,
     requested: ModuleRequest,
-    file: &str,
+    file: Option<&str>,
     bytes: &[u8],
     writer: &mut W,
     complaints: &mut C,
@@ -39,7 +40,7 @@ pub fn run<W: Write, C: Complaints>(
         (TabulatesModule C.reports requested.features requested.function bytes.now result complaints.old complaints.new
         (W.contents writer.old) (W.contents writer.new)) }
     ensures lists { OnFalse requested.census
-        (ListsModule C.reports requested.features requested.function file.now bytes.now result complaints.old complaints.new
+        (ListsModule C.reports requested.features requested.function (option_map (λ text. text.now) file.entry) bytes.now result complaints.old complaints.new
         (W.contents writer.old) (W.contents writer.new)) }
     // If each requested function has a body (in a listing, within the limit of locals), the result
     // is `Ok(true)`, unless writing or allocation fails.

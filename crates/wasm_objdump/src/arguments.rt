@@ -1,109 +1,251 @@
 //! The arguments of the program.
 
+use std::alloc::Global;
+use std::fmt;
+use wasm_module_listing::features_of;
 use wasm_module_listing::operators::WasmFeatures;
-use wasm_module_listing::{ModuleRequest, features_of};
 
-/// The options that the arguments give.
+/// The functions that are requested.
+#[derive(Debug, Drop)]
+pub enum Choice {
+    /// All functions that the module defines.
+    All,
+    /// The function with this index.
+    Index(u32),
+    /// The first function with this name.
+    Name(String),
+}
+
+/// The request that the arguments make.
 #[derive(Debug, Drop)]
 pub struct Options {
-    /// The part of the module that is requested.
-    pub requested: ModuleRequest,
-    /// The path of the module, unless it is read from standard input.
-    pub file: Option<String>,
+    /// Whether the sections are listed.
+    pub headers: bool,
+    /// Whether the functions are disassembled.
+    pub functions: bool,
+    /// Whether the operators are counted, in place of both.
+    pub census: bool,
+    /// The functions that are disassembled or counted.
+    pub function: Choice,
+    /// The features that the functions are read with.
+    pub features: WasmFeatures,
+    /// The paths of the modules. The path `-` is standard input.
+    pub files: Vec<String>,
+}
+
+/// Why the arguments are wrong.
+#[derive(Debug, Drop)]
+pub enum Mistake {
+    /// An argument is no option of this program.
+    Unknown(String),
+    /// An option of `wasm-objdump` that this program does not have.
+    Unsupported(String),
+    /// The last option lacks its value.
+    NoValue(&'static str),
+    /// The value of `--features` names no features.
+    NoFeatures(String),
+    /// An argument is not UTF-8.
+    NotText,
+    /// Allocation failed.
+    Memory,
+}
+
+impl fmt::Display for Mistake {
+    fn fmt<W: fmt::Write>(&self, f: &mut fmt::Formatter<W>) -> fmt::Result {
+        match self {
+            Mistake::Unknown(word) => write!(f, "unknown option: {word}"),
+            Mistake::Unsupported(word) => write!(f, "not supported: {word}"),
+            Mistake::NoValue(word) => write!(f, "{word} needs a value"),
+            Mistake::NoFeatures(word) => write!(f, "unknown features: {word}"),
+            Mistake::NotText => f.write_str("an argument is not UTF-8"),
+            Mistake::Memory => f.write_str("out of memory"),
+        }
+    }
 }
 
 /// The meaning of all arguments.
 #[derive(Debug, Drop)]
 pub enum Words {
     Help,
+    Version,
     Options(Options),
-    Bad,
+    Mistake(Mistake),
 }
 
-/// What the argument before determines about the next one.
+/// What the arguments so far determine about the next one.
 #[derive(Clone, Copy, Debug, PartialEq, Eq)]
 enum Next {
     Any,
     Function,
     Features,
+    File,
+    Help,
+    Version,
 }
 
-/// Reads one argument: the value of the option before it, or an option or path. Returns `None` if
-/// it is neither.
-fn read_word(options: Options, next: Next, word: String) -> Option<(Options, Next)> {
-    let mut read = options;
+/// Reads the value of `--function`: an index, in decimal or after `0x` in hexadecimal, or a name.
+fn choice_of(word: String) -> Choice {
+    let index = match word.as_str().strip_prefix("0x") {
+        Some(digits) => u32::from_str_radix(digits, 16),
+        None => word.as_str().parse::<u32>(),
+    };
+    match index {
+        Ok(index) => Choice::Index(index),
+        Err(_) => Choice::Name(word),
+    }
+}
+
+/// Reads the value of an option that takes one.
+fn read_value(mut options: Options, next: Next, word: String) -> Result<Options, Mistake> {
     match next {
-        Next::Function => match word.as_str().parse::<u32>() {
-            Ok(index) => {
-                read.requested.function = Some(index);
-                Some((read, Next::Any))
-            }
-            Err(_) => None,
-        },
         Next::Features => match features_of(Some(word.as_str())) {
             Some(features) => {
-                read.requested.features = features;
-                Some((read, Next::Any))
+                options.features = features;
+                Ok(options)
             }
-            None => None,
+            None => Err(Mistake::NoFeatures(word)),
         },
-        Next::Any => read_option(read, word),
+        _ => {
+            options.function = choice_of(word);
+            Ok(options)
+        }
     }
 }
 
-/// Reads an argument that is not the value of an option.
-fn read_option(options: Options, word: String) -> Option<(Options, Next)> {
-    let mut read = options;
-    if word.as_str() == "--census" {
-        read.requested.census = true;
-        return Some((read, Next::Any));
+/// Adds a path to the files.
+fn with_file(mut options: Options, word: String) -> Result<Options, Mistake> {
+    match options.files.push(word) {
+        Ok(()) => Ok(options),
+        Err(_) => Err(Mistake::Memory),
     }
-    if word.as_str() == "--function" {
-        return Some((read, Next::Function));
+}
+
+/// Reads one argument. What was read before determines its meaning.
+fn read_word(
+    alloc: Global,
+    options: Options,
+    next: Next,
+    word: String,
+) -> Result<(Options, Next), Mistake> {
+    match next {
+        Next::Help | Next::Version => Ok((options, next)),
+        Next::File => Ok((with_file(options, word)?, Next::File)),
+        Next::Function | Next::Features => Ok((read_value(options, next, word)?, Next::Any)),
+        Next::Any => {
+            if word.as_str() == "-" || !word.as_str().starts_with('-') {
+                Ok((with_file(options, word)?, Next::Any))
+            } else if word.as_str().starts_with("--") {
+                read_long(alloc, options, word)
+            } else {
+                Ok((read_short(options, word)?, Next::Any))
+            }
+        }
     }
-    if word.as_str() == "--features" {
-        return Some((read, Next::Features));
+}
+
+/// Reads an option that starts with two dashes.
+fn read_long(
+    alloc: Global,
+    mut options: Options,
+    word: String,
+) -> Result<(Options, Next), Mistake> {
+    let next = match word.as_str() {
+        "--" => Next::File,
+        "--help" => Next::Help,
+        "--version" => Next::Version,
+        "--function" => Next::Function,
+        "--features" => Next::Features,
+        "--disassemble" => {
+            options.functions = true;
+            Next::Any
+        }
+        "--headers" => {
+            options.headers = true;
+            Next::Any
+        }
+        "--census" => {
+            options.census = true;
+            Next::Any
+        }
+        "--details"
+        | "--full-contents"
+        | "--section"
+        | "--reloc"
+        | "--debug"
+        | "--section-offsets" => return Err(Mistake::Unsupported(word)),
+        _ => return Ok((read_assigned(alloc, options, word)?, Next::Any)),
+    };
+    Ok((options, next))
+}
+
+/// Reads an option with its value after `=`.
+fn read_assigned(alloc: Global, options: Options, word: String) -> Result<Options, Mistake> {
+    let Some((option, value)) = word.as_str().split_once('=') else {
+        return Err(Mistake::Unknown(word));
+    };
+    let next = match option {
+        "--function" => Next::Function,
+        "--features" => Next::Features,
+        _ => return Err(Mistake::Unknown(word)),
+    };
+    match String::from_str(alloc, value) {
+        Ok(value) => read_value(options, next, value),
+        Err(_) => Err(Mistake::Memory),
     }
-    if read.file.is_some() || word.as_str().starts_with("--") {
-        return None;
+}
+
+/// Reads an argument that starts with one dash: the letter of an option, or the letters of several.
+fn read_short(mut options: Options, word: String) -> Result<Options, Mistake> {
+    for letter in word.as_str().chars().skip(1) {
+        match letter {
+            'd' => options.functions = true,
+            'h' => options.headers = true,
+            'x' | 's' | 'j' | 'r' => return Err(Mistake::Unsupported(word)),
+            _ => return Err(Mistake::Unknown(word)),
+        }
     }
-    read.file = Some(word);
-    Some((read, Next::Any))
+    Ok(options)
+}
+
+/// Returns the request of the arguments, with standard input if they name no file.
+fn finished(alloc: Global, mut options: Options) -> Words {
+    options.functions |= !options.headers;
+    if options.files.is_empty() {
+        let Ok(input) = String::from_str(alloc, "-") else {
+            return Words::Mistake(Mistake::Memory);
+        };
+        if options.files.push(input).is_err() {
+            return Words::Mistake(Mistake::Memory);
+        }
+    }
+    Words::Options(options)
 }
 
 /// Reads the arguments after the program's name.
-pub fn read_words(words: Vec<String>) -> Words {
+pub fn read_words(alloc: Global, words: Vec<String>) -> Words {
     let mut read = Options {
-        requested: ModuleRequest {
-            census: false,
-            function: None,
-            features: features_of(None).unwrap_or(WasmFeatures::none()),
-        },
-        file: None,
+        headers: false,
+        functions: false,
+        census: false,
+        function: Choice::All,
+        features: features_of(None).unwrap_or(WasmFeatures::none()),
+        files: Vec::new(alloc),
     };
     let mut next = Next::Any;
     for word in words {
-        if word.as_str() == "--help" {
-            return Words::Help;
-        }
-        match read_word(read, next, word) {
-            Some((options, after)) => {
+        match read_word(alloc, read, next, word) {
+            Ok((options, after)) => {
                 read = options;
                 next = after;
             }
-            None => return Words::Bad,
+            Err(mistake) => return Words::Mistake(mistake),
         }
     }
     match next {
-        Next::Any => Words::Options(read),
-        _ => Words::Bad,
-    }
-}
-
-/// Returns the last part of a path, after its last slash.
-pub fn last_part(path: &str) -> &str {
-    match path.rsplit_once('/') {
-        Some((_, name)) => name,
-        None => path,
+        Next::Help => Words::Help,
+        Next::Version => Words::Version,
+        Next::Function => Words::Mistake(Mistake::NoValue("--function")),
+        Next::Features => Words::Mistake(Mistake::NoValue("--features")),
+        Next::Any | Next::File => finished(alloc, read),
     }
 }

@@ -1,48 +1,69 @@
-//! Disassembles the functions of a WebAssembly module in the form of `wasm-objdump -d` of wabt, or
-//! counts its operators by proposal.
+//! Lists the sections of WebAssembly modules and disassembles their functions in the form of
+//! `wasm-objdump` of wabt, or counts their operators by proposal.
 //!
-//! The main theorem is the contract of `run` of `wasm_module_listing`, which holds for any writer.
+//! The main theorems are the contracts of `run` and `list_headers` of `wasm_module_listing`, which
+//! hold for any writer.
 #![tactic(auto)]
 
 mod arguments;
 mod input;
+mod output;
 mod printed;
 
-use crate::arguments::{Options, Words, last_part, read_words};
+use crate::arguments::{Choice, Mistake, Options, Words, read_words};
 use crate::input::read_module;
-use crate::printed::Printed;
+use crate::output::Watched;
+use crate::printed::{OUTSIDE, Printed, without_number};
 use std::env::Env;
 use std::io::{BufWriter, Write};
 use std::process::ExitCode;
 use std::{env, io};
-use wasm_module_listing::{Fault, run};
+use wasm_module_listing::functions::Functions;
+use wasm_module_listing::{Fault, ModuleRequest, function_named, list_headers, run};
 
-const HELP: &str = "wasm_objdump [--census] [--function N] [--features WORD] [FILE]
+const HELP: &str = "Usage: wasm_objdump [OPTION].. [FILE]..
 
-Disassembles the functions of a WebAssembly module: of FILE, else of standard input.
+Lists the sections of WebAssembly modules and disassembles their functions. Reads standard input if
+no FILE is given, and for a FILE that is `-`.
 
---census         counts the operators by proposal in their place
---function N     only the function with index N
---features WORD  all (also when absent), none, or names joined by |: MULTI_MEMORY, MEMORY64,
-                 CALL_INDIRECT_OVERLONG, LEGACY_EXCEPTIONS, ACQUIRE_RELEASE_ATOMICS,
-                 MULTIBYTE_ARRAY_ACCESS
---help           this text
+  -h, --headers        list the sections
+  -d, --disassemble    disassemble the functions; the default without -h
+      --census         count the operators by proposal, in place of -h and -d
+      --function F     only the function with index F, such as 3 or 0x3, or with the name F
+      --features WORD  all (the default), none, or names joined by |: MULTI_MEMORY, MEMORY64,
+                       CALL_INDIRECT_OVERLONG, LEGACY_EXCEPTIONS, ACQUIRE_RELEASE_ATOMICS,
+                       MULTIBYTE_ARRAY_ACCESS
+      --help           print this text
+      --version        print the version
+      --               treat the other arguments as files
 
-Ends with 0; with 1 where a function, the module or its code section is refused, or it has no function N;
-with 2 where these words are others; with 3 where a file or memory fails.
+The exit status is 0 if all is written, and 1 if a module or a function has an error, or if a module
+does not define function F. It is 2 if an argument is wrong, and 3 if input, output or allocation
+fails. For several files it is the largest. It is 141 if the output is a closed pipe.
 ";
+
+const VERSION: &str = "wasm_objdump 0.263.0\n";
 
 /// The capacity of the output buffer in bytes.
 const WRITTEN: usize = 0x1_0000;
 
-/// Returns the arguments after the program's name, or `None` if one of them is not UTF-8.
-fn words_of<R: Env + AllocGlobal>(rt: &R) -> Result<Option<Vec<String>>, Fault> {
+/// The exit status if an argument is wrong.
+const USAGE: u8 = 2;
+
+/// The exit status that shells report for a program that the signal SIGPIPE ends.
+const CLOSED_PIPE: u8 = 141;
+
+/// Standard output, with a buffer.
+type Output<'a> = Watched<BufWriter<io::Printer<'a, HostRuntime>>>;
+
+/// Returns the arguments after the program's name.
+fn words_of<R: Env + AllocGlobal>(rt: &R) -> Result<Vec<String>, Mistake> {
     let mut args = match env::args(rt) {
         Ok(args) => args,
         Err(error) => {
             return match error.kind() {
-                io::ErrorKind::OutOfMemory => Err(Fault::Memory),
-                _ => Ok(None),
+                io::ErrorKind::OutOfMemory => Err(Mistake::Memory),
+                _ => Err(Mistake::NotText),
             };
         }
     };
@@ -50,68 +71,192 @@ fn words_of<R: Env + AllocGlobal>(rt: &R) -> Result<Option<Vec<String>>, Fault> 
     let mut words = Vec::new(rt.alloc());
     for word in args {
         if words.push(word).is_err() {
-            return Err(Fault::Memory);
+            return Err(Mistake::Memory);
         }
     }
-    Ok(Some(words))
+    Ok(words)
 }
 
-/// Reads the module and writes what the options request.
-fn write_module(rt: &HostRuntime, options: &Options) -> Result<bool, Fault> {
-    let bytes = read_module(rt, &options.file)?;
-    let file = match &options.file {
-        Some(path) => last_part(path.as_str()),
-        None => "<stdin>",
-    };
-    let Ok(mut writer) = BufWriter::with_capacity(rt.alloc(), WRITTEN, io::writer(rt)) else {
-        return Err(Fault::Memory);
-    };
-    let outcome = run(
-        rt.alloc(),
-        options.requested,
-        file,
-        bytes.as_slice(),
-        &mut writer,
-        &mut Printed::new(rt),
-    );
-    if writer.flush().is_err() {
-        return Err(Fault::Writing);
+/// Returns the name of a path in messages and titles.
+fn shown_path(path: &str) -> &str {
+    if path == "-" { "<stdin>" } else { path }
+}
+
+/// Returns the last part of a path, after its last slash.
+fn last_part(path: &str) -> &str {
+    match path.rsplit_once('/') {
+        Some((_, name)) => name,
+        None => path,
     }
-    outcome
 }
 
-/// Reports a fault on standard error, and returns the program's exit status.
-fn complain(rt: &HostRuntime, file: &Option<String>, fault: Fault) -> ExitCode {
-    let _ = match (fault, file) {
-        (Fault::Reading, Some(path)) => eprintln!(rt; "cannot read {path}"),
-        _ => eprintln!(rt; "{fault}"),
+/// Returns the index of the requested function, if one is requested.
+///
+/// Fails after a message if no function has the requested name; with the exit status.
+fn chosen_index(
+    rt: &HostRuntime,
+    options: &Options,
+    printed: &Printed<'_>,
+    bytes: &[u8],
+) -> Result<Option<u32>, u8> {
+    let name = match &options.function {
+        Choice::All => return Ok(None),
+        Choice::Index(index) => return Ok(Some(*index)),
+        Choice::Name(name) => name,
     };
-    ExitCode::from(fault.status())
+    let functions = match Functions::new(rt.alloc(), options.features, bytes) {
+        Ok(functions) => functions,
+        Err(fault) => return Err(printed.fault(Fault::Module(fault))),
+    };
+    match function_named(rt.alloc(), &functions, name.as_str()) {
+        Ok(Some(index)) => match u32::try_from(index) {
+            Ok(index) => Ok(Some(index)),
+            Err(_) => Err(printed.no_name(name.as_str())),
+        },
+        Ok(None) => Err(printed.no_name(name.as_str())),
+        Err(_) => Err(printed.fault(Fault::Memory)),
+    }
 }
 
-/// Runs the program with these arguments, and returns its exit status.
-fn outcome(rt: &HostRuntime, words: Words) -> ExitCode {
-    match words {
-        Words::Options(options) => match write_module(rt, &options) {
-            Ok(true) => ExitCode::SUCCESS,
-            Ok(false) => ExitCode::from(1),
-            Err(fault) => complain(rt, &options.file, fault),
-        },
-        Words::Help => match print!(rt; "{HELP}") {
-            Ok(()) => ExitCode::SUCCESS,
-            Err(_) => complain(rt, &None, Fault::Writing),
-        },
-        Words::Bad => {
-            let _ = eprintln!(rt; "bad arguments: --help tells them");
-            ExitCode::from(2)
+/// Writes the functions or the operator counts of a module. Returns the exit status.
+fn dump_functions(
+    rt: &HostRuntime,
+    options: &Options,
+    title: Option<&str>,
+    bytes: &[u8],
+    writer: &mut Output<'_>,
+    printed: &mut Printed<'_>,
+) -> u8 {
+    let function = match chosen_index(rt, options, printed, bytes) {
+        Ok(function) => function,
+        Err(status) => return status,
+    };
+    let requested = ModuleRequest {
+        census: options.census,
+        function,
+        features: options.features,
+    };
+    match run(rt.alloc(), requested, title, bytes, writer, printed) {
+        Ok(true) => 0,
+        Ok(false) => 1,
+        Err(fault) => {
+            let _ = writer.flush();
+            printed.fault(fault)
+        }
+    }
+}
+
+/// Writes what the options request of a module, and returns the exit status.
+fn dump_module(
+    rt: &HostRuntime,
+    options: &Options,
+    path: &str,
+    bytes: &[u8],
+    writer: &mut Output<'_>,
+) -> u8 {
+    let mut printed = Printed::new(rt, shown_path(path));
+    let title = Some(last_part(shown_path(path)));
+    if options.census || !options.headers {
+        return dump_functions(rt, options, title, bytes, writer, &mut printed);
+    }
+    match list_headers(rt.alloc(), options.features, title, bytes, writer) {
+        Ok(()) => {}
+        Err(fault) => {
+            let _ = writer.flush();
+            return printed.fault(fault);
+        }
+    }
+    if options.functions {
+        dump_functions(rt, options, None, bytes, writer, &mut printed)
+    } else {
+        0
+    }
+}
+
+/// Writes what the options request of a file, and returns the exit status.
+fn dump_file(rt: &HostRuntime, options: &Options, path: &str, writer: &mut Output<'_>) -> u8 {
+    match read_module(rt, path) {
+        Ok(bytes) => dump_module(rt, options, path, bytes.as_slice(), writer),
+        Err(error) => {
+            let _ = writer.flush();
+            Printed::new(rt, shown_path(path)).unread(rt.alloc(), error)
+        }
+    }
+}
+
+/// Writes what the options request of all files, up to an error of standard output. Returns the
+/// largest exit status.
+fn dump_files(rt: &HostRuntime, options: &Options, writer: &mut Output<'_>) -> u8 {
+    let mut worst: u8 = 0;
+    for path in &options.files {
+        worst = worst.max(dump_file(rt, options, path.as_str(), writer));
+        if writer.failure().is_some() {
+            return worst;
+        }
+    }
+    let _ = writer.flush();
+    worst
+}
+
+/// Prints why standard output failed, unless it is a closed pipe. Returns the exit status.
+fn complain_output(rt: &HostRuntime, error: io::Error) -> u8 {
+    if error.kind() == io::ErrorKind::BrokenPipe {
+        return CLOSED_PIPE;
+    }
+    let _ = match error.to_string(rt.alloc()) {
+        Ok(text) => {
+            let reason = without_number(text.as_str());
+            eprintln!(rt; "wasm_objdump: cannot write output: {reason}")
+        }
+        Err(_) => eprintln!(rt; "wasm_objdump: cannot write output: {error}"),
+    };
+    OUTSIDE
+}
+
+/// Writes what the options request, and returns the exit status.
+fn dump(rt: &HostRuntime, options: &Options) -> u8 {
+    let Ok(buffered) = BufWriter::with_capacity(rt.alloc(), WRITTEN, io::writer(rt)) else {
+        return complain_words(rt, &Mistake::Memory);
+    };
+    let mut writer = Watched::new(buffered);
+    let status = dump_files(rt, options, &mut writer);
+    match writer.failure() {
+        Some(error) => complain_output(rt, error),
+        None => status,
+    }
+}
+
+/// Prints a text on standard output, and returns the exit status.
+fn print_text(rt: &HostRuntime, text: &str) -> u8 {
+    match print!(rt; "{text}") {
+        Ok(()) => 0,
+        Err(error) => complain_output(rt, error),
+    }
+}
+
+/// Prints why the arguments are wrong, and returns the exit status.
+fn complain_words(rt: &HostRuntime, mistake: &Mistake) -> u8 {
+    match mistake {
+        Mistake::Memory => {
+            let _ = eprintln!(rt; "wasm_objdump: out of memory");
+            OUTSIDE
+        }
+        _ => {
+            let _ = eprintln!(rt; "wasm_objdump: {mistake}");
+            USAGE
         }
     }
 }
 
 fn main(rt: HostRuntime) -> ExitCode {
-    match words_of(&rt) {
-        Ok(Some(words)) => outcome(&rt, read_words(words)),
-        Ok(None) => outcome(&rt, Words::Bad),
-        Err(fault) => complain(&rt, &None, fault),
-    }
+    let words = match words_of(&rt) {
+        Ok(words) => read_words(rt.alloc(), words),
+        Err(mistake) => Words::Mistake(mistake),
+    };
+    ExitCode::from(match &words {
+        Words::Help => print_text(&rt, HELP),
+        Words::Version => print_text(&rt, VERSION),
+        Words::Options(options) => dump(&rt, options),
+        Words::Mistake(mistake) => complain_words(&rt, mistake),
+    })
 }

@@ -1,20 +1,63 @@
-//! The errors of functions, printed on standard error.
+//! Messages on standard error. Each names the program and the file.
 ghost use Rattle.std.specs.Prelude.{⊤};
 
+use std::alloc::Global;
 use std::io;
-use wasm_module_listing::Complaints;
 use wasm_module_listing::operators::Error;
+use wasm_module_listing::{Complaints, Fault};
 
-/// A reporter that prints each error on standard error.
+/// The exit status if input, output or allocation fails.
+pub const OUTSIDE: u8 = 3;
+
+/// A reporter that prints on standard error.
 #[derive(Drop)]
 pub struct Printed<'a> {
     rt: &'a HostRuntime,
+    file: &'a str,
 }
 
 impl<'a> Printed<'a> {
-    /// Creates a reporter that prints through this runtime.
-    pub fn new(rt: &'a HostRuntime) -> Printed<'a> {
-        Printed { rt }
+    /// Creates a reporter for a file with this name that prints through this runtime.
+    pub fn new(rt: &'a HostRuntime, file: &'a str) -> Printed<'a> {
+        Printed { rt, file }
+    }
+
+    /// Prints why the module is not listed completely, and returns the exit status. The reason why
+    /// standard output failed is printed elsewhere.
+    pub fn fault(&self, fault: Fault) -> u8 {
+        let file = self.file;
+        if fault != Fault::Writing {
+            let _ = eprintln!(self.rt; "wasm_objdump: {file}: {fault}");
+        }
+        fault.status()
+    }
+
+    /// Prints that no function has the requested name, and returns the exit status.
+    pub fn no_name(&self, name: &str) -> u8 {
+        let file = self.file;
+        let _ = eprintln!(self.rt; "wasm_objdump: {file}: no function is named {name}");
+        1
+    }
+
+    /// Prints why the file can't be read, and returns the exit status.
+    pub fn unread(&self, alloc: Global, error: io::Error) -> u8 {
+        let file = self.file;
+        let _ = match error.to_string(alloc) {
+            Ok(text) => {
+                let reason = without_number(text.as_str());
+                eprintln!(self.rt; "wasm_objdump: {file}: {reason}")
+            }
+            Err(_) => eprintln!(self.rt; "wasm_objdump: {file}: {error}"),
+        };
+        OUTSIDE
+    }
+}
+
+/// Returns the text of an error of the system without the error's number.
+pub fn without_number(text: &str) -> &str {
+    match text.split_once(" (os error ") {
+        Some((reason, _)) => reason,
+        None => text,
     }
 }
 
@@ -23,8 +66,11 @@ impl<'a> Complaints for Printed<'a> {
     ghost reports = { λ s index error t. ⊤ };
 
     fn complain(&mut self, index: u32, error: Error) -> io::Result<()> {
+        let file = self.file;
         let offset = error.offset();
         let message = error.message();
-        eprintln!(self.rt; "error in function {index} at {offset}: {message}")
+        eprintln!(self.rt;
+            "wasm_objdump: {file}: error in function {index} at {offset:06x}: {message}"
+        )
     }
 }

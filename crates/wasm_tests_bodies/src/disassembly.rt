@@ -15,12 +15,35 @@ pub fn write_text(alloc: Global, given: Given<'_>, out: &mut String) -> Written 
     }
 }
 
+<<<<<<< HEAD
 /// Writes how the disassembly of a function with index 3 and name `f` ended, and its text. The
 /// argument is its number of parameters.
+=======
+/// Returns the names of four functions: only the last has one.
+fn four_names(alloc: Global) -> Result<Vec<String>, AllocError> {
+    let mut names = Vec::new(alloc);
+    for _unnamed in 0..3 {
+        names.push(String::new(alloc))?;
+    }
+    names.push(String::from_str(alloc, "f")?)?;
+    Ok(names)
+}
+
+/// Writes how the disassembly of a function with index 3 and name `f` ended, and its text. The argument is
+/// the number of its parameters.
+>>>>>>> e461b76a9dfb6556365173cd6d600572fa6cf5ca
 pub fn write_disassembly(alloc: Global, given: Given<'_>, out: &mut String) -> Written {
     let body = FunctionBody::new(given.reader());
     let mut written = Vec::new(alloc);
-    let end = disassemble(alloc, &mut written, 3, "f", given.number(), &body);
+    let names = four_names(alloc)?;
+    let end = disassemble(
+        alloc,
+        &mut written,
+        3,
+        names.as_slice(),
+        given.number(),
+        &body,
+    );
     match end {
         Ok(()) => out.push_str("Ok")?,
         Err(DisassemblyFault::Refused(e)) => {

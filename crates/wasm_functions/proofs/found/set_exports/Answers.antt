@@ -15,9 +15,9 @@ returns-in-Ok-Some-clause-refused c =
     let contents = c.in-Ok-Some.contents in
     let here : IsSection whole 7 (Some contents) = search rules in
     let refused = IfErr-weaker c.name_exports.result (λ fault. (exports : List ExportParts) → IsList EncodesExport contents exports → ⊥)
-    (λ fault. (before after : List (List ℕ)) → NamesExported c.args.imported (Some contents) before after → ⊥)
+    (λ fault. (before after : List (List ℕ)) → NamesExported (Some contents) before after → ⊥)
     (λ fault f before after named. f named.0 named.1) c.name_exports.ensures.refused in
-    of_two (c.unsigned_numbers.ensures 32) c.fixed_numbers.ensures.four (NamesExported c.args.imported) whole 7 contents c.name_exports.result here refused
+    of_two (c.unsigned_numbers.ensures 32) c.fixed_numbers.ensures.four NamesExported whole 7 contents c.name_exports.result here refused
 
 pub returns-in-Err-clause-refused : goal.returns-in-Err-clause-refused
 returns-in-Err-clause-refused c section before after (sections, is_module, is) named = c.in-Err.ensures.refused sections is_module

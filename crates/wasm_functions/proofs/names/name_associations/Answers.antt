@@ -1,7 +1,7 @@
-use Rattle.std.proofs.Common.{◌+◌, [], ◌∷◌, ◌++◌, refl, sym, ap, ◌∙◌, inr}
+use Rattle.std.proofs.Common.{◌+◌, [], ◌∷◌, ◌++◌, set, refl, sym, ap, ◌∙◌, inr}
 use Rattle.std.proofs.lemmas.List.{length_push}
 use Rattle.wasm_module.specs.Names.{EncodesNameAssociation}
-use Rattle.wasm_functions.specs.Names.{bytes_of, with_name}
+use Rattle.wasm_functions.specs.Names.{bytes_of}
 use Rattle.wasm_functions.proofs.Listed.{item_more}
 use Rattle.wasm_functions.proofs.Named.{names_more}
 use Rattle.wasm_functions.proofs.names.name_associations.Goals as goal
@@ -13,12 +13,11 @@ pub loop-name-preserved : goal.loop-name-preserved
 loop-name-preserved c =
     let h = c.loop-name.invariant in
     let named = c.in-Ok-read.named in
-    let imported = c.args.imported in
     let names = bytes_of c.loop-name.names.items in (
       h.0 ++ named ∷ [],
       item_more EncodesNameAssociation c.read_var_u32.new.self h.0 c.loop-name.reader c.read.new.reader named h.1 c.in-Ok-read.ensures.reads,
       length_push h.0 named ∙ ap (λ n. n + 1) h.2,
-      c.set_name.ensures ∙ ap (λ i. with_name imported names i c.name.result.now) c.index.ensures ∙
-          ap (λ name. with_name imported names named.index name) c.name.ensures ∙ ap (λ z. with_name imported z named.index named.name) h.3 ∙
-          sym (names_more imported (bytes_of c.args.names.now.items) h.0 named),
+      c.set_name.ensures ∙ ap (λ i. set names i c.name.result.now) c.index.ensures ∙
+          ap (λ name. set names named.index name) c.name.ensures ∙ ap (λ z. set z named.index named.name) h.3 ∙
+          sym (names_more (bytes_of c.args.names.now.items) h.0 named),
     )

@@ -6,4 +6,4 @@ use Rattle.wasm_functions.proofs.names.name_associations.Given as goal
 
 abbrev pub invariant-loop-name : goal.invariant-loop-name
 invariant-loop-name l = (given : List NameParts) × ItemsOccur EncodesNameAssociation l.initial.reader given l.reader × (length given ≡ l._name) ×
-    (bytes_of l.names.items ≡ with_names l.imported (bytes_of l.initial.names.items) given)
+    (bytes_of l.names.items ≡ with_names (bytes_of l.initial.names.items) given)

@@ -17,8 +17,8 @@ loop-export-preserved c =
       h.0 ++ export ∷ [],
       item_more EncodesExport c.read_var_u32.new.self h.0 c.loop-export.reader c.read.new.reader export h.1 c.in-Ok-read.ensures.reads,
       length_push h.0 export ∙ ap (λ n. n + 1) h.2,
-      c.set_exported.ensures ∙ ap (λ names. with_exports c.args.imported names (export ∷ [])) h.3 ∙
-          sym (exports_more c.args.imported (bytes_of c.args.names.now.items) h.0 export),
+      c.set_exported.ensures ∙ ap (λ names. with_exports names (export ∷ [])) h.3 ∙
+          sym (exports_more (bytes_of c.args.names.now.items) h.0 export),
     )
 
 pub returns-in-Err-clause-refused : goal.returns-in-Err-clause-refused

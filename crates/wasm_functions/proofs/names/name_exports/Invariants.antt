@@ -6,4 +6,4 @@ use Rattle.wasm_functions.proofs.names.name_exports.Given as goal
 
 abbrev pub invariant-loop-export : goal.invariant-loop-export
 invariant-loop-export l = (exports : List ExportParts) × ItemsOccur EncodesExport l.initial.reader exports l.reader × (length exports ≡ l._export) ×
-    (bytes_of l.names.items ≡ with_exports l.imported (bytes_of l.initial.names.items) exports)
+    (bytes_of l.names.items ≡ with_exports (bytes_of l.initial.names.items) exports)

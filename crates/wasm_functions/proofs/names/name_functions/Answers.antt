@@ -1,7 +1,8 @@
-use Rattle.std.proofs.Common.{◌≡◌, ℕ, List, [], ◌∷◌, ◌++◌, Option, Bor, Vec, Global, refl, sym, subst, ap, ◌∙◌, inl, inr, rules}
+use Rattle.std.proofs.Common.{◌≡◌, List, [], ◌∷◌, ◌++◌, Option, Vec, Global, refl, sym, subst, ap, ◌∙◌, inl, inr, rules}
 use Rattle.wasm_module.specs.below.Source.{Reader, rest}
 use Rattle.wasm_module.specs.Names.{EncodesNameAssociation}
 use Rattle.wasm_functions.specs.Names.{bytes_of, with_names, ReadsItems}
+use Rattle.wasm_functions.specs.declared.function_name.FunctionName.{FunctionName}
 use Rattle.wasm_functions.specs.Sections.{or_first}
 use Rattle.wasm_functions.proofs.Named.{not_first}
 use Rattle.wasm_functions.proofs.Occurring.{one_more, first_more}
@@ -12,7 +13,7 @@ returns-in-Err c =
     let h = c.sections.invariant in (
       [],
       record { before = h.0; mid = c.sections.reader; occur = h.1; others = h.2; gives = inr (refl, inr (c.in-Err.field-0, c.in-Err.ensures.reads.1)) },
-      ap (λ (v : Vec (Bor (List ℕ)) Global). bytes_of v.items) h.3,
+      ap (λ (v : Vec FunctionName Global). bytes_of v.items) h.3,
     )
 
 pub returns-then-id-eq-FUNCTION_NAMES : goal.returns-then-id-eq-FUNCTION_NAMES
@@ -23,7 +24,7 @@ returns-then-id-eq-FUNCTION_NAMES c =
     let gives = inl (c.in-Ok.section, c.read_section.new.reader, c.in-Ok.ensures.reads, sym c.id.ensures ∙ c.if-id-eq-FUNCTION_NAMES.true, reads) in (
       a.0,
       record { before = h.0; mid = c.sections.reader; occur = h.1; others = h.2; gives = gives },
-      a.2 ∙ ap (λ (v : Vec (Bor (List ℕ)) Global). with_names c.args.imported (bytes_of v.items) a.0) h.3,
+      a.2 ∙ ap (λ (v : Vec FunctionName Global). with_names (bytes_of v.items) a.0) h.3,
     )
 
 pub sections-preserved : goal.sections-preserved
@@ -43,5 +44,5 @@ returns c =
     let end : rest c.sections.reader ≡ [] = search rules in (
       [],
       record { before = h.0; mid = c.sections.reader; occur = h.1; others = h.2; gives = inr (refl, inl end) },
-      ap (λ (v : Vec (Bor (List ℕ)) Global). bytes_of v.items) h.3,
+      ap (λ (v : Vec FunctionName Global). bytes_of v.items) h.3,
     )

@@ -1,5 +1,5 @@
-use Rattle.wasm_functions.proofs.Named.{own_named}
+use Rattle.wasm_functions.proofs.Named.{one_named}
 use Rattle.wasm_functions.proofs.names.set_name.Goals as goal
 
-pub returns-then-ordinal-len : goal.returns-then-ordinal-len
-returns-then-ordinal-len c = own_named c.args.imported c.args.index c.args.names.now.items c.args.name c.if-index-imported.false
+pub returns-then-place-len : goal.returns-then-place-len
+returns-then-place-len c = one_named c.args.index c.args.names.now.items c.args.name

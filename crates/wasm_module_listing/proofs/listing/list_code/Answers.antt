@@ -62,5 +62,5 @@ pub returns-clause-whole : goal.returns-clause-whole
 returns-clause-whole g c =
     let (bodies, occur, sum, none, place, reported, writes, whole, each) = c.bodies.invariant in
     let read = all_read c.args.code c.in-Ok.section c.into_iter-items.result c.bodies.items bodies c.in-Ok.ensures.count
-    c.into_iter-items.ensures.into_iter_gives occur sum none c.in_default.ensures.steps.1 in
+    c.into_iter-items.ensures.into_iter_gives occur sum none c.in_default-next.ensures.steps.1 in
     λ all code asked. each (subst (λ bs. AreAsked IsFunction c.args.functions.now c.args.only 0 bs) (c.one_list.ensures c.args.code all bodies code read) asked)
