@@ -1,11 +1,13 @@
-//! Both libraries side by side over bodies: the original's reader of operators, and the proved one.
+//! Compares this crate with wasmparser over function bodies, and times both.
 //!
 //!     beside [--time ROUNDS] BODIES..
 //!
-//! BODIES holds bodies one behind the other, each a length in four bytes, lowest first, and its bytes. Of each body
-//! every operator is compared as `Debug` tells it, with its offset, and what is refused by its text and its offset.
-//! With `--time` both then go over all of a file's bodies, in turn, ROUNDS times; the best time of each is told in
-//! nanoseconds an operator.
+//! A file of BODIES has bodies one after the other: each is a length in four bytes, little-endian, and its bytes. For
+//! each body, both libraries list the operators and the locals, call visitors with and without SIMD, and read each kind
+//! of value at the first positions. All results must be equal: values by `Debug`, errors by `Display`.
+//!
+//! With `--time`, both then read all bodies of a file ROUNDS times, in several ways. The best time of each way is printed
+//! in nanoseconds for each operator, and as a ratio to wasmparser's list.
 
 use std::cell::RefCell;
 use std::hint::black_box;
@@ -14,92 +16,146 @@ use std::time::Instant;
 use wasm_operators as proved;
 use wasmparser as original;
 
-/// The bodies of a file.
+/// Returns the bodies of a file.
 fn bodies_of(path: &str) -> std::io::Result<Vec<Vec<u8>>> {
     let bytes = std::fs::read(path)?;
     let mut bodies = Vec::new();
     let mut rest = bytes.as_slice();
-    while let Some((head, behind)) = rest.split_first_chunk::<4>() {
-        let (body, others) = behind.split_at(u32::from_le_bytes(*head) as usize);
+    while let Some((head, after)) = rest.split_first_chunk::<4>() {
+        let (body, others) = after.split_at(u32::from_le_bytes(*head) as usize);
         bodies.push(body.to_vec());
         rest = others;
     }
     Ok(bodies)
 }
 
-/// What was read of a body: a text for each operator, and what is refused.
-#[derive(Debug, Default, PartialEq, Eq)]
-struct Listing {
-    operators: Vec<String>,
-    refusal: Option<(u64, String)>,
+/// What wasmparser finds.
+mod by_original {
+    use wasmparser as library;
+    include!("beside/found.rs");
 }
 
-/// What a reader of operators gives, which is of either library.
-macro_rules! listing {
-    ($library:ident, $body:expr) => {{
-        let mut listing = Listing::default();
-        let body = $library::FunctionBody::new($library::BinaryReader::new($body, 0));
-        let mut read = || {
-            let mut operators = body.get_operators_reader()?;
-            while !operators.eof() {
-                let (operator, offset) = operators.read_with_offset()?;
-                listing.operators.push(format!("{offset} {operator:?}"));
-            }
-            operators.finish()
-        };
-        let end: $library::Result<()> = read();
-        listing.refusal = end
-            .err()
-            .map(|error| (error.offset(), error.message().to_string()));
-        listing
-    }};
+/// What this crate finds.
+mod by_proved {
+    use wasm_operators as library;
+    include!("beside/found.rs");
 }
 
-/// How many operators a body has, and whether both libraries tell the same of it, by each of the proved one's ways.
-fn compare(bytes: &[u8]) -> (usize, bool) {
-    let wanted = listing!(original, bytes);
-    let by_steps = listing!(proved, bytes);
-    let whole = proved::Body::read(bytes, 0, proved::WasmFeatures::all());
-    let mut by_body = Listing::default();
-    for operator in whole.iter() {
+/// Lists a body by this crate's own ways.
+fn whole(bytes: &[u8]) -> Vec<String> {
+    let body = proved::Body::read(bytes, 7, proved::WasmFeatures::all());
+    let mut out = Vec::new();
+    for operator in body.iter() {
         match operator {
-            Ok((operator, offset)) => by_body.operators.push(format!("{offset} {operator:?}")),
-            Err(error) => by_body.refusal = Some((error.offset(), error.message().to_string())),
+            Ok((operator, offset)) => out.push(format!("{offset} {operator:?}")),
+            Err(error) => out.push(error.to_string()),
         }
     }
-    (
-        wanted.operators.len(),
-        wanted == by_steps && wanted == by_body,
-    )
+    out
 }
 
-/// A way to go over the operators of a body, which answers how many there are.
+/// Lists a body by wasmparser's iterator, to compare with [`whole`].
+fn iterated(bytes: &[u8]) -> Vec<String> {
+    let body = original::FunctionBody::new(original::BinaryReader::new(bytes, 7));
+    let mut out = Vec::new();
+    let mut read = || {
+        let mut operators = body.get_operators_reader()?;
+        while !operators.eof() {
+            let (operator, offset) = operators.read_with_offset()?;
+            out.push(format!("{offset} {operator:?}"));
+        }
+        operators.finish()
+    };
+    let end = read();
+    out.extend(end.err().map(|error| error.to_string()));
+    out
+}
+
+/// Feature sets with which both libraries read the same. Without features 16 and 32, wasmparser's alignments have more bits.
+const FEATURES: [u32; 4] = [63, 62, 61, 63 - 4 - 8];
+
+/// Returns the name of the first way in which the libraries differ.
+fn difference(bytes: &[u8]) -> Option<&'static str> {
+    for bits in FEATURES {
+        let features = proved::WasmFeatures::from_bits_truncate(bits);
+        let found = by_proved::operators(bytes, features);
+        if found != by_original::operators(bytes, original_features(bits)) {
+            return Some("operators");
+        }
+    }
+    let ways = [
+        ("whole body", whole(bytes) == iterated(bytes)),
+        (
+            "locals",
+            by_proved::locals(bytes) == by_original::locals(bytes),
+        ),
+        (
+            "values",
+            by_proved::values(bytes) == by_original::values(bytes),
+        ),
+        (
+            "visits",
+            by_proved::visits(bytes, true) == by_original::visits(bytes, true),
+        ),
+        (
+            "plain visits",
+            by_proved::visits(bytes, false) == by_original::visits(bytes, false),
+        ),
+        (
+            "frames",
+            by_proved::framed(bytes, true) == by_original::framed(bytes, true),
+        ),
+        (
+            "plain frames",
+            by_proved::framed(bytes, false) == by_original::framed(bytes, false),
+        ),
+    ];
+    let wrong = ways.into_iter().find(|(_, is_equal)| !is_equal);
+    wrong.map(|(way, _)| way)
+}
+
+/// Returns wasmparser's features with the bits that this crate has for them.
+fn original_features(bits: u32) -> original::WasmFeatures {
+    use original::WasmFeatures;
+    let all = [
+        WasmFeatures::MULTI_MEMORY,
+        WasmFeatures::MEMORY64,
+        WasmFeatures::CALL_INDIRECT_OVERLONG,
+        WasmFeatures::LEGACY_EXCEPTIONS,
+        WasmFeatures::ACQUIRE_RELEASE_ATOMICS,
+        WasmFeatures::MULTIBYTE_ARRAY_ACCESS,
+    ];
+    let mut features = WasmFeatures::all();
+    for (at, feature) in all.into_iter().enumerate() {
+        if bits & 1 << at == 0 {
+            features.remove(feature);
+        }
+    }
+    features
+}
+
+/// Returns the number of operators of a body.
+fn count(bytes: &[u8]) -> usize {
+    proved::Body::read(bytes, 0, proved::WasmFeatures::all()).len()
+}
+
+/// A way to go over the operators of a body, which returns how many there are.
 type Way = (&'static str, fn(&[u8]) -> usize);
 
-fn original_list(bytes: &[u8]) -> usize {
-    let body = original::FunctionBody::new(original::BinaryReader::new(bytes, 0));
-    let mut operators = body.get_operators_reader().expect("a body");
-    let mut found = Vec::new();
-    while !operators.eof() {
-        found.push(operators.read_with_offset().expect("a body"));
-    }
-    black_box(&found).len()
+/// The ways of wasmparser.
+mod original_ways {
+    use wasmparser as library;
+    include!("beside/ways.rs");
 }
 
-fn original_iterator(bytes: &[u8]) -> usize {
-    let body = original::FunctionBody::new(original::BinaryReader::new(bytes, 0));
-    let operators = body
-        .get_operators_reader()
-        .expect("a body")
-        .into_iter_with_offsets();
-    operators
-        .map(|operator| black_box(&operator.expect("a body")).1)
-        .filter(|offset| *offset > 0)
-        .count()
+/// The same ways of this crate.
+mod proved_ways {
+    use wasm_operators as library;
+    include!("beside/ways.rs");
 }
 
 thread_local! {
-    /// The array that plain data is read into.
+    /// The array that C structs are read into.
     static OUT: RefCell<Vec<proved::PlainOperator>> = const { RefCell::new(Vec::new()) };
 }
 
@@ -125,40 +181,21 @@ fn body_list(bytes: &[u8]) -> usize {
     black_box(&found).len()
 }
 
-fn batches(bytes: &[u8]) -> usize {
-    let body = proved::FunctionBody::new(proved::BinaryReader::new(bytes, 0));
-    let operators = body
-        .get_operators_reader()
-        .expect("a body")
-        .into_iter_with_offsets();
-    operators
-        .map(|operator| black_box(&operator.expect("a body")).1)
-        .filter(|offset| *offset > 0)
-        .count()
-}
-
-fn single_reads(bytes: &[u8]) -> usize {
-    let body = proved::FunctionBody::new(proved::BinaryReader::new(bytes, 0));
-    let mut operators = body.get_operators_reader().expect("a body");
-    let mut count = 0;
-    while !operators.eof() {
-        black_box(&operators.read_with_offset().expect("a body"));
-        count += 1;
-    }
-    count
-}
-
-const WAYS: [Way; 7] = [
-    ("original, into a list", original_list),
-    ("original, by its iterator", original_iterator),
+const WAYS: [Way; 11] = [
+    ("wasmparser, into a list", original_ways::list),
+    ("wasmparser, read", original_ways::reads),
+    ("wasmparser, iterator", original_ways::iterator),
+    ("wasmparser, visits", original_ways::visits),
     ("a body, into one array", plain),
     ("a body, by its iterator", body_iterator),
     ("a body, into a list", body_list),
-    ("a reader's iterator", batches),
-    ("one read after another", single_reads),
+    ("into a list", proved_ways::list),
+    ("read", proved_ways::reads),
+    ("iterator", proved_ways::iterator),
+    ("visits", proved_ways::visits),
 ];
 
-/// The best of so many rounds of each way, in nanoseconds an operator, and as a ratio to the original's list.
+/// Prints the best of this many rounds of each way.
 fn time(bodies: &[Vec<u8>], rounds: usize) {
     let mut best = [f64::INFINITY; WAYS.len()];
     for _ in 0..rounds {
@@ -171,10 +208,8 @@ fn time(bodies: &[Vec<u8>], rounds: usize) {
         }
     }
     for (each, (name, _)) in best.iter().zip(WAYS) {
-        println!(
-            "  {name:26} {each:6.2} ns an operator, {:.2}",
-            each / best[0]
-        );
+        let ratio = each / best[0];
+        println!("  {name:26} {each:6.2} ns an operator, {ratio:.2}");
     }
 }
 
@@ -190,11 +225,16 @@ fn main() -> ExitCode {
     let mut wrong = 0;
     for path in words {
         let bodies = bodies_of(&path).expect("a file of bodies");
-        let answers: Vec<(usize, bool)> = bodies.iter().map(|body| compare(body)).collect();
-        let different = answers.iter().filter(|answer| !answer.1).count();
-        let operators: usize = answers.iter().map(|answer| answer.0).sum();
+        let operators: usize = bodies.iter().map(|body| count(body)).sum();
+        let mut different = 0;
+        for (at, body) in bodies.iter().enumerate() {
+            if let Some(way) = difference(body) {
+                println!("{path}: body {at}: different {way}");
+                different += 1;
+            }
+        }
         println!(
-            "{path}: {} bodies, {operators} operators, {different} bodies otherwise than the original",
+            "{path}: {} bodies, {operators} operators, {different} bodies otherwise than wasmparser",
             bodies.len()
         );
         wrong += different;

@@ -15,10 +15,13 @@ extern "C" {
 #endif
 
 /* The version of these structs and functions. wasm_operators_version() returns the library's version. */
-#define WASM_OPERATORS_VERSION 3u
+#define WASM_OPERATORS_VERSION 4u
 
 /* The length in bytes of the longest name that wasm_operator_name writes. */
 #define WASM_LONGEST_NAME 29
+
+/* The length in bytes of the longest name that wasm_operator_text_name writes. */
+#define WASM_LONGEST_TEXT_NAME 35
 
 /* The features, which may be combined with |. */
 enum wasm_feature {
@@ -116,6 +119,31 @@ enum wasm_frame {
   WASM_FRAME_LEGACY_CATCH_ALL = 7
 };
 
+/* The kinds of values that wasm_read_value reads. Without another comment, `number` is the number, and
+ * sign-extended to 64 bits if it is signed. */
+enum wasm_value_kind {
+  WASM_VALUE_U8 = 0, /* one byte */
+  WASM_VALUE_U32 = 1, /* a number of four bytes, little-endian */
+  WASM_VALUE_U64 = 2, /* a number of eight bytes, little-endian */
+  WASM_VALUE_VAR_U32 = 3, /* LEB128 */
+  WASM_VALUE_VAR_U64 = 4, /* LEB128 */
+  WASM_VALUE_VAR_I32 = 5, /* signed LEB128 */
+  WASM_VALUE_VAR_S33 = 6, /* signed LEB128 of 33 bits */
+  WASM_VALUE_VAR_I64 = 7, /* signed LEB128 */
+  WASM_VALUE_SIZE = 8, /* a VAR_U32 of at most `argument`, else WASM_REFUSED_SIZE_OUT_OF_BOUNDS */
+  WASM_VALUE_BYTES = 9, /* `argument` bytes; number: how many */
+  WASM_VALUE_SIZED = 10, /* a VAR_U32 and that many bytes, such as a function body; number: how many */
+  WASM_VALUE_LOCALS = 11, /* the locals of a body, up to its operators */
+  WASM_VALUE_CONST_EXPR = 12, /* a constant expression; number: its length in bytes */
+  WASM_VALUE_VAL_TYPE = 13, /* kind, index: a value type, as in wasm_type */
+  WASM_VALUE_REF_TYPE = 14, /* kind, index: a reference type, as a value type */
+  WASM_VALUE_HEAP_TYPE = 15, /* kind, index: a heap type */
+  WASM_VALUE_BLOCK_TYPE = 16, /* kind, index: a block type */
+  WASM_VALUE_LOCAL = 17, /* a declaration of locals; number: how many; kind, index: their type. `argument` locals were declared before */
+  WASM_VALUE_CATCH = 18, /* a catch of a try_table; kind: its form; number: its tag; index: its label */
+  WASM_VALUE_CLAUSE = 19 /* a clause of a resume; kind: its form; number: its tag; index: its label */
+};
+
 /* The refusals. docs/ERRORS-AND-FEATURES.md lists their texts and offsets. */
 enum wasm_refused {
   WASM_REFUSED_END_OF_DATA = 1,
@@ -145,9 +173,16 @@ enum wasm_refused {
   WASM_REFUSED_DATA_AFTER_SECTION = 25,
   WASM_REFUSED_UNKNOWN_FEATURES = 100,
   WASM_REFUSED_PAST_OFFSETS = 101,
-  WASM_REFUSED_NO_ROOM = 102,
+  WASM_REFUSED_NO_ROOM = 102, /* an array is too short */
   WASM_REFUSED_NOT_A_READER = 103,
-  WASM_REFUSED_NO_LIST = 104
+  WASM_REFUSED_NO_LIST = 104,
+  WASM_REFUSED_NO_VALUE_KIND = 105,
+  WASM_REFUSED_NOT_A_MODULE = 106, /* value: 1 a component, 2 another version, 3 no WebAssembly */
+  WASM_REFUSED_IMPORT_KIND = 107, /* value: the byte of the kind */
+  WASM_REFUSED_TYPE_KIND = 108, /* value: the byte of the type */
+  WASM_REFUSED_COUNTS_DIFFER = 109, /* there are more or fewer bodies than functions */
+  WASM_REFUSED_NO_FUNCTION = 110, /* the module defines no function with the index */
+  WASM_REFUSED_NO_BODY = 111 /* all bodies were read */
 };
 
 /* The operators: the opcode, or the subopcode plus 65536 times the prefix byte. A typed select with no types
@@ -857,15 +892,16 @@ typedef struct wasm_reader {
 
 /* A refusal: 24 bytes without padding. */
 typedef struct wasm_refusal {
-  /* The offset of the error. For WASM_REFUSED_UNKNOWN_FEATURES, WASM_REFUSED_PAST_OFFSETS and
-   * WASM_REFUSED_NOT_A_READER it is the offset of the first byte, for WASM_REFUSED_NO_LIST the argument `at`.
-   * Without an error it is the offset of the end of the bytes, the reader's offset, or the argument `at`. */
+  /* The offset of the error. For WASM_REFUSED_UNKNOWN_FEATURES, WASM_REFUSED_PAST_OFFSETS,
+   * WASM_REFUSED_NOT_A_READER and WASM_REFUSED_NO_VALUE_KIND it is the offset of the first byte, for
+   * WASM_REFUSED_NO_LIST and a text that does not fit the argument `at`. Without an error it is the offset of the end
+   * of the bytes, the reader's offset, the argument `at`, or the offset of the body. Otherwise it is 0. */
   uint64_t offset;
   /* 0 without an error, else one of `enum wasm_refused`. */
   uint32_t number;
   /* The number of the name that its text has. */
   uint32_t name;
-  /* The byte, code or flags that its text has. */
+  /* The byte, code or flags that its text has, or what `enum wasm_refused` says. */
   uint32_t value;
   /* 0. */
   uint32_t reserved;
@@ -888,6 +924,43 @@ typedef struct wasm_handler {
   /* Its label, or 0 without a label. */
   uint32_t label;
 } wasm_handler;
+
+/* A value that wasm_read_value reads: 16 bytes without padding. `enum wasm_value_kind` says what the fields hold;
+ * the fields that it does not name are 0. */
+typedef struct wasm_value {
+  uint64_t number;
+  uint32_t kind;
+  uint32_t index;
+} wasm_value;
+
+/* A place between the bodies of a module: 32 bytes without padding. wasm_open_bodies fills it in, and
+ * wasm_next_body advances it. It may be copied. */
+typedef struct wasm_bodies {
+  /* The number of bytes of the code section's contents that were read. */
+  uint64_t code;
+  /* The number of bytes of the function section's contents that were read. */
+  uint64_t types;
+  /* The number of imported functions. */
+  uint32_t imported;
+  /* The number of bodies that were read. */
+  uint32_t read;
+  /* The number of bodies that are left. */
+  uint32_t left;
+  /* 0. */
+  uint32_t reserved;
+} wasm_bodies;
+
+/* The body of a function: 24 bytes without padding. */
+typedef struct wasm_body {
+  /* The offset of the first byte in the module. */
+  uint64_t offset;
+  /* The number of bytes. */
+  uint64_t length;
+  /* The index of the function. Imported functions have the lowest indices. */
+  uint32_t index;
+  /* The index of the function's type. */
+  uint32_t type_index;
+} wasm_body;
 
 /* Returns the version of the structs and functions of the library. */
 uint32_t wasm_operators_version(void);
@@ -941,6 +1014,20 @@ uint32_t wasm_open_body(const uint8_t *bytes, size_t bytes_length, uint64_t offs
 uint32_t wasm_next(const uint8_t *bytes, size_t bytes_length, uint8_t *frames, size_t frames_length,
                    wasm_reader *reader, wasm_operator *op, wasm_refusal *refusal);
 
+/* Reads the next operator like wasm_next, but fails with WASM_REFUSED_UNEXPECTED_SIMD before the byte 0xfd, whatever
+ * follows it. Only `*refusal` changes then. */
+uint32_t wasm_next_plain(const uint8_t *bytes, size_t bytes_length, uint8_t *frames, size_t frames_length,
+                         wasm_reader *reader, wasm_operator *op, wasm_refusal *refusal);
+
+/* Reads a value at the reader's position and returns 0. `kind` is one of `enum wasm_value_kind`, which says what
+ * `argument` is. No frame of the reader may be open. Of bytes, of a part with its length, and of a constant
+ * expression, the value is how many bytes there are; they end at the new position.
+ *
+ * Otherwise it returns the number of the refusal, and only `*refusal` changes. Fails with
+ * WASM_REFUSED_NO_VALUE_KIND if there is no such kind, and with WASM_REFUSED_NOT_A_READER like wasm_next. */
+uint32_t wasm_read_value(const uint8_t *bytes, size_t bytes_length, wasm_reader *reader, uint32_t kind,
+                         uint64_t argument, wasm_value *value, wasm_refusal *refusal);
+
 /* Reads operators into `out`, like repeated calls of wasm_next, until `out` is full or all bytes are read, and
  * returns 0. If an operator cannot be read, it stops and returns the number of the refusal. `*count` is the
  * number of operators that were read; the rest of `out` is unchanged. */
@@ -980,6 +1067,50 @@ uint32_t wasm_try_table_catches(const uint8_t *bytes, size_t bytes_length, uint6
 uint32_t wasm_resume_handlers(const uint8_t *bytes, size_t bytes_length, uint64_t offset, uint32_t features,
                               uint64_t at, size_t index, wasm_handler *out, size_t out_length, size_t *count,
                               wasm_refusal *refusal);
+
+/* Writes the text of the operator that begins at the offset `at`, such as `i32.const 5`, and returns 0: its name and
+ * its operands in the text format, in UTF-8 and without a terminating 0. `offset` is the offset of the first byte.
+ * `*length` is the length of the text in bytes.
+ *
+ * Fails with WASM_REFUSED_NO_ROOM if the text is longer than `text_length`. Then `*length` is the text's length, and
+ * nothing else changes except `*refusal`. An array of that many bytes is large enough.
+ *
+ * Otherwise it returns the number of the refusal, and only `*refusal` changes. The operator is read inside a frame
+ * that allows it, if one does. Fails like wasm_br_table_targets; WASM_REFUSED_NO_LIST means that `at` is before the
+ * first byte or past the end. */
+uint32_t wasm_operator_text(const uint8_t *bytes, size_t bytes_length, uint64_t offset, uint32_t features,
+                            uint64_t at, uint8_t *text, size_t text_length, size_t *length,
+                            wasm_refusal *refusal);
+
+/* Writes the name of the operator in the text format, such as `i32.const`, like wasm_operator_text. */
+uint32_t wasm_operator_text_name(const uint8_t *bytes, size_t bytes_length, uint64_t offset, uint32_t features,
+                                 uint64_t at, uint8_t *name, size_t name_length, size_t *length,
+                                 wasm_refusal *refusal);
+
+/* Opens the bodies of the module `bytes` and returns 0. `*bodies` is the place before the first body.
+ *
+ * Otherwise it returns the number of the refusal, and only `*refusal` changes. Fails with
+ * WASM_REFUSED_NOT_A_MODULE, WASM_REFUSED_IMPORT_KIND, WASM_REFUSED_TYPE_KIND, WASM_REFUSED_COUNTS_DIFFER, or the
+ * refusal of a section. May allocate. */
+uint32_t wasm_open_bodies(const uint8_t *bytes, size_t bytes_length, wasm_bodies *bodies, wasm_refusal *refusal);
+
+/* Reads the next body of the module with which `bodies` was opened and returns 0. Does not allocate.
+ *
+ * Otherwise it returns the number of the refusal, and only `*refusal` changes. Fails with WASM_REFUSED_NO_BODY if all
+ * bodies were read, and with WASM_REFUSED_DATA_AFTER_SECTION if data is left after them. Fails with
+ * WASM_REFUSED_NOT_A_READER if `bodies` cannot be a place in this module. Otherwise the length of the body is in
+ * error, or the data ends within the body. */
+uint32_t wasm_next_body(const uint8_t *bytes, size_t bytes_length, wasm_bodies *bodies, wasm_body *body,
+                        wasm_refusal *refusal);
+
+/* Writes the name of the function with the index `index`, which the module defines, and returns 0. `*length` is the
+ * length of the name in bytes, or 0 if it has none or if the name is not UTF-8. A name in the custom section `name`
+ * replaces the name of an export. Each call reads the sections that describe functions.
+ *
+ * Fails with WASM_REFUSED_NO_ROOM like wasm_operator_text. Otherwise it returns the number of the refusal, and only
+ * `*refusal` changes. Fails with WASM_REFUSED_NO_FUNCTION, and like wasm_open_bodies. May allocate. */
+uint32_t wasm_function_name(const uint8_t *bytes, size_t bytes_length, uint32_t index, uint8_t *name,
+                            size_t name_length, size_t *length, wasm_refusal *refusal);
 
 /* Returns the proposal that added an operator, or -1 if no operator has its number. */
 static inline int wasm_operator_proposal(const wasm_operator *op) {

@@ -2,17 +2,26 @@
 """Writes the input of the program wasm_tests_c from wasmparser's results in wasm_tests_replay.
 
     tools/c_answers.py            writes crates/wasm_tests_c/stdin and stdout
-    tools/c_answers.py --check    fails if one of them is not what crates/wasm_tests_replay/stdin gives
+    tools/c_answers.py --check    fails if one of them is not what the sources below give
 
-The input has two sorts of lines, with tabs between their cells:
+The input has five sorts of lines, with tabs between their cells:
 
-    body  FEATURES  HEX  END  LINES  TEXT    a function body. END is `NUMBER OFFSET COUNT`: the number of the error or 0,
-                                             its offset or that of the end, and how many operators there are; LINES is
-                                             the fingerprint of their lines, TEXT the text of the error
-    list  NAME  HEX  AT  MEMBERS             a body with an operator that has a list, its offset, and `0 COUNT:` with
-                                             the members, each as its numbers in C and a semicolon
+    body  FEATURES  HEX  END  LINES  TEXT  PLAIN  CONST  LOCALS
+                                      a function body. END is `NUMBER OFFSET COUNT`: the number of the error or 0,
+                                      its offset or the offset of the end, and how many operators there are. LINES is the
+                                      fingerprint of their lines, TEXT the text of the error. PLAIN is how a visitor
+                                      without SIMD operators ends. CONST and LOCALS are the same bytes as a constant
+                                      expression, and as locals, with the numbers of their types in C
+    list  NAME  HEX  AT  MEMBERS      a body with an operator that has a list, its offset, and `0 COUNT:` with the
+                                      members, each as its numbers in C and a semicolon
+    text  HEX  TEXT                   an operator and its text
+    value  KIND  ARGUMENT  HEX  VALUE a value and its numbers in C, or the number and the offset of the error
+    module  HEX  FUNCTIONS            a module and its functions: the index, the offset and the name of each
+    function  HEX  FUNCTIONS          the same with the length and the type index of each
 
-Of the bodies it takes every eighth, and the first of each refusal. `tools/bindings` replays all of them in C.
+Of the bodies it takes every eighth, and the first of each refusal. `tools/bindings` replays all of them in C. The
+texts are wabt's, from crates/wasm_tests_bodies/stdin and crates/wasm_objdump/data. VALUES and FUNCTIONS are made by
+hand.
 """
 
 import re
@@ -21,6 +30,8 @@ from pathlib import Path
 
 TOP = Path(__file__).resolve().parent.parent
 ANSWERS = TOP / "crates/wasm_tests_replay/stdin"
+ROWS = TOP / "crates/wasm_tests_bodies/stdin"
+MODULES = TOP / "crates/wasm_objdump/data"
 CRATE = TOP / "crates/wasm_tests_c"
 HEADER = TOP / "include/wasm_operators.h"
 VERSION = re.compile(r"^#define WASM_OPERATORS_VERSION (\d+)u$", re.M)
@@ -33,6 +44,9 @@ OVER_BODIES = {
     "wasm_refusal_text": 1,
     "wasm_open_body, wasm_next, wasm_finish": 1,
     "wasm_open_body, wasm_read, wasm_finish": 1,
+    "wasm_open_body, wasm_next_plain, wasm_finish": 1,
+    "wasm_read_value of constant expressions": 1,
+    "wasm_read_value of locals": 1,
 }
 # The call for each operator with a list.
 LISTS = {
@@ -49,6 +63,61 @@ TYPES = {"I32": "127 0", "V128": "123 0", "?Func": "1648 0"}
 HANDLERS = {
     "one": "0 {} {}", "oneref": "1 {} {}", "all": "2 0 {}", "allref": "3 0 {}", "label": "0 {} {}", "switch": "1 {} 0",
 }
+# The byte of each abstract heap type in include/wasm_operators.h.
+HEAPS = {
+    "NoCont": 0x75, "NoExn": 0x74, "NoFunc": 0x73, "NoExtern": 0x72, "None": 0x71, "Func": 0x70, "Extern": 0x6F,
+    "Any": 0x6E, "Eq": 0x6D, "I31": 0x6C, "Struct": 0x6B, "Array": 0x6A, "Exn": 0x69, "Cont": 0x68,
+}
+NUMBERS = {"I32": 0x7F, "I64": 0x7E, "F32": 0x7D, "F64": 0x7C, "V128": 0x7B}
+# What is added to the kind of a shared heap type, of a nullable reference, and of a reference that is a value type.
+SHARED, NULLABLE, REFERENCE = 256, 512, 1024
+# Values, by the standard: the kind, the argument, the bytes, and the numbers in C and the position after the value;
+# or the number of the error and its offset.
+VALUES = (
+    (0, 0, "ff", "255 0 0 at 1"),
+    (0, 0, "", "E1@0"),
+    (1, 0, "01020304ff", "67305985 0 0 at 4"),
+    (2, 0, "0100000000000080", "9223372036854775809 0 0 at 8"),
+    (2, 0, "01000000000000", "E1@0"),
+    (3, 0, "e58e26", "624485 0 0 at 3"),
+    (3, 0, "ffffffff1f", "E4@4"),
+    (4, 0, "ffffffffffffffffff01", "18446744073709551615 0 0 at 10"),
+    (5, 0, "c0bb78", "18446744073709428160 0 0 at 3"),
+    (5, 0, "7f", "18446744073709551615 0 0 at 1"),
+    (6, 0, "8080808070", "18446744069414584320 0 0 at 5"),
+    (7, 0, "8080808080808080807f", "9223372036854775808 0 0 at 10"),
+    (8, 2, "02", "2 0 0 at 1"),
+    (8, 1, "02", "E5@0"),
+    (9, 2, "aabbcc", "2 0 0 at 2"),
+    (9, 4, "aabbcc", "E1@0"),
+    (10, 0, "02000b", "2 0 0 at 3"),
+    (10, 0, "0300", "E1@1"),
+    (11, 0, "01027f0b", "0 0 0 at 3"),
+    (12, 0, "41050b00", "3 0 0 at 3"),
+    (13, 0, "7e", "0 126 0 at 1"),
+    (13, 0, "646c", "0 1132 0 at 2"),
+    (13, 0, "40", "E24@0"),
+    (14, 0, "630a", "0 1537 10 at 2"),
+    (14, 0, "70", "0 1648 0 at 1"),
+    (15, 0, "656e", "0 366 0 at 2"),
+    (15, 0, "05", "0 1 5 at 1"),
+    (15, 0, "6207", "0 2 7 at 2"),
+    (16, 0, "40", "0 64 0 at 1"),
+    (16, 0, "7f", "0 127 0 at 1"),
+    (16, 0, "02", "0 0 2 at 1"),
+    (17, 0, "037b", "3 123 0 at 2"),
+    (17, 4294967294, "017f", "1 127 0 at 2"),
+    (17, 4294967294, "027f", "E23@1"),
+    (18, 0, "010203", "2 1 3 at 3"),
+    (18, 0, "0305", "0 3 5 at 2"),
+    (18, 0, "04", "E22@0"),
+    (19, 0, "000203", "2 0 3 at 3"),
+    (19, 0, "0102", "2 1 0 at 2"),
+    (20, 0, "00", "E105@0"),
+)
+# A module that wat2wasm made of a text in crates/wasm_tests_bodies/stdin, and what the text says of its functions. The
+# two bodies are the bytes from 102 to 108 and from 109 to 113.
+FUNCTIONS = "1 102 6 1 main;2 109 4 2 other;"
 
 
 def rows(text):
@@ -76,7 +145,32 @@ def body_line(row):
     number = "0" if is_read else row["E"].removeprefix("E")
     offset = len(row["hex"]) // 2 if is_read else row["offset"]
     end = f"{number} {offset} {row['operators']}"
-    return "\t".join(["body", row["features"], row["hex"], end, row["fnv_lines"], row["text"]])
+    given = [row["features"], row["hex"], end, row["fnv_lines"], row["text"], row["plain"], row["const"], locals_of(row["locals"])]
+    return "\t".join(["body", *given])
+
+
+def heap_kind(word):
+    """Returns the kind and the index of a heap type."""
+    if word[0] in "#=":
+        return (1 if word[0] == "#" else 2), int(word[1:])
+    shared = word.startswith("shared-")
+    return HEAPS[word.removeprefix("shared-")] + SHARED * shared, 0
+
+
+def type_numbers(word):
+    """Returns the kind and the index of a value type."""
+    if word in NUMBERS:
+        return NUMBERS[word], 0
+    kind, index = heap_kind(word[1:])
+    return kind + NULLABLE * (word[0] == "?") + REFERENCE, index
+
+
+def locals_of(text):
+    """Returns the locals with the numbers of their types: the count, the first five declarations, and the error."""
+    words = text.split(" ")
+    found = [re.fullmatch(r"(\d+)([A-Z?!].*)", word) for word in words]
+    told = [f"{it[1]}:{':'.join(map(str, type_numbers(it[2])))}" if it else word for it, word in zip(found, words)]
+    return " ".join(told)
 
 
 def member_of(word):
@@ -93,20 +187,60 @@ def list_line(sample):
     return "\t".join([*cells, str(len(sample["before"]) // 2), text])
 
 
+def text_lines(text):
+    """Returns the lines of operators and their texts, for the text of the rows."""
+    found = [line.split("\t") for line in text.splitlines() if line.startswith("text\t")]
+    return [f"text\t{cells[2]}\t{cells[3]}" for cells in found]
+
+
+def value_lines():
+    """Returns the lines of values."""
+    return ["\t".join(["value", *map(str, value)]) for value in VALUES]
+
+
+def module_lines(folder=MODULES):
+    """Returns the lines of the modules that wabt listed."""
+    lines = []
+    for path in sorted(folder.glob("*.wasm")):
+        listing = path.with_suffix(".txt").read_text(encoding="utf-8")
+        heads = re.findall(r"^([0-9a-f]+) func\[(\d+)\](?: <(.*)>)?:$", listing, re.M)
+        functions = "".join(f"{index} {int(offset, 16)} {name};" for offset, index, name in heads)
+        lines.append(f"module\t{path.read_bytes().hex()}\t{functions}")
+    return lines
+
+
+def function_lines(text):
+    """Returns the line of the module whose functions are known in full, for the text of the rows."""
+    module = next(line.split("\t")[2] for line in text.splitlines() if line.startswith("sections\t"))
+    return [f"function\t{module}\t{FUNCTIONS}"]
+
+
+def small_lines(text):
+    """Returns the lines of texts, values and modules by the call that they test, for the text of the rows."""
+    return {
+        "wasm_open_bodies, wasm_next_body, wasm_function_name": [*function_lines(text), *module_lines()],
+        "wasm_operator_text, wasm_operator_text_name": text_lines(text),
+        "wasm_read_value": value_lines(),
+    }
+
+
 def files_of(text):
     """Returns the program's input and expected output by name, for the text of the results."""
     answers, samples = rows(text)
     bodies = list(taken(answers))
     lists = [it for it in samples if it["name"] in LISTS]
+    small = small_lines(ROWS.read_text(encoding="utf-8"))
     cases = {call: each * len(bodies) for call, each in OVER_BODIES.items()}
     cases["wasm_open, wasm_read, wasm_finish"] = sum(row["hex"].startswith("00") for row in bodies)
     for call in dict.fromkeys(LISTS.values()):
         cases[call] = sum(LISTS[it["name"]] == call for it in lists)
+    cases |= {call: len(lines) for call, lines in small.items()}
     cases["lines of another sort"] = 0
     version = VERSION.search(HEADER.read_text(encoding="utf-8"))[1]
     counts = [f"{call}: {count} cases, 0 differ" for call, count in cases.items()]
+    others = [line for lines in small.values() for line in lines]
     return {
-        "stdin": "".join(f"{line}\n" for line in [*map(body_line, bodies), *map(list_line, lists)]),
+        "stdin": "".join(f"{line}\n" for line in [*others, *map(list_line, lists), *map(body_line, bodies)]),
         "stdout": "".join(f"{line}\n" for line in [f"wasm_operators_version: {version}", *counts]),
     }
 
@@ -121,7 +255,7 @@ def main():
         if path.exists() and path.read_text(encoding="utf-8") == text:
             continue
         if check:
-            sys.exit(f"{path.relative_to(TOP)}: not what crates/wasm_tests_replay/stdin gives: run tools/c_answers.py")
+            sys.exit(f"{path.relative_to(TOP)}: not what its sources give: run tools/c_answers.py")
         path.write_text(text, encoding="utf-8")
         print(path.relative_to(TOP))
 

@@ -21,7 +21,7 @@ sys.path.insert(0, str(Path(__file__).resolve().parent / "generate"))
 from paths import TOP, below, crates
 
 # The crates that stand on the layers and are none of them; tests are known by their names.
-OUTSIDE = ("wasm_text", "wasm_lines", "wasm_module", "wasm_functions", "wasm_disassembly", "wasm_module_listing", "wasm_objdump", "wasm_c", "wasm_c_exports", "wasm_listing", "wasm_dump", "wasm_bench", "uses", "uses_steps")
+OUTSIDE = ("wasm_text", "wasm_lines", "wasm_module", "wasm_functions", "wasm_bodies", "wasm_disassembly", "wasm_module_listing", "wasm_objdump", "wasm_c", "wasm_c_exports", "wasm_listing", "wasm_dump", "wasm_bench", "uses", "uses_steps")
 # The exceptions: the crate, the library and the file of the lemmas, their names, and why.
 CODES = "encodings are a prefix code, which is also a law, and not empty, which no law says"
 REFUSED = "what an error implies for the bytes"

@@ -1,10 +1,16 @@
-"""Writes the operators of the cargo crate and their visits (bindings/rust/src/operator.rs, visit.rs)."""
+"""Writes the lists of operators of the cargo crate (bindings/rust/src/operator.rs, visit.rs, macros.rs)."""
 
+from arities import REACHING
 from plain import kinds, number
 from table import HEAD, SHARED
 
 # The types of fields that the crate spells in its own way.
-TYPES = {"[u8; 16]": "[u8; 16]", "SelectTypes": "Vec<ValType>"}
+TYPES = {"SelectTypes": "Vec<ValType>"}
+# The types of fields in the macros. The others are Rust's, or `$crate::` and the name.
+MACRO_TYPES = {"SelectTypes": "Vec<$crate::ValType>"}
+PRIMITIVE = {"u8", "u32", "i32", "i64", "[u8; 16]"}
+# The proposals whose operators only a visitor of SIMD operators visits.
+SIMD = ("simd", "relaxed_simd")
 # The values of the fields, by the kinds of immediates: from the C struct `op` and the `bytes` of the body from the operator on.
 VALUES = {
     (): [],
@@ -42,6 +48,11 @@ def variant(op):
     return f"    {op.name}{f' {{ {fields} }}' if fields else ''},"
 
 
+def arm(op):
+    """Returns the pattern of an operator's opcode, with the shape if two operators have the opcode."""
+    return f"0x{number(op):x}{' if op.shape == 19' if op.name == SHARED[0] else ''}"
+
+
 def made(op):
     """Returns the expression that makes the operator from its C struct."""
     fields = ", ".join(f"{name}: {value}" for (name, _), value in zip(op.fields, VALUES[kinds(op)]))
@@ -53,13 +64,15 @@ def operator_source(ops):
     lines = [
         f"//! The operators. {HEAD}",
         "",
+        "use crate::immediates::{BlockType, Ieee32, Ieee64, MemArg, Ordering, V128};",
         "use crate::lists::{self, BrTable, ResumeTable, TryTable};",
         "use crate::native::PlainOperator;",
-        "use crate::types::{BlockType, HeapType, Ieee32, Ieee64, MemArg, Ordering, RefType, V128, ValType};",
-        "use crate::types::{heap_type, ref_type, val_type};",
+        "use crate::types::{HeapType, RefType, ValType, heap_type, ref_type, val_type};",
         "",
         "/// An operator with its immediates.",
         "#[derive(Clone, Debug, PartialEq, Eq)]",
+        "#[allow(missing_docs)]",
+        "#[non_exhaustive]",
         "#[rustfmt::skip]",
         "pub enum Operator<'a> {",
         *[variant(op) for op in ops],
@@ -70,18 +83,8 @@ def operator_source(ops):
         "#[rustfmt::skip]",
         "pub(crate) fn operator_of<'a>(op: &PlainOperator, bytes: &'a [u8], features: u32) -> Operator<'a> {",
         "    match op.opcode {",
-        *[f"        0x{number(op):x}{' if op.shape == 19' if op.name == SHARED[0] else ''} => {made(op)}," for op in ops],
+        *[f"        {arm(op)} => {made(op)}," for op in ops],
         "        opcode => panic!(\"the library has an operator that this crate has not: {opcode:#x}\"),",
-        "    }",
-        "}",
-        "",
-        "impl Operator<'_> {",
-        "    /// Returns the name of the variant.",
-        "    #[rustfmt::skip]",
-        "    pub fn name(&self) -> &'static str {",
-        "        match self {",
-        *[f"            Operator::{op.name}{' { .. }' if op.fields else ''} => \"{op.name}\"," for op in ops],
-        "        }",
         "    }",
         "}",
     ]
@@ -89,44 +92,121 @@ def operator_source(ops):
 
 
 def visit_source(ops):
-    """Returns the file of the visits."""
+    """Returns the file of the functions that call a visitor's methods."""
     lines = [
-        f"//! Visits of operators. {HEAD}",
+        f"//! Calls of a visitor's methods. {HEAD}",
         "",
-        "use crate::lists::{BrTable, ResumeTable, TryTable};",
-        "use crate::operator::Operator;",
-        "use crate::types::{BlockType, HeapType, Ieee32, Ieee64, MemArg, Ordering, RefType, V128, ValType};",
+        "use crate::immediates::{Ieee32, Ieee64, V128};",
+        "use crate::lists::{self, BrTable};",
+        "use crate::native::PlainOperator;",
+        "use crate::types::{heap_type, ref_type, val_type};",
+        "use crate::visitor::{VisitOperator, VisitSimdOperator};",
         "",
-        "/// A visitor of operators. A visit that is not overridden calls `visit_any`.",
+        "/// Calls the method of an operator that is not a SIMD operator. `bytes` starts with the operator's first byte.",
+        "#[inline]",
         "#[rustfmt::skip]",
-        "pub trait VisitOperator<'a> {",
-        "    /// The type that a visit returns.",
-        "    type Output;",
-        "",
-        "    /// Visits an operator whose visit is not overridden.",
-        "    fn visit_any(&mut self, op: Operator<'a>) -> Self::Output;",
-    ]
-    for op in ops:
-        fields = "".join(f", {name}: {TYPES.get(ty, ty)}" for name, ty in op.fields)
-        names = ", ".join(name for name, _ in op.fields)
-        value = f"Operator::{op.name}{f' {{ {names} }}' if names else ''}"
-        lines += ["", f"    /// Visits `{op.name}`.", f"    fn {op.visit}(&mut self{fields}) -> Self::Output {{ self.visit_any({value}) }}"]
-    lines += [
+        "pub(crate) fn visit_not_simd<'a, V: VisitOperator<'a>>(visitor: &mut V, op: &PlainOperator, bytes: &'a [u8], features: u32) -> V::Output {",
+        "    match op.opcode {",
+        *[visit_arm(op) for op in ops if op.proposal not in SIMD],
+        "        opcode => panic!(\"the library has an operator that this crate has not: {opcode:#x}\"),",
+        "    }",
         "}",
         "",
-        "/// Calls the visitor's visit of an operator.",
+        "/// Calls the method of a SIMD operator.",
+        "#[inline]",
         "#[rustfmt::skip]",
-        "pub fn visit_operator<'a, V: VisitOperator<'a> + ?Sized>(visitor: &mut V, op: Operator<'a>) -> V::Output {",
-        "    match op {",
+        "pub(crate) fn visit_simd<'a, V: VisitSimdOperator<'a> + ?Sized>(visitor: &mut V, op: &PlainOperator) -> V::Output {",
+        "    match op.opcode {",
+        *[visit_arm(op) for op in ops if op.proposal in SIMD],
+        "        opcode => panic!(\"the library has an operator that this crate has not: {opcode:#x}\"),",
+        "    }",
+        "}",
     ]
-    for op in ops:
-        names = ", ".join(name for name, _ in op.fields)
-        lines.append(f"        Operator::{op.name}{f' {{ {names} }}' if names else ''} => visitor.{op.visit}({names}),")
-    lines += ["    }", "}"]
+    return "\n".join(lines) + "\n"
+
+
+def visit_arm(op):
+    """Returns the arm that calls the visitor's method of an operator."""
+    return f"        {arm(op)} => visitor.{op.visit}({', '.join(VALUES[kinds(op)])}),"
+
+
+def macro_type(ty):
+    """Returns a type of a field as the macros write it."""
+    return MACRO_TYPES.get(ty, ty if ty in PRIMITIVE else f"$crate::{ty}")
+
+
+def arity(op):
+    """Returns the arity of an operator as the macros write it."""
+    if op.is_by_rule:
+        return "(arity custom)"
+    takes = op.takes.removesuffix(REACHING)
+    return f"(arity {'memarg ' if takes != op.takes else ''}{takes} -> {op.leaves})"
+
+
+def entry(op):
+    """Returns the entry of an operator in the macros."""
+    fields = ", ".join(f"{name}: {macro_type(ty)}" for name, ty in op.fields)
+    return f"            @{op.proposal} {op.name}{f' {{ {fields} }}' if fields else ''} => {op.visit} {arity(op)}"
+
+
+def macro(name, doc, ops):
+    """Returns a macro that calls another one with a list of operators."""
+    return [
+        "",
+        *doc,
+        "#[macro_export]",
+        "#[doc(hidden)]",
+        f"macro_rules! _{name}_impl {{",
+        "    ($mac:ident) => {",
+        "        $mac! {",
+        *[entry(op) for op in ops],
+        "        }",
+        "    };",
+        "}",
+    ]
+
+
+FORM = [
+    "/// Each entry has the form `@proposal Operator { field: type, .. } => visit_method (arity takes -> leaves)`. The fields",
+    "/// are left out if there are none. The arity is `(arity memarg takes -> leaves)` if an access to an array takes one more",
+    "/// operand, and `(arity custom)` if it depends on the module or on the open frames.",
+]
+NAMES = """\
+/// ```
+/// fn proposal(op: &wasm_operators::Operator) -> &'static str {
+///     macro_rules! proposals {
+///         ($(@$proposal:ident $op:ident $({ $($field:ident: $ty:ty),* })? => $visit:ident ($($ann:tt)*))*) => {
+///             match op {
+///                 $(wasm_operators::Operator::$op $({ $($field: _),* })? => stringify!($proposal),)*
+///                 _ => "unknown",
+///             }
+///         };
+///     }
+///     wasm_operators::for_each_operator!(proposals)
+/// }
+///
+/// assert_eq!(proposal(&wasm_operators::Operator::RefI31), "gc");
+/// ```""".split("\n")
+
+
+def macros_source(ops):
+    """Returns the file of the macros."""
+    simd = [op for op in ops if op.proposal in SIMD]
+    others = [op for op in ops if op.proposal not in SIMD]
+    every = ["/// Calls a macro with the list of all operators.", "///", *FORM, "///", *NAMES]
+    plain = ["/// Calls a macro with the list of the operators that are not SIMD operators, as `for_each_operator!` does."]
+    vector = ["/// Calls a macro with the list of the SIMD operators, as `for_each_operator!` does."]
+    lines = [
+        f"//! Macros that call another macro with a list of operators. {HEAD}",
+        *macro("for_each_operator", every, ops),
+        *macro("for_each_visit_operator", plain, others),
+        *macro("for_each_visit_simd_operator", vector, simd),
+    ]
     return "\n".join(lines) + "\n"
 
 
 def cargo_files(ops):
     """Returns the crate's generated files, over the operators whose immediates have values here."""
     ops = [op for op in ops if kinds(op) in VALUES]
-    return {"bindings/rust/src/operator.rs": operator_source(ops), "bindings/rust/src/visit.rs": visit_source(ops)}
+    sources = {"operator": operator_source, "visit": visit_source, "macros": macros_source}
+    return {f"bindings/rust/src/{name}.rs": source(ops) for name, source in sources.items()}

@@ -48,10 +48,40 @@ FEATURES = (
 MISUSES = [
     ("WASM_REFUSED_UNKNOWN_FEATURES", 100, ""),
     ("WASM_REFUSED_PAST_OFFSETS", 101, ""),
-    ("WASM_REFUSED_NO_ROOM", 102, ""),
+    ("WASM_REFUSED_NO_ROOM", 102, "an array is too short"),
     ("WASM_REFUSED_NOT_A_READER", 103, ""),
     ("WASM_REFUSED_NO_LIST", 104, ""),
+    ("WASM_REFUSED_NO_VALUE_KIND", 105, ""),
+    ("WASM_REFUSED_NOT_A_MODULE", 106, "value: 1 a component, 2 another version, 3 no WebAssembly"),
+    ("WASM_REFUSED_IMPORT_KIND", 107, "value: the byte of the kind"),
+    ("WASM_REFUSED_TYPE_KIND", 108, "value: the byte of the type"),
+    ("WASM_REFUSED_COUNTS_DIFFER", 109, "there are more or fewer bodies than functions"),
+    ("WASM_REFUSED_NO_FUNCTION", 110, "the module defines no function with the index"),
+    ("WASM_REFUSED_NO_BODY", 111, "all bodies were read"),
 ]
+# The kinds of values that wasm_read_value reads, in the order of their numbers, each with its argument and result.
+VALUES = (
+    ("U8", "one byte"),
+    ("U32", "a number of four bytes, little-endian"),
+    ("U64", "a number of eight bytes, little-endian"),
+    ("VAR_U32", "LEB128"),
+    ("VAR_U64", "LEB128"),
+    ("VAR_I32", "signed LEB128"),
+    ("VAR_S33", "signed LEB128 of 33 bits"),
+    ("VAR_I64", "signed LEB128"),
+    ("SIZE", "a VAR_U32 of at most `argument`, else WASM_REFUSED_SIZE_OUT_OF_BOUNDS"),
+    ("BYTES", "`argument` bytes; number: how many"),
+    ("SIZED", "a VAR_U32 and that many bytes, such as a function body; number: how many"),
+    ("LOCALS", "the locals of a body, up to its operators"),
+    ("CONST_EXPR", "a constant expression; number: its length in bytes"),
+    ("VAL_TYPE", "kind, index: a value type, as in wasm_type"),
+    ("REF_TYPE", "kind, index: a reference type, as a value type"),
+    ("HEAP_TYPE", "kind, index: a heap type"),
+    ("BLOCK_TYPE", "kind, index: a block type"),
+    ("LOCAL", "a declaration of locals; number: how many; kind, index: their type. `argument` locals were declared before"),
+    ("CATCH", "a catch of a try_table; kind: its form; number: its tag; index: its label"),
+    ("CLAUSE", "a clause of a resume; kind: its form; number: its tag; index: its label"),
+)
 # The kinds of frames, in the order of their bytes.
 FRAMES = ("BLOCK", "IF", "ELSE", "LOOP", "TRY_TABLE", "LEGACY_TRY", "LEGACY_CATCH", "LEGACY_CATCH_ALL")
 # What the indices of operators are called in the header, if it is not their name in the table.
@@ -116,10 +146,13 @@ extern "C" {{
 #endif
 
 /* The version of these structs and functions. wasm_operators_version() returns the library's version. */
-#define WASM_OPERATORS_VERSION 3u
+#define WASM_OPERATORS_VERSION 4u
 
 /* The length in bytes of the longest name that wasm_operator_name writes. */
 #define WASM_LONGEST_NAME {longest}
+
+/* The length in bytes of the longest name that wasm_operator_text_name writes. */
+#define WASM_LONGEST_TEXT_NAME {longest_text}
 """
 
 STRUCTS = """
@@ -174,15 +207,16 @@ typedef struct wasm_reader {
 
 /* A refusal: 24 bytes without padding. */
 typedef struct wasm_refusal {
-  /* The offset of the error. For WASM_REFUSED_UNKNOWN_FEATURES, WASM_REFUSED_PAST_OFFSETS and
-   * WASM_REFUSED_NOT_A_READER it is the offset of the first byte, for WASM_REFUSED_NO_LIST the argument `at`.
-   * Without an error it is the offset of the end of the bytes, the reader's offset, or the argument `at`. */
+  /* The offset of the error. For WASM_REFUSED_UNKNOWN_FEATURES, WASM_REFUSED_PAST_OFFSETS,
+   * WASM_REFUSED_NOT_A_READER and WASM_REFUSED_NO_VALUE_KIND it is the offset of the first byte, for
+   * WASM_REFUSED_NO_LIST and a text that does not fit the argument `at`. Without an error it is the offset of the end
+   * of the bytes, the reader's offset, the argument `at`, or the offset of the body. Otherwise it is 0. */
   uint64_t offset;
   /* 0 without an error, else one of `enum wasm_refused`. */
   uint32_t number;
   /* The number of the name that its text has. */
   uint32_t name;
-  /* The byte, code or flags that its text has. */
+  /* The byte, code or flags that its text has, or what `enum wasm_refused` says. */
   uint32_t value;
   /* 0. */
   uint32_t reserved;
@@ -205,6 +239,43 @@ typedef struct wasm_handler {
   /* Its label, or 0 without a label. */
   uint32_t label;
 } wasm_handler;
+
+/* A value that wasm_read_value reads: 16 bytes without padding. `enum wasm_value_kind` says what the fields hold;
+ * the fields that it does not name are 0. */
+typedef struct wasm_value {
+  uint64_t number;
+  uint32_t kind;
+  uint32_t index;
+} wasm_value;
+
+/* A place between the bodies of a module: 32 bytes without padding. wasm_open_bodies fills it in, and
+ * wasm_next_body advances it. It may be copied. */
+typedef struct wasm_bodies {
+  /* The number of bytes of the code section's contents that were read. */
+  uint64_t code;
+  /* The number of bytes of the function section's contents that were read. */
+  uint64_t types;
+  /* The number of imported functions. */
+  uint32_t imported;
+  /* The number of bodies that were read. */
+  uint32_t read;
+  /* The number of bodies that are left. */
+  uint32_t left;
+  /* 0. */
+  uint32_t reserved;
+} wasm_bodies;
+
+/* The body of a function: 24 bytes without padding. */
+typedef struct wasm_body {
+  /* The offset of the first byte in the module. */
+  uint64_t offset;
+  /* The number of bytes. */
+  uint64_t length;
+  /* The index of the function. Imported functions have the lowest indices. */
+  uint32_t index;
+  /* The index of the function's type. */
+  uint32_t type_index;
+} wasm_body;
 """
 
 CALLS = """
@@ -260,6 +331,20 @@ uint32_t wasm_open_body(const uint8_t *bytes, size_t bytes_length, uint64_t offs
 uint32_t wasm_next(const uint8_t *bytes, size_t bytes_length, uint8_t *frames, size_t frames_length,
                    wasm_reader *reader, wasm_operator *op, wasm_refusal *refusal);
 
+/* Reads the next operator like wasm_next, but fails with WASM_REFUSED_UNEXPECTED_SIMD before the byte 0xfd, whatever
+ * follows it. Only `*refusal` changes then. */
+uint32_t wasm_next_plain(const uint8_t *bytes, size_t bytes_length, uint8_t *frames, size_t frames_length,
+                         wasm_reader *reader, wasm_operator *op, wasm_refusal *refusal);
+
+/* Reads a value at the reader's position and returns 0. `kind` is one of `enum wasm_value_kind`, which says what
+ * `argument` is. No frame of the reader may be open. Of bytes, of a part with its length, and of a constant
+ * expression, the value is how many bytes there are; they end at the new position.
+ *
+ * Otherwise it returns the number of the refusal, and only `*refusal` changes. Fails with
+ * WASM_REFUSED_NO_VALUE_KIND if there is no such kind, and with WASM_REFUSED_NOT_A_READER like wasm_next. */
+uint32_t wasm_read_value(const uint8_t *bytes, size_t bytes_length, wasm_reader *reader, uint32_t kind,
+                         uint64_t argument, wasm_value *value, wasm_refusal *refusal);
+
 /* Reads operators into `out`, like repeated calls of wasm_next, until `out` is full or all bytes are read, and
  * returns 0. If an operator cannot be read, it stops and returns the number of the refusal. `*count` is the
  * number of operators that were read; the rest of `out` is unchanged. */
@@ -299,6 +384,50 @@ uint32_t wasm_try_table_catches(const uint8_t *bytes, size_t bytes_length, uint6
 uint32_t wasm_resume_handlers(const uint8_t *bytes, size_t bytes_length, uint64_t offset, uint32_t features,
                               uint64_t at, size_t index, wasm_handler *out, size_t out_length, size_t *count,
                               wasm_refusal *refusal);
+
+/* Writes the text of the operator that begins at the offset `at`, such as `i32.const 5`, and returns 0: its name and
+ * its operands in the text format, in UTF-8 and without a terminating 0. `offset` is the offset of the first byte.
+ * `*length` is the length of the text in bytes.
+ *
+ * Fails with WASM_REFUSED_NO_ROOM if the text is longer than `text_length`. Then `*length` is the text's length, and
+ * nothing else changes except `*refusal`. An array of that many bytes is large enough.
+ *
+ * Otherwise it returns the number of the refusal, and only `*refusal` changes. The operator is read inside a frame
+ * that allows it, if one does. Fails like wasm_br_table_targets; WASM_REFUSED_NO_LIST means that `at` is before the
+ * first byte or past the end. */
+uint32_t wasm_operator_text(const uint8_t *bytes, size_t bytes_length, uint64_t offset, uint32_t features,
+                            uint64_t at, uint8_t *text, size_t text_length, size_t *length,
+                            wasm_refusal *refusal);
+
+/* Writes the name of the operator in the text format, such as `i32.const`, like wasm_operator_text. */
+uint32_t wasm_operator_text_name(const uint8_t *bytes, size_t bytes_length, uint64_t offset, uint32_t features,
+                                 uint64_t at, uint8_t *name, size_t name_length, size_t *length,
+                                 wasm_refusal *refusal);
+
+/* Opens the bodies of the module `bytes` and returns 0. `*bodies` is the place before the first body.
+ *
+ * Otherwise it returns the number of the refusal, and only `*refusal` changes. Fails with
+ * WASM_REFUSED_NOT_A_MODULE, WASM_REFUSED_IMPORT_KIND, WASM_REFUSED_TYPE_KIND, WASM_REFUSED_COUNTS_DIFFER, or the
+ * refusal of a section. May allocate. */
+uint32_t wasm_open_bodies(const uint8_t *bytes, size_t bytes_length, wasm_bodies *bodies, wasm_refusal *refusal);
+
+/* Reads the next body of the module with which `bodies` was opened and returns 0. Does not allocate.
+ *
+ * Otherwise it returns the number of the refusal, and only `*refusal` changes. Fails with WASM_REFUSED_NO_BODY if all
+ * bodies were read, and with WASM_REFUSED_DATA_AFTER_SECTION if data is left after them. Fails with
+ * WASM_REFUSED_NOT_A_READER if `bodies` cannot be a place in this module. Otherwise the length of the body is in
+ * error, or the data ends within the body. */
+uint32_t wasm_next_body(const uint8_t *bytes, size_t bytes_length, wasm_bodies *bodies, wasm_body *body,
+                        wasm_refusal *refusal);
+
+/* Writes the name of the function with the index `index`, which the module defines, and returns 0. `*length` is the
+ * length of the name in bytes, or 0 if it has none or if the name is not UTF-8. A name in the custom section `name`
+ * replaces the name of an export. Each call reads the sections that describe functions.
+ *
+ * Fails with WASM_REFUSED_NO_ROOM like wasm_operator_text. Otherwise it returns the number of the refusal, and only
+ * `*refusal` changes. Fails with WASM_REFUSED_NO_FUNCTION, and like wasm_open_bodies. May allocate. */
+uint32_t wasm_function_name(const uint8_t *bytes, size_t bytes_length, uint32_t index, uint8_t *name,
+                            size_t name_length, size_t *length, wasm_refusal *refusal);
 """
 
 KINDS = """
@@ -385,13 +514,14 @@ def chosen(doc, signature, ops, answer, default):
 
 def header(ops):
     """Returns the text of the header."""
-    lines = TOP.format(head=HEAD, longest=max(len(op.name) for op in ops)).splitlines()
+    lines = TOP.format(head=HEAD, longest=max(len(op.name) for op in ops), longest_text=max(len(op.text) for op in ops)).splitlines()
     lines += enum("The features, which may be combined with |.", "wasm_feature", [(f"WASM_FEATURE_{it}", 1 << at, "") for at, it in enumerate(FEATURES)] + [("WASM_FEATURES_ALL", 63, "")])
     lines += enum("The fields of an operator that have a meaning.", "wasm_shape", [(f"WASM_SHAPE_{name}", at, told) for at, (name, told) in enumerate(SHAPES)])
     lines += KINDS.splitlines()
     lines += enum("The forms of a catch: it catches one tag or all, and REF passes the exception too.", "wasm_catch", CATCHES)
     lines += enum("The forms of a clause of a resume.", "wasm_clause", CLAUSES)
     lines += enum("The kinds of frames: the bytes of the array `frames`, outermost first. Any other byte counts as a block.", "wasm_frame", [(f"WASM_FRAME_{name}", at, "") for at, name in enumerate(FRAMES)])
+    lines += enum("The kinds of values that wasm_read_value reads. Without another comment, `number` is the number, and\n * sign-extended to 64 bits if it is signed.", "wasm_value_kind", [(f"WASM_VALUE_{name}", at, told) for at, (name, told) in enumerate(VALUES)])
     told = [(f"WASM_REFUSED_{name}", at, "") for at, name in enumerate(REFUSALS, 1)]
     told += MISUSES
     lines += enum("The refusals. docs/ERRORS-AND-FEATURES.md lists their texts and offsets.", "wasm_refused", told)

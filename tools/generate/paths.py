@@ -27,6 +27,7 @@ SHORT = {
     "wasm_operators_readers": "readers",
     "wasm_operators": "operators",
     "wasm_view": "view",
+    "wasm_text": "text",
 }
 
 

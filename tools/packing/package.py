@@ -9,7 +9,7 @@ import tarfile
 from packing.builds import TOP
 
 CRATE = TOP / "bindings/rust"
-KEPT = ["Cargo.toml", "Cargo.lock", "build.rs", "README.md", "src", "examples", "tests"]
+KEPT = ["Cargo.toml", "Cargo.lock", "build.rs", "README.md", "API.md", "src", "examples", "tests"]
 # A file of the repository that a test reads.
 OUTSIDE = re.compile(r'(include_(?:str|bytes)!\(\s*")(?:\.\./){2,}([^"]+)"')
 

@@ -21,6 +21,7 @@ GROUPS = [
     ("Lines of a disassembly", "wasm_lines"),
     ("The parts of a module", "wasm_module"),
     ("The functions of a module", "wasm_functions"),
+    ("The bodies of a module", "wasm_bodies"),
     ("The text of a function", "wasm_disassembly"),
     ("The listing and the operator counts of a module", "wasm_module_listing"),
     ("Operators as C structs", "wasm_view"),

@@ -3,25 +3,56 @@
 import unittest
 from pathlib import Path
 
+import doc_examples
 import header
+import sections
 from table import table
 
 TOP = Path(__file__).resolve().parent.parent.parent
 
 
 class Bindings(unittest.TestCase):
-    def test_a_program_in_two_versions_differs_in_its_use_line(self):
-        ours = (TOP / "bindings/rust/examples/nesting.rs").read_text(encoding="utf-8").splitlines()
-        theirs = (TOP / "bindings/original/nesting.rs").read_text(encoding="utf-8").splitlines()
-        self.assertEqual(len(ours), len(theirs))
-        different = [pair for pair in zip(ours, theirs) if pair[0] != pair[1]]
-        self.assertEqual(len(different), 1)
-        self.assertEqual(different[0][0].replace("wasm_operators", "wasmparser"), different[0][1])
-        self.assertTrue(different[0][0].startswith("use "))
+    def test_a_program_on_wasmparser_names_no_other_crate(self):
+        programs = sorted((TOP / "bindings/programs").glob("*.rs"))
+        self.assertGreater(len(programs), 2)
+        for program in programs:
+            text = program.read_text(encoding="utf-8")
+            self.assertIn("use wasmparser::", text, program)
+            self.assertNotIn("wasm_operators", text, program)
+
+    def test_only_one_module_has_unsafe_code(self):
+        sources = sorted((TOP / "bindings/rust/src").glob("*.rs"))
+        found = [path.name for path in sources if "unsafe {" in path.read_text(encoding="utf-8")]
+        self.assertEqual(found, ["native.rs"])
+
+    def test_examples_in_doc_comments(self):
+        source = """\
+/// Reads.
+///
+/// ```
+/// let one = 1;
+/// ```
+fn one() {}
+    /// ```text
+    /// not code
+    /// ```
+    //! ```rust
+    //! two();
+    //! ```
+"""
+        found = [(3, ["let one = 1;"]), (10, ["two();"])]
+        self.assertEqual(doc_examples.examples(source), found)
+
+    def test_numbers_of_sections(self):
+        self.assertEqual([sections.number(n).hex() for n in (0, 127, 128, 1256)], ["00", "7f", "8001", "e809"])
 
     def test_the_longest_name_has_room(self):
         longest = max(len(op.name) for op in table())
         self.assertIn(f"#define WASM_LONGEST_NAME {longest}\n", header.header(table()))
+
+    def test_the_longest_text_name_has_room(self):
+        longest = max(len(op.text) for op in table())
+        self.assertIn(f"#define WASM_LONGEST_TEXT_NAME {longest}\n", header.header(table()))
 
     def test_meanings_of_fields(self):
         ops = table()

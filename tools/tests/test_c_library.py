@@ -51,6 +51,16 @@ class Answers(unittest.TestCase):
         self.assertEqual(c_answers.list_line(sample), "list\tTryTable\t001f0b\t1\t0 2: 2 0 1; 0 2 3;")
 
 
+    def test_locals(self):
+        self.assertEqual(c_answers.locals_of("2 85I32 163?shared-None"), "2 85:127:0 163:1905:0")
+        self.assertEqual(c_answers.locals_of("1 2!#7 E24@2"), "1 2:1025:7 E24@2")
+        self.assertEqual(c_answers.locals_of("E1@0"), "E1@0")
+
+    def test_modules_have_their_functions(self):
+        lines = c_answers.module_lines()
+        self.assertIn("\t0 48 gcd;", "\n".join(lines))
+
+
 class Unproved(unittest.TestCase):
     def test_program_calls_each_export(self):
         program, names = unproved_library.program_of((TOP / exports.EXPORTS).read_text(encoding="utf-8"))

@@ -1,14 +1,16 @@
-//! The lists that operators carry. The library reads their members.
+//! Lists that operators have. The library reads their members.
 
-use crate::Result;
-use crate::native::{self, PlainOperator};
-use crate::types::{BlockType, ValType};
+use crate::native::{self, PlainHandler, PlainOperator};
+use crate::types::val_type;
+use crate::{BinaryReader, BlockType, Result, ValType, WasmFeatures};
 use std::fmt;
+use std::marker::PhantomData;
+use std::vec;
 
-/// The labels of a `br_table`. Its targets stay in the bytes, which the library reads again for them.
+/// The labels of a `br_table`. The targets stay in the bytes, and the library reads them again.
 #[derive(Clone)]
 pub struct BrTable<'a> {
-    /// The bytes from the operator on.
+    /// The bytes, which start with the operator.
     bytes: &'a [u8],
     features: u32,
     count: u32,
@@ -25,34 +27,61 @@ impl<'a> BrTable<'a> {
         }
     }
 
-    /// How many targets there are, without the default one.
+    /// Returns the number of targets, without the default one.
     pub fn len(&self) -> u32 {
         self.count
     }
 
-    /// Whether there is no target but the default one.
+    /// Returns whether the default target is the only one.
     pub fn is_empty(&self) -> bool {
         self.count == 0
     }
 
-    /// The target of all values that have none of their own.
+    /// Returns the default target.
     pub fn default(&self) -> u32 {
         self.default
     }
 
-    /// The targets, without the default one. Each call reads them all, and each is `Ok`.
-    pub fn targets(&self) -> impl Iterator<Item = Result<u32>> + use<> {
-        native::branch_targets(self.bytes, self.features, self.count)
-            .into_iter()
-            .map(Ok)
+    /// Returns the targets, without the default one.
+    ///
+    /// ```
+    /// use wasm_operators::{BinaryReader, Operator, OperatorsReader, Result};
+    ///
+    /// let mut reader = OperatorsReader::new(BinaryReader::new(&[0x0e, 2, 7, 8, 0], 0));
+    /// let Operator::BrTable { targets } = reader.read()? else { unreachable!() };
+    /// assert_eq!(targets.targets().collect::<Result<Vec<_>>>()?, [7, 8]);
+    /// # Ok::<(), wasm_operators::Error>(())
+    /// ```
+    pub fn targets(&self) -> BrTableTargets<'_> {
+        let targets = native::branch_targets(self.bytes, self.features, self.count);
+        BrTableTargets {
+            targets: targets.into_iter(),
+            table: PhantomData,
+        }
+    }
+
+    /// Returns the bytes of the targets.
+    fn target_bytes(&self) -> Result<&'a [u8]> {
+        let features = WasmFeatures::from_bits_truncate(self.features);
+        let mut reader = BinaryReader::new_features(self.bytes, 0, features);
+        reader.read_u8()?;
+        reader.read_var_u32()?;
+        let targets = reader.skip(|reader| {
+            for _ in 0..self.count {
+                reader.read_var_u32()?;
+            }
+            Ok(())
+        })?;
+        Ok(targets.remaining_buffer())
     }
 }
 
+/// Two tables are equal if the counts, the default targets and the bytes of the targets are equal.
 impl PartialEq for BrTable<'_> {
     fn eq(&self, other: &BrTable<'_>) -> bool {
         self.count == other.count
             && self.default == other.default
-            && self.targets().eq(other.targets())
+            && self.target_bytes() == other.target_bytes()
     }
 }
 
@@ -69,54 +98,113 @@ impl fmt::Debug for BrTable<'_> {
     }
 }
 
-/// What `try_table` carries.
+/// An iterator over the targets of a [`BrTable`], without the default one. Each is `Ok`.
+pub struct BrTableTargets<'a> {
+    targets: vec::IntoIter<u32>,
+    table: PhantomData<&'a BrTable<'a>>,
+}
+
+impl Iterator for BrTableTargets<'_> {
+    type Item = Result<u32>;
+
+    fn next(&mut self) -> Option<Result<u32>> {
+        self.targets.next().map(Ok)
+    }
+
+    fn size_hint(&self) -> (usize, Option<usize>) {
+        self.targets.size_hint()
+    }
+}
+
+/// The immediates of a `try_table`.
 #[derive(Clone, Debug, PartialEq, Eq)]
 pub struct TryTable {
     /// The type of the block.
     pub ty: BlockType,
-    /// What is caught, the first that fits.
+    /// The clauses. The first that matches an exception catches it.
     pub catches: Vec<Catch>,
 }
 
-/// What is caught, and the label that is then branched to.
+/// A clause of a `try_table`: the tag that it catches, if not all, and the label that it branches to.
 #[derive(Clone, Copy, Debug, PartialEq, Eq, Hash)]
 pub enum Catch {
+    /// `catch`
     One { tag: u32, label: u32 },
+    /// `catch_ref`
     OneRef { tag: u32, label: u32 },
+    /// `catch_all`
     All { label: u32 },
+    /// `catch_all_ref`
     AllRef { label: u32 },
 }
 
-/// What is handled while a continuation runs.
-#[derive(Clone, Debug, PartialEq, Eq)]
-pub struct ResumeTable {
-    /// The clauses, the first that fits.
-    pub handlers: Vec<Handle>,
-}
-
-/// A clause of a resume table.
-#[derive(Clone, Copy, Debug, PartialEq, Eq, Hash)]
-pub enum Handle {
-    OnLabel { tag: u32, label: u32 },
-    OnSwitch { tag: u32 },
-}
-
-/// The types of a select that has none or several, from the bytes where it begins.
-pub(crate) fn select_types(op: &PlainOperator, bytes: &[u8], features: u32) -> Vec<ValType> {
-    native::select_types(bytes, features, op.first)
-}
-
-/// The block type and the catches of a try table.
-pub(crate) fn try_table(op: &PlainOperator, bytes: &[u8], features: u32) -> TryTable {
-    TryTable {
-        ty: op.block_type(),
-        catches: native::catches(bytes, features, op.second),
+impl Catch {
+    /// Creates a clause from the library's numbers.
+    pub(crate) fn of(kind: u32, tag: u32, label: u32) -> Catch {
+        match kind {
+            0 => Catch::One { tag, label },
+            1 => Catch::OneRef { tag, label },
+            2 => Catch::All { label },
+            _ => Catch::AllRef { label },
+        }
     }
 }
 
-/// The clauses of a resume table, of which there are so many.
+/// The clauses of a `resume`, `resume_throw` or `resume_throw_ref`.
+#[derive(Clone, Debug, PartialEq, Eq)]
+pub struct ResumeTable {
+    /// The clauses. The first that matches a suspension handles it.
+    pub handlers: Vec<Handle>,
+}
+
+impl ResumeTable {
+    /// Returns the number of clauses.
+    #[allow(clippy::len_without_is_empty)] // wasmparser has only this one
+    pub fn len(&self) -> usize {
+        self.handlers.len()
+    }
+}
+
+/// A clause of a [`ResumeTable`].
+#[derive(Clone, Copy, Debug, PartialEq, Eq, Hash)]
+pub enum Handle {
+    /// A suspension with this tag branches to the label.
+    OnLabel { tag: u32, label: u32 },
+    /// A suspension with this tag switches to another continuation.
+    OnSwitch { tag: u32 },
+}
+
+impl Handle {
+    /// Creates a clause from the library's numbers.
+    pub(crate) fn of(kind: u32, tag: u32, label: u32) -> Handle {
+        match kind {
+            0 => Handle::OnLabel { tag, label },
+            _ => Handle::OnSwitch { tag },
+        }
+    }
+}
+
+/// Reads the types of a `select` that has none or several. `bytes` starts with the operator.
+pub(crate) fn select_types(op: &PlainOperator, bytes: &[u8], features: u32) -> Vec<ValType> {
+    let types = native::select_types(bytes, features, op.first);
+    types.iter().map(|ty| val_type(ty.kind, ty.index)).collect()
+}
+
+/// Reads the clauses of a `try_table`. `bytes` starts with the operator.
+pub(crate) fn try_table(op: &PlainOperator, bytes: &[u8], features: u32) -> TryTable {
+    let catches = native::catches(bytes, features, op.second);
+    let catch = |&PlainHandler { kind, tag, label }: &PlainHandler| Catch::of(kind, tag, label);
+    TryTable {
+        ty: op.block_type(),
+        catches: catches.iter().map(catch).collect(),
+    }
+}
+
+/// Reads this many clauses of a `resume` and its like. `bytes` starts with the operator.
 pub(crate) fn resume_table(bytes: &[u8], features: u32, count: u32) -> ResumeTable {
+    let handlers = native::handlers(bytes, features, count);
+    let handle = |&PlainHandler { kind, tag, label }: &PlainHandler| Handle::of(kind, tag, label);
     ResumeTable {
-        handlers: native::handlers(bytes, features, count),
+        handlers: handlers.iter().map(handle).collect(),
     }
 }

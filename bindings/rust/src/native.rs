@@ -1,12 +1,16 @@
-//! The calls of `libwasm_c.a`, as `wasm_operators.h` declares them, made safe.
+//! Safe calls of `libwasm_c.a`, as `wasm_operators.h` declares its functions. No other module has `unsafe`.
+//!
+//! Each `unsafe` block is one call. All are safe for the same reasons:
+//!
+//! - The library is proved to read within its inputs, to write within its outputs, and to keep no pointer.
+//! - The pointers come from live borrows, with their lengths. The pointer of an empty slice is not null.
+//! - The structs have the library's layout: they are `repr(C)`, and `check_version` compares the versions. They hold
+//!   only integers, so the library may write any bits to them.
 
-use crate::lists::{Catch, Handle};
-use crate::types::{BlockType, MemArg, MemArgOrdering, MemArgTarget, Ordering, ValType, val_type};
+/// The version of the structs and functions.
+const VERSION: u32 = 4;
 
-/// The version of the structs and calls.
-const VERSION: u32 = 3;
-
-/// `wasm_operator` of the header.
+/// An operator as a C struct: `wasm_operator` of the header, which says what each field means.
 #[repr(C)]
 #[derive(Clone, Copy, Debug, Default, PartialEq, Eq)]
 pub struct PlainOperator {
@@ -27,7 +31,7 @@ pub struct PlainOperator {
     pub bytes: [u8; 16],
 }
 
-/// `wasm_refusal` of the header.
+/// An error as a C struct: `wasm_refusal` of the header.
 #[repr(C)]
 #[derive(Clone, Copy, Debug, Default, PartialEq, Eq)]
 pub struct Refusal {
@@ -38,7 +42,7 @@ pub struct Refusal {
     pub reserved: u32,
 }
 
-/// `wasm_reader` of the header.
+/// A position in bytes, with the number of open frames: `wasm_reader` of the header.
 #[repr(C)]
 #[derive(Clone, Copy, Debug, Default, PartialEq, Eq)]
 pub struct PlainReader {
@@ -49,22 +53,129 @@ pub struct PlainReader {
     pub reserved: u32,
 }
 
-/// `wasm_type` of the header.
+/// A value type: `wasm_type` of the header.
 #[repr(C)]
 #[derive(Clone, Copy, Debug, Default, PartialEq, Eq)]
-struct PlainType {
-    kind: u32,
-    index: u32,
+pub struct PlainType {
+    pub kind: u32,
+    pub index: u32,
 }
 
-/// `wasm_handler` of the header.
+/// A clause of a `try_table` or a `resume`: `wasm_handler` of the header.
 #[repr(C)]
 #[derive(Clone, Copy, Debug, Default, PartialEq, Eq)]
-struct PlainHandler {
-    kind: u32,
-    tag: u32,
-    label: u32,
+pub struct PlainHandler {
+    pub kind: u32,
+    pub tag: u32,
+    pub label: u32,
 }
+
+/// A value: `wasm_value` of the header.
+#[repr(C)]
+#[derive(Clone, Copy, Debug, Default, PartialEq, Eq)]
+pub struct PlainValue {
+    pub number: u64,
+    pub kind: u32,
+    pub index: u32,
+}
+
+/// A place between the bodies of a module: `wasm_bodies` of the header.
+#[repr(C)]
+#[derive(Clone, Copy, Debug, Default, PartialEq, Eq)]
+pub struct PlainBodies {
+    pub code: u64,
+    pub types: u64,
+    pub imported: u32,
+    pub read: u32,
+    pub left: u32,
+    pub reserved: u32,
+}
+
+/// The body of a function of a module: `wasm_body` of the header.
+#[repr(C)]
+#[derive(Clone, Copy, Debug, Default, PartialEq, Eq)]
+pub struct PlainBody {
+    pub offset: u64,
+    pub length: u64,
+    pub index: u32,
+    pub type_index: u32,
+}
+
+/// What `read_value` reads: `wasm_value_kind` of the header.
+#[repr(u32)]
+#[derive(Clone, Copy, Debug, PartialEq, Eq)]
+pub enum ValueKind {
+    U8 = 0,
+    U32 = 1,
+    U64 = 2,
+    VarU32 = 3,
+    VarU64 = 4,
+    VarI32 = 5,
+    VarS33 = 6,
+    VarI64 = 7,
+    Size = 8,
+    Bytes = 9,
+    Sized = 10,
+    Locals = 11,
+    ConstExpr = 12,
+    ValType = 13,
+    RefType = 14,
+    HeapType = 15,
+    BlockType = 16,
+    Local = 17,
+    Catch = 18,
+    Clause = 19,
+}
+
+/// A function that opens an expression.
+type Open = unsafe extern "C" fn(
+    *const u8,
+    usize,
+    u64,
+    u32,
+    *mut u8,
+    usize,
+    *mut PlainReader,
+    *mut Refusal,
+) -> u32;
+
+/// A function that reads the next operator.
+type Next = unsafe extern "C" fn(
+    *const u8,
+    usize,
+    *mut u8,
+    usize,
+    *mut PlainReader,
+    *mut PlainOperator,
+    *mut Refusal,
+) -> u32;
+
+/// A function that writes the members of a list.
+type List<T> = unsafe extern "C" fn(
+    *const u8,
+    usize,
+    u64,
+    u32,
+    u64,
+    usize,
+    *mut T,
+    usize,
+    *mut usize,
+    *mut Refusal,
+) -> u32;
+
+/// A function that writes the text of an operator.
+type Text = unsafe extern "C" fn(
+    *const u8,
+    usize,
+    u64,
+    u32,
+    u64,
+    *mut u8,
+    usize,
+    *mut usize,
+    *mut Refusal,
+) -> u32;
 
 unsafe extern "C" {
     safe fn wasm_operators_version() -> u32;
@@ -90,6 +201,15 @@ unsafe extern "C" {
         refusal: *mut Refusal,
     ) -> u32;
     fn wasm_next(
+        bytes: *const u8,
+        bytes_length: usize,
+        frames: *mut u8,
+        frames_length: usize,
+        reader: *mut PlainReader,
+        op: *mut PlainOperator,
+        refusal: *mut Refusal,
+    ) -> u32;
+    fn wasm_next_plain(
         bytes: *const u8,
         bytes_length: usize,
         frames: *mut u8,
@@ -125,6 +245,15 @@ unsafe extern "C" {
         out: *mut PlainOperator,
         out_length: usize,
         count: *mut usize,
+        refusal: *mut Refusal,
+    ) -> u32;
+    fn wasm_read_value(
+        bytes: *const u8,
+        bytes_length: usize,
+        reader: *mut PlainReader,
+        what: u32,
+        argument: u64,
+        value: *mut PlainValue,
         refusal: *mut Refusal,
     ) -> u32;
     fn wasm_br_table_targets(
@@ -175,11 +304,55 @@ unsafe extern "C" {
         count: *mut usize,
         refusal: *mut Refusal,
     ) -> u32;
+    fn wasm_operator_text(
+        bytes: *const u8,
+        bytes_length: usize,
+        offset: u64,
+        features: u32,
+        at: u64,
+        text: *mut u8,
+        text_length: usize,
+        length: *mut usize,
+        refusal: *mut Refusal,
+    ) -> u32;
+    fn wasm_operator_text_name(
+        bytes: *const u8,
+        bytes_length: usize,
+        offset: u64,
+        features: u32,
+        at: u64,
+        name: *mut u8,
+        name_length: usize,
+        length: *mut usize,
+        refusal: *mut Refusal,
+    ) -> u32;
+    fn wasm_open_bodies(
+        bytes: *const u8,
+        bytes_length: usize,
+        bodies: *mut PlainBodies,
+        refusal: *mut Refusal,
+    ) -> u32;
+    fn wasm_next_body(
+        bytes: *const u8,
+        bytes_length: usize,
+        bodies: *mut PlainBodies,
+        body: *mut PlainBody,
+        refusal: *mut Refusal,
+    ) -> u32;
+    fn wasm_function_name(
+        bytes: *const u8,
+        bytes_length: usize,
+        index: u32,
+        name: *mut u8,
+        name_length: usize,
+        length: *mut usize,
+        refusal: *mut Refusal,
+    ) -> u32;
     fn wasm_refusal_text(refusal: *const Refusal, text: *mut u8, text_length: usize) -> usize;
 }
 
-/// Whether the library is the one that this file declares.
-fn look_at_version() {
+/// Panics unless the library has the version that this file declares.
+pub fn check_version() {
     assert_eq!(
         wasm_operators_version(),
         VERSION,
@@ -187,23 +360,20 @@ fn look_at_version() {
     );
 }
 
-/// All operators of a body, in place of those that the list has, and how reading them ended.
+/// Reads all operators of a body into `out`, whose elements are replaced. Returns how reading ended.
 pub fn read_body(
     bytes: &[u8],
     offset: u64,
     features: u32,
     out: &mut Vec<PlainOperator>,
 ) -> Refusal {
-    look_at_version();
-    // An operator takes a byte or more, so there is room for all.
+    check_version();
+    // An operator has at least one byte, so all of them fit.
     out.clear();
     out.reserve(bytes.len());
     let mut count = 0;
     let mut refusal = Refusal::default();
-    // SAFETY: the library is proved to read within `bytes`, to write within `out`, `count` and `refusal`, and to keep
-    // none of them behind the call. The pointers are of live borrows, with their lengths; those of empty slices are
-    // not null. The structs are laid out as the library's (`repr(C)`, and the version is compared), and every pattern
-    // of bits is a value of theirs. The first `count` operators were written, as far as there was room.
+    // SAFETY: see the head of this file. The library has written the first `count` elements, as far as they fit.
     unsafe {
         wasm_read_body(
             bytes.as_ptr(),
@@ -220,21 +390,28 @@ pub fn read_body(
     refusal
 }
 
-/// A reader of an expression, or of that of a body behind its locals, with its frames; or the refusal.
-pub fn open(
+/// Opens an expression by one of the functions that do so. `frames` becomes long enough for the frames of `ahead` bytes.
+fn open_by(
+    open: Open,
     bytes: &[u8],
+    ahead: usize,
     offset: u64,
     features: u32,
-    is_body: bool,
-) -> Result<(PlainReader, Vec<u8>), Refusal> {
-    look_at_version();
-    let mut frames = vec![0; wasm_frames_needed(bytes.len())];
+    frames: &mut Vec<u8>,
+) -> Result<PlainReader, Refusal> {
+    check_version();
+    let needed = wasm_frames_needed(ahead);
+    if frames.capacity() == 0 {
+        // The allocator's zeroed memory costs nothing for the frames that are never opened.
+        *frames = vec![0; needed];
+    } else if frames.len() < needed {
+        frames.resize(needed, 0);
+    }
     let mut reader = PlainReader::default();
     let mut refusal = Refusal::default();
-    let call = if is_body { wasm_open_body } else { wasm_open };
-    // SAFETY: as in `read_body`: the library reads within `bytes` and writes within `frames`, `reader` and `refusal`.
-    let answer = unsafe {
-        call(
+    // SAFETY: see the head of this file.
+    let number = unsafe {
+        open(
             bytes.as_ptr(),
             bytes.len(),
             offset,
@@ -245,24 +422,49 @@ pub fn open(
             &mut refusal,
         )
     };
-    if answer == 0 {
-        Ok((reader, frames))
+    if number == 0 {
+        Ok(reader)
     } else {
         Err(refusal)
     }
 }
 
-/// The next operator of a reader; or the refusal, and then nothing changes.
-pub fn next(
+/// Opens the expression at a position of the bytes, with these frames, whose contents are replaced.
+pub fn open(
+    bytes: &[u8],
+    position: usize,
+    offset: u64,
+    features: u32,
+    frames: &mut Vec<u8>,
+) -> Result<PlainReader, Refusal> {
+    let ahead = bytes.len() - position;
+    let mut reader = open_by(wasm_open, bytes, ahead, offset, features, frames)?;
+    reader.position = position as u64;
+    Ok(reader)
+}
+
+/// Opens the expression of a body, after its locals.
+pub fn open_body(
+    bytes: &[u8],
+    offset: u64,
+    features: u32,
+    frames: &mut Vec<u8>,
+) -> Result<PlainReader, Refusal> {
+    open_by(wasm_open_body, bytes, bytes.len(), offset, features, frames)
+}
+
+/// Reads the next operator by one of the functions that do so. On failure, nothing changes.
+fn next_by(
+    next: Next,
     bytes: &[u8],
     frames: &mut [u8],
     reader: &mut PlainReader,
 ) -> Result<PlainOperator, Refusal> {
     let mut operator = PlainOperator::default();
     let mut refusal = Refusal::default();
-    // SAFETY: as in `read_body`.
-    let answer = unsafe {
-        wasm_next(
+    // SAFETY: see the head of this file.
+    let number = unsafe {
+        next(
             bytes.as_ptr(),
             bytes.len(),
             frames.as_mut_ptr(),
@@ -272,15 +474,34 @@ pub fn next(
             &mut refusal,
         )
     };
-    if answer == 0 {
+    if number == 0 {
         Ok(operator)
     } else {
         Err(refusal)
     }
 }
 
-/// As many operators as the list has capacity for, in place of those that it has, up to the end of the bytes or a
-/// refusal, which is answered.
+/// Reads the next operator. On failure, nothing changes.
+#[inline]
+pub fn next(
+    bytes: &[u8],
+    frames: &mut [u8],
+    reader: &mut PlainReader,
+) -> Result<PlainOperator, Refusal> {
+    next_by(wasm_next, bytes, frames, reader)
+}
+
+/// Reads the next operator for a visitor without SIMD. On failure, nothing changes.
+pub fn next_plain(
+    bytes: &[u8],
+    frames: &mut [u8],
+    reader: &mut PlainReader,
+) -> Result<PlainOperator, Refusal> {
+    next_by(wasm_next_plain, bytes, frames, reader)
+}
+
+/// Reads as many operators as `out` has capacity for, up to the end of the bytes or an error, which is returned. The
+/// elements of `out` are replaced.
 pub fn read(
     bytes: &[u8],
     frames: &mut [u8],
@@ -289,7 +510,7 @@ pub fn read(
 ) -> Refusal {
     let mut count = 0;
     let mut refusal = Refusal::default();
-    // SAFETY: as in `read_body`.
+    // SAFETY: see the head of this file. The library has written the first `count` elements.
     unsafe {
         wasm_read(
             bytes.as_ptr(),
@@ -307,11 +528,11 @@ pub fn read(
     refusal
 }
 
-/// Whether an expression ends where a reader stands.
+/// Checks whether an expression ends at the reader's position.
 pub fn finish(bytes: &[u8], frames: &[u8], reader: &PlainReader) -> Result<(), Refusal> {
     let mut refusal = Refusal::default();
-    // SAFETY: as in `read_body`.
-    let answer = unsafe {
+    // SAFETY: see the head of this file.
+    let number = unsafe {
         wasm_finish(
             bytes.as_ptr(),
             bytes.len(),
@@ -321,31 +542,42 @@ pub fn finish(bytes: &[u8], frames: &[u8], reader: &PlainReader) -> Result<(), R
             &mut refusal,
         )
     };
-    if answer == 0 { Ok(()) } else { Err(refusal) }
+    if number == 0 { Ok(()) } else { Err(refusal) }
 }
 
-/// A call that answers the members of a list.
-type Call<T> = unsafe extern "C" fn(
-    *const u8,
-    usize,
-    u64,
-    u32,
-    u64,
-    usize,
-    *mut T,
-    usize,
-    *mut usize,
-    *mut Refusal,
-) -> u32;
+/// Reads a value at the reader's position. On failure, nothing changes.
+#[inline]
+pub fn read_value(
+    bytes: &[u8],
+    reader: &mut PlainReader,
+    what: ValueKind,
+    argument: u64,
+) -> Result<PlainValue, Refusal> {
+    let mut value = PlainValue::default();
+    let mut refusal = Refusal::default();
+    // SAFETY: see the head of this file.
+    let number = unsafe {
+        wasm_read_value(
+            bytes.as_ptr(),
+            bytes.len(),
+            reader,
+            what as u32,
+            argument,
+            &mut value,
+            &mut refusal,
+        )
+    };
+    if number == 0 { Ok(value) } else { Err(refusal) }
+}
 
-/// The members of the list of the operator that begins with these bytes, of which there are so many.
-fn members<T: Copy + Default>(call: Call<T>, bytes: &[u8], features: u32, count: u32) -> Vec<T> {
+/// Reads the `count` members of the list of the operator that begins with these bytes.
+fn members<T: Copy + Default>(list: List<T>, bytes: &[u8], features: u32, count: u32) -> Vec<T> {
     let mut out = vec![T::default(); count as usize];
     let mut found = 0;
     let mut refusal = Refusal::default();
-    // SAFETY: as in `read_body`: the library reads within `bytes`, and writes within `out`, `found` and `refusal`.
-    let answer = unsafe {
-        call(
+    // SAFETY: see the head of this file.
+    let number = unsafe {
+        list(
             bytes.as_ptr(),
             bytes.len(),
             0,
@@ -359,96 +591,146 @@ fn members<T: Copy + Default>(call: Call<T>, bytes: &[u8], features: u32, count:
         )
     };
     assert!(
-        answer == 0 && found == out.len(),
-        "the library reads the list that it has read before: {refusal:?}"
+        number == 0 && found == out.len(),
+        "the library has read this list before: {refusal:?}"
     );
     out
 }
 
-/// The targets of a branch table.
+/// Reads the targets of a `br_table`, without the default target.
 pub fn branch_targets(bytes: &[u8], features: u32, count: u32) -> Vec<u32> {
     members(wasm_br_table_targets, bytes, features, count)
 }
 
-/// The types of a select that has none or several.
-pub fn select_types(bytes: &[u8], features: u32, count: u32) -> Vec<ValType> {
-    let types = members(wasm_select_types, bytes, features, count);
-    types.iter().map(|ty| val_type(ty.kind, ty.index)).collect()
+/// Reads the types of a `select` that has none or several.
+pub fn select_types(bytes: &[u8], features: u32, count: u32) -> Vec<PlainType> {
+    members(wasm_select_types, bytes, features, count)
 }
 
-/// The catches of a try table.
-pub fn catches(bytes: &[u8], features: u32, count: u32) -> Vec<Catch> {
-    let catches = members(wasm_try_table_catches, bytes, features, count);
-    let catch = |&PlainHandler { kind, tag, label }: &PlainHandler| match kind {
-        0 => Catch::One { tag, label },
-        1 => Catch::OneRef { tag, label },
-        2 => Catch::All { label },
-        _ => Catch::AllRef { label },
-    };
-    catches.iter().map(catch).collect()
+/// Reads the catches of a `try_table`.
+pub fn catches(bytes: &[u8], features: u32, count: u32) -> Vec<PlainHandler> {
+    members(wasm_try_table_catches, bytes, features, count)
 }
 
-/// The clauses of a resume table.
-pub fn handlers(bytes: &[u8], features: u32, count: u32) -> Vec<Handle> {
-    let handlers = members(wasm_resume_handlers, bytes, features, count);
-    let handle = |&PlainHandler { kind, tag, label }: &PlainHandler| match kind {
-        0 => Handle::OnLabel { tag, label },
-        _ => Handle::OnSwitch { tag },
-    };
-    handlers.iter().map(handle).collect()
+/// Reads the clauses of a `resume`, `resume_throw` or `resume_throw_ref`.
+pub fn handlers(bytes: &[u8], features: u32, count: u32) -> Vec<PlainHandler> {
+    members(wasm_resume_handlers, bytes, features, count)
 }
 
-/// What the library answers where the offset of the end does not fit in 64 bits.
-const PAST_OFFSETS: u32 = 101;
+/// The library's number if an array is too short.
+const NO_ROOM: u32 = 102;
 
-/// The text of a refusal.
-pub fn refusal_text(refusal: &Refusal) -> String {
-    if refusal.number == PAST_OFFSETS {
-        return String::from("offsets do not fit in 64 bits");
+/// Returns the text that a function writes. It is called with an array, and a second time if the text is longer.
+fn text_of(
+    mut write: impl FnMut(&mut [u8], &mut usize, &mut Refusal) -> u32,
+) -> Result<String, Refusal> {
+    let mut text = vec![0; LONGEST_TEXT];
+    let mut length = 0;
+    let mut refusal = Refusal::default();
+    let mut number = write(&mut text, &mut length, &mut refusal);
+    if number == NO_ROOM {
+        text.resize(length, 0);
+        number = write(&mut text, &mut length, &mut refusal);
     }
-    let mut text = [0; 128];
-    // SAFETY: as above; the length that is answered may be more than there is room for.
+    if number != 0 {
+        return Err(refusal);
+    }
+    Ok(String::from_utf8_lossy(&text[..length]).into_owned())
+}
+
+/// Returns the text of the operator at an offset, by one of the functions that write it.
+fn operator_text_by(
+    text_by: Text,
+    bytes: &[u8],
+    offset: u64,
+    features: u32,
+    at: u64,
+) -> Result<String, Refusal> {
+    check_version();
+    text_of(|text, length, refusal| {
+        // SAFETY: see the head of this file.
+        unsafe {
+            text_by(
+                bytes.as_ptr(),
+                bytes.len(),
+                offset,
+                features,
+                at,
+                text.as_mut_ptr(),
+                text.len(),
+                length,
+                refusal,
+            )
+        }
+    })
+}
+
+/// Returns the text of the operator at an offset.
+pub fn operator_text(bytes: &[u8], offset: u64, features: u32, at: u64) -> Result<String, Refusal> {
+    operator_text_by(wasm_operator_text, bytes, offset, features, at)
+}
+
+/// Returns the name of the operator at an offset in the text format.
+pub fn operator_text_name(
+    bytes: &[u8],
+    offset: u64,
+    features: u32,
+    at: u64,
+) -> Result<String, Refusal> {
+    operator_text_by(wasm_operator_text_name, bytes, offset, features, at)
+}
+
+/// Opens the bodies of a module.
+pub fn open_bodies(bytes: &[u8]) -> Result<PlainBodies, Refusal> {
+    check_version();
+    let mut bodies = PlainBodies::default();
+    let mut refusal = Refusal::default();
+    // SAFETY: see the head of this file.
+    let number =
+        unsafe { wasm_open_bodies(bytes.as_ptr(), bytes.len(), &mut bodies, &mut refusal) };
+    if number == 0 {
+        Ok(bodies)
+    } else {
+        Err(refusal)
+    }
+}
+
+/// Reads the next body of a module. On failure, nothing changes.
+pub fn next_body(bytes: &[u8], bodies: &mut PlainBodies) -> Result<PlainBody, Refusal> {
+    let mut body = PlainBody::default();
+    let mut refusal = Refusal::default();
+    // SAFETY: see the head of this file.
+    let number =
+        unsafe { wasm_next_body(bytes.as_ptr(), bytes.len(), bodies, &mut body, &mut refusal) };
+    if number == 0 { Ok(body) } else { Err(refusal) }
+}
+
+/// Returns the name of a function that a module defines. It is empty without a name.
+pub fn function_name(bytes: &[u8], index: u32) -> Result<String, Refusal> {
+    check_version();
+    text_of(|name, length, refusal| {
+        // SAFETY: see the head of this file.
+        unsafe {
+            wasm_function_name(
+                bytes.as_ptr(),
+                bytes.len(),
+                index,
+                name.as_mut_ptr(),
+                name.len(),
+                length,
+                refusal,
+            )
+        }
+    })
+}
+
+/// The longest text of an error is shorter.
+const LONGEST_TEXT: usize = 128;
+
+/// Returns the text of an error, or an empty text for the numbers of the library that have none.
+pub fn refusal_text(refusal: &Refusal) -> String {
+    let mut text = [0; LONGEST_TEXT];
+    // SAFETY: see the head of this file.
     let length = unsafe { wasm_refusal_text(refusal, text.as_mut_ptr(), text.len()) };
     String::from_utf8_lossy(&text[..length.min(text.len())]).into_owned()
-}
-
-impl PlainOperator {
-    /// Its block type.
-    pub(crate) fn block_type(&self) -> BlockType {
-        match self.kind {
-            0x40 => BlockType::Empty,
-            0 => BlockType::FuncType(self.first),
-            kind => BlockType::Type(val_type(kind, self.first)),
-        }
-    }
-
-    /// Its memory argument.
-    pub(crate) fn memory_argument(&self) -> MemArg {
-        MemArg {
-            align: self.align,
-            max_align: self.max_align,
-            offset: self.wide,
-            target: if self.target == 0 {
-                MemArgTarget::Memory(self.first)
-            } else {
-                MemArgTarget::Array(self.first)
-            },
-            ordering: match self.ordering {
-                1 => Some(MemArgOrdering::Op(Ordering::SeqCst)),
-                2 => Some(MemArgOrdering::Op(Ordering::AcqRel)),
-                3 => Some(MemArgOrdering::Rmw(Ordering::SeqCst)),
-                4 => Some(MemArgOrdering::Rmw(Ordering::AcqRel)),
-                _ => None,
-            },
-        }
-    }
-
-    /// Its ordering.
-    pub(crate) fn order(&self) -> Ordering {
-        if self.ordering == 2 {
-            Ordering::AcqRel
-        } else {
-            Ordering::SeqCst
-        }
-    }
 }

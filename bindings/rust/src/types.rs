@@ -1,6 +1,6 @@
-//! What operators carry.
+//! Value types, reference types and heap types.
 
-/// A type of values.
+/// A value type.
 #[derive(Clone, Copy, Debug, PartialEq, Eq, Hash)]
 pub enum ValType {
     I32,
@@ -11,44 +11,150 @@ pub enum ValType {
     Ref(RefType),
 }
 
-/// A type of references.
+impl ValType {
+    /// Nullable references to functions.
+    pub const FUNCREF: ValType = ValType::Ref(RefType::FUNCREF);
+    /// Nullable references to objects of the host.
+    pub const EXTERNREF: ValType = ValType::Ref(RefType::EXTERNREF);
+    /// Nullable references to exceptions.
+    pub const EXNREF: ValType = ValType::Ref(RefType::EXNREF);
+    /// Nullable references to continuations.
+    pub const CONTREF: ValType = ValType::Ref(RefType::CONTREF);
+
+    /// Returns whether this is a reference type.
+    pub const fn is_reference_type(&self) -> bool {
+        matches!(self, ValType::Ref(_))
+    }
+
+    /// Returns the reference type, if this is one.
+    pub const fn as_reference_type(&self) -> Option<RefType> {
+        match self {
+            ValType::Ref(ty) => Some(*ty),
+            _ => None,
+        }
+    }
+}
+
+impl From<RefType> for ValType {
+    fn from(ty: RefType) -> ValType {
+        ValType::Ref(ty)
+    }
+}
+
+/// A reference type.
 #[derive(Clone, Copy, Debug, PartialEq, Eq, Hash)]
 pub struct RefType {
     nullable: bool,
     heap_type: HeapType,
 }
 
+/// The greatest index of a type that a reference type may have.
+const GREATEST_INDEX: u32 = 1_048_575;
+
+/// Defines the reference types of the abstract heap types that are not shared.
+macro_rules! reference_types {
+    ($($ty:ident, $plain:ident, $nullable:ident, $is:ident, $what:literal;)*) => {
+        impl RefType {
+            $(
+                #[doc = concat!("References to ", $what, ", without null.")]
+                pub const $plain: RefType = RefType::of(false, HeapType::$plain);
+                #[doc = concat!("References to ", $what, ", with null.")]
+                pub const $nullable: RefType = RefType::of(true, HeapType::$plain);
+
+                #[doc = concat!("Returns whether the type refers to ", $what, ".")]
+                pub const fn $is(&self) -> bool {
+                    let ty = self.heap_type;
+                    matches!(ty, HeapType::Abstract { ty: AbstractHeapType::$ty, shared: false })
+                }
+            )*
+        }
+
+        impl HeapType {
+            $(
+                #[doc = concat!("The heap type of ", $what, ".")]
+                pub const $plain: HeapType =
+                    HeapType::Abstract { shared: false, ty: AbstractHeapType::$ty };
+            )*
+        }
+    };
+}
+
+reference_types! {
+    Func, FUNC, FUNCREF, is_func_ref, "functions";
+    Extern, EXTERN, EXTERNREF, is_extern_ref, "objects of the host";
+    Any, ANY, ANYREF, is_any_ref, "all values of the module";
+    None, NONE, NULLREF, is_none_ref, "no value of the module";
+    NoExtern, NOEXTERN, NULLEXTERNREF, is_noextern_ref, "no object of the host";
+    NoFunc, NOFUNC, NULLFUNCREF, is_nofunc_ref, "no function";
+    Eq, EQ, EQREF, is_eq_ref, "values that can be compared";
+    Struct, STRUCT, STRUCTREF, is_struct_ref, "structs";
+    Array, ARRAY, ARRAYREF, is_array_ref, "arrays";
+    I31, I31, I31REF, is_i31_ref, "integers of 31 bits";
+    Exn, EXN, EXNREF, is_exn_ref, "exceptions";
+    NoExn, NOEXN, NULLEXNREF, is_noexn_ref, "no exception";
+    Cont, CONT, CONTREF, is_cont_ref, "continuations";
+    NoCont, NOCONT, NULLCONTREF, is_nocont_ref, "no continuation";
+}
+
 impl RefType {
-    pub(crate) fn of(nullable: bool, heap_type: HeapType) -> RefType {
+    const fn of(nullable: bool, heap_type: HeapType) -> RefType {
         RefType {
             nullable,
             heap_type,
         }
     }
 
-    /// Whether the null reference is in the type.
-    pub fn is_nullable(&self) -> bool {
+    /// Creates a reference type, or returns `None` if the index of the heap type is above 1048575.
+    pub const fn new(nullable: bool, heap_type: HeapType) -> Option<RefType> {
+        match heap_type {
+            HeapType::Concrete(index) | HeapType::Exact(index) if index > GREATEST_INDEX => None,
+            _ => Some(RefType::of(nullable, heap_type)),
+        }
+    }
+
+    /// Returns whether null belongs to the type.
+    pub const fn is_nullable(&self) -> bool {
         self.nullable
     }
 
-    /// The type of what is referred to.
-    pub fn heap_type(&self) -> HeapType {
+    /// Returns the heap type.
+    pub const fn heap_type(&self) -> HeapType {
         self.heap_type
+    }
+
+    /// Returns the type with null.
+    pub const fn nullable(&self) -> RefType {
+        RefType::of(true, self.heap_type)
+    }
+
+    /// Returns the type without null.
+    pub const fn as_non_null(&self) -> RefType {
+        RefType::of(false, self.heap_type)
+    }
+
+    /// Returns whether the heap type has an index.
+    pub const fn is_concrete_type_ref(&self) -> bool {
+        matches!(self.heap_type, HeapType::Concrete(_))
+    }
+
+    /// Returns whether the heap type is the type with an index, without its subtypes.
+    pub const fn is_exact_type_ref(&self) -> bool {
+        matches!(self.heap_type, HeapType::Exact(_))
     }
 }
 
-/// A type of what is referred to.
+/// A heap type: the type of what a reference refers to.
 #[derive(Clone, Copy, Debug, PartialEq, Eq, Hash)]
 pub enum HeapType {
     /// An abstract heap type, shared between threads or not.
     Abstract { shared: bool, ty: AbstractHeapType },
-    /// The type of this index, or one below it.
+    /// The type with this index, or a subtype.
     Concrete(u32),
-    /// The type of this index alone.
+    /// The type with this index, without its subtypes.
     Exact(u32),
 }
 
-/// A heap type that stands for many.
+/// An abstract heap type.
 #[derive(Clone, Copy, Debug, PartialEq, Eq, Hash)]
 pub enum AbstractHeapType {
     Func,
@@ -67,111 +173,14 @@ pub enum AbstractHeapType {
     NoCont,
 }
 
-/// The type of a block.
-#[derive(Clone, Copy, Debug, PartialEq, Eq, Hash)]
-pub enum BlockType {
-    /// No parameters and no results.
-    Empty,
-    /// No parameters, and one result of this type.
-    Type(ValType),
-    /// Those of the function type of this index.
-    FuncType(u32),
-}
-
-/// A memory argument.
-#[derive(Clone, Copy, Debug, PartialEq, Eq, Hash)]
-pub struct MemArg {
-    /// The alignment that it gives, as the exponent of a power of two.
-    pub align: u8,
-    /// The operator's natural alignment, as the exponent of a power of two.
-    pub max_align: u8,
-    /// The static offset in bytes.
-    pub offset: u64,
-    /// What is accessed.
-    pub target: MemArgTarget,
-    /// The memory ordering, where there is one.
-    pub ordering: Option<MemArgOrdering>,
-}
-
-/// What a memory operator accesses.
-#[derive(Clone, Copy, Debug, PartialEq, Eq, Hash)]
-pub enum MemArgTarget {
-    /// The memory of this index.
-    Memory(u32),
-    /// An array whose type has this index.
-    Array(u32),
-}
-
-/// The ordering that a memory argument gives.
-#[derive(Clone, Copy, Debug, PartialEq, Eq, Hash)]
-pub enum MemArgOrdering {
-    /// Of an atomic load or store.
-    Op(Ordering),
-    /// Of an atomic read-modify-write.
-    Rmw(Ordering),
-}
-
-/// A memory ordering.
-#[derive(Clone, Copy, Debug, PartialEq, Eq, Hash)]
-pub enum Ordering {
-    AcqRel,
-    SeqCst,
-}
-
-/// The bits of a float of 32 bits.
-#[derive(Clone, Copy, Debug, PartialEq, Eq, Hash)]
-pub struct Ieee32(pub(crate) u32);
-
-impl Ieee32 {
-    pub fn bits(self) -> u32 {
-        self.0
-    }
-}
-
-impl From<Ieee32> for f32 {
-    fn from(bits: Ieee32) -> f32 {
-        f32::from_bits(bits.0)
-    }
-}
-
-/// The bits of a float of 64 bits.
-#[derive(Clone, Copy, Debug, PartialEq, Eq, Hash)]
-pub struct Ieee64(pub(crate) u64);
-
-impl Ieee64 {
-    pub fn bits(self) -> u64 {
-        self.0
-    }
-}
-
-impl From<Ieee64> for f64 {
-    fn from(bits: Ieee64) -> f64 {
-        f64::from_bits(bits.0)
-    }
-}
-
-/// A vector of 128 bits, the lowest byte first.
-#[derive(Clone, Copy, Debug, PartialEq, Eq, Hash)]
-pub struct V128(pub(crate) [u8; 16]);
-
-impl V128 {
-    pub fn bytes(&self) -> &[u8; 16] {
-        &self.0
-    }
-
-    pub fn i128(&self) -> i128 {
-        i128::from_le_bytes(self.0)
-    }
-}
-
-/// What is added to the byte of an abstract heap type that is shared, to a heap type with null, and to a reference
-/// type among value types.
+// The flags that the library adds to the byte of a heap type: shared between threads, nullable, a reference type as a
+// value type.
 const SHARED: u32 = 256;
 const NULLABLE: u32 = 512;
 const REFERENCE: u32 = 1024;
 
-/// The abstract heap type of this byte.
-pub(crate) fn short_heap_type(byte: u32) -> AbstractHeapType {
+/// Returns the abstract heap type of this byte of the library.
+fn abstract_heap_type(byte: u32) -> AbstractHeapType {
     match byte {
         0x68 => AbstractHeapType::Cont,
         0x69 => AbstractHeapType::Exn,
@@ -190,24 +199,25 @@ pub(crate) fn short_heap_type(byte: u32) -> AbstractHeapType {
     }
 }
 
-/// The heap type of these two numbers.
+/// Returns the heap type of a kind and an index of the library.
 pub(crate) fn heap_type(kind: u32, index: u32) -> HeapType {
     match kind {
         1 => HeapType::Concrete(index),
         2 => HeapType::Exact(index),
         _ => HeapType::Abstract {
             shared: kind & SHARED != 0,
-            ty: short_heap_type(kind % SHARED),
+            ty: abstract_heap_type(kind % SHARED),
         },
     }
 }
 
-/// The reference type of these two numbers.
+/// Returns the reference type of a kind and an index of the library.
 pub(crate) fn ref_type(kind: u32, index: u32) -> RefType {
+    let kind = kind % REFERENCE;
     RefType::of(kind & NULLABLE != 0, heap_type(kind % NULLABLE, index))
 }
 
-/// The value type of these two numbers.
+/// Returns the value type of a kind and an index of the library.
 pub(crate) fn val_type(kind: u32, index: u32) -> ValType {
     match kind {
         0x7f => ValType::I32,
@@ -215,6 +225,6 @@ pub(crate) fn val_type(kind: u32, index: u32) -> ValType {
         0x7d => ValType::F32,
         0x7c => ValType::F64,
         0x7b => ValType::V128,
-        _ => ValType::Ref(ref_type(kind % REFERENCE, index)),
+        _ => ValType::Ref(ref_type(kind, index)),
     }
 }

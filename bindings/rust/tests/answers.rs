@@ -1,21 +1,23 @@
-//! The answers of the original on 8,561 bodies, and its two samples of each operator.
+//! Compares with wasmparser's output on 8,561 bodies, and with two samples of each operator.
 
 use wasm_operators::{
-    Body, Catch, Error, Handle, Operator, OperatorsReader, ValType, VisitOperator, WasmFeatures,
+    BinaryReader, Body, Catch, Error, FunctionBody, Handle, Operator, OperatorsReader, Result,
+    ValType, VisitOperator, VisitSimdOperator, WasmFeatures, for_each_visit_operator,
+    for_each_visit_simd_operator,
 };
 
-const ANSWERS: &str = include_str!("../../../crates/wasm_tests_replay/stdin");
+const OUTPUT: &str = include_str!("../../../crates/wasm_tests_replay/stdin");
 
-/// The rows of the answers, in cells.
-fn answers() -> impl Iterator<Item = Vec<&'static str>> {
-    let rows = ANSWERS
+/// Returns the rows of the output, in cells.
+fn rows() -> impl Iterator<Item = Vec<&'static str>> {
+    let rows = OUTPUT
         .lines()
         .skip(1)
         .take_while(|line| !line.starts_with("name\t"));
     rows.map(|row| row.split('\t').collect())
 }
 
-/// The features of a row.
+/// Returns the features of a row.
 fn features_of(cells: &[&str]) -> WasmFeatures {
     WasmFeatures::from_bits(cells[1].parse().unwrap()).unwrap()
 }
@@ -32,8 +34,8 @@ fn fingerprint(sum: u64, text: &str) -> u64 {
     })
 }
 
-/// Whether a body is read as these cells say: status, number, offset and text of the refusal, how many operators, and
-/// the fingerprint of their lines.
+/// Checks that a body is read as these cells say: status, number, offset and text of the error, the number of operators,
+/// and the fingerprint of their lines.
 fn look_at(body: &Body<'_>, cells: &[&str]) {
     let mut lines = 14695981039346656037;
     let mut found = 0;
@@ -57,9 +59,9 @@ fn look_at(body: &Body<'_>, cells: &[&str]) {
     }
 }
 
-/// All answers, by one call a body.
+/// Checks all rows, by one call for each body.
 fn look_at_all() -> usize {
-    answers()
+    rows()
         .map(|cells| {
             look_at(
                 &Body::read(&bytes_of(cells[2]), 0, features_of(&cells)),
@@ -112,11 +114,17 @@ fn files_of_bodies() {
     assert!(count > 0);
 }
 
-/// What one read after another answers, each also of a clone.
-fn one_by_one(bytes: &[u8], features: WasmFeatures) -> (Vec<String>, Result<(), Error>) {
+/// Creates a reader of the operators of a body.
+fn operators_of(bytes: &[u8], features: WasmFeatures) -> Result<OperatorsReader<'_>> {
+    let reader = BinaryReader::new_features(bytes, 0, features);
+    FunctionBody::new(reader).get_operators_reader()
+}
+
+/// Reads operators one by one, each also from a clone of the reader.
+fn one_by_one(bytes: &[u8], features: WasmFeatures) -> (Vec<String>, Result<()>) {
     let mut found = Vec::new();
     let mut read = || {
-        let mut reader = OperatorsReader::of_body(bytes, 0, features)?;
+        let mut reader = operators_of(bytes, features)?;
         while !reader.eof() {
             let offset = reader.original_position();
             let again = reader.clone().read();
@@ -130,30 +138,40 @@ fn one_by_one(bytes: &[u8], features: WasmFeatures) -> (Vec<String>, Result<(), 
     (found, end)
 }
 
-/// How many operators were visited, and how many of these are constants.
+/// Counts the operators that are visited, and the constants among them.
 #[derive(Default)]
 struct Tally {
     all: usize,
     constants: usize,
 }
 
+macro_rules! tally {
+    ($(@$proposal:ident $op:ident $({ $($field:ident: $ty:ty),* })? => $visit:ident ($($ann:tt)*))*) => {
+        $(fn $visit(&mut self $($(, _: $ty)*)?) {
+            self.all += 1;
+            self.constants += usize::from(stringify!($op) == "I32Const");
+        })*
+    };
+}
+
 impl<'a> VisitOperator<'a> for Tally {
     type Output = ();
 
-    fn visit_any(&mut self, _operator: Operator<'a>) {
-        self.all += 1;
+    fn simd_visitor(&mut self) -> Option<&mut dyn VisitSimdOperator<'a, Output = ()>> {
+        Some(self)
     }
 
-    fn visit_i32_const(&mut self, _value: i32) {
-        self.all += 1;
-        self.constants += 1;
-    }
+    for_each_visit_operator!(tally);
 }
 
-/// All operators of a body, visited.
+impl VisitSimdOperator<'_> for Tally {
+    for_each_visit_simd_operator!(tally);
+}
+
+/// Visits all operators of a body.
 fn visited(bytes: &[u8], features: WasmFeatures) -> Tally {
     let mut tally = Tally::default();
-    if let Ok(mut reader) = OperatorsReader::of_body(bytes, 0, features) {
+    if let Ok(mut reader) = operators_of(bytes, features) {
         while !reader.eof() && reader.visit_operator(&mut tally).is_ok() {}
     }
     tally
@@ -161,7 +179,7 @@ fn visited(bytes: &[u8], features: WasmFeatures) -> Tally {
 
 #[test]
 fn readers() {
-    for cells in answers() {
+    for cells in rows() {
         let bytes = bytes_of(cells[2]);
         let features = features_of(&cells);
         let body = Body::read(&bytes, 0, features);
@@ -189,11 +207,11 @@ fn readers() {
 
 #[test]
 fn iterators() {
-    for cells in answers() {
+    for cells in rows() {
         let bytes = bytes_of(cells[2]);
         let features = features_of(&cells);
         let body = Body::read(&bytes, 0, features);
-        let Ok(reader) = OperatorsReader::of_body(&bytes, 0, features) else {
+        let Ok(reader) = operators_of(&bytes, features) else {
             assert!(body.is_empty() && body.error().is_some(), "{cells:?}");
             continue;
         };
@@ -216,7 +234,7 @@ fn iterators() {
     }
 }
 
-/// The members of an operator's list as the samples write them; of a select's only type that one.
+/// Returns the members of an operator's list as the samples write them, or the only type of a `select`.
 fn list_of(operator: &Operator<'_>) -> Option<String> {
     let type_of = |ty: &ValType| match ty {
         ValType::Ref(ty) => format!("{}Func", if ty.is_nullable() { "?" } else { "!" }),
@@ -252,7 +270,7 @@ fn list_of(operator: &Operator<'_>) -> Option<String> {
 
 #[test]
 fn samples() {
-    let rows = ANSWERS
+    let rows = OUTPUT
         .lines()
         .skip_while(|line| !line.starts_with("name\t"))
         .skip(1);
@@ -290,5 +308,7 @@ fn offsets() {
         past.error().unwrap().message(),
         "offsets do not fit in 64 bits"
     );
-    assert!(OperatorsReader::new(&[1, 11], at + 2, WasmFeatures::empty()).is_err());
+    let past: Result<OperatorsReader<'_>, Error> =
+        OperatorsReader::of_body(&[0, 11], at + 2, WasmFeatures::empty());
+    assert_eq!(past.err().unwrap().offset(), at + 2);
 }

@@ -9,7 +9,7 @@ use Rattle.wasm_view.specs.View.{views}
 use Rattle.wasm_view.specs.declared.view.WasmOperator.{WasmOperator}
 use Rattle.wasm_c.specs.declared.reader.WasmReader.{WasmReader}
 use Rattle.wasm_c.specs.declared.refusal.WasmRefusal.{WasmRefusal}
-use Rattle.wasm_c.specs.Steps.{IsReader, reader_at, state_at, TakesPlain, ReadsPlain, ReadsEach, EndsBatch, ReadsBatch}
+use Rattle.wasm_c.specs.Steps.{IsReader, reader_at, reader_moved, state_at, TakesPlain, ReadsPlain, ReadsEach, EndsBatch, ReadsBatch}
 use Rattle.wasm_c.proofs.Written.{one_more}
 
 -- One more operator.
@@ -24,15 +24,15 @@ reads_one old now next (p ∷ ps) op offset (between, first, place, others) take
 abbrev pub Batch : List ℕ → WasmReader → WasmReader → List ℕ → List ℕ → ℕ → List WasmOperator → List WasmOperator → Type 0
 Batch bytes old now frames_old frames_now count out_old out = (placed : Placed) × ReadsEach (state_at bytes old frames_old) placed (state_at bytes now frames_now) ×
     (count ≡ length placed) × (length placed ≤ length out_old) × (out ≡ views placed ++ drop (length placed) out_old) ×
-    (length frames_now ≡ length frames_old) × (placed ≡ [] → (now ≡ old) × (frames_now ≡ frames_old))
+    (length frames_now ≡ length frames_old) × (placed ≡ [] → (now ≡ old) × (frames_now ≡ frames_old)) × (now ≡ reader_moved old now.position now.depth)
 
 pub batch_first : (bytes : List ℕ) (old : WasmReader) (frames : List ℕ) (out : List WasmOperator) → Batch bytes old old frames frames 0 out out
-batch_first bytes old frames out = ([], refl, refl, omega arith, refl, refl, λ none. (refl, refl))
+batch_first bytes old frames out = ([], refl, refl, omega arith, refl, refl, λ none. (refl, refl), refl)
 
 pub batch_on : (bytes : List ℕ) (old now next : WasmReader) (frames_old frames_now frames_next : List ℕ) (count : ℕ) (out_old out : List WasmOperator)
     (view : WasmOperator) → Batch bytes old now frames_old frames_now count out_old out → TakesPlain bytes now next frames_now frames_next view →
     count < length out → length out ≡ length out_old → Batch bytes old next frames_old frames_next (count + 1) out_old (set out count view)
-batch_on bytes old now next frames_old frames_now frames_next count out_old out view (placed, reads, counted, fits, is, room, unchanged) taken within same =
+batch_on bytes old now next frames_old frames_now frames_next count out_old out view (placed, reads, counted, fits, is, room, unchanged, moved) taken within same =
     let p : Operator × ℕ = (taken.op, offset_of (reader_at bytes now)) in
     let few : length placed < length out_old = omega (arith, within, same, counted) in
     let n = length-append placed (p ∷ []) in (
@@ -44,6 +44,7 @@ batch_on bytes old now next frames_old frames_now frames_next count out_old out 
       one_more placed p out_old out count view is counted few taken.view_is,
       taken.same_room ∙ room,
       λ none. absurd (omega (arith, n, ap length none)),
+      taken.moved ∙ ap (λ (r : WasmReader). reader_moved r next.position next.depth) moved,
     )
 
 -- The batch ends, and the C struct is still a reader.
@@ -60,6 +61,7 @@ batch_ends r bytes old now frames_old frames_now count out_old out b was still e
   misused = λ none. absurd (none was);
   unchanged = b.6;
   still = λ first. still;
+  moved = b.7;
   ends = ends;
 }
 

@@ -3,12 +3,17 @@ use Rattle.std.proofs.Common.{◌≡◌, ℕ, List, Option, Some, None, Result, 
 use Rattle.std.specs.Prelude.{IfSome, IfNone}
 use Rattle.wasm_operators.specs.below.bytes.error.Error.{Error}
 use Rattle.wasm_operators.specs.below.Source.{Reader, rest}
+use Rattle.wasm_operators.specs.grammar.declared.frame_kind.FrameKind.{FrameKind}
 use Rattle.wasm_operators.specs.grammar.declared.frame_kind.FrameKind.TheVariants as frame
 use Rattle.wasm_operators.specs.instr.declared.operator.Operator.{Operator}
 use Rattle.wasm_operators.specs.Single.{PeeksOperator}
 use Rattle.wasm_view.specs.Lists.{ReturnsMembers}
 use Rattle.wasm_c.specs.declared.refusal.WasmRefusal.{WasmRefusal}
 use Rattle.wasm_c.specs.Refused.{no_refusal, refusal_of, misuse}
+use Rattle.wasm_operators.specs.opcodes.Allowed.{EncodesAllowed}
+use Rattle.wasm_operators.specs.opcodes.Decoding.{RefusesOperator}
+use Rattle.wasm_operators.specs.opcodes.OperatorFaults.{OperatorFault}
+use Rattle.wasm_c.specs.OperatorTexts.{frame_for, PlacesText, RefusesText, FindsText, ReturnsTextAt}
 use Rattle.wasm_c.specs.Members.{bytes_at, OccursThere, RefusesThere, ReturnsThere, Unchanged, AtOffset, ReadsAt, ReportsMembers, FindsMembers, ReturnsList}
 
 abbrev refusal_in : {X : Type 0} → WasmRefusal → Result X WasmRefusal → WasmRefusal
@@ -73,6 +78,45 @@ reads_nothing r bytes offset features at found =
     at_offset (λ number place. no_bytes r ≡ Err (misuse number place)) (λ number place. no_operator r ≡ Err (misuse number place))
     (λ input. no_bytes r ≡ Ok input) (ReturnsThere (Err r)) bytes offset features at (λ number place is. ap Err (ap (refusal_in r) is))
     (λ input is. absurd (cc is)) found
+
+-- The text of the operator that was read from the bytes at the offset.
+pub text_found : (text_of : Operator → List ℕ) (r : WasmRefusal) (ahead : Reader) (bytes : List ℕ) (offset features at count_old count_new : ℕ)
+    (old new : List ℕ) → FindsBytes (some_bytes ahead) bytes offset features at → FindsText text_of r ahead at count_old count_new old new →
+    ReturnsTextAt text_of r bytes offset features at count_old count_new old new
+text_found text_of r ahead bytes offset features at count_old count_new old new found text =
+    at_offset (λ number place. some_bytes ahead ≡ Err (misuse number place)) (λ number place. (r ≡ misuse number place) × Unchanged count_old count_new old new)
+    (λ input. some_bytes ahead ≡ Ok input) (λ input. FindsText text_of r input at count_old count_new old new) bytes offset features at
+    (λ number place is. absurd (cc is))
+    (λ input is. subst (λ i. FindsText text_of r i at count_old count_new old new) (ap (reader_in ahead) is) text) found
+
+-- There are no bytes at the offset, and so no text.
+pub text_nowhere : (text_of : Operator → List ℕ) (r : WasmRefusal) (bytes : List ℕ) (offset features at count : ℕ) (old : List ℕ) →
+    FindsBytes (no_bytes r) bytes offset features at → ReturnsTextAt text_of r bytes offset features at count count old old
+text_nowhere text_of r bytes offset features at count old found =
+    at_offset (λ number place. no_bytes r ≡ Err (misuse number place)) (λ number place. (r ≡ misuse number place) × Unchanged count count old old)
+    (λ input. no_bytes r ≡ Ok input) (λ input. FindsText text_of r input at count count old old) bytes offset features at
+    (λ number place is. (ap (refusal_in r) is, (refl, refl))) (λ input is. absurd (cc is)) found
+
+-- An operator that was read in any frame is encoded here.
+pub text_there : (kind : FrameKind) (op : Operator) (ahead : Reader) → PeeksOperator (Some kind) (Ok op) ahead → OccursThere ahead op
+text_there kind op ahead (after, (text, encodes, takes)) = (text, rest after, takes.parts, encodes.0)
+
+-- A read that failed in the frame for the operator.
+pub no_text_there : (kind : FrameKind) (e : Error) (r : WasmRefusal) (ahead : Reader) (at : ℕ) → kind ≡ frame_for (rest ahead) →
+    PeeksOperator (Some kind) (Err e) ahead → r ≡ refusal_of e → RefusesText r ahead at
+no_text_there kind e r ahead at same (after, (unmoved, refused, fault)) is =
+    inl (
+      e,
+      is,
+      subst (λ k. RefusesOperator (EncodesAllowed ahead.features k) (OperatorFault ahead.features k) e ahead ahead) same (refl, refused, fault),
+    )
+
+-- The text of the operator that was read.
+pub text_placed : (text_of : Operator → List ℕ) (op : Operator) (text : List ℕ) (r : WasmRefusal) (ahead : Reader) (at count_old count_new : ℕ)
+    (old new : List ℕ) → OccursThere ahead op → text ≡ text_of op → PlacesText text at r count_new old new →
+    FindsText text_of r ahead at count_old count_new old new
+text_placed text_of op text r ahead at count_old count_new old new occurs same placed =
+    inl (op, occurs, subst (λ t. PlacesText t at r count_new old new) same placed)
 
 reports : {X : Type 0} (members : Option (List X)) (found : Option ℕ) (r : WasmRefusal) (at index count_old count_new : ℕ) (old new : List X) →
     ReturnsMembers members index old found new → IfSome found (λ n. (r ≡ no_refusal at) × (count_new ≡ n)) →

@@ -22,7 +22,7 @@ use Rattle.wasm_view.specs.View.{view_of}
 use Rattle.wasm_view.specs.declared.view.WasmOperator.{WasmOperator}
 use Rattle.wasm_c.specs.declared.refusal.WasmRefusal.{WasmRefusal}
 use Rattle.wasm_c.specs.Refused.{refusal_of, refusal_at, misuse}
-use Rattle.wasm_c.specs.Steps.{IsReader, reader_at, state_at, FindsNoRoom, TakesPlain, StopsPlain, FinishesPlain}
+use Rattle.wasm_c.specs.Steps.{IsReader, reader_at, reader_moved, state_at, FindsNoRoom, TakesPlain, StopsPlain, FinishesPlain}
 use Rattle.wasm_c.proofs.Stepped.{frames_stepped, last_innermost}
 
 is_memory : (m : Message) → (m ≡ message.OutOfMemory) ⊎ (m ≡ message.OutOfMemory → ⊥)
@@ -148,8 +148,9 @@ pub takes_plain : (bytes : List ℕ) (old new : WasmReader) (frames_old frames_n
     ((outer : List FrameKind) (k : FrameKind) → kinds (take old.depth frames_old) ≡ outer ++ k ∷ [] → kinds (take new.depth frames_new) ≡ frames_changed outer k change) →
     new.depth ≤ length frames_old → new.depth ≤ old.depth + 1 → ((OpensFrame change → ⊥) → new.depth ≤ old.depth) →
     length frames_new ≡ length frames_old → new.position ≡ ahead.position → new.offset ≡ old.offset → new.features ≡ old.features →
-    TakesPlain bytes old new frames_old frames_new view
-takes_plain bytes old new frames_old frames_new start ahead kind view change was same viewed some inside changed fits most others room moved offset features =
+    new ≡ reader_moved old new.position new.depth → TakesPlain bytes old new frames_old frames_new view
+takes_plain bytes old new frames_old frames_new start ahead kind view change was same viewed some inside changed fits most others room moved offset features
+    pinned =
     let v = subst (λ r. Viewed r kind ahead view change) same viewed in
     let r = reader_at bytes old in
     let occurs = reader_after bytes old new ahead v.1 v.3 moved offset features in
@@ -166,6 +167,7 @@ takes_plain bytes old new frames_old frames_new start ahead kind view change was
         position = omega (arith, moved, place);
         depth = omega (arith, fits, room);
       };
+      moved = pinned;
       same_room = room;
     }
 

@@ -2,7 +2,8 @@
 use Rattle.std.specs.Prelude.{◌≡◌, ℕ, ◌+◌, ◌-◌, ◌^◌, ◌<◌, ◌≤◌, List, [], ◌∷◌, ◌++◌, length, take, drop, Some, Result, Ok, Err, ◌⊎◌}
 use Rattle.wasm_operators.specs.below.bytes.error.Error.{Error}
 use Rattle.wasm_operators.specs.below.Features.{features_of}
-use Rattle.wasm_operators.specs.below.Source.{Reader, reader_of, at_position, rest, offset_of}
+use Rattle.wasm_operators.specs.below.bytes.message.Message.TheVariants as message
+use Rattle.wasm_operators.specs.below.Source.{Reader, reader_of, at_position, rest, offset_of, BeginsWith}
 use Rattle.wasm_operators.specs.grammar.declared.frame_kind.FrameKind.{FrameKind}
 use Rattle.wasm_operators.specs.grammar.Frames.{innermost}
 use Rattle.wasm_operators.specs.instr.declared.operator.Operator.{Operator}
@@ -42,13 +43,18 @@ state_at bytes r frames = record {
   room = (length frames - 1) - (r.depth - 1);
 }
 
--- An operator is read, and `view` is its C struct.
+-- The same reader at another position, with another number of open frames.
+abbrev pub reader_moved : WasmReader → ℕ → ℕ → WasmReader
+reader_moved r position depth = record { offset = r.offset; position = position; depth = depth; features = r.features; reserved = r.reserved }
+
+-- An operator is read, and `view` is its C struct. Of the reader, only the position and the number of open frames change.
 pub record TakesPlain (bytes : List ℕ) (old new : WasmReader) (frames_old frames_new : List ℕ) (view : WasmOperator) : Type 0 where
   pub op : Operator
   pub was : IsReader bytes (length frames_old) old
   pub takes : TakesOperator EncodesAllowed op (state_at bytes old frames_old) (state_at bytes new frames_new)
   pub view_is : view ≡ view_of (op, offset_of (reader_at bytes old))
   pub still : IsReader bytes (length frames_new) new
+  pub moved : new ≡ reader_moved old new.position new.depth
   pub same_room : length frames_new ≡ length frames_old
 
 -- The next operator opens a frame, and there is no space for it.
@@ -88,6 +94,27 @@ ReturnsNext r bytes old new frames_old frames_new out_old out_new =
     ((r ≡ no_refusal (offset_of (reader_at bytes new))) × ReadsPlain (Ok out_new) bytes old new frames_old frames_new)
     ⊎ (ReadsPlain (Err r) bytes old new frames_old frames_new × (out_new ≡ out_old))
 
+-- The error before a SIMD operator, at its offset.
+abbrev pub unexpected_simd : ℕ → Error
+unexpected_simd offset = record { message = message.UnexpectedSimd; offset = offset }
+
+-- The C struct is a reader with an open frame, and the next byte is the prefix byte of SIMD operators.
+pub record IsBeforeSimd (bytes : List ℕ) (reader : WasmReader) (frames : List ℕ) : Type 0 where
+  pub is_reader : IsReader bytes (length frames) reader
+  pub open_frame : 0 < reader.depth
+  pub prefix : BeginsWith 0xfd (rest (reader_at bytes reader))
+
+-- A read before a SIMD operator fails, and nothing changes.
+abbrev pub RefusesSimd : {X : Type 0} → Result X WasmRefusal → List ℕ → WasmReader → WasmReader → List ℕ → List ℕ → Type 0
+RefusesSimd result bytes old new frames_old frames_new =
+    (result ≡ Err (refusal_of (unexpected_simd (offset_of (reader_at bytes old))))) × (new ≡ old) × (frames_new ≡ frames_old)
+
+-- One call of `wasm_next_plain`: before a SIMD operator it fails, and nothing changes. Otherwise it is a call of `wasm_next`.
+pub record ReturnsNextPlain (r : WasmRefusal) (bytes : List ℕ) (old new : WasmReader) (frames_old frames_new : List ℕ) (out_old out_new : WasmOperator) : Type 0 where
+  pub simd : IsBeforeSimd bytes old frames_old →
+      (r ≡ refusal_of (unexpected_simd (offset_of (reader_at bytes old)))) × (new ≡ old) × (frames_new ≡ frames_old) × (out_new ≡ out_old)
+  pub other : (IsBeforeSimd bytes old frames_old → ⊥) → ReturnsNext r bytes old new frames_old frames_new out_old out_new
+
 -- Whether an expression ends at the reader's position.
 abbrev pub FinishesPlain : WasmRefusal → List ℕ → WasmReader → List ℕ → Type 0
 FinishesPlain r bytes reader frames =
@@ -116,7 +143,7 @@ pub record OpensExpression (r : WasmRefusal) (bytes : List ℕ) (offset features
 abbrev pub OpensAfterLocals : WasmRefusal → List ℕ → ℕ → ℕ → WasmReader → WasmReader → List ℕ → List ℕ → Type 0
 OpensAfterLocals r bytes offset features old new frames_old frames_new =
     ((r ≡ no_refusal (offset_of (reader_at bytes new))) × OpensBody (Ok (state_at bytes new frames_new)) (reader_of (features_of features) offset bytes) ×
-    IsReader bytes (length frames_new) new × (length frames_new ≡ length frames_old))
+    IsReader bytes (length frames_new) new × (length frames_new ≡ length frames_old) × (new ≡ fresh_reader offset features new.position))
     ⊎ ((new ≡ old) × (frames_new ≡ frames_old) × (e : Error) × (r ≡ refusal_of e) × RefusesLocals e (reader_of (features_of features) offset bytes))
 
 pub record OpensPlain (r : WasmRefusal) (bytes : List ℕ) (offset features : ℕ) (old new : WasmReader) (frames_old frames_new : List ℕ) : Type 0 where
@@ -136,7 +163,7 @@ EndsBatch r bytes reader frames Full =
     ⊎ StopsPlain r bytes reader frames
 
 -- A batch of reads: the C structs of these operators are at the start of the array, and its other elements are unchanged. If the C struct is not a reader,
--- none is read. If none is read, nothing changes. A reader remains a reader.
+-- none is read. If none is read, nothing changes. A reader remains a reader; only its position and the number of open frames change.
 pub record ReadsBatch (r : WasmRefusal) (count : ℕ) (bytes : List ℕ) (old new : WasmReader) (frames_old frames_new : List ℕ) (out_old out_new : List WasmOperator) : Type 0 where
   pub placed : Placed
   pub reads : ReadsEach (state_at bytes old frames_old) placed (state_at bytes new frames_new)
@@ -147,4 +174,5 @@ pub record ReadsBatch (r : WasmRefusal) (count : ℕ) (bytes : List ℕ) (old ne
   pub misused : (IsReader bytes (length frames_old) old → ⊥) → (r ≡ misuse 103 old.offset) × (placed ≡ [])
   pub unchanged : placed ≡ [] → (new ≡ old) × (frames_new ≡ frames_old)
   pub still : IsReader bytes (length frames_old) old → IsReader bytes (length frames_new) new
+  pub moved : new ≡ reader_moved old new.position new.depth
   pub ends : EndsBatch r bytes new frames_new (length placed ≡ length out_old)

@@ -14,14 +14,19 @@ ghost use Rattle.wasm_operators.specs.instr.declared.operator.Operator.{Operator
 ghost use Rattle.wasm_operators.specs.Expression.{Placed};
 ghost use Rattle.wasm_operators.specs.MainTheorem.{IsWithinDepth};
 ghost use Rattle.wasm_operators.specs.Reading.{State, IsFresh};
+ghost use Rattle.wasm_text.specs.Names.{text_name};
+ghost use Rattle.wasm_text.specs.Operands.{text_of};
 ghost use Rattle.wasm_view.specs.Lists.{targets_of, types_of, catches_of, handles_of};
 ghost use Rattle.wasm_view.specs.Names.{name_at};
 ghost use Rattle.wasm_view.specs.View.{view_of};
 ghost use Rattle.wasm_c.specs.Members.{ReturnsList};
+ghost use Rattle.wasm_c.specs.Modules.{ReturnsBodies, ReturnsBody, ReturnsName};
+ghost use Rattle.wasm_c.specs.OperatorTexts.{ReturnsTextAt};
 ghost use Rattle.wasm_c.specs.Reads.{IsWithin, FindsPlain};
 ghost use Rattle.wasm_c.specs.Refused.{misuse, refusal_of};
-ghost use Rattle.wasm_c.specs.Steps.{ReturnsNext, ReadsBatch, FinishesPlain, OpensExpression, OpensPlain};
+ghost use Rattle.wasm_c.specs.Steps.{ReturnsNext, ReturnsNextPlain, ReadsBatch, FinishesPlain, OpensExpression, OpensPlain};
 ghost use Rattle.wasm_c.specs.Texts.{message_text, text_of_refusal, ReturnsText};
+ghost use Rattle.wasm_c.specs.Values.{ReturnsValue};
 
 mod body;
 mod counter;
@@ -29,28 +34,36 @@ mod features;
 mod frames;
 pub mod laws;
 mod lists;
+mod module;
+mod operator_text;
 mod reader;
 mod refusal;
 mod text;
+mod value;
+mod value_kind;
+mod values;
 mod viewer;
 
 use crate::body::read_body;
 use crate::features::known_features;
 use crate::lists::{catches_at, handles_at, targets_at, types_at};
+use crate::operator_text::{write_name_at, write_text_at};
 pub use crate::reader::WasmReader;
 pub use crate::refusal::WasmRefusal;
+pub use crate::value::WasmValue;
 use std::alloc::Global;
+pub use wasm_bodies::{WasmBodies, WasmBody};
 use wasm_view::laws::names;
 use wasm_view::name_at;
 pub use wasm_view::{WasmHandler, WasmOperator, WasmType};
 
 /// The version of the structs and calls, the same as in `wasm_operators.h`.
-const VERSION: u32 = 3;
+const VERSION: u32 = 4;
 
 /// Returns the version of the structs and calls. A header with another `WASM_OPERATORS_VERSION`
 /// does not belong to this library.
 pub fn wasm_operators_version() -> u32
-    ensures { result ≡ 3 }
+    ensures { result ≡ 4 }
 {
     VERSION
 }
@@ -185,6 +198,55 @@ pub fn wasm_next(
     refusal.number
 }
 
+/// Reads the next operator in the same way as [`wasm_next`], except that a SIMD operator is an error:
+/// before the byte 0xfd, whatever follows it, returns 14 (`UnexpectedSimd`) with its offset.
+pub fn wasm_next_plain(
+    alloc: Global,
+    bytes: &[u8],
+    frames: &mut [u8],
+    reader: &mut WasmReader,
+    operator: &mut WasmOperator,
+    refusal: &mut WasmRefusal,
+) -> u32
+    ensures outcome { result ≡ refusal.new.number }
+    ensures next { ReturnsNextPlain refusal.new bytes.now reader.old reader.new frames.old frames.new operator.old operator.new }
+{
+    *refusal = match reader.read_plain(alloc, bytes, frames) {
+        Ok(view) => {
+            *operator = view;
+            WasmRefusal::none(reader.offset + reader.position)
+        }
+        Err(refused) => refused,
+    };
+    refusal.number
+}
+
+/// Reads a value of the kind with the number `kind` at the position of `reader`, which has no open
+/// frame. Returns 0: `value` is the value, and the reader is after it.
+///
+/// On failure, returns the number of the error, and only `refusal` changes. It is 105 if there is no
+/// such kind, and 103 if `reader` is not a reader of these bytes without frames.
+///
+/// `argument` is the limit of a count, the number of bytes, or the number of locals that were
+/// declared before a declaration. Of bytes, of a part with its length, and of a constant expression,
+/// the value is how many bytes there are; they end at the new position. The part's length is not
+/// among them.
+pub fn wasm_read_value(
+    alloc: Global,
+    bytes: &[u8],
+    reader: &mut WasmReader,
+    kind: u32,
+    argument: u64,
+    value: &mut WasmValue,
+    refusal: &mut WasmRefusal,
+) -> u32
+    ensures outcome { result ≡ refusal.new.number }
+    ensures value { ReturnsValue refusal.new bytes.now reader.old reader.new kind argument value.old value.new }
+{
+    *refusal = reader.read_value(alloc, bytes, kind, argument, value);
+    refusal.number
+}
+
 /// Reads operators into `out`, in the same way as [`wasm_next`]. Returns 0 when the array is full
 /// or all bytes are read, and the number of the error if a read fails. Sets `count` to the number
 /// of operators written, in order; the other elements of `out` are unchanged.
@@ -313,5 +375,115 @@ pub fn wasm_resume_handlers(
     ensures list { ReturnsList handles_of refusal.new bytes.now offset features at index count.old count.new out.old out.new }
 {
     *refusal = handles_at(alloc, bytes, offset, features, at, index, out, count);
+    refusal.number
+}
+
+/// Writes the text of the operator at the offset `at` to `text`, such as `i32.const 5`: its name and
+/// its operands in the text format, in UTF-8 without a NUL byte after it. `offset` is the offset of
+/// the first of the bytes. Returns 0, and sets `length` to the length of the text in bytes.
+///
+/// Returns 102 if the text is longer than the array. Then `length` is the text's length, and nothing
+/// else changes, except `refusal`.
+///
+/// On any other failure, returns the number of the error, and only `refusal` changes. The operator is
+/// read inside a frame that allows it, if one does. Fails as [`wasm_br_table_targets`] does, except
+/// that any operator has a text. If allocation for the text fails,
+/// returns 3.
+pub fn wasm_operator_text(
+    alloc: Global,
+    bytes: &[u8],
+    offset: u64,
+    features: u32,
+    at: u64,
+    text: &mut [u8],
+    length: &mut usize,
+    refusal: &mut WasmRefusal,
+) -> u32
+    ensures outcome { result ≡ refusal.new.number }
+    ensures text { ReturnsTextAt text_of refusal.new bytes.now offset features at length.old length.new text.old text.new }
+{
+    *refusal = write_text_at(alloc, bytes, offset, features, at, text, length);
+    refusal.number
+}
+
+/// Writes the name of the operator at the offset `at` in the text format, such as `i32.const`, in
+/// the same way as [`wasm_operator_text`].
+pub fn wasm_operator_text_name(
+    alloc: Global,
+    bytes: &[u8],
+    offset: u64,
+    features: u32,
+    at: u64,
+    name: &mut [u8],
+    length: &mut usize,
+    refusal: &mut WasmRefusal,
+) -> u32
+    ensures outcome { result ≡ refusal.new.number }
+    ensures name { ReturnsTextAt text_name refusal.new bytes.now offset features at length.old length.new name.old name.new }
+{
+    *refusal = write_name_at(alloc, bytes, offset, features, at, name, length);
+    refusal.number
+}
+
+/// Opens the bodies of the module `bytes`, and returns 0. `bodies` is then the place before the first
+/// body.
+///
+/// On failure, returns the number of the error, and only `refusal` changes. It is 106 if the bytes
+/// are no module, 107 at an import of an unknown kind, 108 at a type of an unknown sort, and 109 if
+/// there are more or fewer bodies than functions. Otherwise it is the error of a section, or 3.
+pub fn wasm_open_bodies(
+    alloc: Global,
+    bytes: &[u8],
+    bodies: &mut WasmBodies,
+    refusal: &mut WasmRefusal,
+) -> u32
+    ensures outcome { result ≡ refusal.new.number }
+    ensures opens { ReturnsBodies refusal.new bytes.now bodies.old bodies.new }
+{
+    *refusal = module::open(alloc, bytes, bodies);
+    refusal.number
+}
+
+/// Reads the next body of the module `bytes`, with which `bodies` was opened. Returns 0: `body` has
+/// the offset and the length of the body, and the index and the type index of its function.
+///
+/// On failure, returns the number of the error, and only `refusal` changes. It is 111 if no body is
+/// left, and 25 if data is left after the last body. It is 103 if `bodies` is not a place between
+/// bodies of these bytes: it was not opened, or was overwritten. Otherwise it is the error of the
+/// body's length, or 1 if the data ends within the body.
+pub fn wasm_next_body(
+    bytes: &[u8],
+    bodies: &mut WasmBodies,
+    body: &mut WasmBody,
+    refusal: &mut WasmRefusal,
+) -> u32
+    ensures outcome { result ≡ refusal.new.number }
+    ensures next { ReturnsBody refusal.new bytes.now bodies.old bodies.new body.old body.new }
+{
+    *refusal = module::next(bytes, bodies, body);
+    refusal.number
+}
+
+/// Writes the name of the function with this index, which the module `bytes` defines, to `name`.
+/// Returns 0, and sets `length` to the length of the name in bytes, which is 0 if the function has
+/// no name. A name in the custom section `name` replaces the name of an export.
+///
+/// Returns 102 if the name is longer than the array. Then `length` is the name's length, and nothing
+/// else changes, except `refusal`.
+///
+/// On any other failure, returns the number of the error, and only `refusal` changes. It is 110 if
+/// the module does not define the function. Otherwise it is as in [`wasm_open_bodies`].
+pub fn wasm_function_name(
+    alloc: Global,
+    bytes: &[u8],
+    index: u32,
+    name: &mut [u8],
+    length: &mut usize,
+    refusal: &mut WasmRefusal,
+) -> u32
+    ensures outcome { result ≡ refusal.new.number }
+    ensures name { ReturnsName refusal.new bytes.now index length.old length.new name.old name.new }
+{
+    *refusal = module::write_name(alloc, bytes, index, name, length);
     refusal.number
 }

@@ -30,7 +30,7 @@ impl FrameStack for InBlock {
 
 /// Returns a reader of the bytes from the offset `at` on. `offset` is the offset of the first of
 /// the bytes.
-fn bytes_from<'a>(
+pub fn bytes_from<'a>(
     bytes: &'a [u8],
     offset: u64,
     features: u32,

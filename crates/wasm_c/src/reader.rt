@@ -10,17 +10,27 @@ ghost use Rattle.wasm_view.specs.View.{view_of};
 ghost use Rattle.wasm_operators.specs.Locals.{ReadsPastLocals};
 ghost use Rattle.wasm_c.specs.Frames.{change_of};
 ghost use Rattle.wasm_c.specs.Reads.{IsWithin};
-ghost use Rattle.wasm_c.specs.Steps.{IsReader, reader_at, StepsPlain, ReadsPlain, ReadsBatch, FinishesPlain, OpensExpression, OpensPlain, fresh_reader};
+ghost use Rattle.wasm_c.specs.Refused.{refusal_of};
+ghost use Rattle.wasm_c.specs.Steps.{IsReader, reader_at, StepsPlain, ReadsPlain, ReadsBatch, FinishesPlain, OpensExpression, OpensPlain, fresh_reader, IsBeforeSimd, unexpected_simd, RefusesSimd};
+ghost use Rattle.wasm_c.specs.Values.{ReturnsValue};
 
 use crate::features::known_features;
 use crate::frames::{BLOCK, FrameChange, change_frames, innermost};
-use crate::refusal::{NO_ROOM, NOT_A_READER, PAST_OFFSETS, UNKNOWN_FEATURES, WasmRefusal};
+use crate::refusal::{
+    NO_ROOM, NO_VALUE_KIND, NOT_A_READER, PAST_OFFSETS, UNKNOWN_FEATURES, WasmRefusal,
+};
+use crate::value::WasmValue;
+use crate::value_kind::ValueKind;
+use crate::values::read_kind;
 use crate::viewer::Viewer;
 use std::alloc::Global;
 use wasm_operators::{
     BinaryReader, Error, FrameKind, FunctionBody, Message, ReadSimdVisits, Result, WasmFeatures,
 };
 use wasm_view::WasmOperator;
+
+/// The prefix byte of SIMD operators.
+const SIMD: u8 = 0xfd;
 
 /// A reader of operators as a C struct of 32 bytes without padding.
 #[repr(C)]
@@ -170,6 +180,77 @@ impl WasmReader {
         }
         *count = found;
         WasmRefusal::none(ahead.original_position())
+    }
+
+    /// Reads a value of the kind with this number, without frames.
+    pub fn read_value(
+        &mut self,
+        alloc: Global,
+        bytes: &[u8],
+        number: u32,
+        argument: u64,
+        value: &mut WasmValue,
+    ) -> WasmRefusal
+        ensures { ReturnsValue result bytes.now self.old self.new number argument value.old value.new }
+    {
+        let Some(kind) = ValueKind::numbered(number) else {
+            return WasmRefusal::misuse(NO_VALUE_KIND, self.offset);
+        };
+        let Some(mut ahead) = self.bytes_ahead(bytes, 0) else {
+            return WasmRefusal::misuse(NOT_A_READER, self.offset);
+        };
+        match read_kind(alloc, kind, argument, &mut ahead) {
+            Ok(found) => {
+                *value = found;
+                let position = ahead.current_position();
+                self.position = position as u64;
+                let offset = ahead.original_position();
+                WasmRefusal::none(offset)
+            }
+            Err(error) => WasmRefusal::of(&error),
+        }
+    }
+
+    /// Returns the error before a SIMD operator, if one is next and a frame is open.
+    fn refuse_simd(&self, bytes: &[u8], frames: &[u8]) -> Option<WasmRefusal>
+        ensures some { IfSome result (λ r. IsBeforeSimd bytes.now self.now frames.now
+            × (r ≡ refusal_of (unexpected_simd (offset_of (reader_at bytes.now self.now))))) }
+        ensures none { IfNone result (IsBeforeSimd bytes.now self.now frames.now → ⊥) }
+    {
+        let Some(ahead) = self.bytes_ahead(bytes, frames.len()) else {
+            return None;
+        };
+        if self.depth == 0 {
+            return None;
+        }
+        match ahead.peek() {
+            Ok(byte) => {
+                if byte != SIMD {
+                    return None;
+                }
+                let offset = ahead.original_position();
+                Some(WasmRefusal::of(&Error::new(Message::UnexpectedSimd, offset)))
+            }
+            Err(_) => None,
+        }
+    }
+
+    /// Reads one operator, if it is not a SIMD operator.
+    pub fn read_plain(
+        &mut self,
+        alloc: Global,
+        bytes: &[u8],
+        frames: &mut [u8],
+    ) -> std::result::Result<WasmOperator, WasmRefusal>
+        ensures simd { IsBeforeSimd bytes.now self.old frames.old
+            → RefusesSimd result bytes.now self.old self.new frames.old frames.new }
+        ensures other { (IsBeforeSimd bytes.now self.old frames.old → ⊥)
+            → ReadsPlain result bytes.now self.old self.new frames.old frames.new }
+    {
+        match self.refuse_simd(bytes, frames) {
+            Some(refused) => Err(refused),
+            None => self.read_next(alloc, bytes, frames),
+        }
     }
 
     /// Checks whether an expression ends at this position.

@@ -23,6 +23,9 @@ pub const NOT_A_READER: u32 = 103;
 /// The number of the error for an offset at which no operator with such a list starts.
 pub const NO_LIST: u32 = 104;
 
+/// The number of the error for the number of no kind of values.
+pub const NO_VALUE_KIND: u32 = 105;
+
 /// An error as a C struct of 24 bytes. The last four bytes are 0.
 #[repr(C)]
 #[derive(Clone, Copy, Debug, PartialEq, Eq)]
@@ -69,6 +72,13 @@ impl WasmRefusal {
         ensures { result ≡ misuse number offset }
     {
         WasmRefusal::new(offset, number, 0, 0)
+    }
+
+    /// Creates an error with the byte or the kind that it is about.
+    pub fn with_value(number: u32, offset: u64, value: u32) -> WasmRefusal
+        ensures { result ≡ reported offset number 0 value }
+    {
+        WasmRefusal::new(offset, number, 0, value)
     }
 
     /// Creates the value for how reading ended. `offset` is used if there is no error.

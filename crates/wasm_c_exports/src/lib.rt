@@ -13,22 +13,29 @@ ghost use Rattle.wasm_c.specs.operators.instr.declared.operator.Operator.{Operat
 ghost use Rattle.wasm_c.specs.operators.Expression.{Placed};
 ghost use Rattle.wasm_c.specs.operators.MainTheorem.{IsWithinDepth};
 ghost use Rattle.wasm_c.specs.operators.Reading.{State, IsFresh};
+ghost use Rattle.wasm_c.specs.text.Names.{text_name};
+ghost use Rattle.wasm_c.specs.text.Operands.{text_of};
 ghost use Rattle.wasm_c.specs.view.Lists.{targets_of, types_of, catches_of, handles_of};
 ghost use Rattle.wasm_c.specs.view.Names.{name_at};
 ghost use Rattle.wasm_c.specs.view.View.{view_of};
 ghost use Rattle.wasm_c.specs.Members.{ReturnsList};
+ghost use Rattle.wasm_c.specs.Modules.{ReturnsBodies, ReturnsBody, ReturnsName};
+ghost use Rattle.wasm_c.specs.OperatorTexts.{ReturnsTextAt};
 ghost use Rattle.wasm_c.specs.Reads.{IsWithin, FindsPlain};
 ghost use Rattle.wasm_c.specs.Refused.{misuse, refusal_of};
-ghost use Rattle.wasm_c.specs.Steps.{ReturnsNext, ReadsBatch, FinishesPlain, OpensExpression, OpensPlain};
+ghost use Rattle.wasm_c.specs.Steps.{ReturnsNext, ReturnsNextPlain, ReadsBatch, FinishesPlain, OpensExpression, OpensPlain};
 ghost use Rattle.wasm_c.specs.Texts.{message_text, text_of_refusal, ReturnsText};
+ghost use Rattle.wasm_c.specs.Values.{ReturnsValue};
 
 use std::alloc::Global;
-use wasm_c::{WasmHandler, WasmOperator, WasmReader, WasmRefusal, WasmType};
+use wasm_c::{
+    WasmBodies, WasmBody, WasmHandler, WasmOperator, WasmReader, WasmRefusal, WasmType, WasmValue,
+};
 
 /// `wasm_c::wasm_operators_version` for C.
 #[unsafe(no_mangle)]
 pub extern "C" fn wasm_operators_version() -> u32
-    ensures { result ≡ 3 }
+    ensures { result ≡ 4 }
 {
     wasm_c::wasm_operators_version()
 }
@@ -121,6 +128,39 @@ pub extern "C" fn wasm_next(
     ensures next { ReturnsNext refusal.new bytes.now reader.old reader.new frames.old frames.new operator.old operator.new }
 {
     wasm_c::wasm_next(alloc, bytes, frames, reader, operator, refusal)
+}
+
+/// `wasm_c::wasm_next_plain` for C.
+#[unsafe(no_mangle)]
+pub extern "C" fn wasm_next_plain(
+    alloc: Global,
+    bytes: &[u8],
+    frames: &mut [u8],
+    reader: &mut WasmReader,
+    operator: &mut WasmOperator,
+    refusal: &mut WasmRefusal,
+) -> u32
+    ensures outcome { result ≡ refusal.new.number }
+    ensures next { ReturnsNextPlain refusal.new bytes.now reader.old reader.new frames.old frames.new operator.old operator.new }
+{
+    wasm_c::wasm_next_plain(alloc, bytes, frames, reader, operator, refusal)
+}
+
+/// `wasm_c::wasm_read_value` for C.
+#[unsafe(no_mangle)]
+pub extern "C" fn wasm_read_value(
+    alloc: Global,
+    bytes: &[u8],
+    reader: &mut WasmReader,
+    kind: u32,
+    argument: u64,
+    value: &mut WasmValue,
+    refusal: &mut WasmRefusal,
+) -> u32
+    ensures outcome { result ≡ refusal.new.number }
+    ensures value { ReturnsValue refusal.new bytes.now reader.old reader.new kind argument value.old value.new }
+{
+    wasm_c::wasm_read_value(alloc, bytes, reader, kind, argument, value, refusal)
 }
 
 /// `wasm_c::wasm_read` for C.
@@ -246,4 +286,84 @@ pub extern "C" fn wasm_resume_handlers(
     wasm_c::wasm_resume_handlers(
         alloc, bytes, offset, features, at, index, out, count, refusal,
     )
+}
+
+/// `wasm_c::wasm_operator_text` for C.
+#[unsafe(no_mangle)]
+pub extern "C" fn wasm_operator_text(
+    alloc: Global,
+    bytes: &[u8],
+    offset: u64,
+    features: u32,
+    at: u64,
+    text: &mut [u8],
+    length: &mut usize,
+    refusal: &mut WasmRefusal,
+) -> u32
+    ensures outcome { result ≡ refusal.new.number }
+    ensures text { ReturnsTextAt text_of refusal.new bytes.now offset features at length.old length.new text.old text.new }
+{
+    wasm_c::wasm_operator_text(alloc, bytes, offset, features, at, text, length, refusal)
+}
+
+/// `wasm_c::wasm_operator_text_name` for C.
+#[unsafe(no_mangle)]
+pub extern "C" fn wasm_operator_text_name(
+    alloc: Global,
+    bytes: &[u8],
+    offset: u64,
+    features: u32,
+    at: u64,
+    name: &mut [u8],
+    length: &mut usize,
+    refusal: &mut WasmRefusal,
+) -> u32
+    ensures outcome { result ≡ refusal.new.number }
+    ensures name { ReturnsTextAt text_name refusal.new bytes.now offset features at length.old length.new name.old name.new }
+{
+    wasm_c::wasm_operator_text_name(alloc, bytes, offset, features, at, name, length, refusal)
+}
+
+/// `wasm_c::wasm_open_bodies` for C.
+#[unsafe(no_mangle)]
+pub extern "C" fn wasm_open_bodies(
+    alloc: Global,
+    bytes: &[u8],
+    bodies: &mut WasmBodies,
+    refusal: &mut WasmRefusal,
+) -> u32
+    ensures outcome { result ≡ refusal.new.number }
+    ensures opens { ReturnsBodies refusal.new bytes.now bodies.old bodies.new }
+{
+    wasm_c::wasm_open_bodies(alloc, bytes, bodies, refusal)
+}
+
+/// `wasm_c::wasm_next_body` for C.
+#[unsafe(no_mangle)]
+pub extern "C" fn wasm_next_body(
+    bytes: &[u8],
+    bodies: &mut WasmBodies,
+    body: &mut WasmBody,
+    refusal: &mut WasmRefusal,
+) -> u32
+    ensures outcome { result ≡ refusal.new.number }
+    ensures next { ReturnsBody refusal.new bytes.now bodies.old bodies.new body.old body.new }
+{
+    wasm_c::wasm_next_body(bytes, bodies, body, refusal)
+}
+
+/// `wasm_c::wasm_function_name` for C.
+#[unsafe(no_mangle)]
+pub extern "C" fn wasm_function_name(
+    alloc: Global,
+    bytes: &[u8],
+    index: u32,
+    name: &mut [u8],
+    length: &mut usize,
+    refusal: &mut WasmRefusal,
+) -> u32
+    ensures outcome { result ≡ refusal.new.number }
+    ensures name { ReturnsName refusal.new bytes.now index length.old length.new name.old name.new }
+{
+    wasm_c::wasm_function_name(alloc, bytes, index, name, length, refusal)
 }

@@ -3,11 +3,13 @@
 #![tactic(auto)]
 
 mod lists;
+mod modules;
 mod outcomes;
 mod reading;
 mod replay;
 mod row;
 mod tally;
+mod values;
 
 use crate::replay::Replay;
 use std::io;

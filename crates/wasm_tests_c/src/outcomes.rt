@@ -12,6 +12,16 @@ pub fn write_end(out: &mut String, found: &Found) -> Written {
     write!(out, "{number} {offset} {count}")
 }
 
+/// Writes how many operators there are, and `Ok` or the number and the offset of the error.
+pub fn write_outcome(out: &mut String, found: &Found) -> Written {
+    let WasmRefusal { offset, number, .. } = found.end;
+    let count = found.count;
+    if number == 0 {
+        return write!(out, "{count} Ok");
+    }
+    write!(out, "{count} E{number}@{offset}")
+}
+
 /// Writes the fingerprint of the operators' lines, of which each has an offset and a name.
 pub fn write_lines(alloc: Global, out: &mut String, operators: &[WasmOperator]) -> Written {
     let mut lines = String::new(alloc);

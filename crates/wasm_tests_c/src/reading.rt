@@ -2,8 +2,8 @@
 
 use std::alloc::{AllocError, Global};
 use wasm_c::{
-    WasmOperator, WasmReader, WasmRefusal, wasm_finish, wasm_frames_needed, wasm_next, wasm_open,
-    wasm_open_body, wasm_read, wasm_read_body,
+    WasmOperator, WasmReader, WasmRefusal, wasm_finish, wasm_frames_needed, wasm_next,
+    wasm_next_plain, wasm_open, wasm_open_body, wasm_read, wasm_read_body,
 };
 
 /// How many operators a batch has at most.
@@ -114,8 +114,12 @@ pub fn whole(alloc: Global, source: &Source<'_>, room: usize) -> Result<Found, A
     })
 }
 
-/// Reads a source by one call of `wasm_next` an operator.
-pub fn step_by_step(alloc: Global, source: &Source<'_>) -> Result<Found, AllocError> {
+/// Reads a source by one call of `wasm_next` an operator, or of `wasm_next_plain`.
+pub fn step_by_step(
+    alloc: Global,
+    source: &Source<'_>,
+    is_plain: bool,
+) -> Result<Found, AllocError> {
     let bytes = source.bytes;
     let mut opened = open(alloc, source)?;
     let mut operators = Vec::new(alloc);
@@ -124,14 +128,25 @@ pub fn step_by_step(alloc: Global, source: &Source<'_>) -> Result<Found, AllocEr
             break;
         }
         let mut operator = WasmOperator::bare(0, 0, 0);
-        let number = wasm_next(
-            alloc,
-            bytes,
-            opened.frames.as_mut_slice(),
-            &mut opened.reader,
-            &mut operator,
-            &mut opened.end,
-        );
+        let number = if is_plain {
+            wasm_next_plain(
+                alloc,
+                bytes,
+                opened.frames.as_mut_slice(),
+                &mut opened.reader,
+                &mut operator,
+                &mut opened.end,
+            )
+        } else {
+            wasm_next(
+                alloc,
+                bytes,
+                opened.frames.as_mut_slice(),
+                &mut opened.reader,
+                &mut operator,
+                &mut opened.end,
+            )
+        };
         if number == 0 {
             operators.push(operator)?;
         }

@@ -1,10 +1,12 @@
 //! Compares the results of each call with those of wasmparser.
 
 use crate::lists::{write_catches, write_clauses, write_targets, write_types};
-use crate::outcomes::{write_end, write_lines, write_text};
+use crate::modules::{self, write_functions};
+use crate::outcomes::{write_end, write_lines, write_outcome, write_text};
 use crate::reading::{Found, Source, by_batches, step_by_step, whole};
-use crate::row::{Body, List, body_of, list_of};
+use crate::row::{Body, List, Module, Text, Value, body_of, list_of, module_of, text_of, value_of};
 use crate::tally::Tally;
+use crate::values::{write_constant, write_locals, write_value};
 use std::alloc::Global;
 use std::io::{self, Print};
 use wasm_tests_texts::read_hex;
@@ -18,12 +20,18 @@ pub struct Replay {
     text: Tally,
     next: Tally,
     batches: Tally,
+    plain: Tally,
+    constant: Tally,
+    locals: Tally,
     open: Tally,
     targets: Tally,
     types: Tally,
     catches: Tally,
     clauses: Tally,
-    /// Lines of the input that are neither a body nor a list.
+    operator_text: Tally,
+    value: Tally,
+    module: Tally,
+    /// Lines of the input that are of no known sort.
     unread: Tally,
 }
 
@@ -37,11 +45,17 @@ impl Replay {
             text: Tally::new("wasm_refusal_text"),
             next: Tally::new("wasm_open_body, wasm_next, wasm_finish"),
             batches: Tally::new("wasm_open_body, wasm_read, wasm_finish"),
+            plain: Tally::new("wasm_open_body, wasm_next_plain, wasm_finish"),
+            constant: Tally::new("wasm_read_value of constant expressions"),
+            locals: Tally::new("wasm_read_value of locals"),
             open: Tally::new("wasm_open, wasm_read, wasm_finish"),
             targets: Tally::new("wasm_br_table_targets"),
             types: Tally::new("wasm_select_types"),
             catches: Tally::new("wasm_try_table_catches"),
             clauses: Tally::new("wasm_resume_handlers"),
+            operator_text: Tally::new("wasm_operator_text, wasm_operator_text_name"),
+            value: Tally::new("wasm_read_value"),
+            module: Tally::new("wasm_open_bodies, wasm_next_body, wasm_function_name"),
             unread: Tally::new("lines of another sort"),
         }
     }
@@ -52,10 +66,59 @@ impl Replay {
             self.body(rt, &body)
         } else if let Some(list) = list_of(line) {
             self.list(rt, &list)
+        } else if let Some(text) = text_of(line) {
+            self.text(rt, &text)
+        } else if let Some(value) = value_of(line) {
+            self.value(rt, &value)
+        } else if let Some(module) = module_of(line) {
+            self.module(rt, &module)
         } else {
-            self.unread.compare(rt, line, "a body or a list")
+            self.unread.compare(rt, line, "a line of a known sort")
         }
     }
+
+    /// Compares the text and the name of an operator. The name is the text up to its first space.
+    fn text<R: Print>(&mut self, rt: &R, text: &Text<'_>) -> io::Result<()> {
+        let alloc = self.alloc;
+        let mut bytes = Vec::new(alloc);
+        read_hex(&mut bytes, text.bytes)?;
+        let mut found = String::new(alloc);
+        modules::write_text(alloc, &mut found, bytes.as_slice(), false)?;
+        found.push_str(" is ")?;
+        modules::write_text(alloc, &mut found, bytes.as_slice(), true)?;
+        let mut words = text.text.split(' ');
+        let name = words.next().unwrap_or("");
+        let expected = format!(in alloc; "{} is {name}", text.text)?;
+        self.operator_text
+            .compare(rt, found.as_str(), expected.as_str())
+    }
+
+    /// Compares a value.
+    fn value<R: Print>(&mut self, rt: &R, value: &Value<'_>) -> io::Result<()> {
+        let alloc = self.alloc;
+        let mut bytes = Vec::new(alloc);
+        read_hex(&mut bytes, value.bytes)?;
+        let mut found = String::new(alloc);
+        write_value(
+            alloc,
+            &mut found,
+            bytes.as_slice(),
+            value.kind,
+            value.argument,
+        )?;
+        self.value.compare(rt, found.as_str(), value.outcome)
+    }
+
+    /// Compares the functions of a module.
+    fn module<R: Print>(&mut self, rt: &R, module: &Module<'_>) -> io::Result<()> {
+        let alloc = self.alloc;
+        let mut bytes = Vec::new(alloc);
+        read_hex(&mut bytes, module.bytes)?;
+        let mut found = String::new(alloc);
+        write_functions(alloc, &mut found, bytes.as_slice(), module.is_whole)?;
+        self.module.compare(rt, found.as_str(), module.functions)
+    }
+
     /// Compares the calls that read a body. If it has no locals, the bytes after the first are an expression.
     fn body<R: Print>(&mut self, rt: &R, body: &Body<'_>) -> io::Result<()> {
         let alloc = self.alloc;
@@ -68,7 +131,8 @@ impl Replay {
             is_body: true,
         };
         self.whole(rt, body, &source)?;
-        let found = step_by_step(alloc, &source)?;
+        self.other_ways(rt, body, &source)?;
+        let found = step_by_step(alloc, &source, false)?;
         compare(alloc, rt, &mut self.next, &found, body)?;
         let found = by_batches(alloc, &source)?;
         compare(alloc, rt, &mut self.batches, &found, body)?;
@@ -86,6 +150,26 @@ impl Replay {
         };
         let found = by_batches(alloc, &source)?;
         compare(alloc, rt, &mut self.open, &found, body)
+    }
+
+    /// Compares how a body is read without SIMD operators, and the same bytes as a constant
+    /// expression and as locals.
+    fn other_ways<R: Print>(
+        &mut self,
+        rt: &R,
+        body: &Body<'_>,
+        source: &Source<'_>,
+    ) -> io::Result<()> {
+        let alloc = self.alloc;
+        let mut text = String::new(alloc);
+        write_outcome(&mut text, &step_by_step(alloc, source, true)?)?;
+        self.plain.compare(rt, text.as_str(), body.plain)?;
+        text.clear();
+        write_constant(alloc, &mut text, source.bytes, body.features)?;
+        self.constant.compare(rt, text.as_str(), body.constant)?;
+        text.clear();
+        write_locals(alloc, &mut text, source.bytes, body.features)?;
+        self.locals.compare(rt, text.as_str(), body.locals)
     }
 
     /// Compares the call that reads a body at once, the names of its operators and the text of the error; and
@@ -141,11 +225,17 @@ impl Replay {
         self.text.print(rt)?;
         self.next.print(rt)?;
         self.batches.print(rt)?;
+        self.plain.print(rt)?;
+        self.constant.print(rt)?;
+        self.locals.print(rt)?;
         self.open.print(rt)?;
         self.targets.print(rt)?;
         self.types.print(rt)?;
         self.catches.print(rt)?;
         self.clauses.print(rt)?;
+        self.module.print(rt)?;
+        self.operator_text.print(rt)?;
+        self.value.print(rt)?;
         self.unread.print(rt)
     }
 }

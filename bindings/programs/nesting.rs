@@ -1,13 +1,13 @@
-//! Says how deep the blocks of a function body nest, or what in it leads to no block.
+//! Prints how deep the blocks of a function body nest, or which label no open block has.
 
 use std::process::ExitCode;
 use wasmparser::{BinaryReader, BlockType, Catch, Error, FunctionBody, Operator};
 
-/// What is wrong with a body.
+/// What is wrong in a body.
 enum Fault {
-    /// The bytes are no body.
+    /// The bytes do not encode a body.
     Bytes(Error),
-    /// The operator at this offset has a label of no open block.
+    /// The operator at this offset has a label that no open block has.
     NoBlock { offset: u64, label: u32 },
 }
 
@@ -17,7 +17,7 @@ impl From<Error> for Fault {
     }
 }
 
-/// The labels that an operator branches to.
+/// Returns the labels that an operator branches to.
 fn labels_of(operator: &Operator<'_>) -> Result<Vec<u32>, Error> {
     Ok(match operator {
         Operator::Br { relative_depth }
@@ -44,7 +44,7 @@ fn labels_of(operator: &Operator<'_>) -> Result<Vec<u32>, Error> {
     })
 }
 
-/// The block type of an operator that opens a block.
+/// Returns the block type of an operator that opens a block.
 fn opened_by(operator: &Operator<'_>) -> Option<BlockType> {
     match operator {
         Operator::Block { blockty }
@@ -56,7 +56,7 @@ fn opened_by(operator: &Operator<'_>) -> Option<BlockType> {
     }
 }
 
-/// How many blocks are open at once at most, that of the function among them.
+/// Returns the greatest number of blocks that are open at once. The function is one.
 fn deepest(bytes: &[u8]) -> Result<u32, Fault> {
     let body = FunctionBody::new(BinaryReader::new(bytes, 0));
     let mut operators = body.get_operators_reader()?;

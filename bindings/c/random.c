@@ -1,0 +1,142 @@
+/* random CALLS MODULE..: calls the library on changed and cut modules, and on random structs.
+ *
+ * A call that fails changes nothing but `*refusal`, and a text's length if the text does not fit. A body lies within its
+ * module. A reader keeps its other fields. The first call that does otherwise is named, and the status is 1. */
+#include "wasm_operators.h"
+
+#include <stdint.h>
+#include <stdio.h>
+#include <stdlib.h>
+#include <string.h>
+
+enum { LONGEST = 512, TEXT = 40, FRAMES = 8 };
+
+static uint64_t state = 88172645463325252u;
+
+/* Returns a random number below `limit`. */
+static uint64_t below(uint64_t limit) {
+  state ^= state << 13;
+  state ^= state >> 7;
+  state ^= state << 17;
+  return state % limit;
+}
+
+/* Ends the program unless this is true. */
+static void require(int is_true, const char *told) {
+  if (is_true) return;
+  printf("%s\n", told);
+  exit(1);
+}
+
+static void fill(void *place, size_t size) {
+  for (size_t i = 0; i < size; i++) ((uint8_t *)place)[i] = (uint8_t)(below(3) == 0 ? below(256) : 0);
+}
+
+static void try_bodies(const uint8_t *bytes, size_t length) {
+  wasm_bodies bodies, before;
+  wasm_body body, kept;
+  wasm_refusal refusal;
+  fill(&bodies, sizeof bodies);
+  fill(&body, sizeof body);
+  before = bodies;
+  if (below(4) != 0 && wasm_open_bodies(bytes, length, &bodies, &refusal) != 0) {
+    require(memcmp(&before, &bodies, sizeof bodies) == 0, "wasm_open_bodies");
+  }
+  if (below(8) == 0) bodies.code = below(length + 9);
+  if (below(8) == 0) bodies.left = (uint32_t)below(9);
+  uint32_t refused = 0;
+  for (int i = 0; i < 9 && refused == 0; i++) {
+    before = bodies;
+    kept = body;
+    refused = wasm_next_body(bytes, length, &bodies, &body, &refusal);
+    int same = memcmp(&before, &bodies, sizeof bodies) == 0 && memcmp(&kept, &body, sizeof body) == 0;
+    require(refused == 0 ? body.offset + body.length <= length : same, "wasm_next_body");
+  }
+}
+
+/* Checks a text that was written to an array of `length` bytes, or was not written. */
+static void look_at_text(uint32_t refused, const uint8_t *text, size_t length, size_t needed, const char *call) {
+  int same = 1;
+  for (size_t i = refused == 0 ? needed : 0; i < TEXT; i++) same = same && text[i] == 0x5a;
+  require(same, call);
+  if (refused == 0) require(needed <= length, call);
+  if (refused == WASM_REFUSED_NO_ROOM) require(needed > length, call);
+  if (refused != 0 && refused != WASM_REFUSED_NO_ROOM) require(needed == 7, call);
+}
+
+static void try_texts(const uint8_t *bytes, size_t length) {
+  uint8_t text[TEXT];
+  wasm_refusal refusal;
+  size_t room = (size_t)below(TEXT), needed = 7;
+  uint64_t offset = below(3), at = below(length + 5);
+  uint32_t features = (uint32_t)below(70);
+  memset(text, 0x5a, sizeof text);
+  uint32_t refused = wasm_function_name(bytes, length, (uint32_t)below(5), text, room, &needed, &refusal);
+  look_at_text(refused, text, room, needed, "wasm_function_name");
+  memset(text, 0x5a, sizeof text);
+  needed = 7;
+  refused = wasm_operator_text(bytes, length, offset, features, at, text, room, &needed, &refusal);
+  look_at_text(refused, text, room, needed, "wasm_operator_text");
+  memset(text, 0x5a, sizeof text);
+  needed = 7;
+  refused = wasm_operator_text_name(bytes, length, offset, features, at, text, room, &needed, &refusal);
+  look_at_text(refused, text, room, needed, "wasm_operator_text_name");
+}
+
+/* Checks that only the position and the number of frames changed, or nothing. */
+static void look_at_reader(uint32_t refused, const wasm_reader *old, wasm_reader now, const char *call) {
+  if (refused == 0) {
+    now.position = old->position;
+    now.depth = old->depth;
+  }
+  require(memcmp(old, &now, sizeof now) == 0, call);
+}
+
+static void try_reader(const uint8_t *bytes, size_t length) {
+  wasm_reader reader;
+  wasm_value value, kept;
+  wasm_operator op;
+  wasm_refusal refusal;
+  uint8_t frames[FRAMES];
+  fill(&reader, sizeof reader);
+  fill(&value, sizeof value);
+  fill(frames, sizeof frames);
+  reader.features %= 66;
+  reader.position = below(length + 3);
+  reader.depth = below(2);
+  if (below(4) != 0) reader.offset %= 1000;
+  wasm_reader old = reader;
+  kept = value;
+  uint64_t argument = below(4) == 0 ? UINT64_MAX - below(3) : below(10);
+  uint32_t refused = wasm_read_value(bytes, length, &reader, (uint32_t)below(22), argument, &value, &refusal);
+  look_at_reader(refused, &old, reader, "wasm_read_value");
+  require(refused == 0 || memcmp(&kept, &value, sizeof value) == 0, "wasm_read_value");
+  require(refused != 0 || reader.position <= length, "wasm_read_value");
+  reader = old;
+  reader.depth = below(FRAMES + 2);
+  old = reader;
+  refused = wasm_next_plain(bytes, length, frames, sizeof frames, &reader, &op, &refusal);
+  look_at_reader(refused, &old, reader, "wasm_next_plain");
+}
+
+int main(int argc, char **argv) {
+  if (argc < 3) {
+    fprintf(stderr, "usage: random CALLS MODULE..\n");
+    return 2;
+  }
+  unsigned long calls = strtoul(argv[1], NULL, 10);
+  for (unsigned long i = 0; i < calls; i++) {
+    uint8_t bytes[LONGEST];
+    FILE *file = fopen(argv[2 + below((uint64_t)argc - 2)], "rb");
+    if (file == NULL) return 2;
+    size_t length = fread(bytes, 1, sizeof bytes, file);
+    fclose(file);
+    for (uint64_t change = below(3); change > 0; change--) bytes[below(length)] = (uint8_t)below(256);
+    if (below(4) == 0) length = (size_t)below(length + 1);
+    try_bodies(bytes, length);
+    try_texts(bytes, length);
+    try_reader(bytes, length);
+  }
+  printf("%lu times each call on random bytes\n", calls);
+  return 0;
+}

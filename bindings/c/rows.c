@@ -1,0 +1,233 @@
+/* rows ROWS: calls the library on the rows of crates/wasm_tests_c/stdin, and compares the results.
+ *
+ * tools/c_answers.py describes the rows. Rows of bodies are read by wasm_next_plain, as constant expressions and as
+ * locals; rows of lists are left to replay.c. The last line has the numbers of rows and of differences. The status is 1
+ * if there is a difference. */
+#include "wasm_operators.h"
+
+#include <inttypes.h>
+#include <stdarg.h>
+#include <stdio.h>
+#include <stdlib.h>
+#include <string.h>
+
+enum { CELLS = 9, LONGEST_TEXT = 4096 };
+
+static size_t rows, differ;
+
+/* A text that grows, of at most LONGEST_TEXT bytes. */
+typedef struct text {
+  char bytes[LONGEST_TEXT];
+  size_t length;
+} text;
+
+static void add(text *out, const char *format, ...) {
+  va_list values;
+  va_start(values, format);
+  int length = vsnprintf(out->bytes + out->length, sizeof out->bytes - out->length, format, values);
+  va_end(values);
+  if (length < 0 || (size_t)length >= sizeof out->bytes - out->length) exit(2);
+  out->length += (size_t)length;
+}
+
+/* Compares a result with the expected one, and prints the first that differ. */
+static void compare(const char *call, const text *found, const char *expected) {
+  rows++;
+  if (strcmp(found->bytes, expected) == 0) return;
+  if (differ++ < 10) printf("%s: %s, and not %s\n", call, found->bytes, expected);
+}
+
+/* Returns the bytes of a hexadecimal text. Frees nothing. */
+static uint8_t *bytes_of(const char *hex, size_t *length) {
+  *length = strlen(hex) / 2;
+  uint8_t *bytes = malloc(*length + 1);
+  if (bytes == NULL) exit(2);
+  for (size_t i = 0; i < *length; i++) {
+    unsigned byte = 0;
+    if (sscanf(hex + 2 * i, "%2x", &byte) != 1) exit(2);
+    bytes[i] = (uint8_t)byte;
+  }
+  return bytes;
+}
+
+static void add_error(text *out, const wasm_refusal *refusal) {
+  add(out, "E%" PRIu32 "@%" PRIu64, refusal->number, refusal->offset);
+}
+
+/* Returns a reader without frames at the start of some bytes. */
+static wasm_reader reader_of(uint32_t features) {
+  wasm_reader reader = {0, 0, 0, 0, 0};
+  reader.features = features;
+  return reader;
+}
+
+static void look_at_value(const char *hex, uint32_t kind, uint64_t argument, const char *expected) {
+  size_t length;
+  uint8_t *bytes = bytes_of(hex, &length);
+  wasm_reader reader = reader_of(WASM_FEATURES_ALL);
+  wasm_value value;
+  wasm_refusal refusal;
+  text found = {"", 0};
+  if (wasm_read_value(bytes, length, &reader, kind, argument, &value, &refusal) != 0) {
+    add_error(&found, &refusal);
+  } else {
+    add(&found, "%" PRIu64 " %" PRIu32 " %" PRIu32 " at %" PRIu64, value.number, value.kind, value.index, reader.position);
+  }
+  compare("wasm_read_value", &found, expected);
+  free(bytes);
+}
+
+static void look_at_constant(const uint8_t *bytes, size_t length, uint32_t features, const char *expected) {
+  wasm_reader reader = reader_of(features);
+  wasm_value value;
+  wasm_refusal refusal;
+  text found = {"", 0};
+  if (wasm_read_value(bytes, length, &reader, WASM_VALUE_CONST_EXPR, 0, &value, &refusal) != 0) {
+    add_error(&found, &refusal);
+  } else {
+    add(&found, "Ok@%" PRIu64, reader.position);
+  }
+  compare("constant", &found, expected);
+}
+
+static void look_at_locals(const uint8_t *bytes, size_t length, uint32_t features, const char *expected) {
+  wasm_reader reader = reader_of(features);
+  wasm_value value;
+  wasm_refusal refusal;
+  text found = {"", 0};
+  if (wasm_read_value(bytes, length, &reader, WASM_VALUE_VAR_U32, 0, &value, &refusal) != 0) {
+    add_error(&found, &refusal);
+  } else {
+    uint64_t count = value.number, total = 0;
+    add(&found, "%" PRIu64, count);
+    for (uint64_t i = 0; i < count; i++) {
+      if (wasm_read_value(bytes, length, &reader, WASM_VALUE_LOCAL, total, &value, &refusal) != 0) {
+        add(&found, " ");
+        add_error(&found, &refusal);
+        break;
+      }
+      total += value.number;
+      if (i < 5) add(&found, " %" PRIu64 ":%" PRIu32 ":%" PRIu32, value.number, value.kind, value.index);
+    }
+  }
+  compare("locals", &found, expected);
+}
+
+static void look_at_plain(const uint8_t *bytes, size_t length, uint32_t features, const char *expected) {
+  size_t room = wasm_frames_needed(length), count = 0;
+  uint8_t *frames = malloc(room);
+  if (frames == NULL) exit(2);
+  wasm_reader reader;
+  wasm_operator op;
+  wasm_refusal refusal;
+  text found = {"", 0};
+  uint32_t refused = wasm_open_body(bytes, length, 0, features, frames, room, &reader, &refusal);
+  while (refused == 0 && reader.position < length) {
+    refused = wasm_next_plain(bytes, length, frames, room, &reader, &op, &refusal);
+    if (refused == 0) count++;
+  }
+  if (refused == 0) refused = wasm_finish(bytes, length, frames, room, &reader, &refusal);
+  add(&found, "%zu ", count);
+  if (refused == 0) {
+    add(&found, "Ok");
+  } else {
+    add_error(&found, &refusal);
+  }
+  compare("wasm_next_plain", &found, expected);
+  free(frames);
+}
+
+static void look_at_body(char *const *cells) {
+  size_t length;
+  uint8_t *bytes = bytes_of(cells[2], &length);
+  uint32_t features = (uint32_t)strtoul(cells[1], NULL, 10);
+  look_at_plain(bytes, length, features, cells[6]);
+  look_at_constant(bytes, length, features, cells[7]);
+  look_at_locals(bytes, length, features, cells[8]);
+  free(bytes);
+}
+
+/* Compares the text of an operator and its name, which ends at the first space. With an array that is one byte too
+ * short, nothing is written. */
+static void look_at_text(const char *hex, const char *expected) {
+  size_t length, needed = 0, name_length = 0, again = 0;
+  uint8_t *bytes = bytes_of(hex, &length);
+  uint8_t out[256], name[WASM_LONGEST_TEXT_NAME], none[256] = {0};
+  wasm_refusal refusal;
+  text found = {"", 0}, wanted = {"", 0};
+  if (wasm_operator_text(bytes, length, 0, WASM_FEATURES_ALL, 0, out, sizeof out, &needed, &refusal) == 0) {
+    add(&found, "%.*s ", (int)needed, (const char *)out);
+  }
+  if (wasm_operator_text_name(bytes, length, 0, WASM_FEATURES_ALL, 0, name, sizeof name, &name_length, &refusal) == 0) {
+    add(&found, "%.*s ", (int)name_length, (const char *)name);
+  }
+  uint8_t kept[256] = {0};
+  uint32_t short_by_one = wasm_operator_text(bytes, length, 0, WASM_FEATURES_ALL, 0, kept, needed - 1, &again, &refusal);
+  add(&found, "%" PRIu32 " %d %d", short_by_one, again == needed, memcmp(kept, none, sizeof none) == 0);
+  add(&wanted, "%s %.*s 102 1 1", expected, (int)strcspn(expected, " "), expected);
+  compare("wasm_operator_text", &found, wanted.bytes);
+  free(bytes);
+}
+
+static void look_at_module(const char *hex, int is_whole, const char *expected) {
+  size_t length;
+  uint8_t *bytes = bytes_of(hex, &length);
+  wasm_bodies bodies;
+  wasm_body body;
+  wasm_refusal refusal;
+  text found = {"", 0};
+  uint32_t refused = wasm_open_bodies(bytes, length, &bodies, &refusal);
+  while (refused == 0) {
+    refused = wasm_next_body(bytes, length, &bodies, &body, &refusal);
+    if (refused != 0) break;
+    uint8_t name[64];
+    size_t name_length = 0;
+    wasm_function_name(bytes, length, body.index, name, sizeof name, &name_length, &refusal);
+    add(&found, "%" PRIu32 " %" PRIu64 " ", body.index, body.offset);
+    if (is_whole) add(&found, "%" PRIu64 " %" PRIu32 " ", body.length, body.type_index);
+    add(&found, "%.*s;", (int)name_length, (const char *)name);
+  }
+  if (refused != WASM_REFUSED_NO_BODY) add_error(&found, &refusal);
+  compare("wasm_next_body", &found, expected);
+  free(bytes);
+}
+
+static void look_at(char *line) {
+  char *cells[CELLS] = {NULL};
+  size_t count = 0;
+  for (char *cell = line; cell != NULL && count < CELLS; count++) {
+    cells[count] = cell;
+    cell = strchr(cell, '\t');
+    if (cell != NULL) *cell++ = '\0';
+  }
+  if (strcmp(cells[0], "body") == 0 && count == 9) {
+    look_at_body(cells);
+  } else if (strcmp(cells[0], "text") == 0 && count == 3) {
+    look_at_text(cells[1], cells[2]);
+  } else if (strcmp(cells[0], "value") == 0 && count == 5) {
+    look_at_value(cells[3], (uint32_t)strtoul(cells[1], NULL, 10), strtoull(cells[2], NULL, 10), cells[4]);
+  } else if (strcmp(cells[0], "module") == 0 && count == 3) {
+    look_at_module(cells[1], 0, cells[2]);
+  } else if (strcmp(cells[0], "function") == 0 && count == 3) {
+    look_at_module(cells[1], 1, cells[2]);
+  } else if (strcmp(cells[0], "list") != 0) {
+    printf("a row of an unknown sort: %s\n", cells[0]);
+    differ++;
+  }
+}
+
+int main(int argc, char **argv) {
+  static char line[1 << 20];
+  FILE *file = argc == 2 ? fopen(argv[1], "r") : NULL;
+  if (file == NULL) {
+    fprintf(stderr, "usage: rows ROWS\n");
+    return 2;
+  }
+  while (fgets(line, sizeof line, file) != NULL) {
+    line[strcspn(line, "\n")] = '\0';
+    look_at(line);
+  }
+  fclose(file);
+  printf("%zu comparisons, %zu differ\n", rows, differ);
+  return differ != 0;
+}

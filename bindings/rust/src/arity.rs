@@ -1,0 +1,276 @@
+//! How many operands an operator takes, and how many values it leaves.
+//!
+//! Numbers that do not depend on the module come from the table of operators (`for_each_operator!`).
+
+use crate::frames::FrameKind;
+use crate::operator::Operator;
+use crate::{BlockType, MemArg, MemArgTarget, for_each_operator};
+
+/// What the arities of some operators depend on: the types of a module, and the open frames.
+///
+/// A pair is a number of parameters and a number of results.
+pub trait ModuleArity {
+    /// Returns the numbers of parameters and results of the function type with this index.
+    fn func_type_arity(&self, type_index: u32) -> Option<(u32, u32)>;
+
+    /// Returns the number of fields of the struct type with this index.
+    fn struct_type_fields(&self, type_index: u32) -> Option<u32>;
+
+    /// Returns the index of the function type of the continuation type with this index.
+    fn cont_type_func(&self, type_index: u32) -> Option<u32>;
+
+    /// Returns the index of the continuation type that is the last parameter of the function type with this index.
+    fn cont_type_of_last_param(&self, type_index: u32) -> Option<u32>;
+
+    /// Returns the numbers of parameters and results of the tag with this index.
+    fn tag_type_arity(&self, tag_index: u32) -> Option<(u32, u32)>;
+
+    /// Returns the type index of the function with this index.
+    fn type_index_of_function(&self, function_index: u32) -> Option<u32>;
+
+    /// Returns the number of open frames.
+    fn control_stack_height(&self) -> u32;
+
+    /// Returns the block type and the kind of the frame at this depth. The innermost frame has depth 0.
+    fn label_block(&self, depth: u32) -> Option<(BlockType, FrameKind)>;
+}
+
+/// A number of operands or parameters, and a number of results.
+type Arity = Option<(u32, u32)>;
+
+/// Returns how many operands the target of an access is, besides the address.
+fn arrays(memarg: &MemArg) -> u32 {
+    match memarg.target {
+        MemArgTarget::Memory(_) => 0,
+        MemArgTarget::Array(_) => 1,
+    }
+}
+
+/// Adds an operand.
+fn one_more(arity: Arity) -> Arity {
+    let (takes, leaves) = arity?;
+    Some((takes.checked_add(1)?, leaves))
+}
+
+/// Removes the results: the operators that follow are not reached.
+fn leaving(arity: Arity) -> Arity {
+    let (takes, _) = arity?;
+    Some((takes, 0))
+}
+
+/// Finds arities by what a module returns.
+struct Rules<'m, M>(&'m M);
+
+impl<M: ModuleArity> Rules<'_, M> {
+    fn block(&self, ty: BlockType) -> Arity {
+        match ty {
+            BlockType::Empty => Some((0, 0)),
+            BlockType::Type(_) => Some((0, 1)),
+            BlockType::FuncType(index) => self.0.func_type_arity(index),
+        }
+    }
+
+    /// Returns the numbers of parameters and results of the block of a frame.
+    fn frame(&self, depth: u32) -> Arity {
+        let (ty, _) = self.0.label_block(depth)?;
+        self.block(ty)
+    }
+
+    /// Returns the number of values that a branch to this depth carries.
+    fn label(&self, depth: u32) -> Option<u32> {
+        let (ty, kind) = self.0.label_block(depth)?;
+        let (parameters, results) = self.block(ty)?;
+        Some(if kind == FrameKind::Loop {
+            parameters
+        } else {
+            results
+        })
+    }
+
+    fn function(&self, index: u32) -> Arity {
+        self.0
+            .func_type_arity(self.0.type_index_of_function(index)?)
+    }
+
+    fn continuation(&self, index: u32) -> Arity {
+        self.0.func_type_arity(self.0.cont_type_func(index)?)
+    }
+
+    /// Returns the arity of an operator that opens a block.
+    fn entry(&self, ty: BlockType) -> Arity {
+        let (parameters, _) = self.block(ty)?;
+        Some((parameters, parameters))
+    }
+
+    fn catch(&self, tag: u32) -> Arity {
+        let (_, results) = self.frame(0)?;
+        let (parameters, _) = self.0.tag_type_arity(tag)?;
+        Some((results, parameters))
+    }
+
+    /// Returns the arity of an operator that takes the results of the frame at a depth.
+    fn results(&self, depth: u32) -> Arity {
+        let (_, results) = self.frame(depth)?;
+        Some((results, results))
+    }
+
+    fn outermost(&self) -> Arity {
+        let height = self.0.control_stack_height();
+        self.results(height.checked_sub(1)?)
+    }
+
+    /// Returns the arity of a branch that may not be taken.
+    fn branch(&self, depth: u32) -> Arity {
+        let carried = self.label(depth)?;
+        Some((carried, carried))
+    }
+
+    fn branch_on_null(&self, depth: u32) -> Arity {
+        let carried = self.label(depth)?.checked_add(1)?;
+        Some((carried, carried))
+    }
+
+    fn branch_on_non_null(&self, depth: u32) -> Arity {
+        let carried = self.label(depth)?;
+        Some((carried, carried.checked_sub(1)?))
+    }
+
+    fn type_call(&self, index: u32) -> Arity {
+        one_more(self.0.func_type_arity(index))
+    }
+
+    fn bind(&self, from: u32, to: u32) -> Arity {
+        let (parameters, _) = self.continuation(from)?;
+        let (later, _) = self.continuation(to)?;
+        one_more(Some((parameters.checked_sub(later)?, 1)))
+    }
+
+    fn resume_throw(&self, index: u32, tag: u32) -> Arity {
+        let (parameters, _) = self.0.tag_type_arity(tag)?;
+        let (_, results) = self.continuation(index)?;
+        one_more(Some((parameters, results)))
+    }
+
+    fn resume_throw_ref(&self, index: u32) -> Arity {
+        let (_, results) = self.continuation(index)?;
+        Some((2, results))
+    }
+
+    fn switch(&self, index: u32) -> Arity {
+        let (parameters, _) = self.continuation(index)?;
+        let next = self
+            .0
+            .cont_type_of_last_param(self.0.cont_type_func(index)?)?;
+        let (returned, _) = self.continuation(next)?;
+        Some((parameters, returned))
+    }
+
+    fn create_struct(&self, index: u32) -> Arity {
+        Some((self.0.struct_type_fields(index)?, 1))
+    }
+
+    /// Returns the arity of an operator of a block, a branch or the end of one.
+    fn control(&self, op: &Operator<'_>) -> Arity {
+        match op {
+            Operator::Block { blockty }
+            | Operator::Loop { blockty }
+            | Operator::Try { blockty } => self.entry(*blockty),
+            Operator::TryTable { try_table } => self.entry(try_table.ty),
+            Operator::If { blockty } => one_more(self.entry(*blockty)),
+            Operator::Else => {
+                let (parameters, results) = self.frame(0)?;
+                Some((results, parameters))
+            }
+            Operator::Catch { tag_index } => self.catch(*tag_index),
+            Operator::CatchAll => leaving(self.results(0)),
+            Operator::End | Operator::Delegate { .. } => self.results(0),
+            Operator::Return => leaving(self.outermost()),
+            Operator::Br { relative_depth } => leaving(self.branch(*relative_depth)),
+            Operator::BrIf { relative_depth } => one_more(self.branch(*relative_depth)),
+            Operator::BrTable { targets } => leaving(one_more(self.branch(targets.default()))),
+            Operator::BrOnNull { relative_depth } => self.branch_on_null(*relative_depth),
+            Operator::BrOnNonNull { relative_depth } => self.branch_on_non_null(*relative_depth),
+            Operator::BrOnCast { relative_depth, .. }
+            | Operator::BrOnCastFail { relative_depth, .. } => self.branch(*relative_depth),
+            Operator::BrOnCastDescEq { relative_depth, .. }
+            | Operator::BrOnCastDescEqFail { relative_depth, .. } => {
+                one_more(self.branch(*relative_depth))
+            }
+            _ => self.other(op),
+        }
+    }
+
+    /// Returns the arity of an operator that `control` does not list.
+    fn other(&self, op: &Operator<'_>) -> Arity {
+        match op {
+            Operator::Throw { tag_index } => leaving(self.0.tag_type_arity(*tag_index)),
+            Operator::Call { function_index } => self.function(*function_index),
+            Operator::ReturnCall { function_index } => leaving(self.function(*function_index)),
+            Operator::CallIndirect { type_index, .. } | Operator::CallRef { type_index } => {
+                self.type_call(*type_index)
+            }
+            Operator::ReturnCallIndirect { type_index, .. }
+            | Operator::ReturnCallRef { type_index } => leaving(self.type_call(*type_index)),
+            Operator::TypedSelectMulti { tys } => {
+                let count = u32::try_from(tys.len()).ok()?;
+                one_more(Some((count.checked_mul(2)?, count)))
+            }
+            Operator::ContBind {
+                argument_index,
+                result_index,
+            } => self.bind(*argument_index, *result_index),
+            Operator::Suspend { tag_index } => self.0.tag_type_arity(*tag_index),
+            Operator::Resume {
+                cont_type_index, ..
+            } => one_more(self.continuation(*cont_type_index)),
+            Operator::ResumeThrow {
+                cont_type_index,
+                tag_index,
+                ..
+            } => self.resume_throw(*cont_type_index, *tag_index),
+            Operator::ResumeThrowRef {
+                cont_type_index, ..
+            } => self.resume_throw_ref(*cont_type_index),
+            Operator::Switch {
+                cont_type_index, ..
+            } => self.switch(*cont_type_index),
+            Operator::StructNew { struct_type_index } => self.create_struct(*struct_type_index),
+            Operator::StructNewDesc { struct_type_index } => {
+                one_more(self.create_struct(*struct_type_index))
+            }
+            Operator::ArrayNewFixed { array_size, .. } => Some((*array_size, 1)),
+            _ => unreachable!("the arity of {op:?} does not depend on the module"),
+        }
+    }
+}
+
+/// Returns the arity of an operator by its entry of `for_each_operator!`.
+macro_rules! arity_of {
+    (@$rules:ident $op:ident (arity custom) $($field:ident)*) => {
+        $rules.control($op)
+    };
+    (@$rules:ident $op:ident (arity memarg $takes:literal -> $leaves:literal) $memarg:ident $($field:ident)*) => {
+        Some(($takes + arrays($memarg), $leaves))
+    };
+    (@$rules:ident $op:ident (arity $takes:literal -> $leaves:literal) $($field:ident)*) => {
+        Some(($takes, $leaves))
+    };
+}
+
+impl Operator<'_> {
+    /// Returns how many operands the operator takes, and how many values it leaves.
+    ///
+    /// Returns `None` if the module does not have what the operator names, or if a number does not fit in 32 bits.
+    #[allow(unused_variables)] // most arities do not depend on the fields
+    pub fn operator_arity(&self, module: &impl ModuleArity) -> Option<(u32, u32)> {
+        let (rules, op) = (Rules(module), self);
+        macro_rules! arities {
+            ($(@$proposal:ident $name:ident $({ $($field:ident: $ty:ty),* })? => $visit:ident $arity:tt)*) => {
+                match op {
+                    $(Operator::$name $({ $($field),* })? => arity_of!(@rules op $arity $($($field)*)?),)*
+                }
+            };
+        }
+        for_each_operator!(arities)
+    }
+}

@@ -1,0 +1,283 @@
+//! Readers of operators, which keep the open frames, and iterators over operators.
+
+use crate::frames::{FrameKind, FrameStack, OperatorsReaderAllocations};
+use crate::native::{self, PlainOperator, PlainReader};
+use crate::operator::{Operator, operator_of};
+use crate::visit::{visit_not_simd, visit_simd};
+use crate::{BinaryReader, Error, Result, VisitOperator, WasmFeatures};
+
+/// A reader of the operators of an expression. The library keeps the open frames.
+#[derive(Clone)]
+pub struct OperatorsReader<'a> {
+    bytes: &'a [u8],
+    reader: PlainReader,
+    frames: Vec<u8>,
+}
+
+impl<'a> OperatorsReader<'a> {
+    /// Creates a reader of the expression at the position of `reader`.
+    pub fn new(reader: BinaryReader<'a>) -> Self {
+        OperatorsReader::new_with_allocs(reader, OperatorsReaderAllocations::default())
+    }
+
+    /// Creates a reader of the expression at the position of `reader`, with the memory of an earlier reader.
+    pub fn new_with_allocs(reader: BinaryReader<'a>, allocs: OperatorsReaderAllocations) -> Self {
+        let mut frames = allocs.frames;
+        let bytes = reader.buffer();
+        let opened = native::open(
+            bytes,
+            reader.current_position(),
+            reader.range().start,
+            reader.features().bits(),
+            &mut frames,
+        );
+        // A `BinaryReader` has known features and an end that fits in 64 bits, and there is space for a frame.
+        let opened = opened.unwrap_or_else(|refusal| panic!("no expression opens: {refusal:?}"));
+        OperatorsReader {
+            bytes,
+            reader: opened,
+            frames,
+        }
+    }
+
+    /// Creates a reader of the operators of a body, after its locals. `offset` is the offset of the first byte.
+    pub fn of_body(
+        bytes: &'a [u8],
+        offset: u64,
+        features: WasmFeatures,
+    ) -> Result<OperatorsReader<'a>> {
+        let mut frames = Vec::new();
+        let reader = native::open_body(bytes, offset, features.bits(), &mut frames)?;
+        Ok(OperatorsReader {
+            bytes,
+            reader,
+            frames,
+        })
+    }
+
+    /// Returns a reader of the bytes at this position.
+    pub fn get_binary_reader(&self) -> BinaryReader<'a> {
+        BinaryReader::at(self.bytes, &self.reader)
+    }
+
+    /// Returns whether no byte is left.
+    #[inline]
+    pub fn eof(&self) -> bool {
+        self.reader.position == self.bytes.len() as u64
+    }
+
+    /// Returns the offset of the next byte.
+    #[inline]
+    pub fn original_position(&self) -> u64 {
+        self.reader.offset + self.reader.position
+    }
+
+    /// Returns whether the bytes that are left are one `end`.
+    pub fn is_end_then_eof(&self) -> bool {
+        self.get_binary_reader().is_end_then_eof()
+    }
+
+    /// Returns the memory for frames, for another reader.
+    pub fn into_allocations(self) -> OperatorsReaderAllocations {
+        OperatorsReaderAllocations {
+            frames: self.frames,
+        }
+    }
+
+    /// Reads the next operator. On failure, nothing changes.
+    pub fn read(&mut self) -> Result<Operator<'a>> {
+        let at = self.reader.position as usize;
+        let op = native::next(self.bytes, &mut self.frames, &mut self.reader)?;
+        Ok(operator_of(&op, &self.bytes[at..], self.reader.features))
+    }
+
+    /// Reads the next operator, and returns it with its offset.
+    pub fn read_with_offset(&mut self) -> Result<(Operator<'a>, u64)> {
+        let offset = self.original_position();
+        Ok((self.read()?, offset))
+    }
+
+    /// Reads the next operator, and calls the visitor's method for it.
+    ///
+    /// ```
+    /// use wasm_operators::{BinaryReader, OperatorsReader, VisitOperator, for_each_visit_operator};
+    ///
+    /// /// Prints the name of each method that is called.
+    /// struct Names;
+    ///
+    /// macro_rules! print_name {
+    ///     ($(@$proposal:ident $op:ident $({ $($field:ident: $ty:ty),* })? => $visit:ident ($($ann:tt)*))*) => {
+    ///         $(fn $visit(&mut self $($(, $field: $ty)*)?) { println!(stringify!($visit)) })*
+    ///     };
+    /// }
+    ///
+    /// impl<'a> VisitOperator<'a> for Names {
+    ///     type Output = ();
+    ///     for_each_visit_operator!(print_name);
+    /// }
+    ///
+    /// let mut operators = OperatorsReader::new(BinaryReader::new(&[0x01, 0x0b], 0));
+    /// while !operators.eof() {
+    ///     operators.visit_operator(&mut Names)?;
+    /// }
+    /// # Ok::<(), wasm_operators::Error>(())
+    /// ```
+    pub fn visit_operator<T>(&mut self, visitor: &mut T) -> Result<<T as VisitOperator<'a>>::Output>
+    where
+        T: VisitOperator<'a>,
+    {
+        let start = self.reader;
+        let op = match native::next(self.bytes, &mut self.frames, &mut self.reader) {
+            Ok(op) if !op.is_simd() => {
+                let bytes = &self.bytes[start.position as usize..];
+                return Ok(visit_not_simd(visitor, &op, bytes, start.features));
+            }
+            read => read,
+        };
+        if let Some(visitor) = visitor.simd_visitor() {
+            return Ok(visit_simd(visitor, &op?));
+        }
+        // A SIMD operator does not change the frames.
+        self.reader = start;
+        Err(self.error_without_simd())
+    }
+
+    /// Returns the error of a visitor without SIMD at the next operator.
+    #[cold]
+    fn error_without_simd(&mut self) -> Error {
+        match native::next_plain(self.bytes, &mut self.frames, &mut self.reader) {
+            Ok(op) => panic!("the library reads {op:?} for a visitor without SIMD"),
+            Err(refusal) => Error::from(refusal),
+        }
+    }
+
+    /// Returns an iterator over the operators with their offsets. It reads in batches.
+    pub fn into_iter_with_offsets(self) -> OperatorsIteratorWithOffsets<'a> {
+        OperatorsIteratorWithOffsets {
+            reader: self,
+            batch: Vec::new(),
+            next: 0,
+            end: None,
+            is_over: false,
+        }
+    }
+
+    /// Reads all operators, and returns them with their offsets. Fails unless the expression ends after them.
+    pub fn read_all(self) -> Result<Vec<(Operator<'a>, u64)>> {
+        let mut operators = self.into_iter_with_offsets();
+        let found: Vec<(Operator<'a>, u64)> = operators.by_ref().collect::<Result<_>>()?;
+        operators.reader.finish()?;
+        Ok(found)
+    }
+
+    /// Checks that the expression ends here: no frame is open, and no byte is left.
+    pub fn finish(&self) -> Result<()> {
+        Ok(native::finish(self.bytes, &self.frames, &self.reader)?)
+    }
+}
+
+impl FrameStack for OperatorsReader<'_> {
+    fn current_frame(&self) -> Option<FrameKind> {
+        let innermost = (self.reader.depth as usize).checked_sub(1)?;
+        Some(FrameKind::of_byte(self.frames[innermost]))
+    }
+}
+
+impl<'a> IntoIterator for OperatorsReader<'a> {
+    type Item = Result<Operator<'a>>;
+    type IntoIter = OperatorsIterator<'a>;
+
+    fn into_iter(self) -> Self::IntoIter {
+        OperatorsIterator {
+            operators: self.into_iter_with_offsets(),
+        }
+    }
+}
+
+/// The number of operators in a batch.
+const BATCH: usize = 64;
+
+/// An iterator over the operators of an expression, up to the end of the bytes or an error.
+pub struct OperatorsIterator<'a> {
+    operators: OperatorsIteratorWithOffsets<'a>,
+}
+
+impl OperatorsIterator<'_> {
+    /// Returns the memory for frames, for another reader.
+    pub fn into_allocations(self) -> OperatorsReaderAllocations {
+        self.operators.into_allocations()
+    }
+}
+
+impl<'a> Iterator for OperatorsIterator<'a> {
+    type Item = Result<Operator<'a>>;
+
+    fn next(&mut self) -> Option<Self::Item> {
+        Some(self.operators.next()?.map(|(operator, _)| operator))
+    }
+}
+
+/// An iterator over the operators of an expression with their offsets, up to the end of the bytes or an error.
+pub struct OperatorsIteratorWithOffsets<'a> {
+    reader: OperatorsReader<'a>,
+    batch: Vec<PlainOperator>,
+    next: usize,
+    end: Option<Error>,
+    is_over: bool,
+}
+
+impl OperatorsIteratorWithOffsets<'_> {
+    /// Returns the memory for frames, for another reader.
+    pub fn into_allocations(self) -> OperatorsReaderAllocations {
+        self.reader.into_allocations()
+    }
+
+    /// Reads the next batch.
+    fn fill(&mut self) {
+        let OperatorsReader {
+            bytes,
+            reader,
+            frames,
+        } = &mut self.reader;
+        self.next = 0;
+        self.batch.clear();
+        if self.is_over || reader.position == bytes.len() as u64 {
+            return;
+        }
+        self.batch.reserve(BATCH);
+        let refusal = native::read(bytes, frames, reader, &mut self.batch);
+        if refusal.number != 0 {
+            self.end = Some(Error::from(refusal));
+        }
+    }
+
+    /// Returns the error after the last operator, once.
+    #[cold]
+    fn error(&mut self) -> Option<Error> {
+        let end = self.end.take();
+        self.is_over |= end.is_some();
+        end
+    }
+}
+
+impl<'a> Iterator for OperatorsIteratorWithOffsets<'a> {
+    type Item = Result<(Operator<'a>, u64)>;
+
+    fn next(&mut self) -> Option<Self::Item> {
+        if self.next == self.batch.len() {
+            if let Some(error) = self.error() {
+                return Some(Err(error));
+            }
+            self.fill();
+            if self.batch.is_empty() {
+                return self.error().map(Err);
+            }
+        }
+        let op = &self.batch[self.next];
+        self.next += 1;
+        let OperatorsReader { bytes, reader, .. } = &self.reader;
+        let at = (op.offset - reader.offset) as usize;
+        let operator = operator_of(op, &bytes[at..], reader.features);
+        Some(Ok((operator, op.offset)))
+    }
+}

@@ -1,0 +1,134 @@
+-- Places in the contents of a section, and what is read there.
+use Rattle.std.proofs.Common.{◌≡◌, ℕ, ◌+◌, ◌-◌, ◌≤◌, List, [], ◌++◌, length, length-append, length-drop, append-nil, Option, Some, Ok, Err, refl, sym, ap, subst, ◌∙◌, arith, inl, inr}
+use Rattle.std.specs.Borrow.{Bor}
+use Rattle.wasm_functions.specs.of_module.below.bytes.error.Error.{Error}
+use Rattle.wasm_functions.specs.of_module.below.bytes.message.Message.{Message}
+use Rattle.wasm_functions.specs.of_module.below.bytes.message.Message.TheVariants as message
+use Rattle.wasm_functions.specs.of_module.below.FromReader.{EncodesReader}
+use Rattle.wasm_functions.specs.of_module.below.Number.{EncodesUnsigned}
+use Rattle.wasm_functions.specs.of_module.below.Refusal.{IsReadFault}
+use Rattle.wasm_functions.specs.of_module.below.Source.{Reader, Reads, Takes, IsBlock, IsRefusal, MayFollow, rest, offset_of, end_of, at_position}
+use Rattle.wasm_functions.specs.Sections.{IsSection}
+use Rattle.wasm_bodies.specs.declared.bodies.WasmBodies.{WasmBodies}
+use Rattle.wasm_bodies.specs.Bodies.{module_of, after_bytes, InSection, TakesType, HasType, TakesPart, IsPlace}
+
+-- The law `sections`.
+abbrev pub OneSection : Type 0
+OneSection = (whole : Reader) → (id : ℕ) → (a b : Option Reader) → IsSection whole id a → IsSection whole id b → a ≡ b
+
+the_contents : (a b : Reader) → Some a ≡ Some b → a ≡ b
+the_contents a b same = cc same
+
+-- A place is determined by the number of bytes before it.
+pub same_place : OneSection → (bytes : List ℕ) (id n : ℕ) (one other : Reader) → InSection bytes id n one → InSection bytes id n other → one ≡ other
+same_place law bytes id n one other a b =
+    let same = the_contents a.contents b.contents (law (module_of bytes) id (Some a.contents) (Some b.contents) a.is_section b.is_section) in
+    a.is_there ∙ ap (λ r. after_bytes r n) same ∙ sym b.is_there
+
+-- The start of the contents.
+pub at_start : (bytes : List ℕ) (id : ℕ) (contents : Reader) → IsSection (module_of bytes) id (Some contents) → InSection bytes id 0 contents
+at_start bytes id contents is = record {
+  contents = contents;
+  is_section = is;
+  within = omega arith;
+  is_there = ap (at_position contents) (plus_none contents.position);
+}
+  where
+    plus_none : (n : ℕ) → n ≡ n + 0
+    plus_none n = omega arith
+
+-- The place after a block.
+pub after_block : (bytes : List ℕ) (id n : ℕ) (contents place : Reader) (block : Bor (List ℕ)) → IsSection (module_of bytes) id (Some contents) →
+    n ≤ length (rest contents) → Reads (IsBlock n) (Ok block) contents place → InSection bytes id n place
+after_block bytes id n contents place block is within (text, (same, long), takes) = record {
+  contents = contents;
+  is_section = is;
+  within = within;
+  is_there = takes.moved ∙ ap (after_bytes contents) long;
+}
+
+-- There is no place beyond the contents.
+pub not_beyond : OneSection → (bytes : List ℕ) (id n : ℕ) (contents there : Reader) → IsSection (module_of bytes) id (Some contents) →
+    (n ≤ length (rest contents) → ⊥) → InSection bytes id n there → ⊥
+not_beyond law bytes id n contents there is beyond a =
+    let same = the_contents a.contents contents (law (module_of bytes) id (Some a.contents) (Some contents) a.is_section is) in
+    beyond (subst (λ r. n ≤ length (rest r)) same a.within)
+
+-- The place after more bytes were read.
+pub further : (bytes : List ℕ) (id n : ℕ) (before after : Reader) (text : List ℕ) → InSection bytes id n before → Takes before after text →
+    InSection bytes id (n + length text) after
+further bytes id n before after text a takes =
+    let c = a.contents in
+    let p : before.position ≡ c.position + n = ap (λ (r : Reader). r.position) a.is_there in
+    let buffer : before.buffer ≡ c.buffer = ap (λ (r : Reader). r.buffer) a.is_there in
+    let base : at_position before (before.position + length text) ≡ at_position c (before.position + length text) =
+    ap (λ (r : Reader). at_position r (before.position + length text)) a.is_there in
+    let q : before.position + length text ≡ c.position + (n + length text) = omega (arith, p) in
+    let sum : length (rest before) ≡ length text + length (rest after) = ap length takes.parts ∙ length-append text (rest after) in
+    let all : length before.buffer ≡ length c.buffer = ap length buffer in
+    record {
+      contents = c;
+      is_section = a.is_section;
+      within = omega (arith, sum, length-drop before.position before.buffer, length-drop c.position c.buffer, all, p, a.within);
+      is_there = takes.moved ∙ base ∙ ap (at_position c) q;
+    }
+
+-- How many bytes are read after a value.
+bytes_read : (start old new : ℕ) (before after : Reader) (text : List ℕ) → before.position ≡ start + old → Takes before after text →
+    new ≡ after.position - start → old + length text ≡ new
+bytes_read start old new before after text at takes is =
+    let p : after.position ≡ before.position + length text = ap (λ (r : Reader). r.position) takes.moved in
+    omega (arith, p, at, is)
+
+pub type_taken : (bytes : List ℕ) (start old new ty : ℕ) (before after : Reader) → InSection bytes 3 old before → before.position ≡ start + old →
+    Reads (EncodesUnsigned 32) (Ok ty) before after → new ≡ after.position - start → TakesType bytes old new ty
+type_taken bytes start old new ty before after a at (text, encodes, takes) is =
+    let n = bytes_read start old new before after text at takes is in
+    (before, after, a, subst (λ k. InSection bytes 3 k after) n (further bytes 3 old before after text a takes), (text, encodes, takes))
+
+pub part_taken : (bytes : List ℕ) (start old new : ℕ) (before after part : Reader) → InSection bytes 10 old before → before.position ≡ start + old →
+    Reads (EncodesReader before.features) (Ok part) before after → end_of part ≡ offset_of after → new ≡ after.position - start →
+    TakesPart bytes old new part
+part_taken bytes start old new before after part a at (text, encodes, takes) place is =
+    let n = bytes_read start old new before after text at takes is in
+    record {
+      before = before;
+      is_before = a;
+      after = after;
+      is_after = subst (λ k. InSection bytes 10 k after) n (further bytes 10 old before after text a takes);
+      reads = (text, encodes, takes);
+      place = place;
+    }
+
+nothing_follows : (m : Message) → IsReadFault m → MayFollow m []
+nothing_follows message.EndOfData h = refl
+nothing_follows message.OutOfMemory h = h
+nothing_follows _ h = tt
+
+-- No type index is encoded where reading it fails.
+pub no_type : OneSection → (bytes : List ℕ) (n : ℕ) (place : Reader) (e : Error) → InSection bytes 3 n place → IsRefusal (EncodesUnsigned 32) e place →
+    HasType bytes n → ⊥
+no_type law bytes n place e there refused (new, ty, before, after, a, b, (text, encodes, takes)) =
+    let same = same_place law bytes 3 n place before there a in
+    refused.refuses [] (nothing_follows e.message refused.fault) text (rest after) ty encodes (append-nil (rest place) ∙ ap rest same ∙ takes.parts)
+
+-- The number of items of a section, and how many bytes it has.
+pub declared : (contents reader : Reader) (count n : ℕ) → Reads (EncodesUnsigned 32) (Ok count) contents reader → n ≡ reader.position - contents.position →
+    Reads (EncodesUnsigned 32) (Ok count) contents (after_bytes contents n)
+declared contents reader count n (text, encodes, takes) is =
+    let p : reader.position ≡ contents.position + length text = ap (λ (r : Reader). r.position) takes.moved in
+    let long : length text ≡ n = omega (arith, is, p) in
+    let same : reader ≡ after_bytes contents n = takes.moved ∙ ap (after_bytes contents) long in
+    subst (Reads (EncodesUnsigned 32) (Ok count) contents) same (text, encodes, takes)
+
+-- There is no place if no body is left, some bytes were read, and the code section has fewer.
+pub no_end : (bytes : List ℕ) (c : WasmBodies) → c.left ≡ 0 → (c.code ≡ 0 → ⊥) → ((there : Reader) → InSection bytes 10 c.code there → ⊥) →
+    IsPlace bytes c → ⊥
+no_end bytes c none some nowhere (inl (zero, inl start)) = some start
+no_end bytes c none some nowhere (inl (zero, inr (there, a))) = nowhere there a
+no_end bytes c none some nowhere (inr (left, others)) = absurd (omega (arith, left, none))
+
+-- There is no place before a body if the code section has fewer bytes.
+pub no_body_there : (bytes : List ℕ) (c : WasmBodies) → (c.left ≡ 0 → ⊥) → ((there : Reader) → InSection bytes 10 c.code there → ⊥) → IsPlace bytes c → ⊥
+no_body_there bytes c some nowhere (inl (zero, h)) = some zero
+no_body_there bytes c some nowhere (inr (left, (ty, (there, a)))) = nowhere there a

@@ -1,0 +1,2 @@
+pub mod Bodies
+pub use Rattle.wasm_functions.specs as functions

@@ -1,0 +1,67 @@
+//! The place between two bodies of a module.
+ghost use Rattle.std.specs.Prelude.{◌≡◌, IfOk, IfErr};
+ghost use Rattle.wasm_bodies.specs.Bodies.{OpensBodies, RefusesBodies};
+
+use crate::fault::BodiesFault;
+use crate::sections::{CODE, FUNCTIONS, read_count};
+use std::alloc::Global;
+use wasm_functions::module::below::WasmFeatures;
+use wasm_functions::{Functions, ModuleFault, find_section};
+
+/// The place between two bodies of a module, as a C struct of 32 bytes without padding.
+#[repr(C)]
+#[derive(Clone, Copy, Debug, PartialEq, Eq)]
+pub struct WasmBodies {
+    /// The number of bytes of the code section that were read, from its contents on.
+    pub code: u64,
+    /// The number of bytes of the function section that were read, from its contents on.
+    pub types: u64,
+    /// The number of imported functions.
+    pub imported: u32,
+    /// The number of bodies that were read.
+    pub read: u32,
+    /// The number of bodies that are left.
+    pub left: u32,
+    /// Always 0.
+    pub reserved: u32,
+}
+
+/// Returns the place before the first body of a module.
+///
+/// Fails with `Functions` if the functions of the module can't be read, with `Code` if the number of
+/// bodies can't be read, and with `Counts` if it differs from the number of functions.
+pub fn open_bodies(alloc: Global, bytes: &[u8]) -> Result<WasmBodies, BodiesFault>
+    ensures opens { IfOk result (λ bodies. OpensBodies bytes.now bodies) }
+    ensures fault { IfErr result (λ fault. RefusesBodies fault bytes.now) }
+{
+    let features = WasmFeatures::all();
+    let functions = match Functions::new(alloc, features, bytes) {
+        Ok(functions) => functions,
+        Err(fault) => return Err(BodiesFault::Functions(fault)),
+    };
+    let (functions_count, types) = match find_section(features, bytes, FUNCTIONS) {
+        Ok(contents) => match read_count(contents) {
+            Ok(found) => found,
+            Err(e) => return Err(BodiesFault::Functions(ModuleFault::Refused(e))),
+        },
+        Err(fault) => return Err(BodiesFault::Functions(fault)),
+    };
+    let (bodies_count, code) = match find_section(features, bytes, CODE) {
+        Ok(contents) => match read_count(contents) {
+            Ok(found) => found,
+            Err(e) => return Err(BodiesFault::Code(e)),
+        },
+        Err(fault) => return Err(BodiesFault::Functions(fault)),
+    };
+    if bodies_count != functions_count {
+        return Err(BodiesFault::Counts);
+    }
+    Ok(WasmBodies {
+        code,
+        types,
+        imported: functions.index(0),
+        read: 0,
+        left: bodies_count,
+        reserved: 0,
+    })
+}

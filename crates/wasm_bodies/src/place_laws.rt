@@ -1,0 +1,23 @@
+//! Laws of the places between bodies. Each is the contract of a function that does nothing.
+ghost use Rattle.std.specs.Prelude.{◌<◌, ◌++◌, ◌∷◌, [], ℕ, List, length};
+ghost use Rattle.wasm_functions.specs.of_module.below.Source.{Reader};
+ghost use Rattle.wasm_functions.specs.ModuleFunctions.{ModuleFunctions};
+ghost use Rattle.wasm_bodies.specs.declared.bodies.WasmBodies.{WasmBodies};
+ghost use Rattle.wasm_bodies.specs.declared.next.WasmBody.{WasmBody};
+ghost use Rattle.wasm_bodies.specs.Bodies.{OpensBodies, TakesBody, IsAfter, IsBodyOf};
+
+use wasm_functions::function_laws::sections;
+
+/// States which body of the module a call of `next_body` reads. The place that `open_bodies` returns
+/// is after no body. A call from the place after some bodies reads the next one, and its function is
+/// the next one too.
+pub fn bodies_follow()
+    ensures first { (bytes : List ℕ) (c : WasmBodies) (opens : OpensBodies bytes c) → 0 < c.left
+        → IsAfter bytes opens.functions [] [] c }
+    ensures next { (bytes : List ℕ) (functions : ModuleFunctions) (bodies : List Reader) (types : List ℕ) (old new : WasmBodies) (body : WasmBody)
+        → IsAfter bytes functions bodies types old → TakesBody bytes old new body
+        → (part : Reader) × IsAfter bytes functions (bodies ++ part ∷ []) (types ++ body.type_index ∷ []) new
+        × IsBodyOf functions (length bodies) part body }
+{
+    sections();
+}

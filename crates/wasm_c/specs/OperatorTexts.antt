@@ -1,0 +1,53 @@
+-- The text and the name of the operator at an offset, as the text format has them.
+-- WebAssembly Core Specification 3.0: Text Format, Instructions; Binary Format, Instructions.
+use Rattle.std.specs.Prelude.{◌≡◌, ◌==◌, ℕ, ◌<◌, ◌≤◌, List, [], ◌∷◌, length, ◌⊎◌, if◌then◌else◌}
+use Rattle.wasm_operators.specs.below.bytes.error.Error.{Error}
+use Rattle.wasm_operators.specs.below.bytes.message.Message.TheVariants as message
+use Rattle.wasm_operators.specs.below.Source.{Reader, rest}
+use Rattle.wasm_operators.specs.grammar.declared.frame_kind.FrameKind.{FrameKind}
+use Rattle.wasm_operators.specs.grammar.declared.frame_kind.FrameKind.TheVariants as frame
+use Rattle.wasm_operators.specs.instr.declared.operator.Operator.{Operator}
+use Rattle.wasm_operators.specs.opcodes.Allowed.{EncodesAllowed}
+use Rattle.wasm_operators.specs.opcodes.Decoding.{RefusesOperator}
+use Rattle.wasm_operators.specs.opcodes.OperatorFaults.{OperatorFault}
+use Rattle.wasm_view.specs.Lists.{written}
+use Rattle.wasm_c.specs.declared.refusal.WasmRefusal.{WasmRefusal}
+use Rattle.wasm_c.specs.Members.{AtOffset, OccursThere, Unchanged}
+use Rattle.wasm_c.specs.Refused.{no_refusal, refusal_of, misuse}
+
+-- A frame that allows the operator with this opcode, if one does: `else` needs an `if`, and `catch`, `catch_all` and `delegate` need a legacy `try`.
+-- A block allows all others.
+abbrev pub frame_for : List ℕ → FrameKind
+frame_for [] = frame.Block
+frame_for (byte ∷ bytes) =
+    if byte == 0x05 then frame.If else (
+    if byte == 0x07 then frame.LegacyTry else (
+    if byte == 0x18 then frame.LegacyTry else (
+    if byte == 0x19 then frame.LegacyTry else frame.Block)))
+
+-- The error of a failed allocation for a text, at this offset.
+abbrev pub out_of_memory : ℕ → WasmRefusal
+out_of_memory at = refusal_of (record { message = message.OutOfMemory; offset = at })
+
+-- A text is written to the start of the array, if it fits. Otherwise the array is unchanged, which is misuse. In both cases `count` is the text's length.
+abbrev pub PlacesText : List ℕ → ℕ → WasmRefusal → ℕ → List ℕ → List ℕ → Type 0
+PlacesText text at r count old new = (count ≡ length text) ×
+    (((length text ≤ length old) × (r ≡ no_refusal at) × (new ≡ written text old)) ⊎
+    ((length old < length text) × (r ≡ misuse 102 at) × (new ≡ old)))
+
+-- Reading an operator here fails with this error, or allocation for the text fails.
+abbrev pub RefusesText : WasmRefusal → Reader → ℕ → Type 0
+RefusesText r input at =
+    ((e : Error) × (r ≡ refusal_of e) × RefusesOperator (EncodesAllowed input.features (frame_for (rest input))) (OperatorFault input.features (frame_for (rest input))) e input input)
+    ⊎ (r ≡ out_of_memory at)
+
+-- The text of the operator that is encoded here is written; or there is none, and nothing changes.
+abbrev pub FindsText : (Operator → List ℕ) → WasmRefusal → Reader → ℕ → ℕ → ℕ → List ℕ → List ℕ → Type 0
+FindsText text_of r input at count_old count_new old new =
+    ((op : Operator) × OccursThere input op × PlacesText (text_of op) at r count_new old new) ⊎ (RefusesText r input at × Unchanged count_old count_new old new)
+
+-- The result of a call for the text of the operator at an offset, or misuse.
+abbrev pub ReturnsTextAt : (Operator → List ℕ) → WasmRefusal → List ℕ → ℕ → ℕ → ℕ → ℕ → ℕ → List ℕ → List ℕ → Type 0
+ReturnsTextAt text_of r bytes offset features at count_old count_new old new =
+    AtOffset (λ number place. (r ≡ misuse number place) × Unchanged count_old count_new old new)
+    (λ input. FindsText text_of r input at count_old count_new old new) bytes offset features at

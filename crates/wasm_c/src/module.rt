@@ -1,0 +1,125 @@
+//! The bodies of a module's functions, and their names, for C.
+ghost use Rattle.std.specs.Prelude.{◌≡◌};
+ghost use Rattle.wasm_c.specs.Modules.{preamble_number, refusal_of_module, refusal_of_bodies, refusal_of_next, ReturnsBodies, ReturnsBody, ReturnsName};
+
+use crate::operator_text::{out_of_memory, place_text};
+use crate::refusal::{NOT_A_READER, WasmRefusal};
+use std::alloc::Global;
+use wasm_bodies::module::PreambleKind;
+use wasm_bodies::{
+    BodiesFault, ModuleFault, NoBody, WasmBodies, WasmBody, function_name, next_body, open_bodies,
+};
+
+/// The number of the error for bytes that are no module.
+const NOT_A_MODULE: u32 = 106;
+
+/// The number of the error for an import of an unknown kind.
+const IMPORT_KIND: u32 = 107;
+
+/// The number of the error for a type of an unknown sort.
+const TYPE_KIND: u32 = 108;
+
+/// The number of the error for a module with another number of bodies than of functions.
+const COUNTS_DIFFER: u32 = 109;
+
+/// The number of the error for a function that the module does not define.
+const NO_FUNCTION: u32 = 110;
+
+/// The number of the error for a module of which all bodies were read.
+const NO_BODY: u32 = 111;
+
+/// Returns the number of a kind of binary.
+fn preamble_number(kind: PreambleKind) -> u32
+    ensures { result ≡ preamble_number kind }
+{
+    match kind {
+        PreambleKind::Module => 0,
+        PreambleKind::Component => 1,
+        PreambleKind::OtherVersion => 2,
+        PreambleKind::NotWasm => 3,
+    }
+}
+
+/// Returns the C struct of the error if the functions of a module can't be read.
+fn refusal_of_module(fault: &ModuleFault) -> WasmRefusal
+    ensures { result ≡ refusal_of_module fault.now }
+{
+    match fault {
+        ModuleFault::NotModule(kind) => {
+            WasmRefusal::with_value(NOT_A_MODULE, 0, preamble_number(*kind))
+        }
+        ModuleFault::Refused(error) => WasmRefusal::of(error),
+        ModuleFault::ImportKind(byte, offset) => {
+            WasmRefusal::with_value(IMPORT_KIND, *offset, u32::from(*byte))
+        }
+        ModuleFault::TypeKind(byte, offset) => {
+            WasmRefusal::with_value(TYPE_KIND, *offset, u32::from(*byte))
+        }
+        ModuleFault::Memory => out_of_memory(0),
+    }
+}
+
+/// Returns the C struct of the error if the bodies of a module, or a function, can't be read.
+fn refusal_of_bodies(fault: &BodiesFault) -> WasmRefusal
+    ensures { result ≡ refusal_of_bodies fault.now }
+{
+    match fault {
+        BodiesFault::Functions(fault) => refusal_of_module(fault),
+        BodiesFault::Code(error) => WasmRefusal::of(error),
+        BodiesFault::Counts => WasmRefusal::misuse(COUNTS_DIFFER, 0),
+        BodiesFault::NoFunction => WasmRefusal::misuse(NO_FUNCTION, 0),
+    }
+}
+
+/// Returns the C struct of the reason why no body follows.
+fn refusal_of_next(reason: &NoBody) -> WasmRefusal
+    ensures { result ≡ refusal_of_next reason.now }
+{
+    match reason {
+        NoBody::End => WasmRefusal::misuse(NO_BODY, 0),
+        NoBody::Refused(error) => WasmRefusal::of(error),
+        NoBody::NotBodies => WasmRefusal::misuse(NOT_A_READER, 0),
+    }
+}
+
+/// Opens the bodies of a module.
+pub fn open(alloc: Global, bytes: &[u8], bodies: &mut WasmBodies) -> WasmRefusal
+    ensures { ReturnsBodies result bytes.now bodies.old bodies.new }
+{
+    match open_bodies(alloc, bytes) {
+        Ok(opened) => {
+            *bodies = opened;
+            WasmRefusal::none(0)
+        }
+        Err(fault) => refusal_of_bodies(&fault),
+    }
+}
+
+/// Reads the next body of a module.
+pub fn next(bytes: &[u8], bodies: &mut WasmBodies, body: &mut WasmBody) -> WasmRefusal
+    ensures { ReturnsBody result bytes.now bodies.old bodies.new body.old body.new }
+{
+    match next_body(bytes, bodies) {
+        Ok(found) => {
+            *body = found;
+            WasmRefusal::none(found.offset)
+        }
+        Err(reason) => refusal_of_next(&reason),
+    }
+}
+
+/// Writes the name of the function with this index.
+pub fn write_name(
+    alloc: Global,
+    bytes: &[u8],
+    index: u32,
+    name: &mut [u8],
+    length: &mut usize,
+) -> WasmRefusal
+    ensures { ReturnsName result bytes.now index length.old length.new name.old name.new }
+{
+    match function_name(alloc, bytes, index) {
+        Ok(found) => place_text(found, 0, name, length),
+        Err(fault) => refusal_of_bodies(&fault),
+    }
+}

@@ -1,0 +1,75 @@
+//! The kinds of values that `wasm_read_value` reads.
+ghost use Rattle.std.specs.Prelude.{◌≡◌, slice_get};
+ghost use Rattle.wasm_c.specs.Values.{value_kinds};
+
+/// A kind of values.
+#[derive(Clone, Copy, Debug, PartialEq, Eq)]
+pub enum ValueKind {
+    /// One byte.
+    U8,
+    /// A number of four bytes, the lowest first.
+    U32,
+    /// A number of eight bytes, the lowest first.
+    U64,
+    /// An unsigned LEB128 number of 32 bits.
+    VarU32,
+    /// An unsigned LEB128 number of 64 bits.
+    VarU64,
+    /// A signed LEB128 number of 32 bits.
+    VarI32,
+    /// A signed LEB128 number of 33 bits.
+    VarS33,
+    /// A signed LEB128 number of 64 bits.
+    VarI64,
+    /// The count of a list, which has a limit.
+    Size,
+    /// Some bytes.
+    Bytes,
+    /// A number of 32 bits, followed by that many bytes.
+    Sized,
+    /// The locals of a body.
+    Locals,
+    /// A constant expression.
+    Constant,
+    ValueType,
+    ReferenceType,
+    HeapType,
+    BlockType,
+    /// One declaration of locals.
+    Local,
+    /// A clause of a `try_table`.
+    Catch,
+    /// A clause of a resume table.
+    Clause,
+}
+
+impl ValueKind {
+    /// Returns the kind with this number, if there is one. Kinds are counted from 0.
+    pub fn numbered(number: u32) -> Option<ValueKind>
+        ensures { result ≡ slice_get value_kinds number }
+    {
+        Some(match number {
+            0 => ValueKind::U8,
+            1 => ValueKind::U32,
+            2 => ValueKind::U64,
+            3 => ValueKind::VarU32,
+            4 => ValueKind::VarU64,
+            5 => ValueKind::VarI32,
+            6 => ValueKind::VarS33,
+            7 => ValueKind::VarI64,
+            8 => ValueKind::Size,
+            9 => ValueKind::Bytes,
+            10 => ValueKind::Sized,
+            11 => ValueKind::Locals,
+            12 => ValueKind::Constant,
+            13 => ValueKind::ValueType,
+            14 => ValueKind::ReferenceType,
+            15 => ValueKind::HeapType,
+            16 => ValueKind::BlockType,
+            17 => ValueKind::Local,
+            18 => ValueKind::Catch,
+            19 => ValueKind::Clause,
+            _ => return None,
+        })
+    }
+}

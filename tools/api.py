@@ -1,0 +1,179 @@
+#!/usr/bin/env python3
+"""Writes bindings/rust/API.md, the list of the cargo crate's items, from api.tsv.
+
+    tools/api.py                     writes the page
+    tools/api.py --check             fails unless the page is what api.tsv gives, and its names exist
+    tools/api.py --original FOLDER   fails unless api.tsv has each public item of wasmparser's operators layer, whose
+                                     crate is in FOLDER
+
+A row of api.tsv is an item of wasmparser: its type, its name, whether the crate has it, the functions of the C library
+that it calls, the proved functions (`crate::function`) that these call, and a note. --check looks for the items in the
+crate, for the functions of the library in the header, and for the proved functions in the crates.
+"""
+
+import csv
+import re
+import sys
+from pathlib import Path
+
+TOP = Path(__file__).resolve().parent.parent
+TABLE = TOP / "tools/api.tsv"
+PAGE = TOP / "bindings/rust/API.md"
+HEADER = TOP / "include/wasm_operators.h"
+SOURCES = TOP / "bindings/rust/src"
+# The files of wasmparser's operators layer.
+LAYER = ["binary_reader.rs", "readers/core/code.rs", "readers/core/init.rs", "readers/core/operators.rs"]
+HEAD = """\
+# API
+
+Written by `tools/api.py` from `tools/api.tsv`.
+
+This page lists the public items of the operators layer of wasmparser 0.263. For each, it says whether this crate has it, and what is proved:
+
+- **C function**: the function of `libwasm_c.a` that the item calls ([`include/wasm_operators.h`](../../include/wasm_operators.h)). The contract of each is proved ([`docs/PROVED.md`](../../docs/PROVED.md)).
+- **Proved function**: the function, as `crate::function`, that the C function calls for this item.
+
+If both are empty, the item reads no bytes, or calls other items. The note then says what it does. The crate itself is tested, not proved: `tests`, and the comparison with wasmparser by `tools/bindings`.
+
+The items that wasmparser does not have are in [`README.md`](README.md).
+"""
+
+
+def rows():
+    """Returns the rows of the table."""
+    with open(TABLE, encoding="utf-8", newline="") as lines:
+        return list(csv.DictReader(lines, delimiter="\t", quoting=csv.QUOTE_NONE))
+
+
+def listed(cell):
+    """Returns the names of a cell."""
+    return [name for name in cell.split(", ") if name]
+
+
+def code(names):
+    """Returns names as a cell of the page."""
+    return ", ".join(f"`{name}`" for name in names)
+
+
+def page():
+    """Returns the text of the page."""
+    lines = [HEAD]
+    last = None
+    for row in rows():
+        if row["type"] != last:
+            last = row["type"]
+            lines += ["" if len(lines) > 1 else None, f"## {heading(last)}", "", "| Item | Here | C function | Proved function | Note |", "|---|---|---|---|---|"]
+        cells = [item(row), row["state"], code(listed(row["call"])), code(listed(row["proved"])), row["note"]]
+        lines.append("| " + " | ".join(cells) + " |")
+    return "\n".join(line for line in lines if line is not None) + "\n"
+
+
+def heading(name):
+    """Returns the heading of a type."""
+    return f"`{name}`" if is_type(name) else name[0].upper() + name[1:]
+
+
+def is_type(name):
+    """Returns whether a cell of the first column is a type."""
+    return re.fullmatch(r"[A-Z]\w+", name) is not None and name != "Parser"
+
+
+def item(row):
+    """Returns the cell of an item."""
+    name = row["item"]
+    if not name:
+        return "the type" if is_type(row["type"]) else "all"
+    if name.startswith("for "):
+        return code([row["type"]]) + " " + ", ".join(f"for `{one.removeprefix('for ')}`" for one in parts(name))
+    return code(parts(name)) if re.fullmatch(r"[\w<>!:, ]+", name) and is_code(name) else name
+
+
+def parts(name):
+    """Splits a list of items at the commas outside parentheses."""
+    return re.split(r", (?![^(]*\))", name)
+
+
+def is_code(name):
+    """Returns whether an item is a list of names, not a description."""
+    return all(re.fullmatch(r"[\w:]+(<\w+>)?!?", one) for one in parts(name)) and name != "methods"
+
+
+def faults():
+    """Returns what is wrong with the table."""
+    header = HEADER.read_text(encoding="utf-8")
+    sources = "\n".join(path.read_text(encoding="utf-8") for path in sorted(SOURCES.glob("*.rs")))
+    found = []
+    for row in rows():
+        place = f"tools/api.tsv: {row['type']} {row['item']}".rstrip()
+        if row["state"] not in ("present", "absent"):
+            found.append(f"{place}: the state is present or absent")
+        if row["state"] == "absent" and not row["note"]:
+            found.append(f"{place}: no reason")
+        found += [f"{place}: the header has no {call}" for call in listed(row["call"]) if not re.search(rf"\b{call}\(", header)]
+        found += [f"{place}: no function {name}" for name in listed(row["proved"]) if not exists(name)]
+        if row["state"] == "present" and not is_here(row, sources):
+            found.append(f"{place}: not in the crate")
+    return found
+
+
+def exists(name):
+    """Returns whether a crate has a function."""
+    crate, _, function = name.partition("::")
+    files = (TOP / "crates" / crate / "src").rglob("*.rt")
+    return any(re.search(rf"\bfn {function}\b", path.read_text(encoding="utf-8")) for path in files)
+
+
+def is_here(row, sources):
+    """Returns whether the crate has an item."""
+    name = row["item"]
+    if is_type(row["type"]) and not re.search(rf"\b(struct|enum|trait|type) {row['type']}\b", sources):
+        return False
+    if re.fullmatch(r"[a-z]\w*", name) and name != "methods":
+        return re.search(rf"\bfn {name}\b", sources) is not None
+    if name.endswith("!"):
+        return f"as {name.removesuffix('!')};" in sources
+    return True
+
+
+def public_items(text):
+    """Returns the public items of a source of wasmparser, each as its type and its name."""
+    found, owner = [], ""
+    for line in text.split("#[cfg(test)]\nmod tests")[0].split("\n"):
+        if line.startswith("impl"):
+            head = re.sub(r"^impl(<(?:[^<>]|<[^<>]*>)*>)?\s*", "", line)
+            owner = re.match(r"\w*", head.split(" for ")[-1])[0] if " for " not in head else ""
+        if declared := re.match(r"pub (?:struct|enum|trait|type) (\w+)", line):
+            found.append((declared[1], ""))
+            owner = declared[1]
+        elif (method := re.match(r"    pub (?:const )?fn (\w+)", line)) and owner:
+            found.append((owner, method[1]))
+    return found
+
+
+def missing(folder):
+    """Returns the public items of wasmparser's operators layer that the table does not have."""
+    has = {(row["type"], name) for row in rows() for name in [*parts(row["item"]), ""]}
+    texts = [(Path(folder) / "src" / name).read_text(encoding="utf-8") for name in LAYER]
+    items = [item for text in texts for item in public_items(text) if not item[1].startswith("open_")]
+    return [f"tools/api.tsv: {' '.join(one).rstrip()} of wasmparser is missing" for one in items if one not in has]
+
+
+def main():
+    words = sys.argv[1:]
+    if words[:1] == ["--original"] and len(words) == 2:
+        sys.exit("\n".join(missing(words[1])) or None)
+    if words not in ([], ["--check"]):
+        print(__doc__)
+        sys.exit(words not in (["--help"], ["-h"]))
+    found = faults()
+    if words and (not PAGE.exists() or PAGE.read_text(encoding="utf-8") != page()):
+        found.append("bindings/rust/API.md: not what tools/api.tsv gives: run tools/api.py")
+    if found:
+        sys.exit("\n".join(found))
+    if not words:
+        PAGE.write_text(page(), encoding="utf-8")
+
+
+if __name__ == "__main__":
+    sys.dont_write_bytecode = True
+    main()

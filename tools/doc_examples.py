@@ -1,0 +1,54 @@
+#!/usr/bin/env python3
+"""Writes the examples in the documentation of wasmparser's operators layer as documentation of a Rust file.
+
+    tools/doc_examples.py WASMPARSER > lib.rs
+
+WASMPARSER is the folder of wasmparser's crate. `cargo test --doc` then compiles and runs the examples over the crate that
+is the dependency `wasmparser` (tools/bindings).
+"""
+
+import re
+import sys
+from pathlib import Path
+
+FILES = ["lib.rs", "binary_reader.rs", "readers/core/code.rs", "readers/core/init.rs", "readers/core/operators.rs"]
+COMMENT = re.compile(r"\s*//[/!] ?(.*)$")
+
+
+def examples(text):
+    """Returns the code blocks in Rust of the doc comments, each as the number of its line and its lines."""
+    found, fence, start = [], None, 0
+    block = []
+    for at, line in enumerate(text.split("\n"), 1):
+        comment = COMMENT.match(line)
+        if comment is None:
+            fence = None
+        elif fence is None:
+            if opened := re.fullmatch(r"\s*```(\S*)\s*", comment[1]):
+                fence, block, start = opened[1].split(",")[0] or "rust", [], at
+        elif comment[1].strip() == "```":
+            if fence == "rust":
+                found.append((start, block))
+            fence = None
+        else:
+            block.append(comment[1])
+    return found
+
+
+def main():
+    if len(sys.argv) != 2 or sys.argv[1].startswith("-"):
+        print(__doc__)
+        sys.exit(sys.argv[1:] not in (["--help"], ["-h"]))
+    number = 0
+    for name in FILES:
+        for line, block in examples((Path(sys.argv[1]) / "src" / name).read_text(encoding="utf-8")):
+            number += 1
+            print(f"/// {name}, line {line}\n///\n/// ```")
+            print("\n".join(f"/// {text}".rstrip() for text in block))
+            print(f"/// ```\npub fn example_{number}() {{}}\n")
+    if not number:
+        sys.exit(f"doc_examples: no examples in {sys.argv[1]}")
+
+
+if __name__ == "__main__":
+    main()

@@ -1,0 +1,78 @@
+#!/usr/bin/env python3
+"""Writes the bodies of crates/wasm_tests_replay/stdin as inputs of the Rust programs in bindings.
+
+    tools/sections.py STDIN FOLDER
+
+FOLDER gets samples.bodies, replay.bodies and random.bodies, in which each body has its length in four bytes before it,
+little-endian. It gets the first two as code sections too, samples.section and replay.section, and a global section,
+globals.section.
+"""
+
+import random
+import sys
+from pathlib import Path
+
+# Globals: a type, 1 if mutable, and an expression. The last one does not end where its block does.
+GLOBALS = [
+    "7f 00 41 05 0b",
+    "7e 01 42 7f 0b",
+    "7d 00 43 00 00 80 3f 0b",
+    "7c 00 44 00 00 00 00 00 00 f0 3f 0b",
+    "7b 00 fd 0c 01 00 00 00 00 00 00 00 00 00 00 00 00 00 00 80 0b",
+    "70 00 d0 70 0b",
+    "70 01 d2 03 0b",
+    "63 05 00 d0 05 0b",
+    "7f 00 23 00 41 07 6a 0b",
+    "6e 00 fb 1a 0b",
+    "7f 00 02 40 0b 0b",
+]
+
+
+# Bytes that begin many operators and types.
+FREQUENT = bytes.fromhex("00 01 02 03 04 05 06 07 0b 0e 12 18 19 1c 1f 28 40 41 42 52 62 63 64 65 6e 70 7e 7f 80 81 d0 e3 fb fc fd fe ff")
+
+
+def random_bodies(count):
+    """Returns this many short bodies of random bytes, the same in each run. Every second one has no locals."""
+    source = random.Random(count)
+    byte = lambda: source.choice(FREQUENT) if source.random() < 0.7 else source.randrange(256)
+    return [bytes(at % 2) + bytes(byte() for _ in range(source.randrange(40))) for at in range(count)]
+
+
+def prefixed(bodies):
+    """Returns bodies, each after its length."""
+    return b"".join(len(body).to_bytes(4, "little") + body for body in bodies)
+
+
+def number(value):
+    """Returns a number as unsigned LEB128."""
+    more = value >> 7
+    return bytes([value & 0x7F | 0x80]) + number(more) if more else bytes([value])
+
+
+def rows(text):
+    """Returns the rows of a table, in cells, without its heading."""
+    return [line.split("\t") for line in text.split("\n")[1:] if line]
+
+
+def main():
+    if len(sys.argv) != 3 or sys.argv[1].startswith("-"):
+        print(__doc__)
+        sys.exit(sys.argv[1:] not in (["--help"], ["-h"]))
+    replay, samples = Path(sys.argv[1]).read_text(encoding="utf-8").split("\nname\t")
+    folder = Path(sys.argv[2])
+    files = {
+        "replay": [bytes.fromhex(cells[2]) for cells in rows(replay)],
+        "samples": [bytes.fromhex("".join(cells[2:5])) for cells in rows(samples)],
+    }
+    for name, bodies in files.items():
+        section = number(len(bodies)) + b"".join(number(len(body)) + body for body in bodies)
+        (folder / f"{name}.bodies").write_bytes(prefixed(bodies))
+        (folder / f"{name}.section").write_bytes(section)
+    (folder / "random.bodies").write_bytes(prefixed(random_bodies(4000)))
+    globals_section = number(len(GLOBALS)) + b"".join(bytes.fromhex(one) for one in GLOBALS)
+    (folder / "globals.section").write_bytes(globals_section)
+
+
+if __name__ == "__main__":
+    main()

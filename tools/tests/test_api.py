@@ -1,0 +1,50 @@
+"""The list of the cargo crate's items (tools/api.py)."""
+
+import unittest
+
+import api
+
+WASMPARSER = """\
+pub struct Reader<'a> {
+    buffer: &'a [u8],
+}
+
+impl<'a> Reader<'a> {
+    /// Reads.
+    pub fn read(&mut self) -> Result<u8> {
+    }
+    fn hidden(&self) {}
+    pub(crate) fn shrink(&self) {}
+}
+
+impl<'a, T: From<u8>> Iterator for Items<'a, T> {
+}
+
+pub trait Stack {
+}
+"""
+
+
+class Api(unittest.TestCase):
+    def test_the_names_of_the_table_exist(self):
+        self.assertEqual(api.faults(), [])
+
+    def test_the_page_is_written_from_the_table(self):
+        self.assertEqual(api.PAGE.read_text(encoding="utf-8"), api.page())
+
+    def test_items_of_a_source(self):
+        found = [("Reader", ""), ("Reader", "read"), ("Stack", "")]
+        self.assertEqual(api.public_items(WASMPARSER), found)
+
+    def test_a_function_that_no_crate_has(self):
+        self.assertTrue(api.exists("wasm_below_bytes::read_u8"))
+        self.assertFalse(api.exists("wasm_below_bytes::read_u9"))
+
+    def test_an_item_that_the_crate_does_not_have(self):
+        row = {"type": "BinaryReader", "item": "read_u9"}
+        self.assertFalse(api.is_here(row, "pub struct BinaryReader; fn read_u8()"))
+        self.assertTrue(api.is_here({**row, "item": "read_u8"}, "pub struct BinaryReader; fn read_u8()"))
+
+
+if __name__ == "__main__":
+    unittest.main()
