@@ -20,6 +20,7 @@ from cargo import cargo_files
 from counts import wrong_counts
 from decode import decode_files
 from entries import entry_files
+from equality import equality_files
 from header import header_files
 from layout import laid_out
 from original import differences
@@ -29,6 +30,7 @@ from paths import by_listed
 from plain import plain_files, unshaped
 from printed import made_source, values_source
 from printed_fields import printed_field_files
+from proposals import proposal_files
 from rows import enum_by_opcode, enum_rows, equality_answer, operator_rows, operators_by_opcode
 from rules import faults
 from source import Shape, enum_source, operator_source
@@ -54,6 +56,8 @@ def files(ops):
     out["crates/wasm_instr/src/fixed_arity.rt"] = fixed_arity_source(ops)
     out["crates/wasm_instr/proofs/ByOpcode.antt"] = operators_by_opcode(own)
     out |= entry_files(ops)
+    out |= equality_files(ops, ENUMS)
+    out |= proposal_files()
     out |= decode_files(ops)
     out |= visit_files(ops)
     out["crates/wasm_tests_lists/src/values.rt"] = values_source(ops)

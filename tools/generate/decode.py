@@ -102,7 +102,8 @@ def calls(ops, group):
 
 
 def apart(name):
-    given = ["v", *(["alloc"] if name in WITH_MEMORY else []), "reader", "start", *(["frame"] if name in WITH_FRAME else [])]
+    """Returns the call of the function of an operator in a separate file."""
+    given = [*(["alloc"] if name in WITH_MEMORY else []), "v", "reader", "start", *(["frame"] if name in WITH_FRAME else [])]
     return f"{APART[name]}({', '.join(given)})"
 
 
@@ -114,7 +115,7 @@ def group_call(ops, group, those):
         *group_head(group, those, group.module, " Common operators are inlined."),
         f"    match {COMMON_CALL}(v, reader, start, code) {{",
         "        Some(outcome) => outcome,",
-        f"        None => {OTHERS_CALL}(v, alloc, reader, start, frame, code),",
+        f"        None => {OTHERS_CALL}(alloc, v, reader, start, frame, code),",
         "    }",
         "}",
         "",
@@ -148,7 +149,7 @@ def common_call(ops, group, those):
 def group_head(group, those, name, more=""):
     is_own = group.enum == "Own"
     ty = "u8" if is_own else "u32"
-    given = "v: &mut V, alloc: Global, reader: &mut BinaryReader<'_>, start: usize, frame: FrameKind, code: u8" if is_own else f"v: &mut V, reader: &mut BinaryReader<'_>, start: usize, code: {ty}"
+    given = "alloc: Global, v: &mut V, reader: &mut BinaryReader<'_>, start: usize, frame: FrameKind, code: u8" if is_own else f"v: &mut V, reader: &mut BinaryReader<'_>, start: usize, code: {ty}"
     doc = f"/// Reads the immediates of {singular(group.short)} and visits it.{more}"
     out = [
         doc,

@@ -14,6 +14,7 @@ from table import (
     imported,
     made_of,
     pattern,
+    variant_of,
 )
 
 from source import Shape, fields_name, names_of, shapes
@@ -25,6 +26,10 @@ ALIASES = {
     "kind": "use Rattle.wasm_imm.specs.declared.memory_argument.MemArgKind.TheVariants as kind",
     "select": "use Rattle.wasm_imm.specs.control.select.Select.TheVariants as select",
 }
+PROPOSAL_USES = [
+    "use Rattle.wasm_imm.specs.declared.proposal.Proposal.{Proposal}",
+    "use Rattle.wasm_imm.specs.declared.proposal.Proposal.TheVariants as proposal",
+]
 OPERATOR_USES = [
     "use Rattle.wasm_instr.specs.declared.operator.Operator.{Operator}",
     "use Rattle.wasm_instr.specs.declared.operator.Operator.TheVariants as operator",
@@ -50,11 +55,11 @@ def aliases(body, *names):
 def enum_rows(enum, ops):
     low = enum.module
     *others, (most, _) = grouped(ops, lambda op: op.proposal)
-    body = ["-- The proposal.", f"abbrev pub {low}_proposal : {enum.type} → List ℕ"]
+    body = ["-- The proposal that added the operator.", f"abbrev pub {low}_proposal : {enum.type} → Proposal"]
     for proposal, those in others:
-        body += [f'{low}_proposal {pattern(op, low, False)} = codes "{proposal}"' for op in those]
-    body += [f'{low}_proposal _ = codes "{most}"', ""]
-    body += ["-- The variant's name.", f"abbrev pub {low}_name : {enum.type} → List ℕ"]
+        body += [f"{low}_proposal {pattern(op, low, False)} = proposal.{variant_of(proposal)}" for op in those]
+    body += [f"{low}_proposal _ = proposal.{variant_of(most)}", ""]
+    body += ["-- The name of the variant.", f"abbrev pub {low}_name : {enum.type} → List ℕ"]
     body += [f'{low}_name {pattern(op, low, False)} = codes "{op.name}"' for op in ops]
     body += ["", "-- The opcode." if not ops[0].prefix else "-- The subopcode."]
     body.append(f"abbrev pub {enum.opcode} : {enum.type} → ℕ")
@@ -83,7 +88,7 @@ def enum_rows(enum, ops):
     uses = [f"use Rattle.std.specs.Prelude.{{{', '.join(prelude)}}}", *aliases(body, "kind", "select")]
     if Shape(ops).by_fields:
         uses += fields_uses(enum)
-    return file_of(titles, uses + enum_uses(enum), body, ["Immediate"])
+    return file_of(titles, [*uses, *PROPOSAL_USES, *enum_uses(enum)], body, ["Immediate"])
 
 
 def makers(enum, ops):
@@ -198,11 +203,11 @@ def operator_rows(ops):
     low = "operator"
     inner = [(enum, f"(operator.{enum.group} op)") for enum in held()]
     *others, (most, _) = grouped(ops, lambda op: op.proposal)
-    body = ["-- The proposal that added the operator.", "abbrev pub proposal_of : Operator → List ℕ"]
+    body = ["-- The proposal that added the operator.", "abbrev pub proposal_of : Operator → Proposal"]
     for proposal, those in others:
-        body += [f'proposal_of {pattern(op, low, False)} = codes "{proposal}"' for op in those]
+        body += [f"proposal_of {pattern(op, low, False)} = proposal.{variant_of(proposal)}" for op in those]
     body += [f"proposal_of {pat} = {enum.module}_proposal op" for enum, pat in inner]
-    body += [f'proposal_of _ = codes "{most}"', "", "-- The name of the variant.", "abbrev pub name_of : Operator → List ℕ"]
+    body += [f"proposal_of _ = proposal.{variant_of(most)}", "", "-- The name of the variant.", "abbrev pub name_of : Operator → List ℕ"]
     body += [f'name_of {pattern(op, low, False)} = codes "{op.name}"' for op in ops]
     body += [f"name_of {pat} = {enum.module}_name op" for enum, pat in inner]
     body += ["", "-- The prefix byte, if the operator has one.", "abbrev pub prefix_of : Operator → Option ℕ"]
@@ -220,7 +225,7 @@ def operator_rows(ops):
         "Specification: Binary Format, Instructions; Appendix, Index of Instructions.",
     ]
     uses = ["use Rattle.std.specs.Prelude.{ℕ, List, [], ◌∷◌, Option, Some, None, codes}"]
-    uses += [*aliases(body, "kind", "select"), *OPERATOR_USES]
+    uses += [*aliases(body, "kind", "select"), *PROPOSAL_USES, *OPERATOR_USES]
     for enum in held():
         low = enum.module
         columns = f"{low}_proposal, {low}_name, {enum.opcode}, {low}_immediates"

@@ -2,7 +2,7 @@
 
 import re
 
-from table import ENUMS, HEAD, Enum, Operator, grouped, held
+from table import ENUMS, HEAD, Enum, Operator, grouped, held, variant_of
 
 # The crates of the types of fields. All other types are primitive.
 LAYERS = {
@@ -76,8 +76,8 @@ def joined_arm(patterns, value):
 def proposal_arms(ops, ty, inner_arms=()):
     """Returns the arms of a match to the proposal. The arm `_` returns the proposal of most operators."""
     *others, (most, _) = grouped(ops, lambda op: op.proposal)
-    out = [joined_arm([rust_pattern(op, ty) for op in those], f'"{it}"') for it, those in others]
-    return [*out, *inner_arms, f'_ => "{most}",']
+    out = [joined_arm([rust_pattern(op, ty) for op in those], f"Proposal::{variant_of(it)}") for it, those in others]
+    return [*out, *inner_arms, f"_ => Proposal::{variant_of(most)},"]
 
 
 def shapes(ops):
@@ -130,7 +130,7 @@ def enum_head(enum, ops, shape):
         out.append("use std::alloc::Global;")
     if not shape.derives_debug:
         out.append("use std::fmt::{self, Debug, Formatter};")
-    more = [("wasm_imm", "OperatorInfo")] + ([("wasm_below", "Result")] if shape.holds_list else [])
+    more = [("wasm_imm", "OperatorInfo"), ("wasm_imm", "Proposal")] + ([("wasm_below", "Result")] if shape.holds_list else [])
     return out + uses(ops, more) + [""]
 
 
@@ -140,7 +140,7 @@ def info_of(enum, ops):
     return [
         "/// Returns the row of the operator.",
         "pub fn info(&self) -> OperatorInfo",
-        f"ensures proposal {{ result.proposal.now ≡ {low}_proposal self.now }}",
+        f"ensures proposal {{ result.proposal ≡ {low}_proposal self.now }}",
         f"ensures name {{ result.name.now ≡ {low}_name self.now }}",
         f"ensures prefix {{ result.prefix ≡ {f'Some 0x{prefix}' if prefix else 'None'} }}",
         f"ensures code {{ result.code ≡ {enum.opcode} self.now }}",
@@ -153,8 +153,9 @@ def info_of(enum, ops):
         "}",
         "}",
         "",
-        "fn proposal(&self) -> &'static str",
-        f"ensures {{ result.now ≡ {low}_proposal self.now }}",
+        "/// Returns the proposal that added the operator.",
+        "fn proposal(&self) -> Proposal",
+        f"ensures {{ result ≡ {low}_proposal self.now }}",
         "{",
         "match self {",
         *proposal_arms(ops, enum.type),
@@ -340,7 +341,7 @@ OWN = Enum("Own", "wasm_instr", "operator", "the other operators of one byte", [
 
 def operator_head(ops):
     more = [(enum.crate, enum.type) for enum in ENUMS]
-    more += [("wasm_imm", "OperatorInfo"), ("wasm_below", "Result")]
+    more += [("wasm_imm", "OperatorInfo"), ("wasm_imm", "Proposal"), ("wasm_below", "Result")]
     return [
         f"//! All operators as one type. {HEAD}",
         "ghost use Rattle.std.specs.Prelude.{◌≡◌, ◌↔◌, IsTrue, IfOk, IfErr};",
@@ -425,7 +426,7 @@ def operator_info(ops):
     return [
         "/// Returns the row of the operator.",
         "pub fn info(&self) -> OperatorInfo",
-        "ensures proposal { result.proposal.now ≡ proposal_of self.now }",
+        "ensures proposal { result.proposal ≡ proposal_of self.now }",
         "ensures name { result.name.now ≡ name_of self.now }",
         "ensures prefix { result.prefix ≡ prefix_of self.now }",
         "ensures code { result.code ≡ opcode_of self.now }",
@@ -441,8 +442,9 @@ def operator_info(ops):
         "}",
         "}",
         "",
-        "fn proposal(&self) -> &'static str",
-        "ensures { result.now ≡ proposal_of self.now }",
+        "/// Returns the proposal that added the operator.",
+        "fn proposal(&self) -> Proposal",
+        "ensures { result ≡ proposal_of self.now }",
         "{",
         "match self {",
         *proposal_arms(ops, "Operator", inner_arms),

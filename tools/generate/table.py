@@ -181,6 +181,11 @@ PROPOSALS = (
 )
 
 
+def variant_of(proposal):
+    """Returns the variant of `Proposal` for a name of a proposal."""
+    return "".join(word.capitalize() for word in proposal.split("_"))
+
+
 def immediates_of(op):
     names = [name for name, _ in op.fields]
     out = []

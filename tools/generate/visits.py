@@ -85,9 +85,9 @@ def braced(names):
 
 def naming(group):
     """Returns the methods that name a group, each with the call that it makes."""
-    code = {"one_byte": "alloc, reader, start, frame, code", "numeric": "code"}.get(group.module, "reader, start, code")
+    given = {"one_byte": "alloc, self, reader, start, frame, code", "numeric": "self, code"}.get(group.module, "self, reader, start, code")
     low = group.module
-    methods = [(f"dispatch_{low}", f"dispatch::{low}(self, op)"), (f"decode_{low}", f"decode::{low}(self, {code})")]
+    methods = [(f"dispatch_{low}", f"dispatch::{low}(self, op)"), (f"decode_{low}", f"decode::{low}({given})")]
     return methods + ([("decode_below_0x20", methods[1][1])] if low == "one_byte" else [])
 
 

@@ -11,6 +11,8 @@ pub use Rattle.wasm_below_bytes.proofs.SignedNumbers
 pub use Rattle.wasm_below_bytes.proofs.Steps
 pub use Rattle.wasm_below_bytes.proofs.TakesLemmas
 pub mod DeterminedTypeRefusals
+pub mod EnumEquality
 pub mod TypeEncodings
+pub mod TypeEquality
 pub mod TypeFaults
 pub mod TypePrefixCodes

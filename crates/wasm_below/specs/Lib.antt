@@ -8,6 +8,7 @@ pub use Rattle.wasm_below_bytes.specs.Refusal
 pub use Rattle.wasm_below_bytes.specs.Sequence
 pub use Rattle.wasm_below_bytes.specs.Source
 pub use Rattle.wasm_below_bytes.specs.declared as bytes
+pub mod Equality
 pub mod Reference
 pub mod ShortTypes
 pub mod TypeEncoding

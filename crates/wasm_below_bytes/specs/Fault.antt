@@ -10,6 +10,10 @@ use Rattle.wasm_below_bytes.specs.Source.{Reader, rest, NoPrefix, Reads}
 abbrev pub HasFault : (Message → Reader → ℕ → Type 0) → Error → Reader → Type 0
 HasFault Fault e r = e.message ≢ message.OutOfMemory → Fault e.message r e.offset
 
+-- If the error is `OutOfMemory`, a read at this reader may allocate.
+abbrev pub NeedsMemory : (Reader → Type 0) → Error → Reader → Type 0
+NeedsMemory Allocates e r = e.message ≡ message.OutOfMemory → Allocates r
+
 -- The first part is read, and what follows it has the fault `After`.
 abbrev pub FaultAfter : {X : Type 0} → (List ℕ → X → Type 0) → (X → Message → Reader → ℕ → Type 0) → Message → Reader → ℕ → Type 0
 FaultAfter {X} First After m r offset = (x : X) × (new : Reader) × Reads First (Ok x) r new × After x m new offset

@@ -64,8 +64,12 @@ BeginsWith byte bytes = (more : List ℕ) × (bytes ≡ byte ∷ more)
 abbrev pub NoPrefix : {X : Type 0} → (List ℕ → X → Type 0) → List ℕ → Type 0
 NoPrefix {X} Encodes bytes = (text more : List ℕ) (x : X) → Encodes text x → bytes ≡ text ++ more → ⊥
 
--- These bytes may follow the data of a failed call: none after `EndOfData`, any after other
--- messages, and no claim after `OutOfMemory`.
+-- Some prefix of the bytes encodes a value.
+abbrev pub SomePrefix : {X : Type 0} → (List ℕ → X → Type 0) → List ℕ → Type 0
+SomePrefix {X} Encodes bytes = (text more : List ℕ) × (x : X) × Encodes text x × (bytes ≡ text ++ more)
+
+-- The claim of a failed call holds also if `more` follows its data. After `EndOfData`, `more` is
+-- empty; after `OutOfMemory`, there is no claim; after any other message, `more` is any list.
 abbrev pub MayFollow : Message → List ℕ → Type 0
 MayFollow message.EndOfData more = more ≡ []
 MayFollow message.OutOfMemory more = ⊥

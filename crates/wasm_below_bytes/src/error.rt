@@ -2,6 +2,7 @@ ghost use Rattle.std.specs.Prelude.{◌≡◌};
 ghost use Rattle.wasm_below_bytes.specs.Refusal.{kind_of};
 
 use crate::message::Message;
+use std::fmt;
 
 /// What is wrong with the bytes, and where.
 #[derive(Clone, Copy, Debug, PartialEq, Eq)]
@@ -56,5 +57,12 @@ impl Error {
         ensures { result ≡ self.now.message }
     {
         self.message
+    }
+}
+
+impl fmt::Display for Error {
+    fn fmt<W: fmt::Write>(&self, f: &mut fmt::Formatter<W>) -> fmt::Result {
+        let Error { message, offset } = *self;
+        write!(f, "{message} (at offset 0x{offset:x})")
     }
 }

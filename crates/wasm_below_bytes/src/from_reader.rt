@@ -1,7 +1,7 @@
 ghost use Rattle.std.specs.Prelude.{◌≡◌, ℕ, ⊤, List, ◌++◌, IfOk, IfErr, IfSome, []};
 ghost use Rattle.wasm_below_bytes.specs.declared.features.WasmFeatures.{WasmFeatures};
 ghost use Rattle.wasm_below_bytes.specs.declared.message.Message.{Message};
-ghost use Rattle.wasm_below_bytes.specs.Fault.{HasFault, DeterminesRefusal};
+ghost use Rattle.wasm_below_bytes.specs.Fault.{HasFault, NeedsMemory, DeterminesRefusal};
 ghost use Rattle.wasm_below_bytes.specs.Items.{items_left, items_reader, items_name};
 ghost use Rattle.wasm_below_bytes.specs.FromReader.{ReadsValue, EncodesReader, ReaderFault, StepsItems, ReadsOn};
 ghost use Rattle.wasm_below_bytes.specs.Source.{Reader, IsRefusal, U32Fault, CountFault, Reads, end_of, offset_of};
@@ -31,11 +31,15 @@ pub trait FromReader<'a>: UsesMemory + Drop + Sized {
     // The place of the value between these readers, if the value holds it.
     ghost placed: { Reader → Self → Reader → Type 0 } = { λ old value new. ⊤ };
 
+    // A read that starts at this reader may allocate.
+    ghost allocates: { Reader → Type 0 } = { λ old. ⊤ };
+
     /// Reads the value that a prefix of the rest encodes.
     fn from_reader(alloc: Global, reader: &mut BinaryReader<'a>) -> Result<Self>
         ensures reads { ReadsValue (encodes reader.old.features) Self.Memory.TAKES result reader.old reader.new }
         ensures placed { IfOk result (λ value. placed reader.old value reader.new) }
-        ensures fault { IfErr result (λ e. HasFault fault e reader.old) };
+        ensures fault { IfErr result (λ e. HasFault fault e reader.old) }
+        ensures memory { IfErr result (λ e. NeedsMemory allocates e reader.old) };
 
     /// States that no encoding is a proper prefix of another, and that each has one value.
     fn is_prefix_code()
@@ -71,6 +75,7 @@ impl<'a> BinaryReader<'a> {
         ensures reads { ReadsValue (T.encodes self.old.features) T.Memory.TAKES result self.old self.new }
         ensures placed { IfOk result (λ value. T.placed self.old value self.new) }
         ensures fault { IfErr result (λ e. HasFault T.fault e self.old) }
+        ensures memory { IfErr result (λ e. NeedsMemory T.allocates e self.old) }
     {
         T::from_reader(alloc, self)
     }

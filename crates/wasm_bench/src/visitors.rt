@@ -100,7 +100,7 @@ impl VisitGroups for CountSome {
         frame: FrameKind,
         code: u8,
     ) -> Result<()> {
-        decode::one_byte(self, alloc, reader, start, frame, code)
+        decode::one_byte(alloc, self, reader, start, frame, code)
     }
 
     #[inline(always)]
@@ -112,7 +112,7 @@ impl VisitGroups for CountSome {
         frame: FrameKind,
         code: u8,
     ) -> Result<()> {
-        decode::one_byte(self, alloc, reader, start, frame, code)
+        decode::one_byte(alloc, self, reader, start, frame, code)
     }
 }
 

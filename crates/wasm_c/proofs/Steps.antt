@@ -102,6 +102,7 @@ takes_inside bytes old new frames_old frames_new ahead kind op text change some 
             omega (arith, stays.1, fewer, fits, same)
       ];
       memory = omega (arith, before, after, some, within, fits, same);
+      kept = omega (arith, before, after, some, within, fits, same);
     }
 
 -- An operator that opens a frame without space for it.

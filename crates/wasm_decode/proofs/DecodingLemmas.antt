@@ -238,7 +238,7 @@ refused_scalar f k e old h =
       ahead = h.ahead;
       memory = λ m. (
           let g = h.memory m in
-          (g.0, record { leads = g.1.leads; owns = λ text left op s eq. g.1.owns text left op (s.0.0, s.1) eq })
+          (g.0, record { leads = g.1.leads; sized = g.1.sized; owns = λ text left op s eq. g.1.owns text left op (s.0.0, s.1) eq })
           );
     }
 
@@ -389,7 +389,7 @@ opened E k e old h =
     record {
       refuses = h.refuses;
       ahead = h.ahead;
-      memory = λ m. (let g = h.memory m in (g.0, record { leads = g.1.leads; owns = g.1.owns }));
+      memory = λ m. (let g = h.memory m in (g.0, record { leads = g.1.leads; sized = g.1.sized; owns = g.1.owns }));
     }
 
 pub visited_in : {V A : Type 0} (visits : V → Operator → A → V → Type 0) (E : FrameKind → List ℕ → Operator → Type 0) (F : FrameKind → Message → Reader → ℕ → Type 0) (k : FrameKind)

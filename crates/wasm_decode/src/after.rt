@@ -39,8 +39,8 @@ pub fn subopcode(reader: &mut BinaryReader<'_>, start: usize, prefix: u8) -> Res
 /// Visits an operator that is neither a branch table nor a SIMD operator, after its opcode.
 #[inline(always)]
 pub fn group_after_opcode<V: VisitGroups>(
-    v: &mut V,
     alloc: Global,
+    v: &mut V,
     reader: &mut BinaryReader<'_>,
     start: usize,
     frame: FrameKind,

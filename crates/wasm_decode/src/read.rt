@@ -169,5 +169,5 @@ fn read_group(
     requires vector { code ≢ 0xfd }
     ensures { DecodesOperatorAt frame start result reader.old reader.new }
 {
-    group_after_opcode(&mut Factory, alloc, reader, start, frame, code)
+    group_after_opcode(alloc, &mut Factory, reader, start, frame, code)
 }

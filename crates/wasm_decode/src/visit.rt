@@ -22,8 +22,8 @@ use wasm_visit::{VisitOperator, VisitSimdOperator};
 /// has the offset of the operator's start, and occurs only for an operator that owns a list.
 #[inline(always)]
 pub fn visit_operator_simd<'a, V>(
-    v: &mut V,
     alloc: Global,
+    v: &mut V,
     reader: &mut BinaryReader<'a>,
     frame: Option<FrameKind>,
 ) -> Result<V::Output>
@@ -36,7 +36,7 @@ where
     };
     let start = reader.current_position();
     match reader.read_u8() {
-        Ok(code) => visit_after_opcode_simd(v, alloc, reader, start, frame, code),
+        Ok(code) => visit_after_opcode_simd(alloc, v, reader, start, frame, code),
         Err(e) => Err(e),
     }
 }
@@ -47,8 +47,8 @@ where
 /// Fails like `visit_operator_simd`, but never for a missing frame or a missing opcode.
 #[inline(always)]
 pub fn visit_after_opcode_simd<'a, V>(
-    v: &mut V,
     alloc: Global,
+    v: &mut V,
     reader: &mut BinaryReader<'a>,
     start: usize,
     frame: FrameKind,
@@ -62,7 +62,7 @@ where
     match code {
         0x0e => table_after_opcode(v, reader, start),
         0xfd => simd_after_prefix(v, reader, start),
-        _ => group_after_opcode(v, alloc, reader, start, frame, code),
+        _ => group_after_opcode(alloc, v, reader, start, frame, code),
     }
 }
 
@@ -73,8 +73,8 @@ where
 /// `visit_operator_simd`.
 #[inline(always)]
 pub fn visit_operator<'a, V: VisitOperator<'a>>(
-    v: &mut V,
     alloc: Global,
+    v: &mut V,
     reader: &mut BinaryReader<'a>,
     frame: Option<FrameKind>,
 ) -> Result<V::Output>
@@ -85,7 +85,7 @@ pub fn visit_operator<'a, V: VisitOperator<'a>>(
     };
     let start = reader.current_position();
     match reader.read_u8() {
-        Ok(code) => visit_after_opcode(v, alloc, reader, start, frame, code),
+        Ok(code) => visit_after_opcode(alloc, v, reader, start, frame, code),
         Err(e) => Err(e),
     }
 }
@@ -97,8 +97,8 @@ pub fn visit_operator<'a, V: VisitOperator<'a>>(
 /// `visit_after_opcode_simd`.
 #[inline(always)]
 pub fn visit_after_opcode<'a, V: VisitOperator<'a>>(
-    v: &mut V,
     alloc: Global,
+    v: &mut V,
     reader: &mut BinaryReader<'a>,
     start: usize,
     frame: FrameKind,
@@ -110,7 +110,7 @@ pub fn visit_after_opcode<'a, V: VisitOperator<'a>>(
     match code {
         0x0e => table_after_opcode(v, reader, start),
         0xfd => Err(unexpected_simd(reader, start)),
-        _ => group_after_opcode(v, alloc, reader, start, frame, code),
+        _ => group_after_opcode(alloc, v, reader, start, frame, code),
     }
 }
 
@@ -120,8 +120,8 @@ pub fn visit_after_opcode<'a, V: VisitOperator<'a>>(
 /// Fails like `visit_after_opcode_simd`.
 #[inline(always)]
 pub fn visit_below_0x20<'a, V: VisitOperator<'a>>(
-    v: &mut V,
     alloc: Global,
+    v: &mut V,
     reader: &mut BinaryReader<'a>,
     start: usize,
     frame: FrameKind,

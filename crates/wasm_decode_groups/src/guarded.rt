@@ -108,8 +108,8 @@ pub fn legacy_catch_all<V: VisitOneByte>(
 /// Reads the types of a typed `select` and visits it.
 #[inline(always)]
 pub fn typed_select<V: VisitOneByte>(
-    v: &mut V,
     alloc: Global,
+    v: &mut V,
     reader: &mut BinaryReader<'_>,
     start: usize,
 ) -> Result<V::Output>
@@ -126,8 +126,8 @@ pub fn typed_select<V: VisitOneByte>(
 /// Reads the block type and the catches of `try_table` and visits it.
 #[inline(always)]
 pub fn try_table<V: VisitOneByte>(
-    v: &mut V,
     alloc: Global,
+    v: &mut V,
     reader: &mut BinaryReader<'_>,
     start: usize,
 ) -> Result<V::Output>
@@ -143,8 +143,8 @@ pub fn try_table<V: VisitOneByte>(
 /// Reads the immediates of `resume` and visits it. Proposal stack switching.
 #[inline(always)]
 pub fn resume<V: VisitOneByte>(
-    v: &mut V,
     alloc: Global,
+    v: &mut V,
     reader: &mut BinaryReader<'_>,
     start: usize,
 ) -> Result<V::Output>
@@ -160,8 +160,8 @@ pub fn resume<V: VisitOneByte>(
 /// Reads the immediates of `resume_throw` and visits it. Proposal stack switching.
 #[inline(always)]
 pub fn resume_throw<V: VisitOneByte>(
-    v: &mut V,
     alloc: Global,
+    v: &mut V,
     reader: &mut BinaryReader<'_>,
     start: usize,
 ) -> Result<V::Output>
@@ -177,8 +177,8 @@ pub fn resume_throw<V: VisitOneByte>(
 /// Reads the immediates of `resume_throw_ref` and visits it. Proposal stack switching.
 #[inline(always)]
 pub fn resume_throw_ref<V: VisitOneByte>(
-    v: &mut V,
     alloc: Global,
+    v: &mut V,
     reader: &mut BinaryReader<'_>,
     start: usize,
 ) -> Result<V::Output>

@@ -22,8 +22,8 @@ use wasm_visit_groups::imm::{BlockType, MemArg, MemArgKind};
 /// Reads the immediates of an operator of one byte and visits it. Common operators are inlined.
 #[inline(always)]
 pub fn one_byte<V: VisitOneByte>(
-    v: &mut V,
     alloc: Global,
+    v: &mut V,
     reader: &mut BinaryReader<'_>,
     start: usize,
     frame: FrameKind,
@@ -35,7 +35,7 @@ pub fn one_byte<V: VisitOneByte>(
 {
     match common_one_byte(v, reader, start, code) {
         Some(outcome) => outcome,
-        None => other_one_byte(v, alloc, reader, start, frame, code),
+        None => other_one_byte(alloc, v, reader, start, frame, code),
     }
 }
 
@@ -77,8 +77,8 @@ pub fn common_one_byte<V: VisitOneByte>(
 /// Reads the immediates of an operator of one byte and visits it. Every operator has an arm here.
 #[inline(always)]
 pub fn any_one_byte<V: VisitOneByte>(
-    v: &mut V,
     alloc: Global,
+    v: &mut V,
     reader: &mut BinaryReader<'_>,
     start: usize,
     frame: FrameKind,
@@ -118,15 +118,15 @@ pub fn any_one_byte<V: VisitOneByte>(
         0xe1 => two_unsigned(v, reader, start, code),
         0xe6 => two_unsigned(v, reader, start, code),
         0x05 => else_in_if(v, reader, start, frame),
-        0x1c => typed_select(v, alloc, reader, start),
-        0x1f => try_table(v, alloc, reader, start),
+        0x1c => typed_select(alloc, v, reader, start),
+        0x1f => try_table(alloc, v, reader, start),
         0x06 => legacy_try(v, reader, start, frame),
         0x07 => legacy_catch(v, reader, start, frame),
         0x18 => legacy_delegate(v, reader, start, frame),
         0x19 => legacy_catch_all(v, reader, start, frame),
-        0xe3 => resume(v, alloc, reader, start),
-        0xe4 => resume_throw(v, alloc, reader, start),
-        0xe5 => resume_throw_ref(v, alloc, reader, start),
+        0xe3 => resume(alloc, v, reader, start),
+        0xe4 => resume_throw(alloc, v, reader, start),
+        0xe5 => resume_throw_ref(alloc, v, reader, start),
         _ => Err(unknown_opcode(reader, start, code)),
     }
 }

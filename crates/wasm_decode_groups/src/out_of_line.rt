@@ -15,8 +15,8 @@ use wasm_visit_groups::grammar::FrameKind;
 /// Reads the immediates of an operator of one byte and visits it.
 #[inline(always)]
 pub fn other_one_byte<V: VisitOneByte>(
-    v: &mut V,
     alloc: Global,
+    v: &mut V,
     reader: &mut BinaryReader<'_>,
     start: usize,
     frame: FrameKind,
@@ -28,7 +28,7 @@ pub fn other_one_byte<V: VisitOneByte>(
 {
     let mut lent = reader.clone();
     let mut refusal = Error::new(Message::EndOfData, 0);
-    let outcome = out_of_line(v, alloc, &mut lent, start, frame, code, &mut refusal);
+    let outcome = out_of_line(alloc, v, &mut lent, start, frame, code, &mut refusal);
     reader.set_position(lent.current_position());
     match outcome {
         Some(outcome) => Ok(outcome),
@@ -40,8 +40,8 @@ pub fn other_one_byte<V: VisitOneByte>(
 /// error to `refusal`.
 #[inline(never)]
 fn out_of_line<V: VisitOneByte>(
-    v: &mut V,
     alloc: Global,
+    v: &mut V,
     reader: &mut BinaryReader<'_>,
     start: usize,
     frame: FrameKind,
@@ -55,7 +55,7 @@ fn out_of_line<V: VisitOneByte>(
     ensures refused { IfNone result
         (DecodesAt V.visits frame start (Err refusal.new) reader.old reader.new v.old v.new) }
 {
-    match any_one_byte(v, alloc, reader, start, frame, code) {
+    match any_one_byte(alloc, v, reader, start, frame, code) {
         Ok(outcome) => Some(outcome),
         Err(e) => {
             *refusal = e;

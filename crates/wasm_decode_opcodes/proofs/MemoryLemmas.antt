@@ -3,7 +3,7 @@ use Rattle.std.proofs.Common.{◌≡◌, ℕ, ◌+◌, inl, inr, Bool, true, fal
 use Rattle.wasm_instr.specs.below.bytes.error.Error.{Error}
 use Rattle.wasm_instr.specs.below.bytes.features.WasmFeatures.{WasmFeatures}
 use Rattle.wasm_instr.specs.below.bytes.message.Message.TheVariants as message
-use Rattle.wasm_instr.specs.below.Source.{Reader, rest, at_position, NoPrefix, Reads}
+use Rattle.wasm_instr.specs.below.Source.{Reader, rest, at_position, NoPrefix, SomePrefix, Reads}
 use Rattle.wasm_instr.specs.grammar.declared.frame_kind.FrameKind.{FrameKind}
 use Rattle.wasm_instr.specs.imm.HandlerTables.{EncodesOne}
 use Rattle.wasm_instr.specs.declared.operator.Operator.{Operator}
@@ -17,7 +17,7 @@ use Rattle.wasm_decode_opcodes.specs.Decoding.{Decodes, IsAfterCode}
 use Rattle.wasm_decode_opcodes.specs.Entry.{free, kinds_of}
 use Rattle.wasm_decode_opcodes.specs.Entries.{entry_at}
 use Rattle.wasm_decode_opcodes.specs.OperatorFaults.{OperatorFault}
-use Rattle.wasm_decode_opcodes.specs.Refused.{LeadsList, MayAllocate}
+use Rattle.wasm_decode_opcodes.specs.Refused.{LeadsList, MayAllocate, EncodesToCount, EncodesListStart}
 use Rattle.wasm_decode_opcodes.proofs.KindLemmas.{RefusesKinds}
 use Rattle.wasm_decode_opcodes.proofs.OperatorLemmas.{IsCode, own, kinds_of_code, has_kinds, refused_operator, free_fault}
 
@@ -66,17 +66,24 @@ one_type f op text p k without i = absurd (cc k)
 
 -- ---- allocation failure
 
+-- the opcode, and its immediates up to a count
+list_start : (code : ℕ) (ks : List Kind) (old mid : Reader) (head : List ℕ) → entry_at None code ≡ free ks → head ≡ code ∷ [] → rest old ≡ head ++ rest mid →
+    SomePrefix (EncodesToCount ks) (rest mid) → SomePrefix EncodesListStart (rest old)
+list_start code ks old mid head is h parts (text, more, count, p, eq) =
+    (code ∷ text, more, count, (code, ks, text, is, refl, p), parts ∙ ap (λ z. z ++ rest mid) h ∙ ap (λ z. code ∷ z) eq)
+
 -- no operator that owns no list begins there
 pub needs_memory : (k : FrameKind) (code start : ℕ) (ks : List Kind) (mid : Reader) → IsCode None code → entry_at None code ≡ free ks → LeadsList code →
-    IsAfterCode start None code mid →
+    IsAfterCode start None code mid → SomePrefix (EncodesToCount ks) (rest mid) →
     ((op : Operator) (text left : List ℕ) → prefix_of op ≡ None → kinds_of op ≡ ks → (HoldsList op → ⊥) → EncodesImmediates mid.features (immediates_of op) text →
     rest mid ≡ text ++ left → ⊥) → MayAllocate (EncodesAllowed mid.features k) (at_position mid start)
-needs_memory k code start ks mid c is leads b none = go b.opcode
+needs_memory k code start ks mid c is leads b sized none = go b.opcode
   where
     go : Reads (λ text it. EncodesOpcode None it text) (Ok code) (at_position mid start) mid → MayAllocate (EncodesAllowed mid.features k) (at_position mid start)
     go (head, h, t) =
         record {
           leads = (code, leads, (rest mid, t.parts ∙ ap (λ z. z ++ rest mid) h));
+          sized = list_start code ks (at_position mid start) mid head is h t.parts sized;
           owns = λ text left op (s, without) eq.
               (
               let o = own mid.features None code head (rest mid) text left op c h s.0 (sym t.parts ∙ eq) in
@@ -85,13 +92,13 @@ needs_memory k code start ks mid c is leads b none = go b.opcode
         }
 
 pub needs_list : (k : FrameKind) (code start : ℕ) (ks : List Kind) (mid : Reader) → IsCode None code → entry_at None code ≡ free ks → LeadsList code →
-    IsAfterCode start None code mid → ((op : Operator) → prefix_of op ≡ None → kinds_of op ≡ ks → HoldsList op) →
+    IsAfterCode start None code mid → SomePrefix (EncodesToCount ks) (rest mid) → ((op : Operator) → prefix_of op ≡ None → kinds_of op ≡ ks → HoldsList op) →
     MayAllocate (EncodesAllowed mid.features k) (at_position mid start)
-needs_list k code start ks mid c is leads b owns = needs_memory k code start ks mid c is leads b (λ op text left p q without i eq. without (owns op p q))
+needs_list k code start ks mid c is leads b sized owns = needs_memory k code start ks mid c is leads b sized (λ op text left p q without i eq. without (owns op p q))
 
 pub needs_types : (k : FrameKind) (code start : ℕ) (mid : Reader) → IsCode None code → entry_at None code ≡ free (is_select_types ∷ []) → LeadsList code →
-    IsAfterCode start None code mid → NoPrefix EncodesOne (rest mid) → MayAllocate (EncodesAllowed mid.features k) (at_position mid start)
-needs_types k code start mid c is leads b lone = needs_memory k code start (is_select_types ∷ []) mid c is leads b none
+    IsAfterCode start None code mid → SomePrefix (EncodesToCount (is_select_types ∷ [])) (rest mid) → NoPrefix EncodesOne (rest mid) → MayAllocate (EncodesAllowed mid.features k) (at_position mid start)
+needs_types k code start mid c is leads b sized lone = needs_memory k code start (is_select_types ∷ []) mid c is leads b sized none
   where
     none : (op : Operator) (text left : List ℕ) → prefix_of op ≡ None → kinds_of op ≡ is_select_types ∷ [] → (HoldsList op → ⊥) →
         EncodesImmediates mid.features (immediates_of op) text → rest mid ≡ text ++ left → ⊥

@@ -1,18 +1,37 @@
 -- What the error of an operator implies about the bytes.
-use Rattle.std.specs.Prelude.{◌≡◌, ℕ, ◌⊎◌, List}
+use Rattle.std.specs.Prelude.{◌≡◌, ℕ, ◌⊎◌, List, ◌∷◌, None}
 use Rattle.wasm_instr.specs.below.bytes.error.Error.{Error}
 use Rattle.wasm_instr.specs.below.bytes.message.Message.TheVariants as message
-use Rattle.wasm_instr.specs.below.Source.{Reader, rest, offset_of, BeginsWith, NoPrefix, Refuses, IsAhead}
+use Rattle.wasm_instr.specs.below.Number.{EncodesUnsigned}
+use Rattle.wasm_instr.specs.below.Sequence.{Then}
+use Rattle.wasm_instr.specs.below.Source.{Reader, rest, offset_of, BeginsWith, NoPrefix, SomePrefix, Refuses, IsAhead}
+use Rattle.wasm_instr.specs.imm.HandlerTables.{EncodesTypeCount, EncodesTryTableCount, EncodesHandlerCount}
+use Rattle.wasm_instr.specs.Immediate.{Kind, is_unsigned_32, is_select_types, is_try_clauses, is_resume_clauses}
 use Rattle.wasm_instr.specs.declared.operator.Operator.{Operator}
 use Rattle.wasm_instr.specs.Kinds.{HoldsList}
+use Rattle.wasm_decode_opcodes.specs.Entry.{free}
+use Rattle.wasm_decode_opcodes.specs.Entries.{entry_at}
 
 -- An operator with this opcode may own a list: typed select, try_table, resume, resume_throw or resume_throw_ref.
 abbrev pub LeadsList : ℕ → Type 0
 LeadsList byte = (byte ≡ 0x1c) ⊎ ((byte ≡ 0x1f) ⊎ ((byte ≡ 0xe3) ⊎ ((byte ≡ 0xe4) ⊎ (byte ≡ 0xe5))))
 
--- The next byte is such an opcode, and no prefix of the rest encodes an operator that owns no list.
+-- The immediates of these kinds up to the count of a list. The count is within its limit.
+abbrev pub EncodesToCount : List Kind → List ℕ → ℕ → Type 0
+EncodesToCount (is_select_types ∷ ks) = EncodesTypeCount
+EncodesToCount (is_try_clauses ∷ ks) = EncodesTryTableCount
+EncodesToCount (is_resume_clauses ∷ ks) = EncodesHandlerCount
+EncodesToCount (is_unsigned_32 ∷ ks) = Then (EncodesUnsigned 32) (λ index. EncodesToCount ks)
+EncodesToCount _ = λ text count. ⊥
+
+-- An opcode, and its immediates up to the count of a list.
+abbrev pub EncodesListStart : List ℕ → ℕ → Type 0
+EncodesListStart text count = (byte : ℕ) × (ks : List Kind) × (after : List ℕ) × (entry_at None byte ≡ free ks) × (text ≡ byte ∷ after) × EncodesToCount ks after count
+
+-- The next byte is such an opcode, a count within the limit of its list follows, and no prefix of the rest encodes an operator that owns no list.
 pub record MayAllocate (Encodes : List ℕ → Operator → Type 0) (old : Reader) : Type 0 where
   pub leads : (byte : ℕ) × LeadsList byte × BeginsWith byte (rest old)
+  pub sized : SomePrefix EncodesListStart (rest old)
   pub owns : NoPrefix (λ text op. Encodes text op × ¬ HoldsList op) (rest old)
 
 -- No prefix of the rest encodes such an operator, and unless the message is EndOfData, no continuation of the bytes has such a prefix. OutOfMemory is reported at the offset where the call began, and only for operators that own a list.

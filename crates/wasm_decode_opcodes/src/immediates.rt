@@ -4,10 +4,11 @@
 //! error the reader goes back to the position `start`, the start of the operator. The error is that
 //! of the first immediate that cannot be read.
 ghost use Rattle.std.specs.Prelude.{◌≡◌, ◌+◌, ◌≤◌, [], ◌∷◌, false, true, IfErr};
-ghost use Rattle.wasm_instr.specs.below.Source.{at_position, offset_of, end_of, rest, NoPrefix};
+ghost use Rattle.wasm_instr.specs.below.Source.{at_position, offset_of, end_of, rest, NoPrefix, SomePrefix};
 ghost use Rattle.wasm_instr.specs.imm.HandlerTables.{EncodesOne};
 ghost use Rattle.wasm_instr.specs.Immediate.{unsigned_32, signed_32, signed_64, float_32, float_64, vector, one_lane, sixteen_lanes, memory_argument, memory_index, table_index_32, order, fence_order, heap_type, cast, block_type, branch_table, select_types, try_clauses, resume_clauses, is_unsigned_32, is_signed_32, is_signed_64, is_float_32, is_float_64, is_vector, is_one_lane, is_sixteen_lanes, is_memory_argument, is_memory_index, is_table_index, is_order, is_fence_order, is_heap_type, is_cast, is_block_type, is_branch_table, is_select_types, is_try_clauses, is_resume_clauses};
 ghost use Rattle.wasm_decode_opcodes.specs.Decoding.{ReadsKinds};
+ghost use Rattle.wasm_decode_opcodes.specs.Refused.{EncodesToCount};
 
 use std::alloc::Global;
 use wasm_instr::below::{BinaryReader, Error, FromReader, HeapType, Message, Result};
@@ -235,6 +236,8 @@ pub fn select(alloc: Global, reader: &mut BinaryReader<'_>, start: usize) -> Res
     ensures reads { ReadsKinds (is_select_types ∷ []) (λ types. select_types types ∷ [])
         true start result reader.old reader.new }
     ensures lone { IfErr result (λ e. e.message ≡ Message.OutOfMemory → NoPrefix EncodesOne (rest reader.old)) }
+    ensures memory { IfErr result (λ e. e.message ≡ Message.OutOfMemory
+        → SomePrefix (EncodesToCount (is_select_types ∷ [])) (rest reader.old)) }
 {
     match Select::read(alloc, reader) {
         Ok(read) => Ok(read),
@@ -247,7 +250,9 @@ pub fn select(alloc: Global, reader: &mut BinaryReader<'_>, start: usize) -> Res
 pub fn try_table(alloc: Global, reader: &mut BinaryReader<'_>, start: usize) -> Result<TryTable>
     requires begun { start ≤ reader.old.position }
     requires within { offset_of reader.old ≤ end_of reader.old }
-    ensures { ReadsKinds (is_try_clauses ∷ []) (λ t. try_clauses t ∷ []) true start result reader.old reader.new }
+    ensures reads { ReadsKinds (is_try_clauses ∷ []) (λ t. try_clauses t ∷ []) true start result reader.old reader.new }
+    ensures memory { IfErr result (λ e. e.message ≡ Message.OutOfMemory
+        → SomePrefix (EncodesToCount (is_try_clauses ∷ [])) (rest reader.old)) }
 {
     match TryTable::from_reader(alloc, reader) {
         Ok(read) => Ok(read),
@@ -264,7 +269,9 @@ pub fn resume_table(
 ) -> Result<ResumeTable>
     requires begun { start ≤ reader.old.position }
     requires within { offset_of reader.old ≤ end_of reader.old }
-    ensures { ReadsKinds (is_resume_clauses ∷ []) (λ t. resume_clauses t ∷ []) true start result reader.old reader.new }
+    ensures reads { ReadsKinds (is_resume_clauses ∷ []) (λ t. resume_clauses t ∷ []) true start result reader.old reader.new }
+    ensures memory { IfErr result (λ e. e.message ≡ Message.OutOfMemory
+        → SomePrefix (EncodesToCount (is_resume_clauses ∷ [])) (rest reader.old)) }
 {
     match ResumeTable::from_reader(alloc, reader) {
         Ok(read) => Ok(read),
@@ -365,8 +372,10 @@ pub fn resume(
     start: usize,
 ) -> Result<(u32, ResumeTable)>
     requires { start ≤ reader.old.position }
-    ensures { ReadsKinds (is_unsigned_32 ∷ is_resume_clauses ∷ []) (λ p. unsigned_32 p.0 ∷ resume_clauses p.1 ∷ [])
+    ensures reads { ReadsKinds (is_unsigned_32 ∷ is_resume_clauses ∷ []) (λ p. unsigned_32 p.0 ∷ resume_clauses p.1 ∷ [])
         true start result reader.old reader.new }
+    ensures memory { IfErr result (λ e. e.message ≡ Message.OutOfMemory
+        → SomePrefix (EncodesToCount (is_unsigned_32 ∷ is_resume_clauses ∷ [])) (rest reader.old)) }
 {
     match reader.read_var_u32() {
         Ok(first) => match resume_table(alloc, reader, start) {
@@ -385,8 +394,10 @@ pub fn resume_throw(
     start: usize,
 ) -> Result<(u32, (u32, ResumeTable))>
     requires { start ≤ reader.old.position }
-    ensures { ReadsKinds (is_unsigned_32 ∷ is_unsigned_32 ∷ is_resume_clauses ∷ [])
+    ensures reads { ReadsKinds (is_unsigned_32 ∷ is_unsigned_32 ∷ is_resume_clauses ∷ [])
         (λ p. unsigned_32 p.0 ∷ unsigned_32 p.1.0 ∷ resume_clauses p.1.1 ∷ []) true start result reader.old reader.new }
+    ensures memory { IfErr result (λ e. e.message ≡ Message.OutOfMemory
+        → SomePrefix (EncodesToCount (is_unsigned_32 ∷ is_unsigned_32 ∷ is_resume_clauses ∷ [])) (rest reader.old)) }
 {
     match reader.read_var_u32() {
         Ok(first) => match resume(alloc, reader, start) {

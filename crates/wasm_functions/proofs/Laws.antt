@@ -29,17 +29,6 @@ one_own numbers fixed code whole t u a b =
       one_types numbers b.functions t.types u.types (subst (λ s. ListsTypes s t.types) functions a.types) b.types,
     )
 
-<<<<<<< HEAD
-pub names_of_functions : PrefixCode (EncodesUnsigned 32) → PrefixCode (EncodesFixed w32) → PrefixCode EncodesImport → (whole : Reader) (t : ModuleFunctions) →
-    DescribesFunctions whole t → (n : ℕ) → (section : Option Reader) × IsSection whole 2 section × CountsImports section n → (types : List ℕ) →
-    (section : Option Reader) × IsSection whole 3 section × ListsTypes section types → (count : ℕ) → count ≡ length types →
-    NamesFunctions whole n count t.names
-names_of_functions numbers fixed code whole t is n (imports, there, counted) types (functions, there', listed) count all =
-    let imported = one_count numbers code is.imports n t.imported (subst (λ s. CountsImports s n) (same_imports imports there) counted) is.imported in
-    let own = one_types numbers is.functions types t.types (subst (λ s. ListsTypes s types) (same_functions functions there') listed) is.types in
-    subst (λ k. NamesFunctions whole n k t.names) (sym (all ∙ ap length own))
-    (subst (λ k. NamesFunctions whole k (length t.types) t.names) (sym imported) is.names)
-=======
 -- The module names as many functions as were found.
 pub names_of_functions : PrefixCode (EncodesUnsigned 32) → PrefixCode (EncodesFixed w32) → (whole : Reader) (t : ModuleFunctions) →
     DescribesFunctions whole t → (types : List ℕ) → (section : Option Reader) × IsSection whole 3 section × ListsTypes section types → (count : ℕ) →
@@ -47,7 +36,6 @@ pub names_of_functions : PrefixCode (EncodesUnsigned 32) → PrefixCode (Encodes
 names_of_functions numbers fixed whole t is types (functions, there, listed) count all =
     let own = one_types numbers is.functions types t.types (subst (λ s. ListsTypes s types) (same_functions functions there) listed) is.types in
     subst (λ k. NamesFunctions whole k t.names) (sym (all ∙ ap length own)) is.names
->>>>>>> e461b76a9dfb6556365173cd6d600572fa6cf5ca
   where
     same_functions : (s : Option Reader) → IsSection whole 3 s → s ≡ is.functions
     same_functions s at = one_found numbers fixed whole 3 s is.functions at is.section_of_functions

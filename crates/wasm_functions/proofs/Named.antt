@@ -21,6 +21,7 @@ use Rattle.wasm_functions.specs.Names.{name_bytes, bytes_of, function_name, with
 use Rattle.wasm_functions.specs.declared.function_name.FunctionName.{FunctionName}
 use Rattle.wasm_functions.specs.declared.function_name.FunctionName.TheVariants as name
 
+-- Setting an item after the end changes nothing.
 pub set_past_end : {X : Type 0} (xs : List X) (i : ℕ) (x : X) → length xs ≤ i → set xs i x ≡ xs
 set_past_end [] i x h = refl
 set_past_end (y ∷ ys) zero x h = absurd (omega (arith, h))
@@ -62,16 +63,19 @@ none_more : (ss : List SectionParts) (s : SectionParts) → NoneIsNames ss → (
 none_more [] s none other = (other, tt)
 none_more (t ∷ ts) s (first, others) other = (first, none_more ts s others other)
 
+-- One more section, which is not a custom section `name`.
 pub last_stays : (found : Option Reader) (ss : List SectionParts) (s : SectionParts) → LastNames ss found → ((contents : Reader) → IsNames s contents → ⊥) →
     LastNames (ss ++ s ∷ []) found
 last_stays None ss s none other = none_more ss s none other
 last_stays (Some contents) ss s (before, after, t, parts, is, none) other =
     (before, after ++ s ∷ [], t, ap (λ z. z ++ s ∷ []) parts ∙ append_assoc before (t ∷ after) (s ∷ []), is, none_more after s none other)
 
+-- The same bytes are not read as two values.
 pub one_value : {X : Type 0} (P : List ℕ → X → Type 0) → PrefixCode P → (r a b : Reader) (x y : X) → Reads P (Ok x) r a → Reads P (Ok y) r b → x ≡ y
 one_value P code r a b x y (text, is, takes) (other, is_other, takes_other) =
     (code text other (rest a) (rest b) x y is is_other (sym takes.parts ∙ takes_other.parts)).1
 
+-- The data may end after an error.
 may_end : (m : Message) → IsReadFault m → MayFollow m []
 may_end message.EndOfData h = refl
 may_end message.OutOfMemory h = h
@@ -81,19 +85,12 @@ pub not_both : {X : Type 0} (P : List ℕ → X → Type 0) (e : Error) (r b : R
 not_both P e r b x refused (text, is, takes) =
     refused.refuses [] (may_end e.message refused.fault) text (rest b) x is (append-nil (rest r) ∙ takes.parts)
 
-<<<<<<< HEAD
-pub own_named : (imported index : ℕ) (names : List (Bor (List ℕ))) (name : Bor (List ℕ)) → imported ≤ index →
-    bytes_of (set names (index - imported) name) ≡ with_name imported (bytes_of names) index name.now
-own_named imported index names name own =
-    map-set (λ (n : Bor (List ℕ)). n.now) names (index - imported) name ∙
-    sym (ap (λ b. cond b (set (bytes_of names) (index - imported) name.now) (bytes_of names)) (le-leb imported index own))
-=======
 -- A function is named.
 pub one_named : (index : ℕ) (names : List FunctionName) (given : Bor (List ℕ)) →
     bytes_of (set names index (name.Given given)) ≡ set (bytes_of names) index given.now
 one_named index names given = map-set name_bytes names index (name.Given given)
->>>>>>> e461b76a9dfb6556365173cd6d600572fa6cf5ca
 
+-- No bytes are both.
 abbrev IsNot : Bool → Type 0
 IsNot true = ⊥
 IsNot false = Unit {0}
@@ -101,6 +98,7 @@ IsNot false = Unit {0}
 pub is_not : false ≡ true → ⊥
 is_not same = subst IsNot same tt
 
+-- A section with another number.
 other_by : (b : Bool) (found : Option Reader) → (b ≡ true → ⊥) → cond b found None ≡ None
 other_by true found not = absurd (not refl)
 other_by false found not = refl

@@ -1,9 +1,5 @@
-<<<<<<< HEAD
-use Rattle.std.proofs.Common.{◌≡◌, ◌<◌, ℕ, List, [], length, replicate, Option, Some, None, Ok, refl, sym, subst, ap, ◌∙◌, inl, inr, arith}
-=======
 -- If the functions of a module are not known, it has at most one fault; otherwise none except `Memory`.
 use Rattle.std.proofs.Common.{◌≡◌, ◌<◌, ℕ, List, [], ◌++◌, length, replicate, Option, Some, None, Ok, refl, sym, subst, ap, ◌∙◌, inl, inr, arith}
->>>>>>> e461b76a9dfb6556365173cd6d600572fa6cf5ca
 use Rattle.std.specs.Int.{w32}
 use Rattle.std.specs.List.{All}
 use Rattle.wasm_module.specs.below.bytes.error.Error.{Error}
@@ -31,7 +27,10 @@ use Rattle.wasm_functions.proofs.OneTypesFault.{IsNotMemory, no_types_fault, one
 use Rattle.wasm_functions.proofs.Refused.{any_items}
 use Rattle.wasm_functions.proofs.Unique.{one_found}
 
+-- ---- imports
+
 module _ (numbers : PrefixCode (EncodesUnsigned 32)) (code : PrefixCode EncodesImport) where
+  -- An import of no known kind is no import of a known kind.
   unknown_there : (r after : Reader) (i : ImportParts) (byte : ℕ) → Reads EncodesImport (Ok i) r after → i.kind ≡ byte → 4 < byte →
       (x : ImportParts) → (next : Reader) → Reads EncodesImport (Ok x) r next → IsKnownImport x → ⊥
   unknown_there r after i byte reads is above x next reads' known =
@@ -46,6 +45,7 @@ module _ (numbers : PrefixCode (EncodesUnsigned 32)) (code : PrefixCode EncodesI
       (unknown_there b after i byte reads is above) in
       not_both EncodesImport e b after i (subst (λ z. IsRefusal EncodesImport e z) same p.0) reads
 
+  -- Known imports are not in error.
   no_imports_fault : (f : ModuleFault) (contents : Reader) (is : List ImportParts) → ImportsFault f contents → IsList EncodesImport contents is →
       All IsKnownImport is → ⊥
   no_imports_fault (fault.Refused e) contents is p list known = no_list_fault EncodesImport code IsKnownImport numbers ImportFault e contents is p list known
@@ -84,6 +84,8 @@ module _ (numbers : PrefixCode (EncodesUnsigned 32)) (code : PrefixCode EncodesI
     one_imports_fault (fault.TypeKind byte offset) g contents p q = absurd p
     one_imports_fault fault.Memory g contents p q = absurd p
 
+-- ---- functions and exports
+
 module _ (numbers : PrefixCode (EncodesUnsigned 32)) where
   no_functions_fault : (f : ModuleFault) (contents : Reader) (types : List ℕ) → FunctionsFault f contents → IsNotMemory f →
       IsList (EncodesUnsigned 32) contents types → ⊥
@@ -120,11 +122,14 @@ module _ (numbers : PrefixCode (EncodesUnsigned 32)) where
         let P : Error → Type 0 = λ e. ListFault EncodesExport ExportFault IsAny e contents in
         one_refusal P (λ e f p q. one_list_fault EncodesExport code IsAny numbers ExportFault u32 determines e f contents p q) f g p q
 
+-- ---- sections
+
 abbrev reader_or : Reader → Option Reader → Reader
 reader_or r None = r
 reader_or r (Some found) = found
 
 module _ (numbers : PrefixCode (EncodesUnsigned 32)) (fixed : PrefixCode (EncodesFixed w32)) where
+  -- A section that can be read is not in error.
   not_at : {Y : Type 0} (Fault : ModuleFault → Reader → Type 0) (P : Option Reader → Y → Type 0) (f : ModuleFault) (whole : Reader) (id : ℕ) →
       ((contents : Reader) → (y : Y) → Fault f contents → P (Some contents) y → ⊥) → SectionFaultAt f whole id Fault →
       (section : Option Reader) → (y : Y) → IsSection whole id section → P section y → ⊥
@@ -141,6 +146,8 @@ module _ (numbers : PrefixCode (EncodesUnsigned 32)) (fixed : PrefixCode (Encode
     one_at Fault f g whole id one (inr (a, there, p)) (inr (b, there', q)) =
         let same : a ≡ b = ap (λ o. reader_or a o) (one_found numbers fixed whole id (Some a) (Some b) there there') in
         one b (subst (λ z. Fault f z) same p) q
+
+-- ---- all of them
 
 abbrev IsMemory : ModuleFault → Type 0
 IsMemory fault.Memory = Unit {0}
@@ -170,6 +177,7 @@ module _ (numbers : PrefixCode (EncodesUnsigned 32)) (fixed : PrefixCode (Encode
       not_at numbers fixed ExportsFault (λ s names. NamesExported s before names) f whole 7
       (λ contents names fault exported. no_exports_fault numbers exports f contents before names fault exported) p section after there named
 
+  -- A module whose functions are known has no fault.
   no_fault : (f : ModuleFault) (whole : Reader) (t : ModuleFunctions) → IsNotMemory f → ModuleFunctionsFault f whole → DescribesFunctions whole t → ⊥
   no_fault f whole t other (inl p) is = no_types f whole other p (is.signatures, t.parameters, is.section_of_types, is.parameters)
   no_fault f whole t other (inr (inl (types, p))) is = no_imports f whole p (is.imports, t.imported, is.section_of_imports, is.imported)

@@ -1,13 +1,6 @@
-<<<<<<< HEAD
--- Specification: Binary Format, Modules, Export Section and Custom Section; Appendix, Custom
--- Sections, Name Section.
-use Rattle.std.specs.Prelude.{◌≡◌, ◌==◌, ◌≢◌, ◌⊎◌, ◌-◌, ◌<◌, ℕ, List, [], ◌∷◌, ◌++◌, length, map, set, Option, Some, None, Ok, codes, nat_le, if◌then◌else◌}
-use Rattle.std.specs.Borrow.{Bor}
-=======
 -- The names of a module's functions, and the name of the module.
 -- WebAssembly Core Specification 3.0: Binary Format, Modules, Export Section and Custom Section; Appendix, Custom Sections, Name Section.
 use Rattle.std.specs.Prelude.{◌≡◌, ◌==◌, ◌≢◌, ◌⊎◌, ◌<◌, ℕ, List, [], ◌∷◌, ◌++◌, length, map, flat_map, set, Option, Some, None, Ok, codes, if◌then◌else◌}
->>>>>>> e461b76a9dfb6556365173cd6d600572fa6cf5ca
 use Rattle.wasm_module.specs.below.bytes.error.Error.{Error}
 use Rattle.wasm_module.specs.below.Number.{EncodesUnsigned}
 use Rattle.wasm_module.specs.below.Source.{Reader, rest, IsRefusal, Reads}
@@ -20,28 +13,6 @@ use Rattle.wasm_functions.specs.Sections.{SectionsOccur, IsModule, first_with}
 use Rattle.wasm_functions.specs.declared.function_name.FunctionName.{FunctionName}
 use Rattle.wasm_functions.specs.declared.function_name.FunctionName.TheVariants as name
 
-<<<<<<< HEAD
-abbrev pub bytes_of : List (Bor (List ℕ)) → List (List ℕ)
-bytes_of names = map (λ name. name.now) names
-
--- The names after the function with this index got this name. Imported functions come first and
--- have none.
-abbrev pub with_name : ℕ → List (List ℕ) → ℕ → List ℕ → List (List ℕ)
-with_name imported names index name = if nat_le imported index then set names (index - imported) name else names
-
--- The names after these exports. Of two exports of a function, the last names it.
-abbrev pub with_exports : ℕ → List (List ℕ) → List ExportParts → List (List ℕ)
-with_exports imported names [] = names
-with_exports imported names (e ∷ es) = with_exports imported (if e.kind == 0 then with_name imported names e.index e.name else names) es
-
-abbrev pub NamesExported : ℕ → Option Reader → List (List ℕ) → List (List ℕ) → Type 0
-NamesExported imported None before after = after ≡ before
-NamesExported imported (Some contents) before after = (exports : List ExportParts) × IsList EncodesExport contents exports × (after ≡ with_exports imported before exports)
-
-abbrev pub with_names : ℕ → List (List ℕ) → List NameParts → List (List ℕ)
-with_names imported names [] = names
-with_names imported names (n ∷ ns) = with_names imported (with_name imported names n.index n.name) ns
-=======
 -- The bytes of a name. The name of an import is the name of its module, a dot, and its own name.
 abbrev pub name_bytes : FunctionName → List ℕ
 name_bytes (name.Given given) = given.now
@@ -65,7 +36,6 @@ NamesExported (Some contents) before after = (exports : List ExportParts) × IsL
 abbrev pub with_names : List (List ℕ) → List NameParts → List (List ℕ)
 with_names names [] = names
 with_names names (n ∷ ns) = with_names (set names n.index n.name) ns
->>>>>>> e461b76a9dfb6556365173cd6d600572fa6cf5ca
 
 -- After these items of a list, the next item is in error.
 pub record StopsList {X : Type 0} (Encodes : List ℕ → X → Type 0) (contents : Reader) (items : List X) : Type 0 where
@@ -78,15 +48,11 @@ pub record StopsList {X : Type 0} (Encodes : List ℕ → X → Type 0) (content
   pub error : Error
   pub refused : IsRefusal Encodes error end
 
--- The items of a list, or those before the item in error; none if their number is in error.
+-- The items of a list up to an error: all items, or those before the item in error. If the number of items is in error, there are none.
 abbrev pub ReadsItems : {X : Type 0} → (List ℕ → X → Type 0) → Reader → List X → Type 0
 ReadsItems Encodes contents items =
     IsList Encodes contents items ⊎ (StopsList Encodes contents items ⊎ ((error : Error) × IsRefusal (EncodesUnsigned 32) error contents × (items ≡ [])))
 
-<<<<<<< HEAD
--- The names of functions in a custom section `name`, up to an error: in the first subsection with
--- the number 1, if there is one.
-=======
 -- The name of an imported function; nothing for an import of another kind.
 abbrev pub function_name : ImportParts → List (List ℕ)
 function_name i = if i.kind == 0 then (i.module_name ++ (codes "." ++ i.name)) ∷ [] else []
@@ -98,7 +64,6 @@ NamesImported (Some contents) names = (imports : List ImportParts) × ReadsItems
 
 -- The names of functions in the contents of a custom section `name`, up to an error. The first subsection with the number 1 has these names.
 -- If the contents end before it, or a subsection before it is in error, there are none.
->>>>>>> e461b76a9dfb6556365173cd6d600572fa6cf5ca
 pub record GivesNames (contents : Reader) (names : List NameParts) : Type 0 where
   pub before : List SectionParts
   pub mid : Reader
@@ -108,25 +73,21 @@ pub record GivesNames (contents : Reader) (names : List NameParts) : Type 0 wher
       ((s : SectionParts) × (next : Reader) × Reads (EncodesSection mid.features) (Ok s) mid next × (s.id ≡ 1) × ReadsItems EncodesNameAssociation s.contents names) ⊎
       ((names ≡ []) × ((rest mid ≡ []) ⊎ ((error : Error) × IsRefusal (EncodesSection mid.features) error mid)))
 
-<<<<<<< HEAD
-abbrev pub NamesGiven : ℕ → Option Reader → List (List ℕ) → List (List ℕ) → Type 0
-NamesGiven imported None before after = after ≡ before
-NamesGiven imported (Some contents) before after = (names : List NameParts) × GivesNames contents names × (after ≡ with_names imported before names)
-=======
 -- The names before and after a custom section `name`, if this is it.
 abbrev pub NamesGiven : Option Reader → List (List ℕ) → List (List ℕ) → Type 0
 NamesGiven None before after = after ≡ before
 NamesGiven (Some contents) before after = (names : List NameParts) × GivesNames contents names × (after ≡ with_names before names)
->>>>>>> e461b76a9dfb6556365173cd6d600572fa6cf5ca
 
+-- The section is a custom section with the name `name`, followed by these contents.
 abbrev pub IsNames : SectionParts → Reader → Type 0
 IsNames s contents = (s.id ≡ 0) × Reads EncodesName (Ok (codes "name")) s.contents contents
 
+-- None of these sections is a custom section `name`.
 abbrev pub NoneIsNames : List SectionParts → Type 0
 NoneIsNames [] = Unit {0}
 NoneIsNames (s ∷ ss) = ((contents : Reader) → IsNames s contents → ⊥) × NoneIsNames ss
 
--- The contents of the last custom section `name` among these sections.
+-- The contents of the last custom section `name` among these sections, if there is one.
 abbrev pub LastNames : List SectionParts → Option Reader → Type 0
 LastNames sections None = NoneIsNames sections
 LastNames sections (Some contents) = (before after : List SectionParts) × (s : SectionParts) × (sections ≡ before ++ s ∷ after) × IsNames s contents × NoneIsNames after
@@ -135,14 +96,13 @@ LastNames sections (Some contents) = (before after : List SectionParts) × (s : 
 abbrev pub HasNames : Reader → Option Reader → Type 0
 HasNames whole found = (sections : List SectionParts) × IsModule whole sections × LastNames sections found
 
--- The name of the module in the first subsection of a custom section `name`, if that has the number
--- 0.
+-- The name that the first subsection of a custom section `name` assigns to the module: it has the number 0 and contains a name. Otherwise the name is empty.
 abbrev pub NamesFirst : SectionParts → List ℕ → Type 0
 NamesFirst s name =
     ((s.id ≢ 0) × (name ≡ [])) ⊎
     ((s.id ≡ 0) × (((after : Reader) × Reads EncodesName (Ok name) s.contents after) ⊎ ((error : Error) × IsRefusal EncodesName error s.contents × (name ≡ []))))
 
--- The name that a custom section `name` gives the module, or an empty name.
+-- The name that a custom section `name` assigns to the module, if there is one; otherwise the name is empty.
 abbrev pub GivesModule : Option Reader → List ℕ → Type 0
 GivesModule None name = name ≡ []
 GivesModule (Some contents) name =

@@ -19,16 +19,21 @@ use std::alloc::Global;
 use wasm_module::below::WasmFeatures;
 use wasm_module::below::byte_laws::{fixed_numbers, unsigned_numbers};
 
+/// The number of the type section.
 const TYPES: u8 = 1;
 
+/// The number of the import section.
 const IMPORTS: u8 = 2;
 
+/// The number of the function section.
 const FUNCTIONS: u8 = 3;
 
+/// The number of the export section.
 const EXPORTS: u8 = 7;
 
-/// Returns the number of parameters of each type. Fails as `find_section` and `parameter_counts`
-/// do.
+/// Returns the number of parameters of each type.
+///
+/// Fails as `find_section` does, then as `parameter_counts` does for the section.
 pub fn find_parameters(
     alloc: Global,
     features: WasmFeatures,
@@ -49,7 +54,9 @@ pub fn find_parameters(
     }
 }
 
-/// Returns the number of imported functions. Fails as `find_section` and `imported_functions` do.
+/// Returns the number of imported functions.
+///
+/// Fails as `find_section` does, then as `imported_functions` does for the section.
 pub fn find_imported(features: WasmFeatures, bytes: &[u8]) -> Result<u32, ModuleFault>
     ensures ok { IfOk result (λ n. (section : Option Reader) × IsSection (reader_of features 0 bytes.now) 2 section
         × CountsImports section n) }
@@ -66,7 +73,9 @@ pub fn find_imported(features: WasmFeatures, bytes: &[u8]) -> Result<u32, Module
     }
 }
 
-/// Returns the types of the functions. Fails as `find_section` and `function_types` do.
+/// Returns the types of the functions.
+///
+/// Fails as `find_section` does, then as `function_types` does for the section.
 pub fn find_types(
     alloc: Global,
     features: WasmFeatures,
@@ -87,10 +96,6 @@ pub fn find_types(
     }
 }
 
-<<<<<<< HEAD
-fn no_names<'a>(alloc: Global, count: usize) -> Result<Vec<&'a [u8]>, ModuleFault>
-    ensures ok { IfOk result (λ names. bytes_of names.items ≡ replicate count []) }
-=======
 /// Returns the names of the imported functions, up to an error in the import section.
 ///
 /// Fails as `find_section` does. Fails with `Memory` if allocation fails.
@@ -118,7 +123,6 @@ fn find_import_names<'a>(
 /// Fails with `Memory` only.
 fn push_unnamed<'a>(names: &mut Vec<FunctionName<'a>>, count: usize) -> Result<(), ModuleFault>
     ensures ok { OnOk result (bytes_of names.new.items ≡ bytes_of names.old.items ++ replicate count []) }
->>>>>>> e461b76a9dfb6556365173cd6d600572fa6cf5ca
     ensures memory { IfErr result (λ fault. fault ≡ ModuleFault.Memory) }
 {
     for _function in 0..count {
@@ -129,7 +133,9 @@ fn push_unnamed<'a>(names: &mut Vec<FunctionName<'a>>, count: usize) -> Result<(
     Ok(())
 }
 
-/// Sets the names of exported functions. Fails as `find_section` and `name_exports` do.
+/// Sets the names of the functions that are exported.
+///
+/// Fails as `find_section` does, then as `name_exports` does for the section.
 fn set_exports<'a>(
     features: WasmFeatures,
     bytes: &'a [u8],
@@ -150,6 +156,9 @@ fn set_exports<'a>(
     }
 }
 
+/// Sets the names of the functions that the last custom section `name` names.
+///
+/// Fails as `find_names` does.
 fn set_names<'a>(
     features: WasmFeatures,
     bytes: &'a [u8],
@@ -170,16 +179,12 @@ fn set_names<'a>(
     }
 }
 
-<<<<<<< HEAD
-/// Returns the names of this many defined functions: those of exports, replaced by those of the
-/// custom section `name`.
-=======
 /// Returns the names of all functions, by their indices: the imported functions, and then `count`
 /// functions that the module defines. The names of imports are replaced by the names of exports,
 /// and these by the names of the custom section `name`.
->>>>>>> e461b76a9dfb6556365173cd6d600572fa6cf5ca
 ///
-/// Fails with `Memory`, otherwise as finding or reading the export section does.
+/// Fails with `Memory` if allocation fails; otherwise as finding or reading the export section
+/// does.
 pub fn find_function_names<'a>(
     alloc: Global,
     features: WasmFeatures,

@@ -1,9 +1,5 @@
-<<<<<<< HEAD
-ghost use Rattle.std.specs.Prelude.{◌≡◌, ◌↔◌, [], List, IsTrue, IfOk, IfErr};
-=======
 //! The functions of a module.
 ghost use Rattle.std.specs.Prelude.{◌≡◌, ◌↔◌, [], List, length, IsTrue, IfOk, IfErr};
->>>>>>> e461b76a9dfb6556365173cd6d600572fa6cf5ca
 ghost use Rattle.wasm_module.specs.below.Source.{reader_of};
 ghost use Rattle.wasm_module.specs.Module.{SectionParts};
 ghost use Rattle.wasm_functions.specs.Names.{bytes_of};
@@ -21,12 +17,8 @@ use std::marker::Model;
 use wasm_module::below::WasmFeatures;
 use wasm_module::below::byte_laws::{fixed_numbers, unsigned_numbers};
 
-<<<<<<< HEAD
-/// The functions that a module defines, by their ordinals after the imported functions.
-=======
 /// The functions of a module: the functions that it defines, each by its ordinal after the imported
 /// functions, and the names of all functions.
->>>>>>> e461b76a9dfb6556365173cd6d600572fa6cf5ca
 #[derive(Debug, Drop)]
 pub struct Functions<'a> {
     imported: u32,
@@ -50,10 +42,12 @@ impl<'a> Functions<'a> {
     /// exports, the last names the function. After an error in the custom section, no more
     /// functions are named.
     ///
-    /// Fails with `NotModule` if the bytes do not start with the preamble of a module, and with
-    /// `Refused` if the preamble or a section is in error. Otherwise fails with the fault of the
-    /// first section in error: types (`TypeKind`, `Refused`), imports (`ImportKind`, `Refused`),
-    /// functions, exports (`Refused`). Fails with `Memory` if allocation fails.
+    /// Fails with `NotModule` if the bytes do not start with the preamble of a module. Fails with
+    /// `Refused` if the preamble or a section is in error.
+    ///
+    /// Otherwise fails with the fault of the first of four sections that has one: types
+    /// (`TypeKind`, `Refused`), imports (`ImportKind`, `Refused`), functions and exports
+    /// (`Refused`). Fails with `Memory` if allocation fails.
     pub fn new(
         alloc: Global,
         features: WasmFeatures,
@@ -90,9 +84,6 @@ impl<'a> Functions<'a> {
         })
     }
 
-<<<<<<< HEAD
-    /// Returns the function's index, at most 4294967295.
-=======
     /// Returns the number of imported functions.
     pub fn imported(&self) -> u32
         ensures { result ≡ self.now.imported }
@@ -108,7 +99,6 @@ impl<'a> Functions<'a> {
     }
 
     /// Returns the index of the function with this ordinal, at most 4294967295.
->>>>>>> e461b76a9dfb6556365173cd6d600572fa6cf5ca
     pub fn index(&self, ordinal: u32) -> u32
         ensures { result ≡ index_of self.now ordinal }
     {
@@ -133,39 +123,17 @@ impl<'a> Functions<'a> {
         }
     }
 
-<<<<<<< HEAD
-    /// Returns the function's name, or an empty one if it has none or if the name is not UTF-8.
-    pub fn name(&self, ordinal: u32) -> &'a str
-        ensures { result.now ≡ name_at self.now ordinal }
-=======
     /// Returns the names of all functions, by their indices.
     pub fn names(&self) -> &[FunctionName<'a>]
         ensures { bytes_of result.now ≡ self.now.names }
->>>>>>> e461b76a9dfb6556365173cd6d600572fa6cf5ca
     {
         self.names.as_slice()
     }
 }
 
-<<<<<<< HEAD
-#[tactic(auto, using(crate::proofs::Texts::name_is_text, crate::proofs::Texts::name_is_none))]
-fn text_of<'a>(name: &'a [u8]) -> &'a str
-    ensures { result.now ≡ text_of_name name.now }
-{
-    match from_utf8(name) {
-        Ok(text) => text,
-        Err(_) => "",
-    }
-}
-
-/// Returns the name of a module, or an empty one if it has none, if the name is not UTF-8, or if
-/// the bytes are no module.
-pub fn module_name<'a>(features: WasmFeatures, bytes: &'a [u8]) -> &'a str
-=======
 /// Returns the name of a module. It is empty if the module has none, or if the bytes are no module.
 /// Whether it is UTF-8 is not checked.
 pub fn module_name<'a>(features: WasmFeatures, bytes: &'a [u8]) -> &'a [u8]
->>>>>>> e461b76a9dfb6556365173cd6d600572fa6cf5ca
     ensures names { (sections : List SectionParts) → IsModule (reader_of features 0 bytes.now) sections
         → NamesModule (reader_of features 0 bytes.now) result.now }
     ensures none { ((sections : List SectionParts) → IsModule (reader_of features 0 bytes.now) sections → ⊥)

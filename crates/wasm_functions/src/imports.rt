@@ -1,10 +1,6 @@
-<<<<<<< HEAD
-ghost use Rattle.std.specs.Prelude.{ℕ, Some, IfOk, IfErr};
-=======
 //! The number of imported functions, and their names.
 ghost use Rattle.std.specs.Prelude.{◌≡◌, ◌++◌, ℕ, Some, IfOk, IfErr, OnOk};
 ghost use Rattle.wasm_functions.specs.Names.{bytes_of, function_name, NamesImported};
->>>>>>> e461b76a9dfb6556365173cd6d600572fa6cf5ca
 ghost use Rattle.wasm_functions.specs.Refusals.{ImportsFault};
 ghost use Rattle.wasm_functions.specs.ModuleFunctions.{CountsImports};
 
@@ -15,13 +11,10 @@ use wasm_module::below::BinaryReader;
 use wasm_module::below::byte_laws::unsigned_numbers;
 use wasm_module::{Import, module_laws};
 
-<<<<<<< HEAD
-=======
 /// The byte of the kind of functions.
 const FUNCTION: u8 = 0;
 
 /// The byte of the last kind, that of tags.
->>>>>>> e461b76a9dfb6556365173cd6d600572fa6cf5ca
 const TAG: u8 = 4;
 
 /// Returns the number of functions among the imports of a section.

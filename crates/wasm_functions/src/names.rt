@@ -1,9 +1,5 @@
-<<<<<<< HEAD
-ghost use Rattle.std.specs.Prelude.{◌≡◌, ◌∷◌, [], List, Some, IfOk, IfErr};
-=======
 //! The names of functions: those of exports, and those of the custom section `name`.
 ghost use Rattle.std.specs.Prelude.{◌≡◌, ◌∷◌, [], List, set, Some, IfOk, IfErr};
->>>>>>> e461b76a9dfb6556365173cd6d600572fa6cf5ca
 ghost use Rattle.wasm_module.specs.Exports.{ExportParts, EncodesExport};
 ghost use Rattle.wasm_module.specs.Names.{NameParts, EncodesNameAssociation};
 ghost use Rattle.wasm_functions.specs.Items.{IsList};
@@ -16,20 +12,18 @@ use wasm_module::below::BinaryReader;
 use wasm_module::below::byte_laws::unsigned_numbers;
 use wasm_module::{Export, Name, NameAssociation, module_laws, read_section};
 
+/// The byte of the kind of functions.
 const FUNCTION: u8 = 0;
 
+/// The number of the subsection that names the module.
 const MODULE_NAME: u8 = 0;
 
+/// The number of the subsection that names functions.
 const FUNCTION_NAMES: u8 = 1;
 
-<<<<<<< HEAD
-fn set_name<'a>(names: &mut Vec<&'a [u8]>, imported: u32, index: u32, name: &'a [u8])
-    ensures { bytes_of names.new.items ≡ with_name imported (bytes_of names.old.items) index name.now }
-=======
 /// Sets the name of the function with this index, if the module has it.
 fn set_name<'a>(names: &mut Vec<FunctionName<'a>>, index: u32, name: &'a [u8])
     ensures { bytes_of names.new.items ≡ set (bytes_of names.old.items) index name.now }
->>>>>>> e461b76a9dfb6556365173cd6d600572fa6cf5ca
 {
     let place = index as usize;
     if place < names.len() {
@@ -37,14 +31,9 @@ fn set_name<'a>(names: &mut Vec<FunctionName<'a>>, index: u32, name: &'a [u8])
     }
 }
 
-<<<<<<< HEAD
-fn set_exported<'a>(names: &mut Vec<&'a [u8]>, imported: u32, export: &Export<'a>)
-    ensures { bytes_of names.new.items ≡ with_exports imported (bytes_of names.old.items) (export.now ∷ []) }
-=======
 /// Sets the name of the exported function, if the export is a function.
 fn set_exported<'a>(names: &mut Vec<FunctionName<'a>>, export: &Export<'a>)
     ensures { bytes_of names.new.items ≡ with_exports (bytes_of names.old.items) (export.now ∷ []) }
->>>>>>> e461b76a9dfb6556365173cd6d600572fa6cf5ca
 {
     if export.kind() == FUNCTION {
         set_name(names, export.index(), export.name());

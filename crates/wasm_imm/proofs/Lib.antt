@@ -1,4 +1,5 @@
 pub use Rattle.wasm_imm_control.proofs.BlockTypes
+pub use Rattle.wasm_imm_control.proofs.ControlEquality
 pub use Rattle.wasm_imm_control.proofs.Casts
 pub use Rattle.wasm_imm_control.proofs.Faults
 pub use Rattle.wasm_imm_control.proofs.HandlerLemmas
@@ -10,6 +11,7 @@ pub use Rattle.wasm_imm_control.proofs.DeterminedRefusals as DeterminedControlRe
 pub mod DeterminedMemoryArgumentRefusals
 pub mod DeterminedRefusals
 pub mod FlagsNumber
+pub mod ImmediateEquality
 pub mod ImmediatePrefixCodes
 pub mod MemoryArgumentFaults
 pub mod ShortPrefixCodes

@@ -18,5 +18,6 @@ pub mod Indices
 pub mod MemoryArgument
 pub mod MemoryArgumentFaults
 pub mod Orderings
+pub mod Proposal
 pub mod Vectors
 pub use Rattle.wasm_imm_control.specs.below as below

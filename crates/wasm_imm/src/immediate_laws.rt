@@ -1,6 +1,9 @@
+//! Laws of immediates, each the contract of a function that does nothing.
 ghost use Rattle.std.specs.Prelude.{◌≡◌, ℕ, List, ◌++◌, map};
+ghost use Rattle.wasm_imm_control.specs.below.Equality.{IsExact};
 ghost use Rattle.wasm_imm.specs.Immediate.{Immediate, Kind, kind_of, EncodesImmediates};
 
+use crate::{MemArg, Ordering, V128};
 use wasm_imm_control::below::WasmFeatures;
 
 /// States that the encodings of immediates of the same kinds are a prefix code.
@@ -11,4 +14,11 @@ pub fn immediates(features: WasmFeatures)
         → EncodesImmediates features js b
         → a ++ x ≡ b ++ y
         → (is ≡ js) × (a ≡ b) }
+{}
+
+/// States that `==` returns true if and only if two immediates are the same.
+pub fn equality()
+    ensures argument { IsExact ⟦<MemArg as PartialEq>⟧.eq }
+    ensures order { IsExact ⟦<Ordering as PartialEq>⟧.eq }
+    ensures vector { IsExact ⟦<V128 as PartialEq>⟧.eq }
 {}

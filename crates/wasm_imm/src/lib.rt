@@ -15,6 +15,7 @@ mod memory_argument;
 pub mod memory_laws;
 mod operator_info;
 mod ordering;
+mod proposal;
 mod read_immediates;
 
 pub use constants::{Ieee32, Ieee64, V128};
@@ -23,6 +24,7 @@ pub use lanes::{read_lane, read_lanes};
 pub use memory_argument::{MemArg, MemArgKind, MemArgOrdering, MemArgTarget};
 pub use operator_info::OperatorInfo;
 pub use ordering::Ordering;
+pub use proposal::Proposal;
 pub use read_immediates::ReadImmediates;
 pub use wasm_imm_control::{
     BlockType, BrTable, BrTableTargets, Cast, Catch, Catches, Handle, Handles, Members,

@@ -1,6 +1,7 @@
 pub mod BlockTypes
 pub mod BranchTables
 pub mod Casts
+pub mod ControlEquality
 pub mod DeterminedRefusals
 pub mod Faults
 pub mod HandlerTables

@@ -1,11 +1,11 @@
 -- Errors of calls that may allocate.
-use Rattle.std.proofs.Common.{◌≡◌, ◌≢◌, ℕ, ◌+◌, ◌<◌, ◌≤◌, ◌⊎◌, inl, inr, Bool, true, false, List, ◌++◌, length, Ok, refl, sym, subst, ap, ◌∙◌, arith}
+use Rattle.std.proofs.Common.{◌≡◌, ◌≢◌, ℕ, ◌+◌, ◌<◌, ◌≤◌, ◌⊎◌, inl, inr, Bool, true, false, List, ◌++◌, length, Ok, refl, sym, subst, ap, ◌∙◌, append_assoc, arith}
 use Rattle.wasm_below.specs.bytes.error.Error.{Error}
 use Rattle.wasm_below.specs.bytes.message.Message.TheVariants as message
 use Rattle.wasm_below.specs.FromReader.{IsRefused}
 use Rattle.wasm_below.specs.Refusal.{IsReadFault}
 use Rattle.wasm_below.specs.Sequence.{Then, PrefixCode}
-use Rattle.wasm_below.specs.Source.{Reader, rest, offset_of, end_of, at_position, Takes, NoPrefix, MayFollow, IsAhead, IsRefusal, Reads}
+use Rattle.wasm_below.specs.Source.{Reader, rest, offset_of, end_of, at_position, Takes, NoPrefix, SomePrefix, MayFollow, IsAhead, IsRefusal, Reads}
 use Rattle.wasm_below.proofs.TakesLemmas.{back, ahead_before}
 use Rattle.wasm_below.proofs.Sequences.{then_first}
 use Rattle.wasm_imm_control.specs.Lists.{EncodesMany}
@@ -64,3 +64,19 @@ member_refused P takes e old now now2 new text done read count position lean pre
     memory = λ m. absurd (let k : true ≡ false = sym (h.memory m).0 ∙ lean in cc k);
   },
 )
+
+-- ---- which bytes precede an allocation
+
+-- a call that does not allocate reports no allocation failure
+pub not_memory : {X : Type 0} (P : List ℕ → X → Type 0) (e : Error) (old : Reader) → IsRefusal P e old → e.message ≡ message.OutOfMemory → ⊥
+not_memory P e old h m = subst IsReadFault m h.fault
+
+-- what was read is encoded by a prefix
+pub some_read : {X : Type 0} (P : List ℕ → X → Type 0) (old new : Reader) (x : X) → Reads P (Ok x) old new → SomePrefix P (rest old)
+some_read P old new x (text, p, t) = (text, rest new, x, p, t.parts)
+
+-- a first part was read, and a prefix encodes the second
+pub some_then : {X Y : Type 0} (P : List ℕ → X → Type 0) (Q : X → List ℕ → Y → Type 0) (old new : Reader) (x : X) → Reads P (Ok x) old new →
+    SomePrefix (Q x) (rest new) → SomePrefix (Then P Q) (rest old)
+some_then P Q old new x (text, p, t) (after, more, y, q, eq) =
+    (text ++ after, more, y, (text, after, x, refl, p, q), t.parts ∙ ap (λ z. text ++ z) eq ∙ sym (append_assoc text after more))

@@ -1,5 +1,6 @@
 ghost use Rattle.std.specs.Prelude.{◌≡◌, length, true, IfOk, IfErr};
-ghost use Rattle.wasm_imm_control.specs.HandlerTables.{EncodesTryTable, EncodesResumeTable};
+ghost use Rattle.wasm_below.specs.Source.{SomePrefix, rest};
+ghost use Rattle.wasm_imm_control.specs.HandlerTables.{EncodesTryTable, EncodesTryTableCount, EncodesResumeTable, EncodesHandlerCount};
 ghost use Rattle.wasm_imm_control.specs.ListFaults.{TryTableFault, ResumeTableFault};
 ghost use Rattle.wasm_imm_control.specs.OutOfMemory.{IsOutOfMemoryAt};
 
@@ -46,10 +47,13 @@ impl<'a> FromReader<'a> for TryTable {
 
     ghost fault = { λ m r offset. TryTableFault m r offset };
 
-    /// Reads a block type and catches. Specification: Control Instructions.
+    ghost allocates = { λ r. SomePrefix EncodesTryTableCount (rest r) };
+
+    /// Reads a block type and catches. Control Instructions.
     ///
-    /// Fails like `BlockType::read`; then with `SizeOutOfBounds` of `catches` at the start of the
-    /// count if it is above 10000, or like `read_size`; then like `Catch::read`.
+    /// Fails like `BlockType::read`. Then fails with `SizeOutOfBounds` of `catches` at the start of
+    /// the count if it is above 10000, or like `read_size`. Then fails like `Catch::read` at a
+    /// catch. Allocates only after a block type and a count of at most 10000.
     fn from_reader(alloc: Global, reader: &mut BinaryReader<'a>) -> Result<TryTable> {
         let start = reader.current_position();
         let ty = match BlockType::read(reader) {
@@ -101,10 +105,13 @@ impl<'a> FromReader<'a> for ResumeTable {
 
     ghost fault = { λ m r offset. ResumeTableFault m r offset };
 
+    ghost allocates = { λ r. SomePrefix EncodesHandlerCount (rest r) };
+
     /// Reads clauses. Proposal stack switching.
     ///
     /// Fails with `SizeOutOfBounds` of `resume table` at the start of the count if it is above
-    /// 10000, or like `read_size`; then like `Handle::read`.
+    /// 10000, or like `read_size`. Then fails like `Handle::read` at a clause. Allocates only after
+    /// a count of at most 10000.
     fn from_reader(alloc: Global, reader: &mut BinaryReader<'a>) -> Result<ResumeTable> {
         match read_list::<Handle>(alloc, reader, MAX_HANDLERS, SizeName::ResumeTable) {
             Ok(handlers) => Ok(ResumeTable { handlers }),

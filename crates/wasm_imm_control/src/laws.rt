@@ -3,6 +3,7 @@
 ghost use Rattle.std.specs.Prelude.{◌≡◌, ◌<◌, ℕ, List, true};
 ghost use Rattle.wasm_below.specs.bytes.features.WasmFeatures.{WasmFeatures};
 ghost use Rattle.wasm_below.specs.bytes.message.SizeName.{SizeName};
+ghost use Rattle.wasm_below.specs.Equality.{IsExact};
 ghost use Rattle.wasm_below.specs.Fault.{DeterminesRefusal};
 ghost use Rattle.wasm_below.specs.Number.{EncodesUnsigned};
 ghost use Rattle.wasm_below.specs.Sequence.{PrefixCode};
@@ -19,6 +20,7 @@ ghost use Rattle.wasm_imm_control.specs.ListFaults.{ListFault, TryTableFault, Re
 ghost use Rattle.wasm_imm_control.specs.Lists.{EncodesMany};
 ghost use Rattle.wasm_imm_control.specs.BranchTableEquality.{same_table};
 
+use crate::{BlockType, ResumeTable, TryTable};
 use wasm_below::FromReader;
 
 pub fn block_types()
@@ -80,4 +82,12 @@ pub fn equal_tables()
         → EncodesMany (EncodesUnsigned 32) s.count s.targets m
         → EncodesMany (EncodesUnsigned 32) t.count t.targets n
         → (m ≡ n) × (s.default ≡ t.default) }
+{}
+
+/// States that `==` returns true if and only if two immediates are the same.
+pub fn equality()
+    ensures block { IsExact ⟦<BlockType as PartialEq>⟧.eq }
+    ensures table { IsExact same_table }
+    ensures catches { IsExact ⟦<TryTable as PartialEq>⟧.eq }
+    ensures clauses { IsExact ⟦<ResumeTable as PartialEq>⟧.eq }
 {}

@@ -1,7 +1,8 @@
 ghost use Rattle.std.specs.Prelude.{◌≡◌, ◌+◌, ◌≤◌, false, true, IfErr};
 ghost use Rattle.wasm_below.specs.Fault.{HasFault, ManyFault};
 ghost use Rattle.wasm_below.specs.FromReader.{ReadsValue};
-ghost use Rattle.wasm_below.specs.Source.{at_position, offset_of, end_of};
+ghost use Rattle.wasm_below.specs.Number.{EncodesSize};
+ghost use Rattle.wasm_below.specs.Source.{at_position, offset_of, end_of, rest, SomePrefix};
 ghost use Rattle.wasm_imm_control.specs.ListFaults.{ListFault};
 ghost use Rattle.wasm_imm_control.specs.Lists.{EncodesMany, EncodesList};
 ghost use Rattle.wasm_imm_control.specs.OutOfMemory.{IsRefusedFrom};
@@ -13,7 +14,8 @@ use wasm_below::{BinaryReader, Error, FromReader, Message, Result, SizeName};
 /// Reads a count of at most `limit`, and that many members. Allocates once.
 ///
 /// Fails with `SizeOutOfBounds` of `desc` at the start of the count if it is above `limit`, or like
-/// `read_size`; then like `T::from_reader`.
+/// `read_size`. Then fails like `T::from_reader` at a member. Allocation can fail only after a count
+/// within the limit.
 pub fn read_list<'a, T: FromReader<'a>>(
     alloc: Global,
     reader: &mut BinaryReader<'a>,
@@ -25,6 +27,8 @@ pub fn read_list<'a, T: FromReader<'a>>(
         result reader.old reader.new }
     ensures fault { IfErr result (λ e.
         HasFault (ListFault desc limit (T.encodes reader.old.features) T.fault) e reader.old) }
+    ensures memory { IfErr result (λ e. e.message ≡ Message.OutOfMemory
+        → SomePrefix (EncodesSize limit) (rest reader.old)) }
 {
     let start = reader.current_position();
     let count = match reader.read_size(limit, desc) {

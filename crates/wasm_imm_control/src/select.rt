@@ -1,8 +1,8 @@
 ghost use Rattle.std.specs.Prelude.{◌≡◌, true, IfErr};
 ghost use Rattle.wasm_below.specs.Fault.{HasFault};
 ghost use Rattle.wasm_below.specs.FromReader.{ReadsValue};
-ghost use Rattle.wasm_below.specs.Source.{NoPrefix, rest};
-ghost use Rattle.wasm_imm_control.specs.HandlerTables.{EncodesSelect, EncodesOne};
+ghost use Rattle.wasm_below.specs.Source.{NoPrefix, SomePrefix, rest};
+ghost use Rattle.wasm_imm_control.specs.HandlerTables.{EncodesSelect, EncodesOne, EncodesTypeCount};
 ghost use Rattle.wasm_imm_control.specs.ListFaults.{SelectFault};
 
 use crate::lists::{read_members, refuse_from};
@@ -25,12 +25,15 @@ impl Select {
     /// not allocate.
     ///
     /// Fails with `SizeOutOfBounds` of `select types` at the start of the count if it is above 10,
-    /// or like `read_size`; then like `ValType::read`.
+    /// or like `read_size`. Then fails like `ValType::read` at a type. Neither a single
+    /// type nor a count above 10 allocates.
     #[inline(never)]
     pub fn read(alloc: Global, reader: &mut BinaryReader<'_>) -> Result<Select>
         ensures reads { ReadsValue EncodesSelect true result reader.old reader.new }
         ensures lone { IfErr result (λ e. e.message ≡ Message.OutOfMemory
             → NoPrefix EncodesOne (rest reader.old)) }
+        ensures memory { IfErr result (λ e. e.message ≡ Message.OutOfMemory
+            → SomePrefix EncodesTypeCount (rest reader.old)) }
         ensures fault { IfErr result (λ e. HasFault SelectFault e reader.old) }
     {
         let start = reader.current_position();

@@ -1,4 +1,5 @@
 pub mod ByOpcode
+pub mod OperatorEquality
 pub mod OperatorPrefixCode
 pub mod SharedOpcodes
 pub use Rattle.wasm_instr_ops.proofs.of_imm.ImmediatePrefixCodes

@@ -1,11 +1,13 @@
-use Rattle.std.specs.Prelude.{◌≡◌, ◌⊎◌, codes}
+-- Classes of operators.
+use Rattle.std.specs.Prelude.{◌≡◌, ◌⊎◌}
+use Rattle.wasm_instr_ops.specs.imm.declared.proposal.Proposal.TheVariants as proposal
 use Rattle.wasm_instr.specs.declared.operator.Operator.{Operator}
 use Rattle.wasm_instr.specs.declared.operator.Operator.TheVariants as operator
 use Rattle.wasm_instr.specs.Row.{proposal_of}
 
 -- The operator's proposal is simd or relaxed_simd.
 abbrev pub IsSimd : Operator → Type 0
-IsSimd op = (proposal_of op ≡ codes "simd") ⊎ (proposal_of op ≡ codes "relaxed_simd")
+IsSimd op = (proposal_of op ≡ proposal.Simd) ⊎ (proposal_of op ≡ proposal.RelaxedSimd)
 
 -- The operator's variant is Simd.
 abbrev pub IsVector : Operator → Type 0

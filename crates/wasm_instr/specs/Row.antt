@@ -4,6 +4,8 @@
 use Rattle.std.specs.Prelude.{ℕ, List, [], ◌∷◌, Option, Some, None, codes}
 use Rattle.wasm_instr_ops.specs.imm.declared.memory_argument.MemArgKind.TheVariants as kind
 use Rattle.wasm_instr_ops.specs.imm.control.select.Select.TheVariants as select
+use Rattle.wasm_instr_ops.specs.imm.declared.proposal.Proposal.{Proposal}
+use Rattle.wasm_instr_ops.specs.imm.declared.proposal.Proposal.TheVariants as proposal
 use Rattle.wasm_instr.specs.declared.operator.Operator.{Operator}
 use Rattle.wasm_instr.specs.declared.operator.Operator.TheVariants as operator
 use Rattle.wasm_instr_ops.specs.Numeric.{numeric_proposal, numeric_name, numeric_opcode, numeric_immediates}
@@ -14,43 +16,43 @@ use Rattle.wasm_instr_ops.specs.Atomic.{atomic_proposal, atomic_name, atomic_sub
 use Rattle.wasm_instr_ops.specs.imm.Immediate.{Immediate, unsigned_32, signed_32, signed_64, float_32, float_64, memory_argument, memory_index, table_index_32, heap_type, block_type, branch_table, select_types, try_clauses, resume_clauses}
 
 -- The proposal that added the operator.
-abbrev pub proposal_of : Operator → List ℕ
-proposal_of operator.RefEq = codes "gc"
-proposal_of (operator.TypedSelect _) = codes "reference_types"
-proposal_of (operator.TypedSelectMulti _) = codes "reference_types"
-proposal_of (operator.RefNull _) = codes "reference_types"
-proposal_of operator.RefIsNull = codes "reference_types"
-proposal_of (operator.RefFunc _) = codes "reference_types"
-proposal_of (operator.TableGet _) = codes "reference_types"
-proposal_of (operator.TableSet _) = codes "reference_types"
-proposal_of (operator.ReturnCall _) = codes "tail_call"
-proposal_of (operator.ReturnCallIndirect _ _) = codes "tail_call"
-proposal_of (operator.TryTable _) = codes "exceptions"
-proposal_of (operator.Throw _) = codes "exceptions"
-proposal_of operator.ThrowRef = codes "exceptions"
-proposal_of (operator.Try _) = codes "legacy_exceptions"
-proposal_of (operator.Catch _) = codes "legacy_exceptions"
-proposal_of (operator.Rethrow _) = codes "legacy_exceptions"
-proposal_of (operator.Delegate _) = codes "legacy_exceptions"
-proposal_of operator.CatchAll = codes "legacy_exceptions"
-proposal_of (operator.CallRef _) = codes "function_references"
-proposal_of (operator.ReturnCallRef _) = codes "function_references"
-proposal_of operator.RefAsNonNull = codes "function_references"
-proposal_of (operator.BrOnNull _) = codes "function_references"
-proposal_of (operator.BrOnNonNull _) = codes "function_references"
-proposal_of (operator.ContNew _) = codes "stack_switching"
-proposal_of (operator.ContBind _ _) = codes "stack_switching"
-proposal_of (operator.Suspend _) = codes "stack_switching"
-proposal_of (operator.Resume _ _) = codes "stack_switching"
-proposal_of (operator.ResumeThrow _ _ _) = codes "stack_switching"
-proposal_of (operator.ResumeThrowRef _ _) = codes "stack_switching"
-proposal_of (operator.Switch _ _) = codes "stack_switching"
+abbrev pub proposal_of : Operator → Proposal
+proposal_of operator.RefEq = proposal.Gc
+proposal_of (operator.TypedSelect _) = proposal.ReferenceTypes
+proposal_of (operator.TypedSelectMulti _) = proposal.ReferenceTypes
+proposal_of (operator.RefNull _) = proposal.ReferenceTypes
+proposal_of operator.RefIsNull = proposal.ReferenceTypes
+proposal_of (operator.RefFunc _) = proposal.ReferenceTypes
+proposal_of (operator.TableGet _) = proposal.ReferenceTypes
+proposal_of (operator.TableSet _) = proposal.ReferenceTypes
+proposal_of (operator.ReturnCall _) = proposal.TailCall
+proposal_of (operator.ReturnCallIndirect _ _) = proposal.TailCall
+proposal_of (operator.TryTable _) = proposal.Exceptions
+proposal_of (operator.Throw _) = proposal.Exceptions
+proposal_of operator.ThrowRef = proposal.Exceptions
+proposal_of (operator.Try _) = proposal.LegacyExceptions
+proposal_of (operator.Catch _) = proposal.LegacyExceptions
+proposal_of (operator.Rethrow _) = proposal.LegacyExceptions
+proposal_of (operator.Delegate _) = proposal.LegacyExceptions
+proposal_of operator.CatchAll = proposal.LegacyExceptions
+proposal_of (operator.CallRef _) = proposal.FunctionReferences
+proposal_of (operator.ReturnCallRef _) = proposal.FunctionReferences
+proposal_of operator.RefAsNonNull = proposal.FunctionReferences
+proposal_of (operator.BrOnNull _) = proposal.FunctionReferences
+proposal_of (operator.BrOnNonNull _) = proposal.FunctionReferences
+proposal_of (operator.ContNew _) = proposal.StackSwitching
+proposal_of (operator.ContBind _ _) = proposal.StackSwitching
+proposal_of (operator.Suspend _) = proposal.StackSwitching
+proposal_of (operator.Resume _ _) = proposal.StackSwitching
+proposal_of (operator.ResumeThrow _ _ _) = proposal.StackSwitching
+proposal_of (operator.ResumeThrowRef _ _) = proposal.StackSwitching
+proposal_of (operator.Switch _ _) = proposal.StackSwitching
 proposal_of (operator.Numeric op) = numeric_proposal op
 proposal_of (operator.Gc op) = gc_proposal op
 proposal_of (operator.Misc op) = misc_proposal op
 proposal_of (operator.Simd op) = simd_proposal op
 proposal_of (operator.Atomic op) = atomic_proposal op
-proposal_of _ = codes "mvp"
+proposal_of _ = proposal.Mvp
 
 -- The name of the variant.
 abbrev pub name_of : Operator → List ℕ

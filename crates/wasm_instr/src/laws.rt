@@ -1,9 +1,11 @@
 ghost use Rattle.std.specs.Prelude.{◌≡◌, ◌⊎◌, ℕ, List, ◌++◌};
+ghost use Rattle.wasm_instr_ops.specs.below.Equality.{IsExact};
 ghost use Rattle.wasm_instr.specs.declared.operator.Operator.{Operator};
 ghost use Rattle.wasm_instr.specs.Kinds.{IsTypedSelect};
 ghost use Rattle.wasm_instr.specs.Row.{prefix_of, opcode_of, name_of};
 ghost use Rattle.wasm_instr.specs.Encoding.{EncodesOperator};
 
+use crate::Operator;
 use wasm_instr_ops::below::WasmFeatures;
 
 /// States that the encodings of operators are a prefix code, under one set of features.
@@ -21,4 +23,9 @@ pub fn shared_opcodes()
         → prefix_of op ≡ prefix_of other
         → opcode_of op ≡ opcode_of other
         → (name_of op ≡ name_of other) ⊎ (IsTypedSelect op × IsTypedSelect other) }
+{}
+
+/// States that `==` returns true if and only if two operators are the same.
+pub fn equality()
+    ensures { IsExact ⟦<Operator<'static> as PartialEq>⟧.eq }
 {}

@@ -14,7 +14,7 @@ pub use operator::Operator;
 pub use wasm_grammar::FrameKind;
 pub use wasm_instr_ops::imm::{
     BlockType, BrTable, BrTableTargets, Cast, Catch, Catches, Handle, Handles, Ieee32, Ieee64,
-    MemArg, MemArgKind, MemArgOrdering, MemArgTarget, Members, OperatorInfo, Ordering,
+    MemArg, MemArgKind, MemArgOrdering, MemArgTarget, Members, OperatorInfo, Ordering, Proposal,
     ReadImmediates, ResumeTable, Select, SelectTypes, TryTable, V128, read_lane, read_lanes,
     read_memory_index, read_table_index,
 };

@@ -8,7 +8,8 @@ use std::alloc::Global;
 use std::fmt::{self, Debug, Formatter};
 use wasm_instr_ops::below::{HeapType, Result, ValType};
 use wasm_instr_ops::imm::{
-    BlockType, BrTable, Ieee32, Ieee64, MemArg, OperatorInfo, ResumeTable, SelectTypes, TryTable,
+    BlockType, BrTable, Ieee32, Ieee64, MemArg, OperatorInfo, Proposal, ResumeTable, SelectTypes,
+    TryTable,
 };
 use wasm_instr_ops::{AtomicOperator, GcOperator, MiscOperator, NumericOperator};
 use wasm_instr_simd::SimdOperator;
@@ -305,7 +306,7 @@ impl<'a> From<AtomicOperator> for Operator<'a> {
 impl<'a> Operator<'a> {
     /// Returns the row of the operator.
     pub fn info(&self) -> OperatorInfo
-        ensures proposal { result.proposal.now ≡ proposal_of self.now }
+        ensures proposal { result.proposal ≡ proposal_of self.now }
         ensures name { result.name.now ≡ name_of self.now }
         ensures prefix { result.prefix ≡ prefix_of self.now }
         ensures code { result.code ≡ opcode_of self.now }
@@ -325,43 +326,45 @@ impl<'a> Operator<'a> {
         }
     }
 
-    fn proposal(&self) -> &'static str
-        ensures { result.now ≡ proposal_of self.now }
+    /// Returns the proposal that added the operator.
+    fn proposal(&self) -> Proposal
+        ensures { result ≡ proposal_of self.now }
     {
         match self {
-            Operator::RefEq => "gc",
+            Operator::RefEq => Proposal::Gc,
             Operator::TypedSelect { .. }
             | Operator::TypedSelectMulti { .. }
             | Operator::RefNull { .. }
             | Operator::RefIsNull
             | Operator::RefFunc { .. }
             | Operator::TableGet { .. }
-            | Operator::TableSet { .. } => "reference_types",
-            Operator::ReturnCall { .. } | Operator::ReturnCallIndirect { .. } => "tail_call",
-            Operator::TryTable { .. } | Operator::Throw { .. } | Operator::ThrowRef => "exceptions",
+            | Operator::TableSet { .. } => Proposal::ReferenceTypes,
+            Operator::ReturnCall { .. } | Operator::ReturnCallIndirect { .. } => Proposal::TailCall,
+            Operator::TryTable { .. } | Operator::Throw { .. } | Operator::ThrowRef =>
+                Proposal::Exceptions,
             Operator::Try { .. }
             | Operator::Catch { .. }
             | Operator::Rethrow { .. }
             | Operator::Delegate { .. }
-            | Operator::CatchAll => "legacy_exceptions",
+            | Operator::CatchAll => Proposal::LegacyExceptions,
             Operator::CallRef { .. }
             | Operator::ReturnCallRef { .. }
             | Operator::RefAsNonNull
             | Operator::BrOnNull { .. }
-            | Operator::BrOnNonNull { .. } => "function_references",
+            | Operator::BrOnNonNull { .. } => Proposal::FunctionReferences,
             Operator::ContNew { .. }
             | Operator::ContBind { .. }
             | Operator::Suspend { .. }
             | Operator::Resume { .. }
             | Operator::ResumeThrow { .. }
             | Operator::ResumeThrowRef { .. }
-            | Operator::Switch { .. } => "stack_switching",
+            | Operator::Switch { .. } => Proposal::StackSwitching,
             Operator::Numeric(op) => op.info().proposal,
             Operator::Gc(op) => op.info().proposal,
             Operator::Misc(op) => op.info().proposal,
             Operator::Simd(op) => op.info().proposal,
             Operator::Atomic(op) => op.info().proposal,
-            _ => "mvp",
+            _ => Proposal::Mvp,
         }
     }
 

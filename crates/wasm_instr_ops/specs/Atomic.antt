@@ -5,52 +5,54 @@ use Rattle.std.specs.Prelude.{ℕ, List, [], ◌∷◌, codes}
 use Rattle.wasm_imm.specs.declared.memory_argument.MemArgKind.TheVariants as kind
 use Rattle.wasm_instr_ops.specs.declared.atomic.AtomicFields.{AtomicFields}
 use Rattle.wasm_instr_ops.specs.declared.atomic.AtomicFields.TheVariants as fields
+use Rattle.wasm_imm.specs.declared.proposal.Proposal.{Proposal}
+use Rattle.wasm_imm.specs.declared.proposal.Proposal.TheVariants as proposal
 use Rattle.wasm_instr_ops.specs.declared.atomic.AtomicOperator.{AtomicOperator}
 use Rattle.wasm_instr_ops.specs.declared.atomic.AtomicOperator.TheVariants as atomic
 use Rattle.wasm_imm.specs.Immediate.{Immediate, unsigned_32, memory_argument, order, fence_order}
 
--- The proposal.
-abbrev pub atomic_proposal : AtomicOperator → List ℕ
-atomic_proposal (atomic.GlobalAtomicGet _ _) = codes "shared_everything_threads"
-atomic_proposal (atomic.GlobalAtomicSet _ _) = codes "shared_everything_threads"
-atomic_proposal (atomic.GlobalAtomicRmwAdd _ _) = codes "shared_everything_threads"
-atomic_proposal (atomic.GlobalAtomicRmwSub _ _) = codes "shared_everything_threads"
-atomic_proposal (atomic.GlobalAtomicRmwAnd _ _) = codes "shared_everything_threads"
-atomic_proposal (atomic.GlobalAtomicRmwOr _ _) = codes "shared_everything_threads"
-atomic_proposal (atomic.GlobalAtomicRmwXor _ _) = codes "shared_everything_threads"
-atomic_proposal (atomic.GlobalAtomicRmwXchg _ _) = codes "shared_everything_threads"
-atomic_proposal (atomic.GlobalAtomicRmwCmpxchg _ _) = codes "shared_everything_threads"
-atomic_proposal (atomic.TableAtomicGet _ _) = codes "shared_everything_threads"
-atomic_proposal (atomic.TableAtomicSet _ _) = codes "shared_everything_threads"
-atomic_proposal (atomic.TableAtomicRmwXchg _ _) = codes "shared_everything_threads"
-atomic_proposal (atomic.TableAtomicRmwCmpxchg _ _) = codes "shared_everything_threads"
-atomic_proposal (atomic.StructAtomicGet _ _ _) = codes "shared_everything_threads"
-atomic_proposal (atomic.StructAtomicGetS _ _ _) = codes "shared_everything_threads"
-atomic_proposal (atomic.StructAtomicGetU _ _ _) = codes "shared_everything_threads"
-atomic_proposal (atomic.StructAtomicSet _ _ _) = codes "shared_everything_threads"
-atomic_proposal (atomic.StructAtomicRmwAdd _ _ _) = codes "shared_everything_threads"
-atomic_proposal (atomic.StructAtomicRmwSub _ _ _) = codes "shared_everything_threads"
-atomic_proposal (atomic.StructAtomicRmwAnd _ _ _) = codes "shared_everything_threads"
-atomic_proposal (atomic.StructAtomicRmwOr _ _ _) = codes "shared_everything_threads"
-atomic_proposal (atomic.StructAtomicRmwXor _ _ _) = codes "shared_everything_threads"
-atomic_proposal (atomic.StructAtomicRmwXchg _ _ _) = codes "shared_everything_threads"
-atomic_proposal (atomic.StructAtomicRmwCmpxchg _ _ _) = codes "shared_everything_threads"
-atomic_proposal (atomic.ArrayAtomicGet _ _) = codes "shared_everything_threads"
-atomic_proposal (atomic.ArrayAtomicGetS _ _) = codes "shared_everything_threads"
-atomic_proposal (atomic.ArrayAtomicGetU _ _) = codes "shared_everything_threads"
-atomic_proposal (atomic.ArrayAtomicSet _ _) = codes "shared_everything_threads"
-atomic_proposal (atomic.ArrayAtomicRmwAdd _ _) = codes "shared_everything_threads"
-atomic_proposal (atomic.ArrayAtomicRmwSub _ _) = codes "shared_everything_threads"
-atomic_proposal (atomic.ArrayAtomicRmwAnd _ _) = codes "shared_everything_threads"
-atomic_proposal (atomic.ArrayAtomicRmwOr _ _) = codes "shared_everything_threads"
-atomic_proposal (atomic.ArrayAtomicRmwXor _ _) = codes "shared_everything_threads"
-atomic_proposal (atomic.ArrayAtomicRmwXchg _ _) = codes "shared_everything_threads"
-atomic_proposal (atomic.ArrayAtomicRmwCmpxchg _ _) = codes "shared_everything_threads"
-atomic_proposal atomic.RefI31Shared = codes "shared_everything_threads"
-atomic_proposal atomic.Pause = codes "acquire_release_atomics"
-atomic_proposal _ = codes "threads"
+-- The proposal that added the operator.
+abbrev pub atomic_proposal : AtomicOperator → Proposal
+atomic_proposal (atomic.GlobalAtomicGet _ _) = proposal.SharedEverythingThreads
+atomic_proposal (atomic.GlobalAtomicSet _ _) = proposal.SharedEverythingThreads
+atomic_proposal (atomic.GlobalAtomicRmwAdd _ _) = proposal.SharedEverythingThreads
+atomic_proposal (atomic.GlobalAtomicRmwSub _ _) = proposal.SharedEverythingThreads
+atomic_proposal (atomic.GlobalAtomicRmwAnd _ _) = proposal.SharedEverythingThreads
+atomic_proposal (atomic.GlobalAtomicRmwOr _ _) = proposal.SharedEverythingThreads
+atomic_proposal (atomic.GlobalAtomicRmwXor _ _) = proposal.SharedEverythingThreads
+atomic_proposal (atomic.GlobalAtomicRmwXchg _ _) = proposal.SharedEverythingThreads
+atomic_proposal (atomic.GlobalAtomicRmwCmpxchg _ _) = proposal.SharedEverythingThreads
+atomic_proposal (atomic.TableAtomicGet _ _) = proposal.SharedEverythingThreads
+atomic_proposal (atomic.TableAtomicSet _ _) = proposal.SharedEverythingThreads
+atomic_proposal (atomic.TableAtomicRmwXchg _ _) = proposal.SharedEverythingThreads
+atomic_proposal (atomic.TableAtomicRmwCmpxchg _ _) = proposal.SharedEverythingThreads
+atomic_proposal (atomic.StructAtomicGet _ _ _) = proposal.SharedEverythingThreads
+atomic_proposal (atomic.StructAtomicGetS _ _ _) = proposal.SharedEverythingThreads
+atomic_proposal (atomic.StructAtomicGetU _ _ _) = proposal.SharedEverythingThreads
+atomic_proposal (atomic.StructAtomicSet _ _ _) = proposal.SharedEverythingThreads
+atomic_proposal (atomic.StructAtomicRmwAdd _ _ _) = proposal.SharedEverythingThreads
+atomic_proposal (atomic.StructAtomicRmwSub _ _ _) = proposal.SharedEverythingThreads
+atomic_proposal (atomic.StructAtomicRmwAnd _ _ _) = proposal.SharedEverythingThreads
+atomic_proposal (atomic.StructAtomicRmwOr _ _ _) = proposal.SharedEverythingThreads
+atomic_proposal (atomic.StructAtomicRmwXor _ _ _) = proposal.SharedEverythingThreads
+atomic_proposal (atomic.StructAtomicRmwXchg _ _ _) = proposal.SharedEverythingThreads
+atomic_proposal (atomic.StructAtomicRmwCmpxchg _ _ _) = proposal.SharedEverythingThreads
+atomic_proposal (atomic.ArrayAtomicGet _ _) = proposal.SharedEverythingThreads
+atomic_proposal (atomic.ArrayAtomicGetS _ _) = proposal.SharedEverythingThreads
+atomic_proposal (atomic.ArrayAtomicGetU _ _) = proposal.SharedEverythingThreads
+atomic_proposal (atomic.ArrayAtomicSet _ _) = proposal.SharedEverythingThreads
+atomic_proposal (atomic.ArrayAtomicRmwAdd _ _) = proposal.SharedEverythingThreads
+atomic_proposal (atomic.ArrayAtomicRmwSub _ _) = proposal.SharedEverythingThreads
+atomic_proposal (atomic.ArrayAtomicRmwAnd _ _) = proposal.SharedEverythingThreads
+atomic_proposal (atomic.ArrayAtomicRmwOr _ _) = proposal.SharedEverythingThreads
+atomic_proposal (atomic.ArrayAtomicRmwXor _ _) = proposal.SharedEverythingThreads
+atomic_proposal (atomic.ArrayAtomicRmwXchg _ _) = proposal.SharedEverythingThreads
+atomic_proposal (atomic.ArrayAtomicRmwCmpxchg _ _) = proposal.SharedEverythingThreads
+atomic_proposal atomic.RefI31Shared = proposal.SharedEverythingThreads
+atomic_proposal atomic.Pause = proposal.AcquireReleaseAtomics
+atomic_proposal _ = proposal.Threads
 
--- The variant's name.
+-- The name of the variant.
 abbrev pub atomic_name : AtomicOperator → List ℕ
 atomic_name (atomic.MemoryAtomicNotify _) = codes "MemoryAtomicNotify"
 atomic_name (atomic.MemoryAtomicWait32 _) = codes "MemoryAtomicWait32"

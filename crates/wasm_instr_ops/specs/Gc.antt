@@ -2,22 +2,24 @@
 -- The rows of the operators with the prefix byte 0xfb, by columns.
 -- Specification: Binary Format, Aggregate Instructions; proposal custom descriptors.
 use Rattle.std.specs.Prelude.{ℕ, List, [], ◌∷◌, codes}
+use Rattle.wasm_imm.specs.declared.proposal.Proposal.{Proposal}
+use Rattle.wasm_imm.specs.declared.proposal.Proposal.TheVariants as proposal
 use Rattle.wasm_instr_ops.specs.declared.gc.GcOperator.{GcOperator}
 use Rattle.wasm_instr_ops.specs.declared.gc.GcOperator.TheVariants as gc
 use Rattle.wasm_imm.specs.Immediate.{Immediate, unsigned_32, heap_type, cast}
 
--- The proposal.
-abbrev pub gc_proposal : GcOperator → List ℕ
-gc_proposal (gc.StructNewDesc _) = codes "custom_descriptors"
-gc_proposal (gc.StructNewDefaultDesc _) = codes "custom_descriptors"
-gc_proposal (gc.RefGetDesc _) = codes "custom_descriptors"
-gc_proposal (gc.RefCastDescEqNonNull _) = codes "custom_descriptors"
-gc_proposal (gc.RefCastDescEqNullable _) = codes "custom_descriptors"
-gc_proposal (gc.BrOnCastDescEq _ _ _) = codes "custom_descriptors"
-gc_proposal (gc.BrOnCastDescEqFail _ _ _) = codes "custom_descriptors"
-gc_proposal _ = codes "gc"
+-- The proposal that added the operator.
+abbrev pub gc_proposal : GcOperator → Proposal
+gc_proposal (gc.StructNewDesc _) = proposal.CustomDescriptors
+gc_proposal (gc.StructNewDefaultDesc _) = proposal.CustomDescriptors
+gc_proposal (gc.RefGetDesc _) = proposal.CustomDescriptors
+gc_proposal (gc.RefCastDescEqNonNull _) = proposal.CustomDescriptors
+gc_proposal (gc.RefCastDescEqNullable _) = proposal.CustomDescriptors
+gc_proposal (gc.BrOnCastDescEq _ _ _) = proposal.CustomDescriptors
+gc_proposal (gc.BrOnCastDescEqFail _ _ _) = proposal.CustomDescriptors
+gc_proposal _ = proposal.Gc
 
--- The variant's name.
+-- The name of the variant.
 abbrev pub gc_name : GcOperator → List ℕ
 gc_name (gc.StructNew _) = codes "StructNew"
 gc_name (gc.StructNewDefault _) = codes "StructNewDefault"

@@ -2,30 +2,32 @@
 -- The rows of the operators with the prefix byte 0xfc, by columns.
 -- Specification: Binary Format, Numeric, Memory and Table Instructions; proposals memory control and wide arithmetic.
 use Rattle.std.specs.Prelude.{ℕ, List, [], ◌∷◌, codes}
+use Rattle.wasm_imm.specs.declared.proposal.Proposal.{Proposal}
+use Rattle.wasm_imm.specs.declared.proposal.Proposal.TheVariants as proposal
 use Rattle.wasm_instr_ops.specs.declared.misc.MiscOperator.{MiscOperator}
 use Rattle.wasm_instr_ops.specs.declared.misc.MiscOperator.TheVariants as misc
 use Rattle.wasm_imm.specs.Immediate.{Immediate, unsigned_32}
 
--- The proposal.
-abbrev pub misc_proposal : MiscOperator → List ℕ
-misc_proposal (misc.MemoryInit _ _) = codes "bulk_memory"
-misc_proposal (misc.DataDrop _) = codes "bulk_memory"
-misc_proposal (misc.MemoryCopy _ _) = codes "bulk_memory"
-misc_proposal (misc.MemoryFill _) = codes "bulk_memory"
-misc_proposal (misc.TableInit _ _) = codes "bulk_memory"
-misc_proposal (misc.ElemDrop _) = codes "bulk_memory"
-misc_proposal (misc.TableCopy _ _) = codes "bulk_memory"
-misc_proposal (misc.TableFill _) = codes "reference_types"
-misc_proposal (misc.TableGrow _) = codes "reference_types"
-misc_proposal (misc.TableSize _) = codes "reference_types"
-misc_proposal (misc.MemoryDiscard _) = codes "memory_control"
-misc_proposal misc.I64Add128 = codes "wide_arithmetic"
-misc_proposal misc.I64Sub128 = codes "wide_arithmetic"
-misc_proposal misc.I64MulWideS = codes "wide_arithmetic"
-misc_proposal misc.I64MulWideU = codes "wide_arithmetic"
-misc_proposal _ = codes "saturating_float_to_int"
+-- The proposal that added the operator.
+abbrev pub misc_proposal : MiscOperator → Proposal
+misc_proposal (misc.MemoryInit _ _) = proposal.BulkMemory
+misc_proposal (misc.DataDrop _) = proposal.BulkMemory
+misc_proposal (misc.MemoryCopy _ _) = proposal.BulkMemory
+misc_proposal (misc.MemoryFill _) = proposal.BulkMemory
+misc_proposal (misc.TableInit _ _) = proposal.BulkMemory
+misc_proposal (misc.ElemDrop _) = proposal.BulkMemory
+misc_proposal (misc.TableCopy _ _) = proposal.BulkMemory
+misc_proposal (misc.TableFill _) = proposal.ReferenceTypes
+misc_proposal (misc.TableGrow _) = proposal.ReferenceTypes
+misc_proposal (misc.TableSize _) = proposal.ReferenceTypes
+misc_proposal (misc.MemoryDiscard _) = proposal.MemoryControl
+misc_proposal misc.I64Add128 = proposal.WideArithmetic
+misc_proposal misc.I64Sub128 = proposal.WideArithmetic
+misc_proposal misc.I64MulWideS = proposal.WideArithmetic
+misc_proposal misc.I64MulWideU = proposal.WideArithmetic
+misc_proposal _ = proposal.SaturatingFloatToInt
 
--- The variant's name.
+-- The name of the variant.
 abbrev pub misc_name : MiscOperator → List ℕ
 misc_name misc.I32TruncSatF32S = codes "I32TruncSatF32S"
 misc_name misc.I32TruncSatF32U = codes "I32TruncSatF32U"

@@ -2,20 +2,22 @@
 -- The rows of the numeric operators of one byte, by columns.
 -- Specification: Binary Format, Numeric Instructions.
 use Rattle.std.specs.Prelude.{ℕ, List, [], codes}
+use Rattle.wasm_imm.specs.declared.proposal.Proposal.{Proposal}
+use Rattle.wasm_imm.specs.declared.proposal.Proposal.TheVariants as proposal
 use Rattle.wasm_instr_ops.specs.declared.numeric.NumericOperator.{NumericOperator}
 use Rattle.wasm_instr_ops.specs.declared.numeric.NumericOperator.TheVariants as numeric
 use Rattle.wasm_imm.specs.Immediate.{Immediate}
 
--- The proposal.
-abbrev pub numeric_proposal : NumericOperator → List ℕ
-numeric_proposal numeric.I32Extend8S = codes "sign_extension"
-numeric_proposal numeric.I32Extend16S = codes "sign_extension"
-numeric_proposal numeric.I64Extend8S = codes "sign_extension"
-numeric_proposal numeric.I64Extend16S = codes "sign_extension"
-numeric_proposal numeric.I64Extend32S = codes "sign_extension"
-numeric_proposal _ = codes "mvp"
+-- The proposal that added the operator.
+abbrev pub numeric_proposal : NumericOperator → Proposal
+numeric_proposal numeric.I32Extend8S = proposal.SignExtension
+numeric_proposal numeric.I32Extend16S = proposal.SignExtension
+numeric_proposal numeric.I64Extend8S = proposal.SignExtension
+numeric_proposal numeric.I64Extend16S = proposal.SignExtension
+numeric_proposal numeric.I64Extend32S = proposal.SignExtension
+numeric_proposal _ = proposal.Mvp
 
--- The variant's name.
+-- The name of the variant.
 abbrev pub numeric_name : NumericOperator → List ℕ
 numeric_name numeric.I32Eqz = codes "I32Eqz"
 numeric_name numeric.I32Eq = codes "I32Eq"

@@ -4,7 +4,7 @@ ghost use Rattle.std.specs.Ordering.{on, eq_of_both};
 ghost use Rattle.wasm_instr_ops.specs.Atomic.{atomic_proposal, atomic_name, atomic_subopcode, atomic_fields};
 
 use std::fmt::{self, Debug, Formatter};
-use wasm_imm::{MemArg, OperatorInfo, Ordering};
+use wasm_imm::{MemArg, OperatorInfo, Ordering, Proposal};
 
 /// The operators with the prefix byte 0xfe. Proposals threads, shared-everything threads and
 /// acquire-release atomics.
@@ -369,7 +369,7 @@ pub enum AtomicOperator {
 impl AtomicOperator {
     /// Returns the row of the operator.
     pub fn info(&self) -> OperatorInfo
-        ensures proposal { result.proposal.now ≡ atomic_proposal self.now }
+        ensures proposal { result.proposal ≡ atomic_proposal self.now }
         ensures name { result.name.now ≡ atomic_name self.now }
         ensures prefix { result.prefix ≡ Some 0xfe }
         ensures code { result.code ≡ atomic_subopcode self.now }
@@ -382,8 +382,9 @@ impl AtomicOperator {
         }
     }
 
-    fn proposal(&self) -> &'static str
-        ensures { result.now ≡ atomic_proposal self.now }
+    /// Returns the proposal that added the operator.
+    fn proposal(&self) -> Proposal
+        ensures { result ≡ atomic_proposal self.now }
     {
         match self {
             AtomicOperator::GlobalAtomicGet { .. }
@@ -421,9 +422,9 @@ impl AtomicOperator {
             | AtomicOperator::ArrayAtomicRmwXor { .. }
             | AtomicOperator::ArrayAtomicRmwXchg { .. }
             | AtomicOperator::ArrayAtomicRmwCmpxchg { .. }
-            | AtomicOperator::RefI31Shared => "shared_everything_threads",
-            AtomicOperator::Pause => "acquire_release_atomics",
-            _ => "threads",
+            | AtomicOperator::RefI31Shared => Proposal::SharedEverythingThreads,
+            AtomicOperator::Pause => Proposal::AcquireReleaseAtomics,
+            _ => Proposal::Threads,
         }
     }
 

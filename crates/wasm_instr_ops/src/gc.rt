@@ -2,8 +2,8 @@
 ghost use Rattle.std.specs.Prelude.{◌≡◌};
 ghost use Rattle.wasm_instr_ops.specs.Gc.{gc_proposal, gc_name, gc_subopcode};
 
-use wasm_imm::OperatorInfo;
 use wasm_imm::below::{HeapType, RefType};
+use wasm_imm::{OperatorInfo, Proposal};
 
 /// The operators with the prefix byte 0xfb: structures, arrays and casts. Aggregate Instructions, and
 /// the proposal custom descriptors.
@@ -134,7 +134,7 @@ pub enum GcOperator {
 impl GcOperator {
     /// Returns the row of the operator.
     pub fn info(&self) -> OperatorInfo
-        ensures proposal { result.proposal.now ≡ gc_proposal self.now }
+        ensures proposal { result.proposal ≡ gc_proposal self.now }
         ensures name { result.name.now ≡ gc_name self.now }
         ensures prefix { result.prefix ≡ Some 0xfb }
         ensures code { result.code ≡ gc_subopcode self.now }
@@ -147,8 +147,9 @@ impl GcOperator {
         }
     }
 
-    fn proposal(&self) -> &'static str
-        ensures { result.now ≡ gc_proposal self.now }
+    /// Returns the proposal that added the operator.
+    fn proposal(&self) -> Proposal
+        ensures { result ≡ gc_proposal self.now }
     {
         match self {
             GcOperator::StructNewDesc { .. }
@@ -157,8 +158,8 @@ impl GcOperator {
             | GcOperator::RefCastDescEqNonNull { .. }
             | GcOperator::RefCastDescEqNullable { .. }
             | GcOperator::BrOnCastDescEq { .. }
-            | GcOperator::BrOnCastDescEqFail { .. } => "custom_descriptors",
-            _ => "gc",
+            | GcOperator::BrOnCastDescEqFail { .. } => Proposal::CustomDescriptors,
+            _ => Proposal::Gc,
         }
     }
 

@@ -18,8 +18,8 @@ pub mod imm {
     pub use wasm_imm::{
         BlockType, BrTable, BrTableTargets, Cast, Catch, Catches, Handle, Handles, Ieee32, Ieee64,
         MemArg, MemArgKind, MemArgOrdering, MemArgTarget, Members, OperatorInfo, Ordering,
-        ReadImmediates, ResumeTable, Select, SelectTypes, TryTable, V128, constant_laws,
-        control_laws, memory_laws, read_lane, read_lanes, read_memory_index, read_table_index,
-        refuse_from,
+        Proposal, ReadImmediates, ResumeTable, Select, SelectTypes, TryTable, V128, constant_laws,
+        control_laws, immediate_laws, memory_laws, read_lane, read_lanes, read_memory_index,
+        read_table_index, refuse_from,
     };
 }

@@ -2,7 +2,7 @@
 ghost use Rattle.std.specs.Prelude.{◌≡◌};
 ghost use Rattle.wasm_instr_ops.specs.Misc.{misc_proposal, misc_name, misc_subopcode};
 
-use wasm_imm::OperatorInfo;
+use wasm_imm::{OperatorInfo, Proposal};
 
 /// The operators with the prefix byte 0xfc: saturating truncations, bulk memory, tables and wide
 /// arithmetic. Numeric, Memory and Table Instructions, and the proposals memory control and wide
@@ -37,7 +37,7 @@ pub enum MiscOperator {
 impl MiscOperator {
     /// Returns the row of the operator.
     pub fn info(&self) -> OperatorInfo
-        ensures proposal { result.proposal.now ≡ misc_proposal self.now }
+        ensures proposal { result.proposal ≡ misc_proposal self.now }
         ensures name { result.name.now ≡ misc_name self.now }
         ensures prefix { result.prefix ≡ Some 0xfc }
         ensures code { result.code ≡ misc_subopcode self.now }
@@ -50,8 +50,9 @@ impl MiscOperator {
         }
     }
 
-    fn proposal(&self) -> &'static str
-        ensures { result.now ≡ misc_proposal self.now }
+    /// Returns the proposal that added the operator.
+    fn proposal(&self) -> Proposal
+        ensures { result ≡ misc_proposal self.now }
     {
         match self {
             MiscOperator::MemoryInit { .. }
@@ -60,16 +61,16 @@ impl MiscOperator {
             | MiscOperator::MemoryFill { .. }
             | MiscOperator::TableInit { .. }
             | MiscOperator::ElemDrop { .. }
-            | MiscOperator::TableCopy { .. } => "bulk_memory",
+            | MiscOperator::TableCopy { .. } => Proposal::BulkMemory,
             MiscOperator::TableFill { .. }
             | MiscOperator::TableGrow { .. }
-            | MiscOperator::TableSize { .. } => "reference_types",
-            MiscOperator::MemoryDiscard { .. } => "memory_control",
+            | MiscOperator::TableSize { .. } => Proposal::ReferenceTypes,
+            MiscOperator::MemoryDiscard { .. } => Proposal::MemoryControl,
             MiscOperator::I64Add128
             | MiscOperator::I64Sub128
             | MiscOperator::I64MulWideS
-            | MiscOperator::I64MulWideU => "wide_arithmetic",
-            _ => "saturating_float_to_int",
+            | MiscOperator::I64MulWideU => Proposal::WideArithmetic,
+            _ => Proposal::SaturatingFloatToInt,
         }
     }
 

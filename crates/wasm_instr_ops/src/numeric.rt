@@ -3,7 +3,7 @@ ghost use Rattle.std.specs.Prelude.{◌≡◌};
 ghost use Rattle.wasm_instr_ops.specs.Numeric.{numeric_proposal, numeric_name, numeric_opcode};
 
 use std::fmt::{self, Debug, Formatter};
-use wasm_imm::OperatorInfo;
+use wasm_imm::{OperatorInfo, Proposal};
 
 /// The numeric operators of one byte, 0x45 to 0xc4, which have no immediates. Numeric Instructions.
 #[derive(Clone, Copy, PartialEq, Eq)]
@@ -141,7 +141,7 @@ pub enum NumericOperator {
 impl NumericOperator {
     /// Returns the row of the operator.
     pub fn info(&self) -> OperatorInfo
-        ensures proposal { result.proposal.now ≡ numeric_proposal self.now }
+        ensures proposal { result.proposal ≡ numeric_proposal self.now }
         ensures name { result.name.now ≡ numeric_name self.now }
         ensures prefix { result.prefix ≡ None }
         ensures code { result.code ≡ numeric_opcode self.now }
@@ -154,16 +154,17 @@ impl NumericOperator {
         }
     }
 
-    fn proposal(&self) -> &'static str
-        ensures { result.now ≡ numeric_proposal self.now }
+    /// Returns the proposal that added the operator.
+    fn proposal(&self) -> Proposal
+        ensures { result ≡ numeric_proposal self.now }
     {
         match self {
             NumericOperator::I32Extend8S
             | NumericOperator::I32Extend16S
             | NumericOperator::I64Extend8S
             | NumericOperator::I64Extend16S
-            | NumericOperator::I64Extend32S => "sign_extension",
-            _ => "mvp",
+            | NumericOperator::I64Extend32S => Proposal::SignExtension,
+            _ => Proposal::Mvp,
         }
     }
 

@@ -1,1 +1,2 @@
 pub mod SimdByOpcode
+pub mod SimdEquality

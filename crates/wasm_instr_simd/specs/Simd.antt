@@ -3,35 +3,37 @@
 -- Specification: Binary Format, Vector Instructions.
 use Rattle.std.specs.Prelude.{ℕ, List, [], ◌∷◌, codes}
 use Rattle.wasm_imm.specs.declared.memory_argument.MemArgKind.TheVariants as kind
+use Rattle.wasm_imm.specs.declared.proposal.Proposal.{Proposal}
+use Rattle.wasm_imm.specs.declared.proposal.Proposal.TheVariants as proposal
 use Rattle.wasm_instr_simd.specs.declared.simd.SimdOperator.{SimdOperator}
 use Rattle.wasm_instr_simd.specs.declared.simd.SimdOperator.TheVariants as simd
 use Rattle.wasm_imm.specs.Immediate.{Immediate, vector, one_lane, sixteen_lanes, memory_argument}
 
--- The proposal.
-abbrev pub simd_proposal : SimdOperator → List ℕ
-simd_proposal simd.I8x16RelaxedSwizzle = codes "relaxed_simd"
-simd_proposal simd.I32x4RelaxedTruncF32x4S = codes "relaxed_simd"
-simd_proposal simd.I32x4RelaxedTruncF32x4U = codes "relaxed_simd"
-simd_proposal simd.I32x4RelaxedTruncF64x2SZero = codes "relaxed_simd"
-simd_proposal simd.I32x4RelaxedTruncF64x2UZero = codes "relaxed_simd"
-simd_proposal simd.F32x4RelaxedMadd = codes "relaxed_simd"
-simd_proposal simd.F32x4RelaxedNmadd = codes "relaxed_simd"
-simd_proposal simd.F64x2RelaxedMadd = codes "relaxed_simd"
-simd_proposal simd.F64x2RelaxedNmadd = codes "relaxed_simd"
-simd_proposal simd.I8x16RelaxedLaneselect = codes "relaxed_simd"
-simd_proposal simd.I16x8RelaxedLaneselect = codes "relaxed_simd"
-simd_proposal simd.I32x4RelaxedLaneselect = codes "relaxed_simd"
-simd_proposal simd.I64x2RelaxedLaneselect = codes "relaxed_simd"
-simd_proposal simd.F32x4RelaxedMin = codes "relaxed_simd"
-simd_proposal simd.F32x4RelaxedMax = codes "relaxed_simd"
-simd_proposal simd.F64x2RelaxedMin = codes "relaxed_simd"
-simd_proposal simd.F64x2RelaxedMax = codes "relaxed_simd"
-simd_proposal simd.I16x8RelaxedQ15mulrS = codes "relaxed_simd"
-simd_proposal simd.I16x8RelaxedDotI8x16I7x16S = codes "relaxed_simd"
-simd_proposal simd.I32x4RelaxedDotI8x16I7x16AddS = codes "relaxed_simd"
-simd_proposal _ = codes "simd"
+-- The proposal that added the operator.
+abbrev pub simd_proposal : SimdOperator → Proposal
+simd_proposal simd.I8x16RelaxedSwizzle = proposal.RelaxedSimd
+simd_proposal simd.I32x4RelaxedTruncF32x4S = proposal.RelaxedSimd
+simd_proposal simd.I32x4RelaxedTruncF32x4U = proposal.RelaxedSimd
+simd_proposal simd.I32x4RelaxedTruncF64x2SZero = proposal.RelaxedSimd
+simd_proposal simd.I32x4RelaxedTruncF64x2UZero = proposal.RelaxedSimd
+simd_proposal simd.F32x4RelaxedMadd = proposal.RelaxedSimd
+simd_proposal simd.F32x4RelaxedNmadd = proposal.RelaxedSimd
+simd_proposal simd.F64x2RelaxedMadd = proposal.RelaxedSimd
+simd_proposal simd.F64x2RelaxedNmadd = proposal.RelaxedSimd
+simd_proposal simd.I8x16RelaxedLaneselect = proposal.RelaxedSimd
+simd_proposal simd.I16x8RelaxedLaneselect = proposal.RelaxedSimd
+simd_proposal simd.I32x4RelaxedLaneselect = proposal.RelaxedSimd
+simd_proposal simd.I64x2RelaxedLaneselect = proposal.RelaxedSimd
+simd_proposal simd.F32x4RelaxedMin = proposal.RelaxedSimd
+simd_proposal simd.F32x4RelaxedMax = proposal.RelaxedSimd
+simd_proposal simd.F64x2RelaxedMin = proposal.RelaxedSimd
+simd_proposal simd.F64x2RelaxedMax = proposal.RelaxedSimd
+simd_proposal simd.I16x8RelaxedQ15mulrS = proposal.RelaxedSimd
+simd_proposal simd.I16x8RelaxedDotI8x16I7x16S = proposal.RelaxedSimd
+simd_proposal simd.I32x4RelaxedDotI8x16I7x16AddS = proposal.RelaxedSimd
+simd_proposal _ = proposal.Simd
 
--- The variant's name.
+-- The name of the variant.
 abbrev pub simd_name : SimdOperator → List ℕ
 simd_name (simd.V128Load _) = codes "V128Load"
 simd_name (simd.V128Load8x8S _) = codes "V128Load8x8S"

@@ -3,7 +3,7 @@ ghost use Rattle.std.specs.Prelude.{◌≡◌, ◌⊎◌, ◌<◌, ◌≤◌, Ma
 ghost use Rattle.wasm_instr_simd.specs.Simd.{simd_proposal, simd_name, simd_subopcode};
 
 use std::fmt::{self, Debug, Formatter};
-use wasm_imm::{MemArg, OperatorInfo, V128};
+use wasm_imm::{MemArg, OperatorInfo, Proposal, V128};
 
 /// The SIMD operators, with the prefix byte 0xfd. Vector Instructions, including the relaxed ones.
 #[derive(Clone, Copy, PartialEq, Eq)]
@@ -269,7 +269,7 @@ pub enum SimdOperator {
 impl SimdOperator {
     /// Returns the row of the operator.
     pub fn info(&self) -> OperatorInfo
-        ensures proposal { result.proposal.now ≡ simd_proposal self.now }
+        ensures proposal { result.proposal ≡ simd_proposal self.now }
         ensures name { result.name.now ≡ simd_name self.now }
         ensures prefix { result.prefix ≡ Some 0xfd }
         ensures code { result.code ≡ simd_subopcode self.now }
@@ -282,8 +282,9 @@ impl SimdOperator {
         }
     }
 
-    fn proposal(&self) -> &'static str
-        ensures { result.now ≡ simd_proposal self.now }
+    /// Returns the proposal that added the operator.
+    fn proposal(&self) -> Proposal
+        ensures { result ≡ simd_proposal self.now }
     {
         match self {
             SimdOperator::I8x16RelaxedSwizzle
@@ -305,8 +306,8 @@ impl SimdOperator {
             | SimdOperator::F64x2RelaxedMax
             | SimdOperator::I16x8RelaxedQ15mulrS
             | SimdOperator::I16x8RelaxedDotI8x16I7x16S
-            | SimdOperator::I32x4RelaxedDotI8x16I7x16AddS => "relaxed_simd",
-            _ => "simd",
+            | SimdOperator::I32x4RelaxedDotI8x16I7x16AddS => Proposal::RelaxedSimd,
+            _ => Proposal::Simd,
         }
     }
 

@@ -4,6 +4,7 @@
 use Rattle.std.specs.Prelude.{◌==◌, ◌||◌, ℕ, ◌+◌, ◌-◌, Bool, List, [], ◌∷◌, ◌++◌, take, drop, slice_index, codes, decimal, if◌then◌else◌}
 use Rattle.wasm_lines.specs.Rows.{offset_text, line_of}
 
+-- The name of a function in angle brackets; nothing if it has none.
 abbrev pub shown_name : List ℕ → List ℕ
 shown_name [] = []
 shown_name name = codes " <" ++ (name ++ codes ">")

@@ -1,16 +1,12 @@
+//! The header of a function, and the indices of its locals.
 ghost use Rattle.std.specs.Prelude.{◌≡◌, ◌++◌, ◌+◌, ◌^◌, ◌<◌, OnOk, string_bytes};
 ghost use Rattle.wasm_lines.specs.Lines.{shown_name, header_of, shown_indices};
 
 use crate::rows::write_offset;
 use wasm_text::Written;
 
-<<<<<<< HEAD
-/// Writes a name in angle brackets, unless it is empty.
-fn write_name(out: &mut String, name: &str) -> Written
-=======
 /// Writes a name in angle brackets; nothing if the name is empty.
 pub fn write_name(out: &mut String, name: &str) -> Written
->>>>>>> e461b76a9dfb6556365173cd6d600572fa6cf5ca
     ensures { OnOk result (string_bytes out.new ≡ string_bytes out.old ++ shown_name name.now) }
 {
     if name.is_empty() {

@@ -1,3 +1,4 @@
+//! The lines of an operator.
 ghost use Rattle.std.specs.Prelude.{◌≡◌, ◌++◌, ◌+◌, ◌^◌, ◌<◌, OnOk, IfOk, string_bytes, length, slice_index};
 ghost use Rattle.wasm_lines.specs.Rows.{line_of};
 ghost use Rattle.wasm_lines.specs.Lines.{shown_name, is_outside, opens, closes, depth_of, depth_after, between};
@@ -9,25 +10,29 @@ use std::alloc::AllocError;
 use wasm_text::instr::Operator;
 use wasm_text::write_operator;
 
-/// Returns whether this opcode's line is indented like the opener of the construct.
+/// Returns whether this opcode turns or ends a construct, so that its line is indented like the
+/// opener: `else`, `catch`, `end`, `delegate` and `catch_all`.
 fn is_outside(opcode: u8) -> bool
     ensures { result ≡ is_outside opcode }
 {
     opcode == 0x05 || opcode == 0x07 || opcode == 0x0b || opcode == 0x18 || opcode == 0x19
 }
 
+/// Returns whether this opcode opens a construct: `block`, `loop`, `if`, `try` and `try_table`.
 fn opens(opcode: u8) -> bool
     ensures { result ≡ opens opcode }
 {
     opcode == 0x02 || opcode == 0x03 || opcode == 0x04 || opcode == 0x06 || opcode == 0x1f
 }
 
+/// Returns whether this opcode closes a construct: `end` and `delegate`.
 fn closes(opcode: u8) -> bool
     ensures { result ≡ closes opcode }
 {
     opcode == 0x0b || opcode == 0x18
 }
 
+/// Returns how deep the line of an operator is indented, if `depth` constructs are open before it.
 fn depth_of(opcode: u8, depth: usize) -> usize
     ensures { result ≡ depth_of opcode depth }
 {
@@ -38,6 +43,7 @@ fn depth_of(opcode: u8, depth: usize) -> usize
     }
 }
 
+/// Returns how many constructs are open after an operator, if `depth` are open before it.
 fn depth_after(opcode: u8, depth: usize) -> usize
     requires { depth + 1 < 2 ^ 64 }
     ensures { result ≡ depth_after opcode depth }
@@ -51,7 +57,7 @@ fn depth_after(opcode: u8, depth: usize) -> usize
     }
 }
 
-/// Returns the first byte of an operator, or 0.
+/// Returns the first byte of an operator, or 0 if there are no bytes.
 fn opcode_of(bytes: &[u8]) -> u8
     ensures { result ≡ slice_index bytes.now 0 }
 {
@@ -80,12 +86,8 @@ pub fn bytes_between(bytes: &[u8], start: u64, from: u64, to: u64) -> &[u8]
 }
 
 /// Writes the lines of the operator at `offset`, and returns how many constructs are open after it.
-<<<<<<< HEAD
-/// `depth` are open before it. `bytes` are the operator's bytes.
-=======
 /// `depth` constructs are open before it. `bytes` are the operator's bytes, and start with its
 /// opcode. `callee` is the name of the function that it calls; it may be empty.
->>>>>>> e461b76a9dfb6556365173cd6d600572fa6cf5ca
 pub fn write_line(
     out: &mut String,
     depth: usize,

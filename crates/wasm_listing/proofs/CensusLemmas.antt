@@ -6,6 +6,7 @@ use Rattle.wasm_operators.specs.Laws.{IsNoLonger}
 use Rattle.wasm_operators.specs.below.bytes.message.Message.TheVariants as message
 use Rattle.wasm_operators.specs.below.Source.{Reader, rest, offset_of}
 use Rattle.wasm_operators.specs.instr.declared.operator.Operator.{Operator}
+use Rattle.wasm_operators.specs.imm.Proposal.{proposal_name}
 use Rattle.wasm_operators.specs.instr.Row.{proposal_of}
 use Rattle.wasm_operators.specs.readers.Expression.{Placed}
 use Rattle.wasm_operators.specs.readers.Visiting.{VisitRun, Visited}
@@ -58,12 +59,12 @@ one_added true n k most h below = omega (arith, h, below)
 one_added false n k most h below = omega arith
 
 counted_adds : (ps : List (List ℕ)) (ns : List ℕ) (p : Operator × ℕ) (placed : Placed) (most : ℕ) → AreWithin most ns → most + 1 ≤ 2 ^ 64 - 1 →
-    added ps (one_more_of (proposal_of p.0) ps ns) placed ≡ added ps ns (p ∷ placed)
+    added ps (one_more_of (proposal_name (proposal_of p.0)) ps ns) placed ≡ added ps ns (p ∷ placed)
 counted_adds [] ns p placed most h below = refl
 counted_adds (q ∷ qs) [] p placed most h below = refl
 counted_adds (q ∷ qs) (n ∷ ns) p placed most h below =
-    let b = pointwise nat_eq q (proposal_of p.0) in
-    ap (λ m. m ∷ added qs (one_more_of (proposal_of p.0) qs ns) placed) (one_added b n (count_of q placed) most h.0 below) ∙
+    let b = pointwise nat_eq q (proposal_name (proposal_of p.0)) in
+    ap (λ m. m ∷ added qs (one_more_of (proposal_name (proposal_of p.0)) qs ns) placed) (one_added b n (count_of q placed) most h.0 below) ∙
     ap (λ others. (n + (cond b 1 0 + count_of q placed)) ∷ others) (counted_adds qs ns p placed most h.1 below)
 
 counts_along : (placed : Placed) (outcomes : List (Unit {0})) (before after : List ℕ) (most : ℕ) → length proposals ≡ length before → AreWithin most before →
@@ -73,8 +74,8 @@ counts_along [] outcomes before after most same h below run = run.1 ∙ added_no
 counts_along (p ∷ ps) outcomes before after most same h below (first, others, between, is, visits, run) =
     let more : most + 1 + length ps ≤ 2 ^ 64 - 1 = omega (arith, below) in
     let next : most + 1 ≤ 2 ^ 64 - 1 = omega (arith, below) in
-    let counted_now : AreWithin (most + 1) between = subst (AreWithin (most + 1)) (sym visits) (counted_within (proposal_of p.0) proposals before most h) in
-    let long : length proposals ≡ length between = counted_length (proposal_of p.0) proposals before same ∙ ap length (sym visits) in
+    let counted_now : AreWithin (most + 1) between = subst (AreWithin (most + 1)) (sym visits) (counted_within (proposal_name (proposal_of p.0)) proposals before most h) in
+    let long : length proposals ≡ length between = counted_length (proposal_name (proposal_of p.0)) proposals before same ∙ ap length (sym visits) in
     counts_along ps others between after (most + 1) long counted_now more run ∙ ap (λ counts. added proposals counts ps) visits ∙
     counted_adds proposals before p ps most h next
 

@@ -2,6 +2,7 @@ use Rattle.std.specs.Prelude.{◌≡◌, ℕ, ◌+◌, ◌-◌, ◌^◌, List, [
 use Rattle.std.specs.Cmp.Lexicographic.{pointwise}
 use Rattle.wasm_operators.specs.below.Source.{Reader}
 use Rattle.wasm_operators.specs.instr.declared.operator.Operator.{Operator}
+use Rattle.wasm_operators.specs.imm.Proposal.{proposal_name}
 use Rattle.wasm_operators.specs.instr.Row.{proposal_of}
 use Rattle.wasm_operators.specs.opcodes.Allowed.{EncodesAllowed}
 use Rattle.wasm_operators.specs.Expression.{Placed, OfPlaced}
@@ -14,7 +15,7 @@ use Rattle.wasm_listing.specs.declared.fault.DumpFault.{DumpFault}
 use Rattle.wasm_listing.specs.declared.fault.DumpFault.TheVariants as fault
 use Rattle.wasm_listing.specs.Dump.{IsBody, IsNoBody}
 
--- The proposals, in the order of the counts.
+-- The names of the proposals, in the order of the counts.
 abbrev pub proposals : List (List ℕ)
 proposals =
     codes "mvp"
@@ -40,7 +41,7 @@ proposals =
 
 abbrev pub count_of : List ℕ → Placed → ℕ
 count_of proposal [] = 0
-count_of proposal (p ∷ ps) = (if pointwise nat_eq proposal (proposal_of p.0) then 1 else 0) + count_of proposal ps
+count_of proposal (p ∷ ps) = (if pointwise nat_eq proposal (proposal_name (proposal_of p.0)) then 1 else 0) + count_of proposal ps
 
 abbrev pub counts_of : Placed → List ℕ
 counts_of placed = map (λ proposal. count_of proposal placed) proposals
@@ -54,13 +55,14 @@ one_more_of proposal (p ∷ ps) (n ∷ ns) = (if pointwise nat_eq p proposal the
 one_more_of proposal _ _ = []
 
 abbrev pub CountsVisit : List ℕ → Operator → List ℕ → Type 0
-CountsVisit before op after = after ≡ one_more_of (proposal_of op) proposals before
+CountsVisit before op after = after ≡ one_more_of (proposal_name (proposal_of op)) proposals before
 
 -- These operators were counted, one visit each.
 abbrev pub Counted : List ℕ → List ℕ → OfPlaced
 Counted before after placed = Visited {A = Unit {0}} (λ s op outcome t. CountsVisit s op t) before after placed
 
--- After the locals and some operators of the body, `NextMayAllocate` holds.
+-- Reading the body that starts here may allocate: after its locals and some of its operators, the next operator owns a list, or opens
+-- more frames than were open before, for which no capacity is left.
 pub record BodyMayAllocate (body : Reader) : Type 0 where
   pub opened : State
   pub opens : OpensBody (Ok opened) body

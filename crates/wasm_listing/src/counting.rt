@@ -78,7 +78,7 @@ impl Visitor for Census {
     ghost visits = { λ before op outcome after. CountsVisit before op after };
 
     fn visit_any(&mut self, op: Operator<'static>) {
-        self.count(op.info().proposal);
+        self.count(op.info().proposal.name());
     }
 }
 
@@ -86,7 +86,7 @@ impl VisitGroups for Census {}
 
 impl<'a> VisitOperator<'a> for Census {
     fn visit_br_table(&mut self, targets: BrTable<'a>) {
-        self.count(Operator::BrTable { targets }.info().proposal);
+        self.count(Operator::BrTable { targets }.info().proposal.name());
     }
 }
 

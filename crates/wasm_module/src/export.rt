@@ -1,6 +1,6 @@
 ghost use Rattle.std.specs.Prelude.{◌≡◌, ⊤, false, IfOk, IfErr};
 ghost use Rattle.wasm_below.specs.bytes.features.WasmFeatures.{WasmFeatures};
-ghost use Rattle.wasm_below.specs.Fault.{HasFault, DeterminesRefusal};
+ghost use Rattle.wasm_below.specs.Fault.{HasFault, NeedsMemory, DeterminesRefusal};
 ghost use Rattle.wasm_below.specs.FromReader.{ReadsValue};
 ghost use Rattle.wasm_below.specs.Sequence.{PrefixCode};
 ghost use Rattle.wasm_below.specs.Source.{Reads};
@@ -106,6 +106,7 @@ impl<'a> FromReader<'a> for Export<'a> {
     fn from_reader(_alloc: Global, reader: &mut BinaryReader<'a>) -> Result<Export<'a>>
         ensures reads { ReadsValue EncodesExport false result reader.old reader.new }
         ensures fault { IfErr result (λ e. HasFault ExportFault e reader.old) }
+        ensures memory { IfErr result (λ e. NeedsMemory (λ old. ⊤) e reader.old) }
         ensures placed { IfOk result (λ value. ⊤) }
     {
         Export::read(reader)

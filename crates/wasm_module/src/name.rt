@@ -1,6 +1,6 @@
 ghost use Rattle.std.specs.Prelude.{◌≡◌, ⊤, false, IfOk, IfErr};
 ghost use Rattle.wasm_below.specs.bytes.features.WasmFeatures.{WasmFeatures};
-ghost use Rattle.wasm_below.specs.Fault.{HasFault, DeterminesRefusal};
+ghost use Rattle.wasm_below.specs.Fault.{HasFault, NeedsMemory, DeterminesRefusal};
 ghost use Rattle.wasm_below.specs.FromReader.{ReadsValue};
 ghost use Rattle.wasm_below.specs.Sequence.{PrefixCode};
 ghost use Rattle.wasm_below.specs.Source.{Reads};
@@ -119,6 +119,7 @@ impl<'a> FromReader<'a> for NameAssociation<'a> {
     fn from_reader(_alloc: Global, reader: &mut BinaryReader<'a>) -> Result<NameAssociation<'a>>
         ensures reads { ReadsValue EncodesNameAssociation false result reader.old reader.new }
         ensures fault { IfErr result (λ e. HasFault NameAssociationFault e reader.old) }
+        ensures memory { IfErr result (λ e. NeedsMemory (λ old. ⊤) e reader.old) }
         ensures placed { IfOk result (λ value. ⊤) }
     {
         NameAssociation::read(reader)

@@ -116,4 +116,4 @@ pub memory_there : (e d : Error) (s mid t : State) (placed : Placed) → IsFresh
     IsUnchanged mid t → Stops e t → d.message ≡ e.message → d.message ≡ message.OutOfMemory → ConstantMayAllocate s.reader
 memory_there e d s mid t placed fresh r no_end same stops is memory =
     let q = ran_unchanged s mid t placed r same in
-    (t, passes s t placed fresh q no_end, memory_needs EncodesAllowed OperatorFault (NextMayAllocate EncodesAllowed) is_reading e t stops (sym is ∙ memory))
+    (s, t, placed, refl, fresh, q, passes s t placed fresh q no_end, memory_needs EncodesAllowed OperatorFault (NextMayAllocate EncodesAllowed) is_reading e t stops (sym is ∙ memory))

@@ -1,4 +1,5 @@
-use Rattle.std.proofs.Common.{◌≡◌, ◌≢◌, List, [], Ok, Err, sym, ap, ◌∙◌, arith, inl, inr}
+-- Bytes that encode no body fail in one way, unless allocation fails.
+use Rattle.std.proofs.Common.{◌≡◌, ◌≢◌, ℕ, List, [], Some, Ok, Err, sym, ap, ◌∙◌, arith, inl, inr}
 use Rattle.wasm_operators_readers.specs.below.bytes.error.Error.{Error}
 use Rattle.wasm_operators_readers.specs.below.bytes.message.Message.TheVariants as message
 use Rattle.wasm_operators_readers.specs.below.Source.{Reader, rest, offset_of, source_of}
@@ -10,9 +11,10 @@ use Rattle.wasm_operators_readers.specs.instr.Roles.{roles_of}
 use Rattle.wasm_operators_readers.specs.opcodes.Allowed.{EncodesAllowed}
 use Rattle.wasm_operators_readers.specs.opcodes.OperatorFaults.{OperatorFault}
 use Rattle.wasm_operators_readers.specs.Expression.{Placed, IsAny, operators}
+use Rattle.wasm_operators_readers.specs.Openings.{most_open}
 use Rattle.wasm_operators_readers.specs.Reading.{State, StopsRun, TakesOperators, Anywhere}
 use Rattle.wasm_operators_readers.proofs.Ends.{run_determined}
-use Rattle.wasm_operators_readers.proofs.FrameMemory.{frames_alone}
+use Rattle.wasm_operators_readers.proofs.FrameMemory.{few_frames, most_few, most_least}
 use Rattle.wasm_operators_readers.proofs.Premises.{Everything}
 use Rattle.wasm_operators_readers.proofs.Runs.{run_only, fresh_before}
 use Rattle.wasm_operators_readers.proofs.DecoderPremises.{takes_all, keeps_all}
@@ -23,13 +25,14 @@ use Rattle.wasm_operators.proofs.Bodies.{no_body, expression_after_locals}
 use Rattle.wasm_operators.proofs.LocalsLemmas.{one_past}
 use Rattle.wasm_operators.proofs.Determined.{locals_determine}
 
-abbrev roomless : State → State
-roomless s = record { reader = s.reader; frames = s.frames; room = 0 }
+-- The state with this capacity. About its own nothing is said.
+abbrev roomy : ℕ → State → State
+roomy room s = record { reader = s.reader; frames = s.frames; room = room }
 
-stops_roomless : (e : Error) (s : State) → StopsRun EncodesAllowed OperatorFault Anywhere e s → StopsRun EncodesAllowed OperatorFault Anywhere e (roomless s)
-stops_roomless e s (inl left) = inl left
-stops_roomless e s (inr (some, inl none)) = inr (some, inl none)
-stops_roomless e s (inr (some, inr (inl there))) =
+stops_roomy : (room : ℕ) (e : Error) (s : State) → StopsRun EncodesAllowed OperatorFault Anywhere e s → StopsRun EncodesAllowed OperatorFault Anywhere e (roomy room s)
+stops_roomy room e s (inl left) = inl left
+stops_roomy room e s (inr (some, inl none)) = inr (some, inl none)
+stops_roomy room e s (inr (some, inr (inl there))) =
     inr (
       some,
       inr (inl (record {
@@ -40,19 +43,30 @@ stops_roomless e s (inr (some, inr (inl there))) =
         fault = there.fault;
       })),
     )
-stops_roomless e s (inr (some, inr (inr memory))) = inr (some, inr (inr memory))
+stops_roomy room e s (inr (some, inr (inr memory))) = inr (some, inr (inr memory))
 
-ran_after : (e : Error) (body : Reader) (placed : Placed) (h : NoExpression e body placed) → TakesOperators (roomless h.opened) (roomless h.stopped) placed
+-- Capacity for all frames that these reads open.
+abbrev enough : (e : Error) (body : Reader) (placed : Placed) → NoExpression e body placed → ℕ
+enough e body placed h = most_open (Some h.opened.frames) placed
+
+-- The reads after the locals.
+ran_after : (e : Error) (body : Reader) (placed : Placed) (h : NoExpression e body placed) →
+    TakesOperators (roomy 0 h.opened) (roomy (enough e body placed h) h.stopped) placed
 ran_after e body placed h =
     let along = ap (λ (frames : List FrameKind). frames_along frames (roles_of (operators placed))) h.opens.1 ∙
     run_path h.stopped.frames (roles_of (operators placed)) h.reads.read_so_far.path in
+    let few = most_few h.opened.reader.features (offset_of h.opened.reader) placed h.reads.text h.opened.frames h.reads.laid in
+    let left = few_frames h.opened.reader.features (offset_of h.opened.reader) placed h.reads.text h.opened.frames h.stopped.frames h.reads.laid along in
+    let least = most_least h.opened.frames placed in
     record {
       text = h.reads.text;
       takes = h.reads.takes;
       laid = h.reads.laid;
       frames = along;
       room = omega arith;
-      memory = frames_alone h.opened.reader.features (offset_of h.opened.reader) placed h.reads.text h.opened.frames h.stopped.frames h.reads.laid along;
+      memory = omega (arith, few, left);
+      kept = omega (arith, least);
+      deepest = omega arith;
     }
 
 no_locals_read : (e : Error) (body : Reader) (opened : State) → RefusesLocals e body → OpensBody (Ok opened) body → ⊥
@@ -63,8 +77,8 @@ pub stopped_none : (e : Error) (body : Reader) (placed whole : Placed) (declarat
     StopsBody e body placed → EncodesBody (source_of body) declarations whole → ⊥
 stopped_none e body placed whole declarations other (inl h) encodes = no_body e body declarations whole h.refused encodes
 stopped_none e body placed whole declarations other (inr h) encodes =
-    other (run_only Everything IsAny EncodesAllowed OperatorFault Anywhere keeps_all [] e (roomless h.opened) (roomless h.stopped) placed whole
-    (fresh_before (roomless h.opened) h.opens.1) (ran_after e body placed h) tt (stops_roomless e h.stopped h.reads.stops)
+    other (run_only Everything IsAny EncodesAllowed OperatorFault Anywhere keeps_all [] e (roomy 0 h.opened) (roomy (enough e body placed h) h.stopped) placed whole
+    (fresh_before (roomy 0 h.opened) h.opens.1) (ran_after e body placed h) tt (stops_roomy (enough e body placed h) e h.stopped h.reads.stops)
     (expression_after_locals body h.opened declarations whole h.opens encodes) tt)
 
 pub stopped_same : (d e : Error) (body : Reader)
@@ -79,7 +93,7 @@ stopped_same d e body first second other others (inr p) (inr q) =
     let reader : q.opened.reader ≡ p.opened.reader = (one_past p.opened.reader q.opened.reader body p.opens.0.0 q.opens.0.0 p.opens.0.1 q.opens.0.1).0 in
     let frames : q.opened.frames ≡ p.opened.frames = q.opens.1 ∙ sym p.opens.1 in
     let same = run_determined {X = Unit {0}} {Y = Unit {0}} EncodesAllowed OperatorFault Anywhere Everything takes_all operator_determines (Err d) (Err e)
-    (roomless p.opened) (roomless p.stopped) (roomless q.opened) (roomless q.stopped) first second reader frames (ran_after d body first p)
-    (ran_after e body second q) (λ before after at is. tt) (λ before after at is. tt) (stops_roomless d p.stopped p.reads.stops)
-    (stops_roomless e q.stopped q.reads.stops) other others in
+    (roomy 0 p.opened) (roomy (enough d body first p) p.stopped) (roomy 0 q.opened) (roomy (enough e body second q) q.stopped) first second reader frames
+    (ran_after d body first p) (ran_after e body second q) (λ before after at is. tt) (λ before after at is. tt)
+    (stops_roomy (enough d body first p) d p.stopped p.reads.stops) (stops_roomy (enough e body second q) e q.stopped q.reads.stops) other others in
     (same.0, same.3.0, same.3.1)

@@ -11,7 +11,7 @@ use Rattle.wasm_operators_readers.specs.opcodes.Allowed.{EncodesAllowed}
 use Rattle.wasm_operators_readers.specs.opcodes.OperatorFaults.{OperatorFault}
 use Rattle.wasm_operators_readers.specs.Expression.{Placed, operators, LaidOut}
 use Rattle.wasm_operators_readers.specs.Next.{NextMayAllocate}
-use Rattle.wasm_operators_readers.specs.Reading.{State}
+use Rattle.wasm_operators_readers.specs.Reading.{State, IsFresh, TakesOperators}
 use Rattle.wasm_operators.specs.Constant.{HasNoEnd}
 
 -- Between the two readers, the bytes encode operators other than `end`, which lead from the frame
@@ -40,6 +40,8 @@ abbrev pub ConstantFault : Message → Reader → ℕ → Type 0
 ConstantFault m r offset =
     (after : Reader) × (frames : List FrameKind) × PassesOperators r after frames × (IsNoOperator m after frames offset ⊎ EndsInside m after frames offset)
 
--- After operators other than `end`, `NextMayAllocate` holds.
+-- After operators other than `end`, the next operator may allocate: it owns a list, or opens more frames than were open before, for which no capacity is left.
 abbrev pub ConstantMayAllocate : Reader → Type 0
-ConstantMayAllocate r = (after : State) × PassesOperators r after.reader after.frames × NextMayAllocate EncodesAllowed after
+ConstantMayAllocate r =
+    (opened after : State) × (placed : Placed) × (opened.reader ≡ r) × IsFresh opened × TakesOperators opened after placed ×
+    PassesOperators r after.reader after.frames × NextMayAllocate EncodesAllowed after

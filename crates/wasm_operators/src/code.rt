@@ -1,6 +1,7 @@
-ghost use Rattle.std.specs.Prelude.{◌≡◌, [], false, IfOk, IfErr};
+//! The body of a function.
+ghost use Rattle.std.specs.Prelude.{◌≡◌, ⊤, [], false, IfOk, IfErr};
 ghost use Rattle.wasm_operators_readers.specs.below.bytes.features.WasmFeatures.{WasmFeatures};
-ghost use Rattle.wasm_operators_readers.specs.below.Fault.{HasFault, DeterminesRefusal};
+ghost use Rattle.wasm_operators_readers.specs.below.Fault.{HasFault, NeedsMemory, DeterminesRefusal};
 ghost use Rattle.wasm_operators_readers.specs.below.FromReader.{ReadsValue, EncodesReader, ReaderFault, SameReader};
 ghost use Rattle.wasm_operators_readers.specs.below.Sequence.{PrefixCodeUpTo};
 ghost use Rattle.wasm_operators_readers.specs.below.Source.{Reads, rest, offset_of, end_of};
@@ -161,6 +162,7 @@ impl<'a> FromReader<'a> for FunctionBody<'a> {
     fn from_reader(_alloc: Global, reader: &mut BinaryReader<'a>) -> Result<FunctionBody<'a>>
         ensures reads { ReadsValue (EncodesReader reader.old.features) false result reader.old reader.new }
         ensures fault { IfErr result (λ e. HasFault ReaderFault e reader.old) }
+        ensures memory { IfErr result (λ e. NeedsMemory (λ old. ⊤) e reader.old) }
         ensures placed { IfOk result (λ body. end_of body ≡ offset_of reader.new) }
     {
         FunctionBody::read(reader)

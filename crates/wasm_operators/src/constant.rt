@@ -2,7 +2,7 @@ ghost use Rattle.std.specs.Prelude.{◌≡◌, [], true, IfOk, IfErr};
 ghost use Rattle.wasm_operators_readers.specs.below.FromReader.{ReadsValue, SameReader};
 ghost use Rattle.wasm_operators_readers.specs.below.bytes.features.WasmFeatures.{WasmFeatures};
 ghost use Rattle.wasm_operators_readers.specs.below.Sequence.{PrefixCodeUpTo};
-ghost use Rattle.wasm_operators_readers.specs.below.Fault.{DeterminesRefusal, HasFault};
+ghost use Rattle.wasm_operators_readers.specs.below.Fault.{DeterminesRefusal, HasFault, NeedsMemory};
 ghost use Rattle.wasm_operators_readers.specs.below.Source.{offset_of};
 ghost use Rattle.wasm_operators_readers.specs.Reading.{IsFresh};
 ghost use Rattle.wasm_operators_readers.specs.MainTheorem.{ReadSoFar};
@@ -135,10 +135,12 @@ impl<'a> FromReader<'a> for ConstExpr<'a> {
 
     ghost placed = { λ old c new. c.start ≡ offset_of old };
 
+    ghost allocates = { λ old. ConstantMayAllocate old };
+
     fn from_reader(alloc: Global, reader: &mut BinaryReader<'a>) -> Result<ConstExpr<'a>>
         ensures reads { ReadsValue (EncodesConstantReader reader.old.features) true result reader.old reader.new }
         ensures fault { IfErr result (λ e. HasFault ConstantFault e reader.old) }
-        ensures memory { IfErr result (λ e. e.message ≡ Message.OutOfMemory → ConstantMayAllocate reader.old) }
+        ensures memory { IfErr result (λ e. NeedsMemory ConstantMayAllocate e reader.old) }
         ensures placed { IfOk result (λ c. c.start ≡ offset_of reader.old) }
     {
         ConstExpr::read(alloc, reader)

@@ -68,7 +68,7 @@ impl<'a, V: VisitOperator<'a> + FrameStack> ReadVisits<'a, V> for BinaryReader<'
     #[inline(always)]
     fn visit_operator(&mut self, alloc: Global, v: &mut V) -> Result<V::Output> {
         let frame = v.current_frame();
-        decoder::visit_operator(v, alloc, self, frame)
+        decoder::visit_operator(alloc, v, self, frame)
     }
 }
 
@@ -87,6 +87,6 @@ impl<'a, V: VisitOperator<'a> + VisitSimdOperator + FrameStack> ReadSimdVisits<'
     #[inline(always)]
     fn visit_operator_simd(&mut self, alloc: Global, v: &mut V) -> Result<V::Output> {
         let frame = v.current_frame();
-        decoder::visit_operator_simd(v, alloc, self, frame)
+        decoder::visit_operator_simd(alloc, v, self, frame)
     }
 }

@@ -1,13 +1,15 @@
-use Rattle.std.proofs.Common.{◌≡◌, ℕ, ◌+◌, ◌-◌, ◌*◌, ◌≤◌, List, [], ◌∷◌, ◌++◌, length, Option, Some, None, subst, sym, ap, length-append, arith}
+-- The memory of the frames stays within the bound, in one read and in several.
+use Rattle.std.proofs.Common.{◌≡◌, ℕ, ◌+◌, ◌-◌, ◌*◌, ◌≤◌, List, [], ◌∷◌, ◌++◌, length, Option, Some, None, refl, subst, sym, ap, length-append, arith}
 use Rattle.std.specs.Prelude.{MatchOption, ⊤}
-use Rattle.std.specs.Option.{option_to_list}
+use Rattle.std.specs.Option.{option_to_list, option_and_then}
 use Rattle.wasm_decode.specs.below.bytes.features.WasmFeatures.{WasmFeatures}
 use Rattle.wasm_decode.specs.grammar.declared.frame_kind.FrameKind.{FrameKind}
-use Rattle.wasm_decode.specs.grammar.Frames.{frames_along}
-use Rattle.wasm_decode.specs.instr.Roles.{roles_of}
+use Rattle.wasm_decode.specs.grammar.Frames.{frames_after, frames_along}
+use Rattle.wasm_decode.specs.instr.Roles.{role_of, roles_of}
 use Rattle.wasm_operators_readers.specs.Stack.{frame_memory, IsLittleMemory}
 use Rattle.wasm_operators_readers.specs.Expression.{Placed, operators, LaidOut}
-use Rattle.wasm_operators_readers.proofs.OpeningLemmas.{twice_opened_along, along_length}
+use Rattle.wasm_operators_readers.specs.Openings.{opened_along, most_open}
+use Rattle.wasm_operators_readers.proofs.OpeningLemmas.{twice_opened_along, along_length, after_length}
 
 pub memory_is_capacity : (around : List FrameKind) (current : Option FrameKind) (capacity : ℕ) → MatchOption current (around ≡ []) (λ _. ⊤) →
     length around ≤ capacity → frame_memory (around ++ option_to_list current) (capacity - length around) ≡ capacity
@@ -49,8 +51,38 @@ few_frames f offset placed text frames next laid along =
     let twice = twice_opened_along f offset placed text laid in
     omega (arith, opened, twice)
 
-pub frames_alone : (f : WasmFeatures) (offset : ℕ) (placed : Placed) (text : List ℕ) (frames next : List FrameKind) → LaidOut f offset placed text →
-    frames_along frames (roles_of (operators placed)) ≡ Some next → IsLittleMemory (frame_memory frames 0) (length frames) (length text + 10) (frame_memory next 0)
-frames_alone f offset placed text frames next laid along =
-    let few = few_frames f offset placed text frames next laid along in
-    omega (arith, few)
+-- ---- the most frames that are open at once
+
+-- They are at least the first ones.
+pub most_least : (frames : List FrameKind) (placed : Placed) → length frames ≤ most_open (Some frames) placed
+most_least frames [] = omega arith
+most_least frames (p ∷ ps) = omega arith
+
+-- If there is space for those of two lists, there is space for those of the joined list.
+pub most_both : (q : Option (List FrameKind)) (first second : Placed) (mid : List FrameKind) (n : ℕ) →
+    option_and_then (λ frames. frames_along frames (roles_of (operators first))) q ≡ Some mid → most_open q first ≤ n → most_open (Some mid) second ≤ n →
+    most_open q (first ++ second) ≤ n
+most_both None first second mid n along few more = absurd (cc along)
+most_both (Some frames) [] second mid n along few more =
+    let same : mid ≡ frames = cc along in
+    subst (λ (x : List FrameKind). most_open (Some x) second ≤ n) same more
+most_both (Some frames) (p ∷ ps) second mid n along few more =
+    let others = most_both (frames_after frames (role_of p.0)) ps second mid n along (omega (arith, few)) more in
+    omega (arith, few, others)
+
+-- Operators open few of them.
+most_after : (frames : List FrameKind) (placed : Placed) (q : Option (List FrameKind)) (more : ℕ) →
+    ((next : List FrameKind) → q ≡ Some next → length next ≤ length frames + more) → most_open q placed ≤ length frames + (more + opened_along placed)
+most_after frames placed None more few = omega arith
+most_after frames [] (Some next) more few = let n = few next refl in omega (arith, n)
+most_after frames (p ∷ ps) (Some next) more few =
+    let n = few next refl in
+    let others = most_after next ps (frames_after next (role_of p.0)) _ (λ after e. after_length next (role_of p.0) after e) in
+    omega (arith, n, others)
+
+pub most_few : (f : WasmFeatures) (offset : ℕ) (placed : Placed) (text : List ℕ) (frames : List FrameKind) → LaidOut f offset placed text →
+    2 * most_open (Some frames) placed ≤ 2 * length frames + length text
+most_few f offset placed text frames laid =
+    let most = most_after frames placed (Some frames) 0 (λ next e. let same : next ≡ frames = cc e in let n = ap length same in omega (arith, n)) in
+    let twice = twice_opened_along f offset placed text laid in
+    omega (arith, most, twice)

@@ -3,6 +3,7 @@ use Rattle.std.proofs.Common.{◌≡◌, ℕ, ◌+◌, ◌<◌, ◌≤◌, List,
 use Rattle.std.proofs.lemmas.Bool.{cases_lt}
 use Rattle.std.proofs.lemmas.List.{append-nil}
 use Rattle.std.specs.Option.{option_and_then}
+use Rattle.std.specs.Prelude.{max}
 use Rattle.wasm_decode.specs.below.bytes.error.Error.{Error}
 use Rattle.wasm_decode.specs.below.bytes.message.Message.{Message}
 use Rattle.wasm_decode.specs.below.bytes.message.Message.TheVariants as message
@@ -21,7 +22,7 @@ use Rattle.wasm_decode.specs.instr.Encoding.{EncodesOperator}
 use Rattle.wasm_decode.specs.instr.Roles.{role_of, roles_of}
 use Rattle.wasm_operators_readers.specs.Expression.{Placed, OfPlaced, operators, LaidOut, AreEncoded, EncodesRest, IsPrefixAfter, IsLongestOf}
 use Rattle.wasm_operators_readers.specs.Flat.{IsAllowedFrom, IsFlatOf}
-use Rattle.wasm_operators_readers.specs.Openings.{opened_along}
+use Rattle.wasm_operators_readers.specs.Openings.{opened_along, most_open}
 use Rattle.wasm_operators_readers.specs.Reading.{Taking, Refusing, Allocating, State, StopsRead, IsFresh, GrowsLittle, IsUnchanged, TakesOperator, TakesOperators, StopsRun, FramesLeft, Finishes, StopsFinish, EndsRun}
 use Rattle.wasm_operators_readers.specs.Stack.{frame_memory}
 use Rattle.wasm_operators_readers.specs.MainTheorem.{ReadSoFar, ReadsTree, BeginningAt, ReadsBeginning, IsWithinDepth, IsNotOutOfMemory}
@@ -29,11 +30,11 @@ use Rattle.wasm_operators_readers.proofs.FlatLemmas.{allowed_begins, flat_longes
 use Rattle.wasm_operators_readers.proofs.LayoutLemmas.{roles_of-append, operators-append, laid_append, laid_encoded, both_encoded, encoded_some, path_begins, not_empty, laid_goes_on, laid_no_longer, laid_same, one_longest, GoesOn, next_allowed}
 use Rattle.wasm_operators_readers.proofs.OneRead.{may_end, refused_none, is_memory, path_on, read_depth}
 use Rattle.wasm_operators_readers.proofs.OpeningLemmas.{twice_opened_along, along_length, opened_along-append}
-use Rattle.wasm_operators_readers.proofs.FrameMemory.{memory_stays, little_longer, little_both, little_more, few_frames}
+use Rattle.wasm_operators_readers.proofs.FrameMemory.{memory_stays, little_longer, little_both, little_more, few_frames, most_both}
 use Rattle.wasm_operators_readers.proofs.Premises.{AreEach, IsSound, Keeps, TakesEach}
 
 pub ran_start : (s : State) → TakesOperators s s []
-ran_start s = record { text = []; takes = takes_none s.reader; laid = refl; frames = refl; room = omega arith; memory = memory_stays (frame_memory s.frames s.room) (length s.frames) 10 }
+ran_start s = record { text = []; takes = takes_none s.reader; laid = refl; frames = refl; room = omega arith; memory = memory_stays (frame_memory s.frames s.room) (length s.frames) 10; kept = omega arith; deepest = omega arith }
 
 pub features_stay : (old new : Reader) (text : List ℕ) → Takes old new text → new.features ≡ old.features
 features_stay old new text t = ap (λ (r : Reader). r.features) t.moved
@@ -47,6 +48,8 @@ ran_one Encodes sound old new op t = record {
   frames = ap (option_and_then (λ frames. frames_along {A = Operator} frames [])) t.frames;
   room = let room = t.room in omega (arith, room);
   memory = little_longer (frame_memory old.frames old.room) (length old.frames) (length t.text) (frame_memory new.frames new.room) t.memory;
+  kept = t.kept;
+  deepest = subst (λ q. max (length old.frames) (most_open q []) ≤ frame_memory new.frames new.room + 1) (sym t.frames) (let kept = t.kept in omega (arith, kept));
 }
 
 pub ran_join : (old mid new : State) (first second : Placed) → TakesOperators old mid first → TakesOperators mid new second →
@@ -70,6 +73,9 @@ ran_join old mid new first second r t =
           (little_both (frame_memory old.frames old.room) (length old.frames) (length r.text) (frame_memory mid.frames mid.room) (length mid.frames)
           (length t.text) (frame_memory new.frames new.room) r.memory
           (few_frames old.reader.features (offset_of old.reader) first r.text old.frames mid.frames r.laid r.frames) t.memory);
+      kept = let first = r.kept in let second = t.kept in omega (arith, first, second);
+      deepest = most_both (Some old.frames) first second mid.frames (frame_memory new.frames new.room + 1) r.frames
+          (let most = r.deepest in let kept = t.kept in omega (arith, most, kept)) t.deepest;
     }
   where
     joined_room : (a b c m n k : ℕ) → a ≤ b + m → b ≤ c + n → k ≡ m + n → a ≤ c + k
@@ -94,6 +100,8 @@ ran_unchanged old mid new placed r (reader, frames, room, memory) =
       memory = subst (λ n. GrowsLittle n old new) (right-zero (length r.text))
           (little_more (frame_memory old.frames old.room) (length old.frames) (length r.text) (frame_memory mid.frames mid.room) (length mid.frames) 0
           (frame_memory new.frames new.room) r.memory memory (few_frames old.reader.features (offset_of old.reader) placed r.text old.frames mid.frames r.laid r.frames));
+      kept = let first = r.kept in let depth = ap length frames in omega (arith, first, room, depth);
+      deepest = let most = r.deepest in let depth = ap length frames in omega (arith, most, room, depth);
     }
 
 pub run_stops : (Encodes : Taking) (Fault : Refusing) (Allocates : Allocating) (e : Error) (mid new : State) → (rest mid.reader ≡ [] → ⊥) → IsUnchanged mid new →

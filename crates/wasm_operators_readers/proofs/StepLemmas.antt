@@ -22,7 +22,7 @@ use Rattle.wasm_operators_readers.specs.declared.step.FrameStep.{FrameStep}
 use Rattle.wasm_operators_readers.specs.declared.step.FrameStep.TheVariants as step
 use Rattle.wasm_operators_readers.specs.Step.{step_of, role_of_step, step_at, Opens}
 use Rattle.wasm_operators_readers.proofs.Roles.{stepped_same}
-use Rattle.wasm_operators_readers.specs.Reading.{Taking, State, GrowsLittle, TakesOperator}
+use Rattle.wasm_operators_readers.specs.Reading.{Taking, State, GrowsLittle, KeepsMemory, TakesOperator}
 
 numeric_stays : (op : NumericOperator) → step_at (numeric_opcode op) ≡ step.Stays
 numeric_stays numeric.I32Eqz = refl
@@ -138,8 +138,8 @@ step_room op s old new is used other =
 pub took_operator : (Encodes : Taking) (op : Operator) (old new : State) (kind : FrameKind) (text : List ℕ) (s : FrameStep) → innermost old.frames ≡ Some kind →
     Encodes old.reader.features kind text op → Takes old.reader new.reader text → s ≡ step_of (role_of op) →
     frames_after old.frames (role_of_step s) ≡ Some new.frames → old.room ≤ new.room + 1 → ((Opens s → ⊥) → old.room ≤ new.room) → GrowsLittle 0 old new →
-    TakesOperator Encodes op old new
-took_operator Encodes op old new kind text s open_frame encodes takes is frames used other memory =
+    KeepsMemory old new → TakesOperator Encodes op old new
+took_operator Encodes op old new kind text s open_frame encodes takes is frames used other memory kept =
     record {
       kind = kind;
       open_frame = open_frame;
@@ -149,4 +149,5 @@ took_operator Encodes op old new kind text s open_frame encodes takes is frames 
       frames = step_frames old.frames new.frames op s is frames;
       room = step_room op s old.room new.room is used other;
       memory = memory;
+      kept = kept;
     }

@@ -51,6 +51,7 @@ begun_took Encodes sound old mid new kind code start s op text b encodes takes f
     (ap (λ (fs : List FrameKind). frames_after fs (role_of_step s)) (sym b.frames) ∙ frames) (omega (arith, used, kept))
     (λ none. let h = other none in omega (arith, h, kept))
     (as_little (frame_memory old.frames old.room) (length old.frames) 10 (frame_memory mid.frames mid.room) (frame_memory new.frames new.room) b.memory same)
+    (let depth = ap length b.frames in omega (arith, kept, same, depth))
 
 pub refused_unchanged : (Encodes : Taking) (Fault : Refusing) (old new : State) (kind : FrameKind) (e : Error) → innermost old.frames ≡ Some kind →
     RefusesOperator (Encodes old.reader.features kind) (Fault old.reader.features kind) e old.reader new.reader → new.frames ≡ old.frames → old.room ≤ new.room →

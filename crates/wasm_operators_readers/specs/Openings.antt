@@ -1,6 +1,9 @@
--- How many frames operators open, and their first bytes. Specification: Binary Format, Control
--- Instructions. Proposal legacy exception handling.
-use Rattle.std.specs.Prelude.{◌≡◌, ℕ, ◌+◌, [], ◌∷◌, ◌⊎◌}
+-- How many frames operators open, and their first bytes.
+-- WebAssembly Core Specification 3.0: Binary Format, Instructions, Control Instructions.
+-- The legacy exception handling proposal: try.
+use Rattle.std.specs.Prelude.{◌≡◌, ℕ, ◌+◌, List, [], ◌∷◌, length, max, Option, Some, None, ◌⊎◌}
+use Rattle.wasm_decode.specs.grammar.declared.frame_kind.FrameKind.{FrameKind}
+use Rattle.wasm_decode.specs.grammar.Frames.{frames_after}
 use Rattle.wasm_decode.specs.grammar.Role.{Role, opens, opens_if, opens_try}
 use Rattle.wasm_decode.specs.instr.declared.operator.Operator.{Operator}
 use Rattle.wasm_decode.specs.instr.Roles.{role_of}
@@ -19,6 +22,13 @@ opened_by op = opened_by_role (role_of op)
 abbrev pub opened_along : Placed → ℕ
 opened_along [] = 0
 opened_along (p ∷ ps) = opened_by p.0 + opened_along ps
+
+-- The greatest number of frames that are open before, between and after these operators. They start with these frames, and with `None` no
+-- frames are possible.
+abbrev pub most_open : Option (List FrameKind) → Placed → ℕ
+most_open None ps = 0
+most_open (Some frames) [] = length frames
+most_open (Some frames) (p ∷ ps) = max (length frames) (most_open (frames_after frames (role_of p.0)) ps)
 
 -- The opcodes of block, loop, if, try and try_table.
 abbrev pub LeadsFrame : ℕ → Type 0

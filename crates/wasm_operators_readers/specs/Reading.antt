@@ -13,7 +13,7 @@ use Rattle.wasm_decode.specs.grammar.Frames.{frames_after, frames_along, innermo
 use Rattle.wasm_decode.specs.instr.declared.operator.Operator.{Operator}
 use Rattle.wasm_decode.specs.instr.Roles.{role_of, roles_of}
 use Rattle.wasm_operators_readers.specs.Expression.{Placed, OfPlaced, operators, LaidOut}
-use Rattle.wasm_operators_readers.specs.Openings.{opened_by, opened_along, LeadsFrame}
+use Rattle.wasm_operators_readers.specs.Openings.{opened_by, opened_along, most_open, LeadsFrame}
 use Rattle.wasm_operators_readers.specs.Stack.{frame_memory, IsLittleMemory}
 
 -- The bytes encode an operator that is read in a frame of this kind.
@@ -45,6 +45,14 @@ abbrev pub GrowsLittle : ℕ → State → State → Type 0
 GrowsLittle bytes old new =
     IsLittleMemory (frame_memory old.frames old.room) (length old.frames) (bytes + 10) (frame_memory new.frames new.room)
 
+-- The memory of the frames has not shrunk.
+abbrev pub KeepsMemory : State → State → Type 0
+KeepsMemory old new = frame_memory old.frames old.room ≤ frame_memory new.frames new.room
+
+-- The memory of the frames has space for all frames that were open at once, from this state on and along these operators.
+abbrev pub HoldsMostOpen : State → Placed → State → Type 0
+HoldsMostOpen old placed new = most_open (Some old.frames) placed ≤ frame_memory new.frames new.room + 1
+
 -- Nothing changed, except that the capacity may have grown within the bound.
 abbrev pub IsUnchanged : State → State → Type 0
 IsUnchanged old new = (new.reader ≡ old.reader) × (new.frames ≡ old.frames) × (old.room ≤ new.room) × GrowsLittle 0 old new
@@ -64,6 +72,7 @@ pub record TakesOperator (Encodes : Taking) (op : Operator) (old new : State) : 
   pub frames : frames_after old.frames (role_of op) ≡ Some new.frames
   pub room : old.room ≤ new.room + opened_by op
   pub memory : GrowsLittle 0 old new
+  pub kept : KeepsMemory old new
 
 abbrev pub NoFrameOpen : Error → State → Type 0
 NoFrameOpen e s = (s.frames ≡ []) × (e.message ≡ message.OperatorsRemaining) × (e.offset ≡ offset_of s.reader)
@@ -110,6 +119,8 @@ pub record TakesOperators (old new : State) (placed : Placed) : Type 0 where
   pub frames : frames_along old.frames (roles_of (operators placed)) ≡ Some new.frames
   pub room : old.room ≤ new.room + opened_along placed
   pub memory : GrowsLittle (length text) old new
+  pub kept : KeepsMemory old new
+  pub deepest : HoldsMostOpen old placed new
 
 -- Why finishing returns this message, at the reader's position.
 abbrev pub StopsFinish : Message → Type 0 → Reader → Type 0

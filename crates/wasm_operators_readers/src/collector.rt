@@ -1,4 +1,5 @@
-ghost use Rattle.std.specs.Prelude.{◌<◌, vec_capacity, vec_len};
+//! The visitor that appends operators to a list.
+ghost use Rattle.std.specs.Prelude.{◌<◌, ◌≤◌, vec_capacity, vec_len};
 ghost use Rattle.wasm_decode.specs.instr.declared.operator.Operator.{Operator};
 ghost use Rattle.wasm_operators_readers.specs.Collecting.{CollectsOne};
 
@@ -18,8 +19,11 @@ pub struct Collector<T> {
 impl<T: HoldOperator + Drop> Visitor for Collector<T> {
     type Output = ();
 
+    // If the list has capacity, a visit appends one item, which is made of the operator. The
+    // capacity does not shrink.
     ghost visits = { λ before op outcome after. vec_len before.items < vec_capacity before.items
-        → CollectsOne T.holds before.offset before.items.items op after.items.items };
+        → CollectsOne T.holds before.offset before.items.items op after.items.items
+        × (vec_capacity before.items ≤ vec_capacity after.items) };
 
     #[inline(always)]
     fn visit_any(&mut self, op: Operator<'static>) {

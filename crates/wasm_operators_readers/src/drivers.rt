@@ -1,4 +1,5 @@
-ghost use Rattle.std.specs.Prelude.{◌≡◌, ◌+◌, ◌<◌, List, ◌⊎◌, IfErr, vec_capacity, vec_len};
+//! Reading and visiting to the end of the data.
+ghost use Rattle.std.specs.Prelude.{◌≡◌, ◌+◌, ◌<◌, ◌≤◌, List, ◌⊎◌, IfErr, vec_capacity, vec_len};
 ghost use Rattle.wasm_decode.specs.instr.declared.operator.Operator.{Operator};
 ghost use Rattle.wasm_decode.specs.opcodes.Allowed.{EncodesAllowed, EncodesScalar};
 ghost use Rattle.wasm_decode.specs.opcodes.OperatorFaults.{OperatorFault, ScalarOperatorFault};
@@ -22,6 +23,7 @@ impl<'a> OperatorsReader<'a> {
         T: HoldTable<'a> + Drop,
         ensures runs { RunsToEnd (Collects T.holds out.old.items out.new.items) EncodesAllowed OperatorFault Anywhere
             result self.old self.new }
+        ensures kept { vec_capacity out.old ≤ vec_capacity out.new }
         ensures memory { IfErr result
             (λ e. e.message ≡ Message.OutOfMemory
             → NextMayAllocate EncodesAllowed self.new ⊎ (vec_capacity out.new < vec_len out.new + 1)) }
@@ -36,6 +38,8 @@ impl<'a> OperatorsReader<'a> {
 
     /// Reads all operators to the end of the data or to an error, and finishes. Appends them to
     /// `out` with their offsets.
+    ///
+    /// Neither `out` nor the frames' memory shrinks, so a caller can reserve both in advance.
     ///
     /// Fails as `read` and `finish` do, and with `OutOfMemory` at the position if `out` can't grow.
     /// The reader is then after the operators that were added, and the call can be repeated.
@@ -62,6 +66,8 @@ impl<'a> OperatorsReader<'a> {
         ensures flat { ReadsFlat (Adds out.old.items out.new.items) IsAny result self.old }
         // Each added frame takes at least two bytes.
         ensures depth { IsWithinDepth self.old self.new }
+        // The capacity of `out` does not shrink.
+        ensures kept { vec_capacity out.old ≤ vec_capacity out.new }
         // Allocation fails only if one read may allocate, or if `out` is full.
         ensures memory { IfErr result
             (λ e. e.message ≡ Message.OutOfMemory

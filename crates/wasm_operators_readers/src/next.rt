@@ -1,6 +1,9 @@
-//! Visits with the reader and the stack borrowed separately, so that a loop can keep the reader in
-//! a local variable, which stays in registers.
-ghost use Rattle.std.specs.Prelude.{◌≡◌, ◌+◌, ◌<◌, ◌⊎◌, IfErr, vec_capacity, vec_len};
+//! Visiting the next operator of a reader with its stack of open frames, and all operators to the
+//! end of the data.
+//!
+//! The reader and the stack are borrowed separately, so that a loop can hold the reader in a local
+//! variable. That variable stays in registers as long as no call out of line borrows it.
+ghost use Rattle.std.specs.Prelude.{◌≡◌, ◌+◌, ◌<◌, ◌≤◌, ◌⊎◌, IfErr, vec_capacity, vec_len};
 ghost use Rattle.wasm_decode.specs.opcodes.Allowed.{EncodesAllowed, EncodesScalar};
 ghost use Rattle.wasm_decode.specs.opcodes.OperatorFaults.{OperatorFault, ScalarOperatorFault};
 ghost use Rattle.wasm_operators_readers.specs.Collecting.{Collects};
@@ -19,8 +22,8 @@ use wasm_decode::{visit_after_opcode, visit_after_opcode_simd, visit_below_0x20}
 
 #[inline(always)]
 pub fn visit_next_simd<'a, V>(
-    v: &mut V,
     alloc: Global,
+    v: &mut V,
     reader: &mut BinaryReader<'a>,
     control: &mut ControlStack,
 ) -> Result<V::Output>
@@ -32,9 +35,9 @@ where
     match begin(reader, control) {
         Ok(at) => {
             if keeps_frames(at.code) {
-                return visit_after_opcode_simd(v, alloc, reader, at.start, at.frame, at.code);
+                return visit_after_opcode_simd(alloc, v, reader, at.start, at.frame, at.code);
             }
-            match visit_below_0x20(v, alloc, reader, at.start, at.frame, at.code) {
+            match visit_below_0x20(alloc, v, reader, at.start, at.frame, at.code) {
                 Ok(outcome) => {
                     make_step(control, at.code);
                     Ok(outcome)
@@ -48,8 +51,8 @@ where
 
 #[inline(always)]
 pub fn visit_next<'a, V: VisitOperator<'a>>(
-    v: &mut V,
     alloc: Global,
+    v: &mut V,
     reader: &mut BinaryReader<'a>,
     control: &mut ControlStack,
 ) -> Result<V::Output>
@@ -59,9 +62,9 @@ pub fn visit_next<'a, V: VisitOperator<'a>>(
     match begin(reader, control) {
         Ok(at) => {
             if keeps_frames(at.code) {
-                return visit_after_opcode(v, alloc, reader, at.start, at.frame, at.code);
+                return visit_after_opcode(alloc, v, reader, at.start, at.frame, at.code);
             }
-            match visit_below_0x20(v, alloc, reader, at.start, at.frame, at.code) {
+            match visit_below_0x20(alloc, v, reader, at.start, at.frame, at.code) {
                 Ok(outcome) => {
                     make_step(control, at.code);
                     Ok(outcome)
@@ -88,8 +91,8 @@ pub fn finish(reader: &BinaryReader<'_>, control: &ControlStack) -> Result<()>
 
 #[inline(always)]
 pub fn visit_rest_simd<'a, V>(
-    v: &mut V,
     alloc: Global,
+    v: &mut V,
     reader: &mut BinaryReader<'a>,
     control: &mut ControlStack,
 ) -> Result<()>
@@ -100,7 +103,7 @@ where
         result (state_of reader.old control.old) (state_of reader.new control.new) }
 {
     'visits: while !reader.eof() {
-        match visit_next_simd(v, alloc, reader, control) {
+        match visit_next_simd(alloc, v, reader, control) {
             Ok(_) => {}
             Err(e) => return Err(e),
         }
@@ -110,8 +113,8 @@ where
 
 #[inline(always)]
 pub fn visit_rest<'a, V: VisitOperator<'a>>(
-    v: &mut V,
     alloc: Global,
+    v: &mut V,
     reader: &mut BinaryReader<'a>,
     control: &mut ControlStack,
 ) -> Result<()>
@@ -121,7 +124,7 @@ where
         (NextMayAllocate EncodesScalar) result (state_of reader.old control.old) (state_of reader.new control.new) }
 {
     'scalar_visits: while !reader.eof() {
-        match visit_next(v, alloc, reader, control) {
+        match visit_next(alloc, v, reader, control) {
             Ok(_) => {}
             Err(e) => return Err(e),
         }
@@ -135,8 +138,8 @@ where
 /// Generic over the items, because the prover compares all calls of a known visitor.
 #[inline(always)]
 pub fn collect_rest<'a, T>(
-    list: &mut Collector<T>,
     alloc: Global,
+    list: &mut Collector<T>,
     reader: &mut BinaryReader<'a>,
     control: &mut ControlStack,
 ) -> Result<()>
@@ -144,6 +147,7 @@ where
     T: HoldTable<'a> + Drop,
     ensures runs { RunsToEnd (Collects T.holds list.old.items.items list.new.items.items) EncodesAllowed OperatorFault
         Anywhere result (state_of reader.old control.old) (state_of reader.new control.new) }
+    ensures kept { vec_capacity list.old.items ≤ vec_capacity list.new.items }
     ensures memory { IfErr result
         (λ e. e.message ≡ Message.OutOfMemory
         → NextMayAllocate EncodesAllowed (state_of reader.new control.new)
@@ -154,7 +158,7 @@ where
         if list.items.try_reserve(1).is_err() {
             return Err(Error::new(Message::OutOfMemory, list.offset));
         }
-        match visit_next_simd(list, alloc, reader, control) {
+        match visit_next_simd(alloc, list, reader, control) {
             Ok(_) => {}
             Err(e) => return Err(e),
         }

@@ -146,7 +146,7 @@ impl<'a> OperatorsReader<'a> {
         V: VisitOperator<'a> + VisitSimdOperator,
         ensures { VisitsNext V.visits result self.old self.new v.old v.new }
     {
-        visit_next_simd(v, self.alloc, &mut self.reader, &mut self.control)
+        visit_next_simd(self.alloc, v, &mut self.reader, &mut self.control)
     }
 
     /// Visits the next operator and returns the visit's result. Fails with `UnexpectedSimd` at the
@@ -155,7 +155,7 @@ impl<'a> OperatorsReader<'a> {
     pub fn visit_operator<V: VisitOperator<'a>>(&mut self, v: &mut V) -> Result<V::Output>
         ensures { VisitsNextScalar V.visits result self.old self.new v.old v.new }
     {
-        visit_next(v, self.alloc, &mut self.reader, &mut self.control)
+        visit_next(self.alloc, v, &mut self.reader, &mut self.control)
     }
 
     /// Checks that all frames are closed and all data was read.

@@ -160,6 +160,7 @@ impl ControlStack {
     pub fn push(&mut self, frame: FrameKind) -> Result<()>
         ensures frames { OnOk result (self.new.frames ≡ self.old.frames ++ frame ∷ []) }
         ensures room { self.old.room ≤ self.new.room + 1 }
+        ensures kept { frame_memory self.old.frames self.old.room ≤ frame_memory self.new.frames self.new.room }
         ensures enough { HasRoom self.old → IsOk result }
         ensures memory { GrowsByDoubling 1 self.old self.new }
         ensures refused { IfErr result (λ e. IsOutOfMemoryAt 0 e × (self.new ≡ self.old)) }
@@ -235,16 +236,22 @@ impl ControlStack {
         }
     }
 
-    /// Clones the frames into memory of the same allocator. The clone's capacity is not specified.
+    /// Clones the frames into other memory of the same allocator. The clone has no capacity for
+    /// more frames.
     ///
     /// Fails with `OutOfMemory` at offset 0, and only if more than one frame is open.
     pub fn clone(&self) -> Result<ControlStack>
         ensures frames { IfOk result (λ copy. copy.frames ≡ self.now.frames) }
+        ensures room { IfOk result (λ copy. copy.room ≡ 0) }
         ensures refused { IfErr result (λ e. IsOutOfMemoryAt 0 e × (1 < length self.now.frames)) }
     {
-        let mut around = Vec::new(*self.around.allocator());
-        if around.extend_from_slice(self.around.as_slice()).is_err() {
-            return Err(Error::new(Message::OutOfMemory, 0));
+        let alloc = *self.around.allocator();
+        let mut around = match Vec::with_capacity(alloc, self.around.len()) {
+            Ok(around) => around,
+            Err(_) => return Err(Error::new(Message::OutOfMemory, 0)),
+        };
+        for frame in self.around.as_slice() {
+            around.push_reserved(*frame);
         }
         Ok(ControlStack {
             around,

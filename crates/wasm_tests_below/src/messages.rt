@@ -50,18 +50,18 @@ const MESSAGES: [Message; 38] = [
     Message::DataAfterSection,
 ];
 
-/// Writes number, offset, kind and text of an error at offset 7 with this message.
+/// Writes what an error at offset 26 with the message of this name says of itself: number, offset,
+/// kind and text.
 pub fn write_message(text: &mut String, name: &str) -> Written {
     for message in MESSAGES {
         write!(text, "{message:?}")?;
         let is_named = text.as_str() == name;
         text.clear();
         if is_named {
-            let error = Error::new(message, 7);
-            let message = error.message();
-            let number = message.number();
+            let error = Error::new(message, 26);
+            let number = error.message().number();
             let offset = error.offset();
-            write!(text, "{number} at {offset}, {:?}: {message}", error.kind())?;
+            write!(text, "{number} at {offset}, {:?}: {error}", error.kind())?;
             return Ok(());
         }
     }

@@ -1,3 +1,5 @@
+//! The text of an operator, and of a function.
+
 use crate::row::Given;
 use crate::single::Under;
 use crate::words::{write_error, write_lines};
@@ -7,6 +9,7 @@ use wasm_disassembly::{DisassemblyFault, disassemble};
 use wasm_listing::operators::{FunctionBody, ReadOperators};
 use wasm_tests_texts::Written;
 
+/// Writes the text of the operator at the start of the bytes, under the argument's frame.
 pub fn write_text(alloc: Global, given: Given<'_>, out: &mut String) -> Written {
     let reader = given.reader();
     match reader.peek_operator(alloc, &Under(given.frame())) {
@@ -15,10 +18,6 @@ pub fn write_text(alloc: Global, given: Given<'_>, out: &mut String) -> Written 
     }
 }
 
-<<<<<<< HEAD
-/// Writes how the disassembly of a function with index 3 and name `f` ended, and its text. The
-/// argument is its number of parameters.
-=======
 /// Returns the names of four functions: only the last has one.
 fn four_names(alloc: Global) -> Result<Vec<String>, AllocError> {
     let mut names = Vec::new(alloc);
@@ -31,7 +30,6 @@ fn four_names(alloc: Global) -> Result<Vec<String>, AllocError> {
 
 /// Writes how the disassembly of a function with index 3 and name `f` ended, and its text. The argument is
 /// the number of its parameters.
->>>>>>> e461b76a9dfb6556365173cd6d600572fa6cf5ca
 pub fn write_disassembly(alloc: Global, given: Given<'_>, out: &mut String) -> Written {
     let body = FunctionBody::new(given.reader());
     let mut written = Vec::new(alloc);

@@ -29,7 +29,7 @@ pub fn run_factory<'a>(
     bytes: &'a [u8],
 ) -> (Result<Operator<'a>>, usize) {
     let mut reader = reader_at(task, bytes);
-    let outcome = visit_operator_simd(&mut OperatorFactory::new(), alloc, &mut reader, task.frame);
+    let outcome = visit_operator_simd(alloc, &mut OperatorFactory::new(), &mut reader, task.frame);
     (outcome, reader.current_position())
 }
 
@@ -37,7 +37,7 @@ pub type Reported = Result<std::result::Result<Call, AllocError>>;
 
 pub fn run_simd(alloc: Global, teller: &mut Teller, task: Task, bytes: &[u8]) -> (Reported, usize) {
     let mut reader = reader_at(task, bytes);
-    let outcome = visit_operator_simd(teller, alloc, &mut reader, task.frame);
+    let outcome = visit_operator_simd(alloc, teller, &mut reader, task.frame);
     (outcome, reader.current_position())
 }
 
@@ -48,14 +48,14 @@ pub fn run_plain(
     bytes: &[u8],
 ) -> (Reported, usize) {
     let mut reader = reader_at(task, bytes);
-    let outcome = visit_operator(teller, alloc, &mut reader, task.frame);
+    let outcome = visit_operator(alloc, teller, &mut reader, task.frame);
     (outcome, reader.current_position())
 }
 
 pub fn run_lent(alloc: Global, teller: &mut Teller, task: Task, bytes: &[u8]) -> (Reported, usize) {
     let mut reader = reader_at(task, bytes);
     let mut lent = teller;
-    let outcome = visit_operator_simd(&mut lent, alloc, &mut reader, task.frame);
+    let outcome = visit_operator_simd(alloc, &mut lent, &mut reader, task.frame);
     (outcome, reader.current_position())
 }
 
@@ -66,7 +66,7 @@ pub fn run_boxed(
     bytes: &[u8],
 ) -> (Reported, usize) {
     let mut reader = reader_at(task, bytes);
-    let outcome = visit_operator_simd(boxed, alloc, &mut reader, task.frame);
+    let outcome = visit_operator_simd(alloc, boxed, &mut reader, task.frame);
     (outcome, reader.current_position())
 }
 
@@ -79,7 +79,7 @@ pub fn run_both(
 ) -> (Reported, usize) {
     let mut reader = reader_at(task, bytes);
     let mut lent = boxed;
-    let outcome = visit_operator_simd(&mut lent, alloc, &mut reader, task.frame);
+    let outcome = visit_operator_simd(alloc, &mut lent, &mut reader, task.frame);
     (outcome, reader.current_position())
 }
 
@@ -87,10 +87,10 @@ pub fn is_refused_again(alloc: Global, teller: &mut Teller, task: Task, bytes: &
     let mut reader = reader_at(task, bytes);
     let read = read_operator(alloc, &mut reader, task.frame).err();
     let read_again = read_operator(alloc, &mut reader, task.frame).err();
-    let visit = visit_operator_simd(teller, alloc, &mut reader, task.frame).err();
-    let visit_again = visit_operator_simd(teller, alloc, &mut reader, task.frame).err();
-    let plain = visit_operator(teller, alloc, &mut reader, task.frame).err();
-    let plain_again = visit_operator(teller, alloc, &mut reader, task.frame).err();
+    let visit = visit_operator_simd(alloc, teller, &mut reader, task.frame).err();
+    let visit_again = visit_operator_simd(alloc, teller, &mut reader, task.frame).err();
+    let plain = visit_operator(alloc, teller, &mut reader, task.frame).err();
+    let plain_again = visit_operator(alloc, teller, &mut reader, task.frame).err();
     read == read_again
         && read == visit
         && visit == visit_again

@@ -69,7 +69,7 @@ impl VisitGroups for Teller {
         frame: FrameKind,
         code: u8,
     ) -> Result<Self::Output> {
-        decode::one_byte(self, alloc, reader, start, frame, code)
+        decode::one_byte(alloc, self, reader, start, frame, code)
     }
 
     fn decode_below_0x20(
@@ -80,7 +80,7 @@ impl VisitGroups for Teller {
         frame: FrameKind,
         code: u8,
     ) -> Result<Self::Output> {
-        decode::one_byte(self, alloc, reader, start, frame, code)
+        decode::one_byte(alloc, self, reader, start, frame, code)
     }
 
     fn decode_numeric(&mut self, code: u8) -> Self::Output {

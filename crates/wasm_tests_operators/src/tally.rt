@@ -65,7 +65,7 @@ impl VisitGroups for Tally {
         frame: FrameKind,
         code: u8,
     ) -> Result<()> {
-        decode::one_byte(self, alloc, reader, start, frame, code)
+        decode::one_byte(alloc, self, reader, start, frame, code)
     }
 
     fn decode_below_0x20(
@@ -76,7 +76,7 @@ impl VisitGroups for Tally {
         frame: FrameKind,
         code: u8,
     ) -> Result<()> {
-        decode::one_byte(self, alloc, reader, start, frame, code)
+        decode::one_byte(alloc, self, reader, start, frame, code)
     }
 
     fn decode_misc(

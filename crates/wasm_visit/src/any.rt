@@ -44,8 +44,8 @@ impl<V: Visitor> VisitSimdLow for ByAny<V> {}
 /// Reads the immediates of an operator of one byte and visits it by `visit_any`.
 #[inline(always)]
 pub fn one_byte<V: Visitor>(
-    v: &mut V,
     alloc: Global,
+    v: &mut V,
     reader: &mut BinaryReader<'_>,
     start: usize,
     frame: FrameKind,
@@ -57,7 +57,7 @@ pub fn one_byte<V: Visitor>(
 {
     match common_one_byte(v, reader, start, code) {
         Some(outcome) => outcome,
-        None => other_one_byte(v, alloc, reader, start, frame, code),
+        None => other_one_byte(alloc, v, reader, start, frame, code),
     }
 }
 
@@ -84,8 +84,8 @@ fn common_one_byte<V: Visitor>(
 /// Decodes the other operators, by a call.
 #[inline(always)]
 fn other_one_byte<V: Visitor>(
-    v: &mut V,
     alloc: Global,
+    v: &mut V,
     reader: &mut BinaryReader<'_>,
     start: usize,
     frame: FrameKind,
@@ -95,5 +95,5 @@ fn other_one_byte<V: Visitor>(
     requires apart { IsOneByteCode code }
     ensures { DecodesAt V.visits frame start result reader.old reader.new v.old v.new }
 {
-    decode::other_one_byte(&mut ByAny { visitor: v }, alloc, reader, start, frame, code)
+    decode::other_one_byte(alloc, &mut ByAny { visitor: v }, reader, start, frame, code)
 }

@@ -17,7 +17,7 @@ impl VisitGroups for Factory {
         frame: FrameKind,
         code: u8,
     ) -> Result<Self::Output> {
-        decode::one_byte(self, alloc, reader, start, frame, code)
+        decode::one_byte(alloc, self, reader, start, frame, code)
     }
 
     #[inline(always)]
@@ -29,7 +29,7 @@ impl VisitGroups for Factory {
         frame: FrameKind,
         code: u8,
     ) -> Result<Self::Output> {
-        decode::one_byte(self, alloc, reader, start, frame, code)
+        decode::one_byte(alloc, self, reader, start, frame, code)
     }
 
     #[inline(always)]

@@ -78,7 +78,7 @@ pub trait VisitGroups: Visitor {
     /// reader goes back to `start`.
     ///
     /// A visitor that overrides visits of `VisitOneByte` calls
-    /// `decode::one_byte(self, alloc, reader, start, frame, code)` here.
+    /// `decode::one_byte(alloc, self, reader, start, frame, code)` here.
     #[inline(always)]
     fn decode_one_byte(
         &mut self,
@@ -94,7 +94,7 @@ pub trait VisitGroups: Visitor {
         requires apart { IsOneByteCode code }
         ensures { DecodesAt Self.visits frame start result reader.old reader.new self.old self.new }
     {
-        any::one_byte(self, alloc, reader, start, frame, code)
+        any::one_byte(alloc, self, reader, start, frame, code)
     }
 
     /// Does the same as `decode_one_byte`, for an opcode below 0x20: a control or parametric
@@ -104,7 +104,7 @@ pub trait VisitGroups: Visitor {
     /// this method for them, and `decode_one_byte` for opcodes from 0x20 on.
     ///
     /// A visitor that overrides visits of `VisitOneByte` calls
-    /// `decode::one_byte(self, alloc, reader, start, frame, code)` here too.
+    /// `decode::one_byte(alloc, self, reader, start, frame, code)` here too.
     #[inline(always)]
     fn decode_below_0x20(
         &mut self,
@@ -121,7 +121,7 @@ pub trait VisitGroups: Visitor {
         requires low { code < 0x20 }
         ensures { DecodesAt Self.visits frame start result reader.old reader.new self.old self.new }
     {
-        any::one_byte(self, alloc, reader, start, frame, code)
+        any::one_byte(alloc, self, reader, start, frame, code)
     }
 
     /// Visits the numeric operator with this opcode.

@@ -26,8 +26,8 @@ pub mod instr {
         AtomicOperator, BlockType, BrTable, BrTableTargets, Cast, Catch, Catches, FrameKind,
         FrameStack, GcOperator, Handle, Handles, Ieee32, Ieee64, MemArg, MemArgKind,
         MemArgOrdering, MemArgTarget, Members, MiscOperator, ModuleArity, NumericOperator,
-        Operator, OperatorInfo, Ordering, ReadImmediates, ResumeTable, Select, SelectTypes,
-        SimdOperator, TryTable, V128, laws, read_lane, read_lanes, read_memory_index,
+        Operator, OperatorInfo, Ordering, Proposal, ReadImmediates, ResumeTable, Select,
+        SelectTypes, SimdOperator, TryTable, V128, laws, read_lane, read_lanes, read_memory_index,
         read_table_index,
     };
 }

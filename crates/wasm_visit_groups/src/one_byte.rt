@@ -12,8 +12,8 @@ use wasm_instr::imm::{BlockType, Ieee32, Ieee64, MemArg, ResumeTable, SelectType
 /// only by methods of the visitor's `VisitGroups` that name the group:
 ///
 /// - `dispatch_one_byte`, by `dispatch::one_byte(self, op)`
-/// - `decode_one_byte`, by `decode::one_byte(self, alloc, reader, start, frame, code)`
-/// - `decode_below_0x20`, by `decode::one_byte(self, alloc, reader, start, frame, code)`
+/// - `decode_one_byte`, by `decode::one_byte(alloc, self, reader, start, frame, code)`
+/// - `decode_below_0x20`, by `decode::one_byte(alloc, self, reader, start, frame, code)`
 pub trait VisitOneByte: Visitor {
     /// Visits `Unreachable`.
     #[inline(always)]

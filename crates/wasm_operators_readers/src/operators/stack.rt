@@ -7,13 +7,14 @@ use wasm_decode::grammar::FrameKind;
 use wasm_decode::instr::FrameStack;
 
 impl<'a> OperatorsReader<'a> {
-    /// Clones the reader with its open frames, in memory of the same allocator. The clone's
-    /// capacity is not specified.
+    /// Clones the reader: the clone is at the same position of the same bytes, with the same open
+    /// frames, in memory of the same allocator. It has no capacity for more frames.
     ///
     /// Fails with `OutOfMemory` at offset 0, and only if more than one frame is open.
     pub fn clone(&self) -> Result<OperatorsReader<'a>>
         ensures reader { IfOk result (λ copy. copy.reader ≡ self.now.reader) }
         ensures frames { IfOk result (λ copy. copy.frames ≡ self.now.frames) }
+        ensures room { IfOk result (λ copy. copy.room ≡ 0) }
         ensures refused { IfErr result (λ e. IsOutOfMemoryAt 0 e × (1 < length self.now.frames)) }
     {
         match self.control.clone() {

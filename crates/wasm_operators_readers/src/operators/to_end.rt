@@ -1,5 +1,6 @@
-//! Visiting to the end, with the reader, and for visits the stack, in local variables.
-ghost use Rattle.std.specs.Prelude.{◌≡◌, ◌+◌, ◌<◌, ◌⊎◌, IfErr, vec_capacity, vec_len};
+//! Visiting to the end of the data. Meanwhile the reader of the bytes is in a local variable, and
+//! for visits the stack of open frames too.
+ghost use Rattle.std.specs.Prelude.{◌≡◌, ◌+◌, ◌<◌, ◌≤◌, ◌⊎◌, IfErr, vec_capacity, vec_len};
 ghost use Rattle.wasm_decode.specs.opcodes.Allowed.{EncodesAllowed, EncodesScalar};
 ghost use Rattle.wasm_decode.specs.opcodes.OperatorFaults.{OperatorFault, ScalarOperatorFault};
 ghost use Rattle.wasm_operators_readers.specs.Collecting.{Collects};
@@ -21,12 +22,13 @@ impl<'a> OperatorsReader<'a> {
         T: HoldTable<'a> + Drop,
         ensures runs { RunsToEnd (Collects T.holds list.old.items.items list.new.items.items) EncodesAllowed OperatorFault
             Anywhere result self.old self.new }
+        ensures kept { vec_capacity list.old.items ≤ vec_capacity list.new.items }
         ensures memory { IfErr result
             (λ e. e.message ≡ Message.OutOfMemory
             → NextMayAllocate EncodesAllowed self.new ⊎ (vec_capacity list.new.items < vec_len list.new.items + 1)) }
     {
         let mut reader = self.reader.clone();
-        let outcome = collect_rest(list, self.alloc, &mut reader, &mut self.control);
+        let outcome = collect_rest(self.alloc, list, &mut reader, &mut self.control);
         self.reader = reader;
         outcome
     }
@@ -40,7 +42,7 @@ impl<'a> OperatorsReader<'a> {
     {
         let mut reader = self.reader.clone();
         let mut control = replace(&mut self.control, ControlStack::new(self.alloc));
-        let outcome = visit_rest_simd(v, self.alloc, &mut reader, &mut control);
+        let outcome = visit_rest_simd(self.alloc, v, &mut reader, &mut control);
         self.reader = reader;
         self.control = control;
         outcome
@@ -55,7 +57,7 @@ impl<'a> OperatorsReader<'a> {
     {
         let mut reader = self.reader.clone();
         let mut control = replace(&mut self.control, ControlStack::new(self.alloc));
-        let outcome = visit_rest(v, self.alloc, &mut reader, &mut control);
+        let outcome = visit_rest(self.alloc, v, &mut reader, &mut control);
         self.reader = reader;
         self.control = control;
         outcome

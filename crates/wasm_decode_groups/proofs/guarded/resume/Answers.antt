@@ -9,9 +9,9 @@ use Rattle.wasm_decode_groups.proofs.guarded.resume.Goals as goal
 pub returns-in-Ok : goal.returns-in-Ok
 returns-in-Ok g c k =
     let r = c.args.reader.now in
-    visited_free g.V.Visitor.visits (OperatorFault r.features k) k None 0xe3 (is_unsigned_32 ∷ is_resume_clauses ∷ []) (unsigned_32 c.in-Ok.it.0 ∷ resume_clauses c.in-Ok.it.1 ∷ []) c.args.start r c.resume.new.reader c.args.v.now c.visit_resume.new.self c.visit_resume.result refl c.requires.after (operator.Resume c.in-Ok.it.0 c.in-Ok.it.1, refl, refl, refl, c.visit_resume.ensures) c.in-Ok.ensures
+    visited_free g.V.Visitor.visits (OperatorFault r.features k) k None 0xe3 (is_unsigned_32 ∷ is_resume_clauses ∷ []) (unsigned_32 c.in-Ok.it.0 ∷ resume_clauses c.in-Ok.it.1 ∷ []) c.args.start r c.resume.new.reader c.args.v.now c.visit_resume.new.self c.visit_resume.result refl c.requires.after (operator.Resume c.in-Ok.it.0 c.in-Ok.it.1, refl, refl, refl, c.visit_resume.ensures) c.in-Ok.ensures.reads
 
 pub returns-in-Err : goal.returns-in-Err
 returns-in-Err g c k =
     let r = c.args.reader.now in
-    refuses_list g.V.Visitor.visits k 0xe3 (is_unsigned_32 ∷ is_resume_clauses ∷ []) c.args.start c.in-Err.e r c.resume.new.reader c.args.v.now ((λ h. cc h), omega arith) refl c.requires.after c.in-Err.ensures (λ m. needs_list k 0xe3 c.args.start (is_unsigned_32 ∷ is_resume_clauses ∷ []) r ((λ h. cc h), omega arith) refl (inr (inr (inl refl))) c.requires.after owns_resume)
+    refuses_list g.V.Visitor.visits k 0xe3 (is_unsigned_32 ∷ is_resume_clauses ∷ []) c.args.start c.in-Err.e r c.resume.new.reader c.args.v.now ((λ h. cc h), omega arith) refl c.requires.after c.in-Err.ensures.reads (λ m. needs_list k 0xe3 c.args.start (is_unsigned_32 ∷ is_resume_clauses ∷ []) r ((λ h. cc h), omega arith) refl (inr (inr (inl refl))) c.requires.after (c.in-Err.ensures.memory m) owns_resume)

@@ -22,7 +22,7 @@ returns-in-Ok-Multi g c k =
 pub returns-in-Err : goal.returns-in-Err
 returns-in-Err g c k =
     let r = c.args.reader.now in
-    refuses_list g.V.Visitor.visits k 0x1c (is_select_types ∷ []) c.args.start c.in-Err.e r c.select.new.reader c.args.v.now ((λ h. cc h), omega arith) refl c.requires.after c.in-Err.ensures.reads (λ m. needs_types k 0x1c c.args.start r ((λ h. cc h), omega arith) refl (inl refl) c.requires.after (c.in-Err.ensures.lone m))
+    refuses_list g.V.Visitor.visits k 0x1c (is_select_types ∷ []) c.args.start c.in-Err.e r c.select.new.reader c.args.v.now ((λ h. cc h), omega arith) refl c.requires.after c.in-Err.ensures.reads (λ m. needs_types k 0x1c c.args.start r ((λ h. cc h), omega arith) refl (inl refl) c.requires.after (c.in-Err.ensures.memory m) (c.in-Err.ensures.lone m))
 
 pub select-requires-clause-within : goal.select-requires-clause-within
 select-requires-clause-within g c = within_after_code c.args.start None 0x1c c.args.reader.now c.requires.after

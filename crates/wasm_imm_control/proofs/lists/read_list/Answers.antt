@@ -9,7 +9,7 @@ use Rattle.wasm_below.proofs.TakesLemmas.{takes_then}
 use Rattle.wasm_below.proofs.PrefixCode.{size_prefix_code}
 use Rattle.wasm_below.proofs.Blocks.{refused_now}
 use Rattle.wasm_imm_control.specs.Lists.{EncodesMany, EncodesEach}
-use Rattle.wasm_imm_control.proofs.ListRefusals.{begun_refused}
+use Rattle.wasm_imm_control.proofs.ListRefusals.{begun_refused, not_memory, some_read}
 use Rattle.wasm_below.proofs.Steps.{unsigned_some}
 use Rattle.wasm_imm_control.proofs.Faults.{kept_fault}
 use Rattle.wasm_imm_control.proofs.lists.read_list.Goals as goal
@@ -55,3 +55,10 @@ returns-in-Err-read_members-clause-fault g c =
       subst (λ z. many z f.message f.offset) same
           (kept_fault (many mid.features) c.in-Err-read_members.e f _ c.refuse_from.ensures.reported c.in-Err-read_members.ensures.fault some),
     )
+
+pub returns-in-Err-clause-memory : goal.returns-in-Err-clause-memory
+returns-in-Err-clause-memory g c = λ m. absurd (not_memory (EncodesSize c.args.limit) c.in-Err.e c.args.reader.now c.in-Err.ensures.reads.1 m)
+
+pub returns-in-Err-read_members-clause-memory : goal.returns-in-Err-read_members-clause-memory
+returns-in-Err-read_members-clause-memory g c =
+    λ m. some_read (EncodesSize c.args.limit) c.args.reader.now c.read_size.new.self c.in-Ok.count c.in-Ok.ensures.reads

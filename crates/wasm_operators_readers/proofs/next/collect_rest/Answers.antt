@@ -1,4 +1,4 @@
-use Rattle.std.proofs.Common.{◌≡◌, ◌<◌, ◌++◌, ◌∷◌, [], sym, subst, rules, inl}
+use Rattle.std.proofs.Common.{◌≡◌, ◌<◌, ◌≤◌, ◌++◌, ◌∷◌, [], sym, ap, subst, rules, inl, arith}
 use Rattle.std.specs.Vec.{vec_len, vec_capacity}
 use Rattle.wasm_decode.specs.below.Source.{rest, offset_of}
 use Rattle.wasm_decode.specs.opcodes.Allowed.{EncodesAllowed}
@@ -26,8 +26,9 @@ operators-preserved g c =
     let room : vec_len c.try_reserve.new.self < vec_capacity c.try_reserve.new.self = search rules in (
       i.0 ++ (op, at) ∷ [],
       collected_push g.T.HoldOperator.holds old mid new i.0 op at (subst (λ x. Collects g.T.HoldOperator.holds old x i.0) (sym c.try_reserve.ensures.items) i.1)
-          (subst (λ n. CollectsOne g.T.HoldOperator.holds n mid op new) c.original_position-list.ensures (h.2 room)),
+          (subst (λ n. CollectsOne g.T.HoldOperator.holds n mid op new) c.original_position-list.ensures (h.2 room).0),
       ran_push EncodesAllowed sound (state_of c.args.reader.now c.args.control.now) s (state_of c.visit_next_simd.new.reader c.visit_next_simd.new.control) i.0 op i.2 h.1,
+      omega (arith, i.3, c.try_reserve.ensures.capacity, (h.2 room).1),
     )
 
 pub returns-in-Err-clause-runs : goal.returns-in-Err-clause-runs
@@ -47,3 +48,8 @@ returns-in-Err-clause-runs g c =
 pub returns-in-Err-clause-memory : goal.returns-in-Err-clause-memory
 returns-in-Err-clause-memory g c = λ is. inl (memory_needs EncodesAllowed OperatorFault (NextMayAllocate EncodesAllowed) is_reading c.in-Err.e
     (state_of c.visit_next_simd.new.reader c.visit_next_simd.new.control) c.in-Err.ensures.2 is)
+
+pub returns-in-Err-clause-kept : goal.returns-in-Err-clause-kept
+returns-in-Err-clause-kept g c =
+    let i = c.operators.invariant in
+    subst (λ w. vec_capacity c.args.list.now.items ≤ vec_capacity w.items) (sym c.in-Err.ensures.1) (omega (arith, i.3, c.try_reserve.ensures.capacity))

@@ -1,6 +1,7 @@
-use Rattle.std.proofs.Common.{◌++◌, refl, inl, inr, ℕ}
+use Rattle.std.proofs.Common.{◌++◌, refl, inl, inr, ℕ, sym, ◌∙◌}
 use Rattle.wasm_below.specs.bytes.message.Message.{Message}
 use Rattle.wasm_below.specs.bytes.message.SizeName.TheVariants as size_name
+use Rattle.wasm_below.specs.Number.{EncodesSize}
 use Rattle.wasm_below.proofs.TakesLemmas.{takes_then}
 use Rattle.wasm_below.proofs.Blocks.{refused_now}
 use Rattle.wasm_imm_control.specs.BlockTypes.{EncodesBlockType}
@@ -10,6 +11,7 @@ use Rattle.wasm_imm_control.specs.HandlerTables.{max_catches}
 use Rattle.wasm_imm_control.specs.ListFaults.{ListFault}
 use Rattle.wasm_imm_control.proofs.HandlerTables.{catches_refused}
 use Rattle.wasm_imm_control.proofs.Faults.{kept_fault}
+use Rattle.wasm_imm_control.proofs.ListRefusals.{not_memory, some_then}
 use Rattle.wasm_imm_control.proofs.handler_tables.TryTableFromReader.from_reader.Goals as goal
 
 pub returns-in-Ok-read_list-clause-reads : goal.returns-in-Ok-read_list-clause-reads
@@ -37,3 +39,11 @@ returns-in-Err-read_list-clause-fault c =
       c.in-Ok.ensures.reads,
       kept_fault F c.in-Err-read_list.e c.refuse_from.result _ c.refuse_from.ensures.reported c.in-Err-read_list.ensures.fault some,
     )
+
+pub returns-in-Err-clause-memory : goal.returns-in-Err-clause-memory
+returns-in-Err-clause-memory c = λ m. absurd (not_memory EncodesBlockType c.in-Err.e c.args.reader.now c.in-Err.ensures.reads.1 m)
+
+pub returns-in-Err-read_list-clause-memory : goal.returns-in-Err-read_list-clause-memory
+returns-in-Err-read_list-clause-memory c =
+    λ m. some_then EncodesBlockType (λ ty. EncodesSize max_catches) c.args.reader.now c.read.new.reader c.in-Ok.ty c.in-Ok.ensures.reads
+    (c.in-Err-read_list.ensures.memory (sym c.refuse_from.ensures.reported.0 ∙ m))

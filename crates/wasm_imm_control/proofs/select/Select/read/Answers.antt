@@ -8,6 +8,7 @@ use Rattle.wasm_below.proofs.Blocks.{refused_now}
 use Rattle.wasm_imm_control.specs.HandlerTables.{max_select_types}
 use Rattle.wasm_imm_control.proofs.HandlerTables.{one_read, type_refused, types_refused, not_one}
 use Rattle.wasm_imm_control.proofs.Faults.{kept_fault}
+use Rattle.wasm_imm_control.proofs.ListRefusals.{not_memory, some_read}
 use Rattle.wasm_imm_control.proofs.select.Select.read.Goals as goal
 
 pub returns-in-Ok-read-clause-reads : goal.returns-in-Ok-read-clause-reads
@@ -66,3 +67,14 @@ returns-in-Err-read_members-clause-fault c =
       c.in-Ok.ensures.reads,
       kept_fault F c.in-Err-read_members.e c.refuse_from.result _ c.refuse_from.ensures.reported c.in-Err-read_members.ensures.fault some,
     )
+
+pub returns-in-Err-clause-memory : goal.returns-in-Err-clause-memory
+returns-in-Err-clause-memory c = λ m. absurd (not_memory (EncodesSize max_select_types) c.in-Err.e c.args.reader.now c.in-Err.ensures.reads.1 m)
+
+pub returns-in-Err-read-clause-memory : goal.returns-in-Err-read-clause-memory
+returns-in-Err-read-clause-memory c =
+    λ m. some_read (EncodesSize max_select_types) c.args.reader.now c.read_size.new.self c.in-Ok.count c.in-Ok.ensures.reads
+
+pub returns-in-Err-read_members-clause-memory : goal.returns-in-Err-read_members-clause-memory
+returns-in-Err-read_members-clause-memory c =
+    λ m. some_read (EncodesSize max_select_types) c.args.reader.now c.read_size.new.self c.in-Ok.count c.in-Ok.ensures.reads

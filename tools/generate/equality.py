@@ -1,0 +1,148 @@
+"""Lists, for the variants of each enum of operators, why the equality of their fields is exact."""
+
+from source import Shape, fields_name, shapes
+from table import HEAD, held
+
+# The lemma for the equality of a field, by the field's type.
+EXACT = {
+    "u8": "Decides-eqb",
+    "u32": "Decides-eqb",
+    "i32": "Decides-int_eq",
+    "i64": "Decides-int_eq",
+    "Ieee32": "Decides-eqb",
+    "Ieee64": "Decides-eqb",
+    "[u8; 16]": "lanes_exact",
+    "V128": "vector_exact",
+    "MemArg": "argument_exact",
+    "Ordering": "order_exact",
+    "HeapType": "heap_exact",
+    "RefType": "ref_exact",
+    "ValType": "value_exact",
+    "BlockType": "block_exact",
+    "BrTable<'a>": "table_exact",
+    "SelectTypes": "types_exact",
+    "TryTable": "try_exact",
+    "ResumeTable": "resume_exact",
+}
+# Where each lemma lives.
+HOMES = {
+    "lemmas.Bool.Decides": ["Decides-eqb", "Decides-int_eq"],
+    "of_below.TypeEquality": ["heap_exact", "ref_exact", "value_exact"],
+    "ControlEquality": ["block_exact", "table_exact", "types_exact", "try_exact", "resume_exact"],
+    "ImmediateEquality": ["lanes_exact", "vector_exact", "argument_exact", "order_exact"],
+}
+COUNTS = ("none", "one", "two", "three")
+WIDTH = 160
+
+
+def variant_exact(types):
+    """Returns the term for a variant whose fields have these types."""
+    blanks = ["_"] * len(types)
+    return " ".join([COUNTS[len(types)], *blanks, *(EXACT[ty] for ty in types)])
+
+
+def chain(terms):
+    """Returns the terms of all variants, joined and broken into lines."""
+    lines = [""]
+    for term in [*terms, "tt"]:
+        piece = term if term == "tt" else f"{term} ▸ "
+        if lines[-1] and len(lines[-1]) + len(piece) > WIDTH:
+            lines.append("")
+        lines[-1] += piece
+    return [line.rstrip() for line in lines]
+
+
+def imports(below, terms, extra=()):
+    """Returns the `use` lines for the lemmas that the terms cite. `below` is the crate whose names are used, with the paths to its own proofs."""
+    crate, own = below
+    words = {word for term in terms for word in term.split()} | set(extra)
+    out = []
+    for home, names in HOMES.items():
+        used = [name for name in names if name in words]
+        if used and home.startswith("lemmas"):
+            out.append(f"use Rattle.std.proofs.{home}.{{{', '.join(used)}}}")
+        elif used:
+            place = home if home.startswith("of_below") else f"{own}{home}"
+            out.append(f"use Rattle.{crate}.proofs.{place}.{{{', '.join(used)}}}")
+    helpers = [word for word in ("enum_exact", "bare_exact", "◌▸◌", *COUNTS) if word in words or word == "◌▸◌" and terms]
+    out.append(f"use Rattle.{crate}.proofs.of_below.EnumEquality.{{{', '.join(helpers)}}}")
+    return [f"use Rattle.{crate}.specs.below.Equality.{{IsExact}}", *out]
+
+
+def contracts(crate, module, name, word):
+    """Returns the `use` lines for a type and its derived equality."""
+    base = f"use Rattle.{crate}.specs.contracts.{module}.{name}"
+    return [f"{base} as {word}_type", f"{base}PartialEq.TheImpl as {word}_eq"]
+
+
+def exact(name, word, terms, lifetime=""):
+    """Returns the lemma that the derived equality of an enum is exact."""
+    record = f"({word}_type.enum {lifetime})" if lifetime else f"{word}_type.enum"
+    return [f"pub {name} : IsExact {word}_eq.ghosts.eq", f"{name} = enum_exact {record} _", *(f"    {line}" for line in bracketed(chain(terms)))]
+
+
+def bracketed(lines):
+    """Returns the lines in parentheses."""
+    return [f"({lines[0]}", *lines[1:-1], f"{lines[-1]})"] if len(lines) > 1 else [f"({lines[0]})"]
+
+
+def enum_equality(enum, ops):
+    """Returns the proof that equality of the operators of an enum is exact."""
+    low = enum.module
+    shape = Shape(ops)
+    below = ("wasm_imm", "")
+    if shape.is_plain:
+        body = [f"pub {low}_exact : IsExact {low}_eq.ghosts.eq", f"{low}_exact = bare_exact {low}_type.the_type tt"]
+        return page(enum, imports(below, [], ["bare_exact"]) + contracts(enum.crate, low, enum.type, low), body)
+    if shape.by_fields:
+        return by_fields_equality(enum, ops, below)
+    terms = [variant_exact([ty for _, ty in op.fields]) for op in ops]
+    return page(enum, imports(below, terms, ["enum_exact"]) + contracts(enum.crate, low, enum.type, low), exact(f"{low}_exact", low, terms))
+
+
+def by_fields_equality(enum, ops, below):
+    """Returns the proof for an enum whose equality compares opcode and fields."""
+    low = enum.module
+    found = shapes(ops)
+    terms = [variant_exact([ty for _, ty in those[0].fields]) for those in found.values()] + ["none"]
+    uses = [
+        "use Rattle.std.proofs.Common.{◌==◌, ap}",
+        "use Rattle.std.proofs.lemmas.Bool.Decides.{Decides-and, Decides-like}",
+        *imports(below, terms, ["enum_exact", "Decides-eqb"]),
+        *contracts(enum.crate, low, f"{enum.group}Fields", f"{low}_fields"),
+        f"use Rattle.{enum.crate}.specs.contracts.{low}.{enum.type}PartialEq.TheImpl as {low}_eq",
+        f"use Rattle.{enum.crate}.specs.{enum.group}.{{{enum.opcode}, {low}_fields}}",
+        f"use Rattle.{enum.crate}.proofs.{enum.group}ByOpcode.{{{low}_same}}",
+    ]
+    body = [
+        *exact("fields_exact", f"{low}_fields", terms),
+        "",
+        f"pub {low}_exact : IsExact {low}_eq.ghosts.eq",
+        f"{low}_exact a b =",
+        f"    Decides-like ({low}_eq.ghosts.eq a b) (λ p. {low}_same a b p.0 p.1) (λ e. (ap {enum.opcode} e, ap {low}_fields e))",
+        f"    (Decides-and ({enum.opcode} a == {enum.opcode} b) ({low}_fields_eq.ghosts.eq ({low}_fields a) ({low}_fields b)) (Decides-eqb ({enum.opcode} a) ({enum.opcode} b))",
+        f"    (fields_exact ({low}_fields a) ({low}_fields b)))",
+    ]
+    return page(enum, uses, body)
+
+
+def page(enum, uses, body):
+    """Returns a file of proofs about an enum."""
+    return "\n".join([f"-- {HEAD}", f"-- Equality of {enum.title} is exact.", *uses, "", *body, ""])
+
+
+def operator_equality(ops):
+    """Returns the proof that equality of all operators is exact."""
+    inner = {enum.group: f"{enum.module}_exact" for enum in held()}
+    terms = [variant_exact([ty for _, ty in op.fields]) for op in ops] + [f"one _ {name}" for name in inner.values()]
+    uses = ["use denote.Signature.{static_lft}", *imports(("wasm_instr_ops", "of_imm."), terms, ["enum_exact"])]
+    uses += [f"use Rattle.{enum.crate}.proofs.{enum.group}Equality.{{{enum.module}_exact}}" for enum in held()]
+    uses += contracts("wasm_instr", "operator", "Operator", "operator")
+    return "\n".join([f"-- {HEAD}", "-- Equality of operators is exact.", *uses, "", *exact("operator_exact", "operator", terms, "static_lft"), ""])
+
+
+def equality_files(ops, enums):
+    """Returns the proofs about equality, by path."""
+    out = {f"crates/{enum.crate}/proofs/{enum.group}Equality.antt": enum_equality(enum, [op for op in ops if op.group == enum.group]) for enum in enums}
+    out["crates/wasm_instr/proofs/OperatorEquality.antt"] = operator_equality([op for op in ops if op.group == "Own"])
+    return out
