@@ -1,9 +1,13 @@
-/* Reads the operators of WebAssembly function bodies: the header of libwasm_c.a, a decoder that is proved.
+/* The operators of WebAssembly function bodies: the header of libwasm_c.a, a decoder that is proved. C99 and C++.
+ * docs/CALLERS.md has a first program. tools/lists.py writes the lists over the operators.
  *
- * Written by tools/lists.py from tools/operators.tsv.
- * C99 and C++. docs/CALLERS.md has a first program. The caller provides all memory. No pointer may be
- * null, even if its length is 0. Calls may run on several threads at once if each call uses its own
- * memory. */
+ * The caller provides all memory. No pointer may be null, even if its length is 0. Calls may run on several threads at
+ * once if each uses its own memory.
+ *
+ * A call that sets `*refusal` returns 0, or the number of the refusal. Then nothing else changes, unless the call says
+ * otherwise. `offset` is the offset of the first byte of `bytes`. A call with `features` fails with
+ * WASM_REFUSED_UNKNOWN_FEATURES if a bit is not in `enum wasm_feature`, and with WASM_REFUSED_PAST_OFFSETS if
+ * `offset + bytes_length` does not fit in 64 bits. Texts have no terminating 0. */
 #ifndef WASM_OPERATORS_H
 #define WASM_OPERATORS_H
 
@@ -14,16 +18,14 @@
 extern "C" {
 #endif
 
-/* The version of these structs and functions. wasm_operators_version() returns the library's version. */
+/* The version of this header. wasm_operators_version() returns the library's. */
 #define WASM_OPERATORS_VERSION 4u
 
-/* The length in bytes of the longest name that wasm_operator_name writes. */
+/* The lengths in bytes of the longest names that wasm_operator_name and wasm_operator_text_name write. */
 #define WASM_LONGEST_NAME 29
-
-/* The length in bytes of the longest name that wasm_operator_text_name writes. */
 #define WASM_LONGEST_TEXT_NAME 35
 
-/* The features, which may be combined with |. */
+/* May be combined with |. */
 enum wasm_feature {
   WASM_FEATURE_MULTI_MEMORY = 1,
   WASM_FEATURE_MEMORY64 = 2,
@@ -34,13 +36,13 @@ enum wasm_feature {
   WASM_FEATURES_ALL = 63
 };
 
-/* The fields of an operator that have a meaning. */
+/* The fields of an operator that have a meaning; `enum wasm_opcode` says what they hold. */
 enum wasm_shape {
   WASM_SHAPE_NONE = 0, /* no immediates */
   WASM_SHAPE_INDEX = 1, /* first */
   WASM_SHAPE_TWO_INDICES = 2, /* first, second */
-  WASM_SHAPE_MEMORY = 3, /* wide: the offset; align; max_align; target, first: what is accessed; ordering */
-  WASM_SHAPE_MEMORY_LANE = 4, /* the fields of WASM_SHAPE_MEMORY, and lane */
+  WASM_SHAPE_MEMORY = 3, /* a memory argument: wide, align, max_align, target, first, ordering */
+  WASM_SHAPE_MEMORY_LANE = 4, /* a memory argument; lane */
   WASM_SHAPE_LANE = 5, /* lane */
   WASM_SHAPE_I32 = 6, /* wide */
   WASM_SHAPE_I64 = 7, /* wide */
@@ -51,23 +53,23 @@ enum wasm_shape {
   WASM_SHAPE_ORDERED = 12, /* ordering, first */
   WASM_SHAPE_ORDERED_TWO = 13, /* ordering, first, second */
   WASM_SHAPE_FENCE = 14, /* ordering */
-  WASM_SHAPE_HEAP_TYPE = 15, /* kind, first: the heap type */
-  WASM_SHAPE_CAST = 16, /* first: the label; kind, second: the source type; other_kind, third: the target type */
-  WASM_SHAPE_BLOCK = 17, /* kind, first: the block type */
-  WASM_SHAPE_BRANCH_TABLE = 18, /* first: number of targets; second: the default target */
-  WASM_SHAPE_SELECT_ONE = 19, /* kind, first: the type */
-  WASM_SHAPE_SELECT_MANY = 20, /* first: number of types */
-  WASM_SHAPE_TRY_TABLE = 21, /* kind, first: the block type; second: number of catches */
-  WASM_SHAPE_RESUME = 22, /* first; second: number of clauses */
-  WASM_SHAPE_RESUME_THROW = 23 /* first, second; third: number of clauses */
+  WASM_SHAPE_HEAP_TYPE = 15, /* kind, first */
+  WASM_SHAPE_CAST = 16, /* first; kind, second; other_kind, third */
+  WASM_SHAPE_BLOCK = 17, /* kind, first */
+  WASM_SHAPE_BRANCH_TABLE = 18, /* first, second */
+  WASM_SHAPE_SELECT_ONE = 19, /* kind, first */
+  WASM_SHAPE_SELECT_MANY = 20, /* first */
+  WASM_SHAPE_TRY_TABLE = 21, /* kind, first; second */
+  WASM_SHAPE_RESUME = 22, /* first, second */
+  WASM_SHAPE_RESUME_THROW = 23 /* first, second, third */
 };
 
 /* Types. WASM_KIND_SHARED may be added to an abstract heap type. WASM_KIND_NULLABLE is added to the heap type of a
  * nullable reference type, and WASM_KIND_REFERENCE if a reference type is a value type. */
 enum wasm_kind {
-  WASM_KIND_FUNC_TYPE = 0, /* of a block: the function type with the index */
-  WASM_KIND_CONCRETE = 1,  /* the type with the index, or a subtype */
-  WASM_KIND_EXACT = 2,     /* exactly the type with the index */
+  WASM_KIND_FUNC_TYPE = 0, /* of a block: a function type */
+  WASM_KIND_CONCRETE = 1,  /* a type or a subtype */
+  WASM_KIND_EXACT = 2,     /* exactly a type */
   WASM_KIND_EMPTY = 0x40,  /* of a block: no result */
   WASM_KIND_CONT = 0x68,
   WASM_KIND_EXN = 0x69,
@@ -93,7 +95,7 @@ enum wasm_kind {
   WASM_KIND_REFERENCE = 1024
 };
 
-/* The forms of a catch: it catches one tag or all, and REF passes the exception too. */
+/* What a catch catches, one tag or all; REF also passes the exception. */
 enum wasm_catch {
   WASM_CATCH_ONE = 0,
   WASM_CATCH_ONE_REF = 1,
@@ -107,7 +109,7 @@ enum wasm_clause {
   WASM_CLAUSE_ON_SWITCH = 1
 };
 
-/* The kinds of frames: the bytes of the array `frames`, outermost first. Any other byte counts as a block. */
+/* The bytes of the array `frames`, outermost first. Any other byte counts as a block. */
 enum wasm_frame {
   WASM_FRAME_BLOCK = 0,
   WASM_FRAME_IF = 1,
@@ -119,32 +121,31 @@ enum wasm_frame {
   WASM_FRAME_LEGACY_CATCH_ALL = 7
 };
 
-/* The kinds of values that wasm_read_value reads. Without another comment, `number` is the number, and
- * sign-extended to 64 bits if it is signed. */
+/* What wasm_read_value reads. Unless the comment says otherwise, `number` is the number, sign-extended if signed. */
 enum wasm_value_kind {
-  WASM_VALUE_U8 = 0, /* one byte */
-  WASM_VALUE_U32 = 1, /* a number of four bytes, little-endian */
-  WASM_VALUE_U64 = 2, /* a number of eight bytes, little-endian */
+  WASM_VALUE_U8 = 0,
+  WASM_VALUE_U32 = 1, /* four bytes, little-endian */
+  WASM_VALUE_U64 = 2, /* eight bytes, little-endian */
   WASM_VALUE_VAR_U32 = 3, /* LEB128 */
-  WASM_VALUE_VAR_U64 = 4, /* LEB128 */
+  WASM_VALUE_VAR_U64 = 4,
   WASM_VALUE_VAR_I32 = 5, /* signed LEB128 */
-  WASM_VALUE_VAR_S33 = 6, /* signed LEB128 of 33 bits */
-  WASM_VALUE_VAR_I64 = 7, /* signed LEB128 */
+  WASM_VALUE_VAR_S33 = 6,
+  WASM_VALUE_VAR_I64 = 7,
   WASM_VALUE_SIZE = 8, /* a VAR_U32 of at most `argument`, else WASM_REFUSED_SIZE_OUT_OF_BOUNDS */
   WASM_VALUE_BYTES = 9, /* `argument` bytes; number: how many */
   WASM_VALUE_SIZED = 10, /* a VAR_U32 and that many bytes, such as a function body; number: how many */
   WASM_VALUE_LOCALS = 11, /* the locals of a body, up to its operators */
   WASM_VALUE_CONST_EXPR = 12, /* a constant expression; number: its length in bytes */
-  WASM_VALUE_VAL_TYPE = 13, /* kind, index: a value type, as in wasm_type */
-  WASM_VALUE_REF_TYPE = 14, /* kind, index: a reference type, as a value type */
-  WASM_VALUE_HEAP_TYPE = 15, /* kind, index: a heap type */
-  WASM_VALUE_BLOCK_TYPE = 16, /* kind, index: a block type */
-  WASM_VALUE_LOCAL = 17, /* a declaration of locals; number: how many; kind, index: their type. `argument` locals were declared before */
-  WASM_VALUE_CATCH = 18, /* a catch of a try_table; kind: its form; number: its tag; index: its label */
-  WASM_VALUE_CLAUSE = 19 /* a clause of a resume; kind: its form; number: its tag; index: its label */
+  WASM_VALUE_VAL_TYPE = 13, /* kind, index: as in wasm_type */
+  WASM_VALUE_REF_TYPE = 14, /* kind, index: as a value type */
+  WASM_VALUE_HEAP_TYPE = 15, /* kind, index */
+  WASM_VALUE_BLOCK_TYPE = 16, /* kind, index */
+  WASM_VALUE_LOCAL = 17, /* number: how many locals; kind, index: their type. `argument` locals were declared before */
+  WASM_VALUE_CATCH = 18, /* of a try_table; kind: its form; number: its tag; index: its label */
+  WASM_VALUE_CLAUSE = 19 /* of a resume; kind: its form; number: its tag; index: its label */
 };
 
-/* The refusals. docs/ERRORS-AND-FEATURES.md lists their texts and offsets. */
+/* docs/ERRORS-AND-FEATURES.md lists the texts and offsets of 1 to 25. */
 enum wasm_refused {
   WASM_REFUSED_END_OF_DATA = 1,
   WASM_REFUSED_FEATURE_REQUIRED = 2,
@@ -180,14 +181,14 @@ enum wasm_refused {
   WASM_REFUSED_NOT_A_MODULE = 106, /* value: 1 a component, 2 another version, 3 no WebAssembly */
   WASM_REFUSED_IMPORT_KIND = 107, /* value: the byte of the kind */
   WASM_REFUSED_TYPE_KIND = 108, /* value: the byte of the type */
-  WASM_REFUSED_COUNTS_DIFFER = 109, /* there are more or fewer bodies than functions */
-  WASM_REFUSED_NO_FUNCTION = 110, /* the module defines no function with the index */
+  WASM_REFUSED_COUNTS_DIFFER = 109, /* of bodies and functions */
+  WASM_REFUSED_NO_FUNCTION = 110, /* the module defines none with the index */
   WASM_REFUSED_NO_BODY = 111 /* all bodies were read */
 };
 
-/* The operators: the opcode, or the subopcode plus 65536 times the prefix byte. A typed select with no types
- * or several has the opcode of WASM_OP_TypedSelect and another shape. The comment of an operator says what each
- * field of its struct holds; the fields that it does not name are 0. */
+/* The opcode, or the subopcode plus 65536 times the prefix byte. TypedSelect has the shape SELECT_MANY if it has no
+ * type or several. A comment says what the fields of `struct wasm_operator` hold; fields that it does not name are 0.
+ * memarg, a memory argument, is wide: offset; align; target, first: memory or array type; ordering. */
 enum wasm_opcode {
   WASM_OP_Unreachable = 0x0,
   WASM_OP_Nop = 0x1,
@@ -209,35 +210,35 @@ enum wasm_opcode {
   WASM_OP_LocalTee = 0x22, /* first: local index */
   WASM_OP_GlobalGet = 0x23, /* first: global index */
   WASM_OP_GlobalSet = 0x24, /* first: global index */
-  WASM_OP_I32Load = 0x28, /* wide: offset; align; max_align: 2; target, first: memory or array type; ordering */
-  WASM_OP_I64Load = 0x29, /* wide: offset; align; max_align: 3; target, first: memory or array type; ordering */
-  WASM_OP_F32Load = 0x2a, /* wide: offset; align; max_align: 2; target, first: memory or array type; ordering */
-  WASM_OP_F64Load = 0x2b, /* wide: offset; align; max_align: 3; target, first: memory or array type; ordering */
-  WASM_OP_I32Load8S = 0x2c, /* wide: offset; align; max_align: 0; target, first: memory or array type; ordering */
-  WASM_OP_I32Load8U = 0x2d, /* wide: offset; align; max_align: 0; target, first: memory or array type; ordering */
-  WASM_OP_I32Load16S = 0x2e, /* wide: offset; align; max_align: 1; target, first: memory or array type; ordering */
-  WASM_OP_I32Load16U = 0x2f, /* wide: offset; align; max_align: 1; target, first: memory or array type; ordering */
-  WASM_OP_I64Load8S = 0x30, /* wide: offset; align; max_align: 0; target, first: memory or array type; ordering */
-  WASM_OP_I64Load8U = 0x31, /* wide: offset; align; max_align: 0; target, first: memory or array type; ordering */
-  WASM_OP_I64Load16S = 0x32, /* wide: offset; align; max_align: 1; target, first: memory or array type; ordering */
-  WASM_OP_I64Load16U = 0x33, /* wide: offset; align; max_align: 1; target, first: memory or array type; ordering */
-  WASM_OP_I64Load32S = 0x34, /* wide: offset; align; max_align: 2; target, first: memory or array type; ordering */
-  WASM_OP_I64Load32U = 0x35, /* wide: offset; align; max_align: 2; target, first: memory or array type; ordering */
-  WASM_OP_I32Store = 0x36, /* wide: offset; align; max_align: 2; target, first: memory or array type; ordering */
-  WASM_OP_I64Store = 0x37, /* wide: offset; align; max_align: 3; target, first: memory or array type; ordering */
-  WASM_OP_F32Store = 0x38, /* wide: offset; align; max_align: 2; target, first: memory or array type; ordering */
-  WASM_OP_F64Store = 0x39, /* wide: offset; align; max_align: 3; target, first: memory or array type; ordering */
-  WASM_OP_I32Store8 = 0x3a, /* wide: offset; align; max_align: 0; target, first: memory or array type; ordering */
-  WASM_OP_I32Store16 = 0x3b, /* wide: offset; align; max_align: 1; target, first: memory or array type; ordering */
-  WASM_OP_I64Store8 = 0x3c, /* wide: offset; align; max_align: 0; target, first: memory or array type; ordering */
-  WASM_OP_I64Store16 = 0x3d, /* wide: offset; align; max_align: 1; target, first: memory or array type; ordering */
-  WASM_OP_I64Store32 = 0x3e, /* wide: offset; align; max_align: 2; target, first: memory or array type; ordering */
+  WASM_OP_I32Load = 0x28, /* memarg; max_align: 2 */
+  WASM_OP_I64Load = 0x29, /* memarg; max_align: 3 */
+  WASM_OP_F32Load = 0x2a, /* memarg; max_align: 2 */
+  WASM_OP_F64Load = 0x2b, /* memarg; max_align: 3 */
+  WASM_OP_I32Load8S = 0x2c, /* memarg; max_align: 0 */
+  WASM_OP_I32Load8U = 0x2d, /* memarg; max_align: 0 */
+  WASM_OP_I32Load16S = 0x2e, /* memarg; max_align: 1 */
+  WASM_OP_I32Load16U = 0x2f, /* memarg; max_align: 1 */
+  WASM_OP_I64Load8S = 0x30, /* memarg; max_align: 0 */
+  WASM_OP_I64Load8U = 0x31, /* memarg; max_align: 0 */
+  WASM_OP_I64Load16S = 0x32, /* memarg; max_align: 1 */
+  WASM_OP_I64Load16U = 0x33, /* memarg; max_align: 1 */
+  WASM_OP_I64Load32S = 0x34, /* memarg; max_align: 2 */
+  WASM_OP_I64Load32U = 0x35, /* memarg; max_align: 2 */
+  WASM_OP_I32Store = 0x36, /* memarg; max_align: 2 */
+  WASM_OP_I64Store = 0x37, /* memarg; max_align: 3 */
+  WASM_OP_F32Store = 0x38, /* memarg; max_align: 2 */
+  WASM_OP_F64Store = 0x39, /* memarg; max_align: 3 */
+  WASM_OP_I32Store8 = 0x3a, /* memarg; max_align: 0 */
+  WASM_OP_I32Store16 = 0x3b, /* memarg; max_align: 1 */
+  WASM_OP_I64Store8 = 0x3c, /* memarg; max_align: 0 */
+  WASM_OP_I64Store16 = 0x3d, /* memarg; max_align: 1 */
+  WASM_OP_I64Store32 = 0x3e, /* memarg; max_align: 2 */
   WASM_OP_MemorySize = 0x3f, /* first: memory index */
   WASM_OP_MemoryGrow = 0x40, /* first: memory index */
   WASM_OP_I32Const = 0x41, /* wide: value */
   WASM_OP_I64Const = 0x42, /* wide: value */
-  WASM_OP_F32Const = 0x43, /* wide: bits of the value */
-  WASM_OP_F64Const = 0x44, /* wide: bits of the value */
+  WASM_OP_F32Const = 0x43, /* wide: bits */
+  WASM_OP_F64Const = 0x44, /* wide: bits */
   WASM_OP_I32Eqz = 0x45,
   WASM_OP_I32Eq = 0x46,
   WASM_OP_I32Ne = 0x47,
@@ -420,7 +421,7 @@ enum wasm_opcode {
   WASM_OP_TableInit = 0xfc000c, /* first: element segment index; second: table index */
   WASM_OP_ElemDrop = 0xfc000d, /* first: element segment index */
   WASM_OP_TableCopy = 0xfc000e, /* first: target table index; second: source table index */
-  WASM_OP_TypedSelect = 0x1c, /* WASM_SHAPE_SELECT_ONE with kind, first: type, or WASM_SHAPE_SELECT_MANY with first: number of types */
+  WASM_OP_TypedSelect = 0x1c, /* SELECT_ONE: kind, first: type; SELECT_MANY: first: number of types */
   WASM_OP_RefNull = 0xd0, /* kind, first: heap type */
   WASM_OP_RefIsNull = 0xd1,
   WASM_OP_RefFunc = 0xd2, /* first: function index */
@@ -432,95 +433,95 @@ enum wasm_opcode {
   WASM_OP_ReturnCall = 0x12, /* first: function index */
   WASM_OP_ReturnCallIndirect = 0x13, /* first: type index; second: table index */
   WASM_OP_MemoryDiscard = 0xfc0012, /* first: memory index */
-  WASM_OP_MemoryAtomicNotify = 0xfe0000, /* wide: offset; align; max_align: 2; target, first: memory or array type; ordering */
-  WASM_OP_MemoryAtomicWait32 = 0xfe0001, /* wide: offset; align; max_align: 2; target, first: memory or array type; ordering */
-  WASM_OP_MemoryAtomicWait64 = 0xfe0002, /* wide: offset; align; max_align: 3; target, first: memory or array type; ordering */
+  WASM_OP_MemoryAtomicNotify = 0xfe0000, /* memarg; max_align: 2 */
+  WASM_OP_MemoryAtomicWait32 = 0xfe0001, /* memarg; max_align: 2 */
+  WASM_OP_MemoryAtomicWait64 = 0xfe0002, /* memarg; max_align: 3 */
   WASM_OP_AtomicFence = 0xfe0003, /* ordering */
-  WASM_OP_I32AtomicLoad = 0xfe0010, /* wide: offset; align; max_align: 2; target, first: memory or array type; ordering */
-  WASM_OP_I64AtomicLoad = 0xfe0011, /* wide: offset; align; max_align: 3; target, first: memory or array type; ordering */
-  WASM_OP_I32AtomicLoad8U = 0xfe0012, /* wide: offset; align; max_align: 0; target, first: memory or array type; ordering */
-  WASM_OP_I32AtomicLoad16U = 0xfe0013, /* wide: offset; align; max_align: 1; target, first: memory or array type; ordering */
-  WASM_OP_I64AtomicLoad8U = 0xfe0014, /* wide: offset; align; max_align: 0; target, first: memory or array type; ordering */
-  WASM_OP_I64AtomicLoad16U = 0xfe0015, /* wide: offset; align; max_align: 1; target, first: memory or array type; ordering */
-  WASM_OP_I64AtomicLoad32U = 0xfe0016, /* wide: offset; align; max_align: 2; target, first: memory or array type; ordering */
-  WASM_OP_I32AtomicStore = 0xfe0017, /* wide: offset; align; max_align: 2; target, first: memory or array type; ordering */
-  WASM_OP_I64AtomicStore = 0xfe0018, /* wide: offset; align; max_align: 3; target, first: memory or array type; ordering */
-  WASM_OP_I32AtomicStore8 = 0xfe0019, /* wide: offset; align; max_align: 0; target, first: memory or array type; ordering */
-  WASM_OP_I32AtomicStore16 = 0xfe001a, /* wide: offset; align; max_align: 1; target, first: memory or array type; ordering */
-  WASM_OP_I64AtomicStore8 = 0xfe001b, /* wide: offset; align; max_align: 0; target, first: memory or array type; ordering */
-  WASM_OP_I64AtomicStore16 = 0xfe001c, /* wide: offset; align; max_align: 1; target, first: memory or array type; ordering */
-  WASM_OP_I64AtomicStore32 = 0xfe001d, /* wide: offset; align; max_align: 2; target, first: memory or array type; ordering */
-  WASM_OP_I32AtomicRmwAdd = 0xfe001e, /* wide: offset; align; max_align: 2; target, first: memory or array type; ordering */
-  WASM_OP_I64AtomicRmwAdd = 0xfe001f, /* wide: offset; align; max_align: 3; target, first: memory or array type; ordering */
-  WASM_OP_I32AtomicRmw8AddU = 0xfe0020, /* wide: offset; align; max_align: 0; target, first: memory or array type; ordering */
-  WASM_OP_I32AtomicRmw16AddU = 0xfe0021, /* wide: offset; align; max_align: 1; target, first: memory or array type; ordering */
-  WASM_OP_I64AtomicRmw8AddU = 0xfe0022, /* wide: offset; align; max_align: 0; target, first: memory or array type; ordering */
-  WASM_OP_I64AtomicRmw16AddU = 0xfe0023, /* wide: offset; align; max_align: 1; target, first: memory or array type; ordering */
-  WASM_OP_I64AtomicRmw32AddU = 0xfe0024, /* wide: offset; align; max_align: 2; target, first: memory or array type; ordering */
-  WASM_OP_I32AtomicRmwSub = 0xfe0025, /* wide: offset; align; max_align: 2; target, first: memory or array type; ordering */
-  WASM_OP_I64AtomicRmwSub = 0xfe0026, /* wide: offset; align; max_align: 3; target, first: memory or array type; ordering */
-  WASM_OP_I32AtomicRmw8SubU = 0xfe0027, /* wide: offset; align; max_align: 0; target, first: memory or array type; ordering */
-  WASM_OP_I32AtomicRmw16SubU = 0xfe0028, /* wide: offset; align; max_align: 1; target, first: memory or array type; ordering */
-  WASM_OP_I64AtomicRmw8SubU = 0xfe0029, /* wide: offset; align; max_align: 0; target, first: memory or array type; ordering */
-  WASM_OP_I64AtomicRmw16SubU = 0xfe002a, /* wide: offset; align; max_align: 1; target, first: memory or array type; ordering */
-  WASM_OP_I64AtomicRmw32SubU = 0xfe002b, /* wide: offset; align; max_align: 2; target, first: memory or array type; ordering */
-  WASM_OP_I32AtomicRmwAnd = 0xfe002c, /* wide: offset; align; max_align: 2; target, first: memory or array type; ordering */
-  WASM_OP_I64AtomicRmwAnd = 0xfe002d, /* wide: offset; align; max_align: 3; target, first: memory or array type; ordering */
-  WASM_OP_I32AtomicRmw8AndU = 0xfe002e, /* wide: offset; align; max_align: 0; target, first: memory or array type; ordering */
-  WASM_OP_I32AtomicRmw16AndU = 0xfe002f, /* wide: offset; align; max_align: 1; target, first: memory or array type; ordering */
-  WASM_OP_I64AtomicRmw8AndU = 0xfe0030, /* wide: offset; align; max_align: 0; target, first: memory or array type; ordering */
-  WASM_OP_I64AtomicRmw16AndU = 0xfe0031, /* wide: offset; align; max_align: 1; target, first: memory or array type; ordering */
-  WASM_OP_I64AtomicRmw32AndU = 0xfe0032, /* wide: offset; align; max_align: 2; target, first: memory or array type; ordering */
-  WASM_OP_I32AtomicRmwOr = 0xfe0033, /* wide: offset; align; max_align: 2; target, first: memory or array type; ordering */
-  WASM_OP_I64AtomicRmwOr = 0xfe0034, /* wide: offset; align; max_align: 3; target, first: memory or array type; ordering */
-  WASM_OP_I32AtomicRmw8OrU = 0xfe0035, /* wide: offset; align; max_align: 0; target, first: memory or array type; ordering */
-  WASM_OP_I32AtomicRmw16OrU = 0xfe0036, /* wide: offset; align; max_align: 1; target, first: memory or array type; ordering */
-  WASM_OP_I64AtomicRmw8OrU = 0xfe0037, /* wide: offset; align; max_align: 0; target, first: memory or array type; ordering */
-  WASM_OP_I64AtomicRmw16OrU = 0xfe0038, /* wide: offset; align; max_align: 1; target, first: memory or array type; ordering */
-  WASM_OP_I64AtomicRmw32OrU = 0xfe0039, /* wide: offset; align; max_align: 2; target, first: memory or array type; ordering */
-  WASM_OP_I32AtomicRmwXor = 0xfe003a, /* wide: offset; align; max_align: 2; target, first: memory or array type; ordering */
-  WASM_OP_I64AtomicRmwXor = 0xfe003b, /* wide: offset; align; max_align: 3; target, first: memory or array type; ordering */
-  WASM_OP_I32AtomicRmw8XorU = 0xfe003c, /* wide: offset; align; max_align: 0; target, first: memory or array type; ordering */
-  WASM_OP_I32AtomicRmw16XorU = 0xfe003d, /* wide: offset; align; max_align: 1; target, first: memory or array type; ordering */
-  WASM_OP_I64AtomicRmw8XorU = 0xfe003e, /* wide: offset; align; max_align: 0; target, first: memory or array type; ordering */
-  WASM_OP_I64AtomicRmw16XorU = 0xfe003f, /* wide: offset; align; max_align: 1; target, first: memory or array type; ordering */
-  WASM_OP_I64AtomicRmw32XorU = 0xfe0040, /* wide: offset; align; max_align: 2; target, first: memory or array type; ordering */
-  WASM_OP_I32AtomicRmwXchg = 0xfe0041, /* wide: offset; align; max_align: 2; target, first: memory or array type; ordering */
-  WASM_OP_I64AtomicRmwXchg = 0xfe0042, /* wide: offset; align; max_align: 3; target, first: memory or array type; ordering */
-  WASM_OP_I32AtomicRmw8XchgU = 0xfe0043, /* wide: offset; align; max_align: 0; target, first: memory or array type; ordering */
-  WASM_OP_I32AtomicRmw16XchgU = 0xfe0044, /* wide: offset; align; max_align: 1; target, first: memory or array type; ordering */
-  WASM_OP_I64AtomicRmw8XchgU = 0xfe0045, /* wide: offset; align; max_align: 0; target, first: memory or array type; ordering */
-  WASM_OP_I64AtomicRmw16XchgU = 0xfe0046, /* wide: offset; align; max_align: 1; target, first: memory or array type; ordering */
-  WASM_OP_I64AtomicRmw32XchgU = 0xfe0047, /* wide: offset; align; max_align: 2; target, first: memory or array type; ordering */
-  WASM_OP_I32AtomicRmwCmpxchg = 0xfe0048, /* wide: offset; align; max_align: 2; target, first: memory or array type; ordering */
-  WASM_OP_I64AtomicRmwCmpxchg = 0xfe0049, /* wide: offset; align; max_align: 3; target, first: memory or array type; ordering */
-  WASM_OP_I32AtomicRmw8CmpxchgU = 0xfe004a, /* wide: offset; align; max_align: 0; target, first: memory or array type; ordering */
-  WASM_OP_I32AtomicRmw16CmpxchgU = 0xfe004b, /* wide: offset; align; max_align: 1; target, first: memory or array type; ordering */
-  WASM_OP_I64AtomicRmw8CmpxchgU = 0xfe004c, /* wide: offset; align; max_align: 0; target, first: memory or array type; ordering */
-  WASM_OP_I64AtomicRmw16CmpxchgU = 0xfe004d, /* wide: offset; align; max_align: 1; target, first: memory or array type; ordering */
-  WASM_OP_I64AtomicRmw32CmpxchgU = 0xfe004e, /* wide: offset; align; max_align: 2; target, first: memory or array type; ordering */
-  WASM_OP_V128Load = 0xfd0000, /* wide: offset; align; max_align: 4; target, first: memory or array type; ordering */
-  WASM_OP_V128Load8x8S = 0xfd0001, /* wide: offset; align; max_align: 3; target, first: memory or array type; ordering */
-  WASM_OP_V128Load8x8U = 0xfd0002, /* wide: offset; align; max_align: 3; target, first: memory or array type; ordering */
-  WASM_OP_V128Load16x4S = 0xfd0003, /* wide: offset; align; max_align: 3; target, first: memory or array type; ordering */
-  WASM_OP_V128Load16x4U = 0xfd0004, /* wide: offset; align; max_align: 3; target, first: memory or array type; ordering */
-  WASM_OP_V128Load32x2S = 0xfd0005, /* wide: offset; align; max_align: 3; target, first: memory or array type; ordering */
-  WASM_OP_V128Load32x2U = 0xfd0006, /* wide: offset; align; max_align: 3; target, first: memory or array type; ordering */
-  WASM_OP_V128Load8Splat = 0xfd0007, /* wide: offset; align; max_align: 0; target, first: memory or array type; ordering */
-  WASM_OP_V128Load16Splat = 0xfd0008, /* wide: offset; align; max_align: 1; target, first: memory or array type; ordering */
-  WASM_OP_V128Load32Splat = 0xfd0009, /* wide: offset; align; max_align: 2; target, first: memory or array type; ordering */
-  WASM_OP_V128Load64Splat = 0xfd000a, /* wide: offset; align; max_align: 3; target, first: memory or array type; ordering */
-  WASM_OP_V128Load32Zero = 0xfd005c, /* wide: offset; align; max_align: 2; target, first: memory or array type; ordering */
-  WASM_OP_V128Load64Zero = 0xfd005d, /* wide: offset; align; max_align: 3; target, first: memory or array type; ordering */
-  WASM_OP_V128Store = 0xfd000b, /* wide: offset; align; max_align: 4; target, first: memory or array type; ordering */
-  WASM_OP_V128Load8Lane = 0xfd0054, /* wide: offset; align; max_align: 0; target, first: memory or array type; ordering; lane */
-  WASM_OP_V128Load16Lane = 0xfd0055, /* wide: offset; align; max_align: 1; target, first: memory or array type; ordering; lane */
-  WASM_OP_V128Load32Lane = 0xfd0056, /* wide: offset; align; max_align: 2; target, first: memory or array type; ordering; lane */
-  WASM_OP_V128Load64Lane = 0xfd0057, /* wide: offset; align; max_align: 3; target, first: memory or array type; ordering; lane */
-  WASM_OP_V128Store8Lane = 0xfd0058, /* wide: offset; align; max_align: 0; target, first: memory or array type; ordering; lane */
-  WASM_OP_V128Store16Lane = 0xfd0059, /* wide: offset; align; max_align: 1; target, first: memory or array type; ordering; lane */
-  WASM_OP_V128Store32Lane = 0xfd005a, /* wide: offset; align; max_align: 2; target, first: memory or array type; ordering; lane */
-  WASM_OP_V128Store64Lane = 0xfd005b, /* wide: offset; align; max_align: 3; target, first: memory or array type; ordering; lane */
+  WASM_OP_I32AtomicLoad = 0xfe0010, /* memarg; max_align: 2 */
+  WASM_OP_I64AtomicLoad = 0xfe0011, /* memarg; max_align: 3 */
+  WASM_OP_I32AtomicLoad8U = 0xfe0012, /* memarg; max_align: 0 */
+  WASM_OP_I32AtomicLoad16U = 0xfe0013, /* memarg; max_align: 1 */
+  WASM_OP_I64AtomicLoad8U = 0xfe0014, /* memarg; max_align: 0 */
+  WASM_OP_I64AtomicLoad16U = 0xfe0015, /* memarg; max_align: 1 */
+  WASM_OP_I64AtomicLoad32U = 0xfe0016, /* memarg; max_align: 2 */
+  WASM_OP_I32AtomicStore = 0xfe0017, /* memarg; max_align: 2 */
+  WASM_OP_I64AtomicStore = 0xfe0018, /* memarg; max_align: 3 */
+  WASM_OP_I32AtomicStore8 = 0xfe0019, /* memarg; max_align: 0 */
+  WASM_OP_I32AtomicStore16 = 0xfe001a, /* memarg; max_align: 1 */
+  WASM_OP_I64AtomicStore8 = 0xfe001b, /* memarg; max_align: 0 */
+  WASM_OP_I64AtomicStore16 = 0xfe001c, /* memarg; max_align: 1 */
+  WASM_OP_I64AtomicStore32 = 0xfe001d, /* memarg; max_align: 2 */
+  WASM_OP_I32AtomicRmwAdd = 0xfe001e, /* memarg; max_align: 2 */
+  WASM_OP_I64AtomicRmwAdd = 0xfe001f, /* memarg; max_align: 3 */
+  WASM_OP_I32AtomicRmw8AddU = 0xfe0020, /* memarg; max_align: 0 */
+  WASM_OP_I32AtomicRmw16AddU = 0xfe0021, /* memarg; max_align: 1 */
+  WASM_OP_I64AtomicRmw8AddU = 0xfe0022, /* memarg; max_align: 0 */
+  WASM_OP_I64AtomicRmw16AddU = 0xfe0023, /* memarg; max_align: 1 */
+  WASM_OP_I64AtomicRmw32AddU = 0xfe0024, /* memarg; max_align: 2 */
+  WASM_OP_I32AtomicRmwSub = 0xfe0025, /* memarg; max_align: 2 */
+  WASM_OP_I64AtomicRmwSub = 0xfe0026, /* memarg; max_align: 3 */
+  WASM_OP_I32AtomicRmw8SubU = 0xfe0027, /* memarg; max_align: 0 */
+  WASM_OP_I32AtomicRmw16SubU = 0xfe0028, /* memarg; max_align: 1 */
+  WASM_OP_I64AtomicRmw8SubU = 0xfe0029, /* memarg; max_align: 0 */
+  WASM_OP_I64AtomicRmw16SubU = 0xfe002a, /* memarg; max_align: 1 */
+  WASM_OP_I64AtomicRmw32SubU = 0xfe002b, /* memarg; max_align: 2 */
+  WASM_OP_I32AtomicRmwAnd = 0xfe002c, /* memarg; max_align: 2 */
+  WASM_OP_I64AtomicRmwAnd = 0xfe002d, /* memarg; max_align: 3 */
+  WASM_OP_I32AtomicRmw8AndU = 0xfe002e, /* memarg; max_align: 0 */
+  WASM_OP_I32AtomicRmw16AndU = 0xfe002f, /* memarg; max_align: 1 */
+  WASM_OP_I64AtomicRmw8AndU = 0xfe0030, /* memarg; max_align: 0 */
+  WASM_OP_I64AtomicRmw16AndU = 0xfe0031, /* memarg; max_align: 1 */
+  WASM_OP_I64AtomicRmw32AndU = 0xfe0032, /* memarg; max_align: 2 */
+  WASM_OP_I32AtomicRmwOr = 0xfe0033, /* memarg; max_align: 2 */
+  WASM_OP_I64AtomicRmwOr = 0xfe0034, /* memarg; max_align: 3 */
+  WASM_OP_I32AtomicRmw8OrU = 0xfe0035, /* memarg; max_align: 0 */
+  WASM_OP_I32AtomicRmw16OrU = 0xfe0036, /* memarg; max_align: 1 */
+  WASM_OP_I64AtomicRmw8OrU = 0xfe0037, /* memarg; max_align: 0 */
+  WASM_OP_I64AtomicRmw16OrU = 0xfe0038, /* memarg; max_align: 1 */
+  WASM_OP_I64AtomicRmw32OrU = 0xfe0039, /* memarg; max_align: 2 */
+  WASM_OP_I32AtomicRmwXor = 0xfe003a, /* memarg; max_align: 2 */
+  WASM_OP_I64AtomicRmwXor = 0xfe003b, /* memarg; max_align: 3 */
+  WASM_OP_I32AtomicRmw8XorU = 0xfe003c, /* memarg; max_align: 0 */
+  WASM_OP_I32AtomicRmw16XorU = 0xfe003d, /* memarg; max_align: 1 */
+  WASM_OP_I64AtomicRmw8XorU = 0xfe003e, /* memarg; max_align: 0 */
+  WASM_OP_I64AtomicRmw16XorU = 0xfe003f, /* memarg; max_align: 1 */
+  WASM_OP_I64AtomicRmw32XorU = 0xfe0040, /* memarg; max_align: 2 */
+  WASM_OP_I32AtomicRmwXchg = 0xfe0041, /* memarg; max_align: 2 */
+  WASM_OP_I64AtomicRmwXchg = 0xfe0042, /* memarg; max_align: 3 */
+  WASM_OP_I32AtomicRmw8XchgU = 0xfe0043, /* memarg; max_align: 0 */
+  WASM_OP_I32AtomicRmw16XchgU = 0xfe0044, /* memarg; max_align: 1 */
+  WASM_OP_I64AtomicRmw8XchgU = 0xfe0045, /* memarg; max_align: 0 */
+  WASM_OP_I64AtomicRmw16XchgU = 0xfe0046, /* memarg; max_align: 1 */
+  WASM_OP_I64AtomicRmw32XchgU = 0xfe0047, /* memarg; max_align: 2 */
+  WASM_OP_I32AtomicRmwCmpxchg = 0xfe0048, /* memarg; max_align: 2 */
+  WASM_OP_I64AtomicRmwCmpxchg = 0xfe0049, /* memarg; max_align: 3 */
+  WASM_OP_I32AtomicRmw8CmpxchgU = 0xfe004a, /* memarg; max_align: 0 */
+  WASM_OP_I32AtomicRmw16CmpxchgU = 0xfe004b, /* memarg; max_align: 1 */
+  WASM_OP_I64AtomicRmw8CmpxchgU = 0xfe004c, /* memarg; max_align: 0 */
+  WASM_OP_I64AtomicRmw16CmpxchgU = 0xfe004d, /* memarg; max_align: 1 */
+  WASM_OP_I64AtomicRmw32CmpxchgU = 0xfe004e, /* memarg; max_align: 2 */
+  WASM_OP_V128Load = 0xfd0000, /* memarg; max_align: 4 */
+  WASM_OP_V128Load8x8S = 0xfd0001, /* memarg; max_align: 3 */
+  WASM_OP_V128Load8x8U = 0xfd0002, /* memarg; max_align: 3 */
+  WASM_OP_V128Load16x4S = 0xfd0003, /* memarg; max_align: 3 */
+  WASM_OP_V128Load16x4U = 0xfd0004, /* memarg; max_align: 3 */
+  WASM_OP_V128Load32x2S = 0xfd0005, /* memarg; max_align: 3 */
+  WASM_OP_V128Load32x2U = 0xfd0006, /* memarg; max_align: 3 */
+  WASM_OP_V128Load8Splat = 0xfd0007, /* memarg; max_align: 0 */
+  WASM_OP_V128Load16Splat = 0xfd0008, /* memarg; max_align: 1 */
+  WASM_OP_V128Load32Splat = 0xfd0009, /* memarg; max_align: 2 */
+  WASM_OP_V128Load64Splat = 0xfd000a, /* memarg; max_align: 3 */
+  WASM_OP_V128Load32Zero = 0xfd005c, /* memarg; max_align: 2 */
+  WASM_OP_V128Load64Zero = 0xfd005d, /* memarg; max_align: 3 */
+  WASM_OP_V128Store = 0xfd000b, /* memarg; max_align: 4 */
+  WASM_OP_V128Load8Lane = 0xfd0054, /* memarg; max_align: 0; lane */
+  WASM_OP_V128Load16Lane = 0xfd0055, /* memarg; max_align: 1; lane */
+  WASM_OP_V128Load32Lane = 0xfd0056, /* memarg; max_align: 2; lane */
+  WASM_OP_V128Load64Lane = 0xfd0057, /* memarg; max_align: 3; lane */
+  WASM_OP_V128Store8Lane = 0xfd0058, /* memarg; max_align: 0; lane */
+  WASM_OP_V128Store16Lane = 0xfd0059, /* memarg; max_align: 1; lane */
+  WASM_OP_V128Store32Lane = 0xfd005a, /* memarg; max_align: 2; lane */
+  WASM_OP_V128Store64Lane = 0xfd005b, /* memarg; max_align: 3; lane */
   WASM_OP_V128Const = 0xfd000c, /* bytes: value */
   WASM_OP_I8x16Shuffle = 0xfd000d, /* bytes: lanes */
   WASM_OP_I8x16ExtractLaneS = 0xfd0015, /* lane */
@@ -818,7 +819,6 @@ enum wasm_opcode {
   WASM_OP_Pause = 0xfe0004
 };
 
-/* The proposals that added the operators. */
 enum wasm_proposal {
   WASM_PROPOSAL_MVP = 0,
   WASM_PROPOSAL_SIGN_EXTENSION = 1,
@@ -841,274 +841,204 @@ enum wasm_proposal {
   WASM_PROPOSAL_ACQUIRE_RELEASE_ATOMICS = 18
 };
 
-/* An operator: 64 bytes without padding. `shape` selects the fields that have a meaning; the others are 0. */
+/* An operator: 64 bytes without padding. */
 typedef struct wasm_operator {
-  /* The offset of its first byte. */
-  uint64_t offset;
-  /* A constant or the static offset of a memory argument in bytes. An integer constant is sign-extended to
-   * 64 bits; a float constant is its bits. */
-  uint64_t wide;
-  /* One of `enum wasm_opcode`. */
-  uint32_t opcode;
-  /* Indices, in the order of the binary format, or the number of elements of a list. */
-  uint32_t first;
+  uint64_t offset; /* of its first byte */
+  uint64_t wide; /* an integer, sign-extended; the bits of a float; the static offset of a memory argument in bytes */
+  uint32_t opcode; /* enum wasm_opcode */
+  uint32_t first; /* indices, in the order of the binary format, or the number of elements of a list */
   uint32_t second;
   uint32_t third;
-  /* A type: `enum wasm_kind`. Its index, if it has one, is in the field that the shape names. */
-  uint32_t kind;
-  /* The target type of a cast: `enum wasm_kind`. */
-  uint32_t other_kind;
-  /* One of `enum wasm_shape`. */
-  uint8_t shape;
-  /* The alignment in a memory argument, as the exponent of a power of two. */
-  uint8_t align;
-  /* The operator's natural alignment, as the exponent of a power of two. */
-  uint8_t max_align;
-  /* A lane index. */
+  uint32_t kind; /* a type: enum wasm_kind. Its index, if any, is in the field that the opcode names */
+  uint32_t other_kind; /* the target type of a cast */
+  uint8_t shape; /* enum wasm_shape */
+  uint8_t align; /* of a memory argument, as the exponent of a power of two */
+  uint8_t max_align; /* the natural alignment, as the exponent of a power of two */
   uint8_t lane;
-  /* What a memory argument accesses: 0 for the memory of index `first`, 1 for an array of type `first`. */
-  uint16_t target;
-  /* The memory ordering: 0 none, 1 sequentially consistent, 2 acquire and release. In a memory argument of
-   * a read-modify-write operator these two are 3 and 4. */
-  uint16_t ordering;
-  /* A vector of 128 bits, little-endian, or the sixteen lane indices of a shuffle. */
-  uint8_t bytes[16];
+  uint16_t target; /* 0: a memory argument accesses the memory `first`, 1: an array of type `first` */
+  uint16_t ordering; /* 0 none, 1 sequentially consistent, 2 acquire and release; 3, 4 in a read-modify-write */
+  uint8_t bytes[16]; /* a vector, little-endian, or the lane indices of a shuffle */
 } wasm_operator;
 
-/* A reader of operators: 32 bytes without padding. wasm_open fills it in, and the functions that read
- * advance it. It may be copied: a copy of it and of the frames allows reading again from there. */
+/* A reader of operators: 32 bytes without padding. wasm_open fills it in, and the calls that read advance it. A copy
+ * of it and of the frames allows reading again from there. */
 typedef struct wasm_reader {
-  /* The offset of the first byte. */
-  uint64_t offset;
-  /* The number of bytes that were read. */
-  uint64_t position;
-  /* The number of open frames, which is the number of bytes in use in the array of frames. */
-  uint64_t depth;
-  /* The features. */
+  uint64_t offset; /* of the first byte */
+  uint64_t position; /* the number of bytes read */
+  uint64_t depth; /* the number of open frames */
   uint32_t features;
-  /* 0. */
-  uint32_t reserved;
+  uint32_t reserved; /* 0 */
 } wasm_reader;
 
 /* A refusal: 24 bytes without padding. */
 typedef struct wasm_refusal {
-  /* The offset of the error. For WASM_REFUSED_UNKNOWN_FEATURES, WASM_REFUSED_PAST_OFFSETS,
-   * WASM_REFUSED_NOT_A_READER and WASM_REFUSED_NO_VALUE_KIND it is the offset of the first byte, for
-   * WASM_REFUSED_NO_LIST and a text that does not fit the argument `at`. Without an error it is the offset of the end
-   * of the bytes, the reader's offset, the argument `at`, or the offset of the body. Otherwise it is 0. */
+  /* The offset of the error. It is the offset of the first byte for WASM_REFUSED_UNKNOWN_FEATURES,
+   * WASM_REFUSED_PAST_OFFSETS, WASM_REFUSED_NOT_A_READER and WASM_REFUSED_NO_VALUE_KIND, and `at` for
+   * WASM_REFUSED_NO_LIST and a text that does not fit. Without an error it is the offset of the end of the bytes, the
+   * reader's offset, `at`, or the offset of the body. Otherwise it is 0. */
   uint64_t offset;
-  /* 0 without an error, else one of `enum wasm_refused`. */
-  uint32_t number;
-  /* The number of the name that its text has. */
-  uint32_t name;
-  /* The byte, code or flags that its text has, or what `enum wasm_refused` says. */
-  uint32_t value;
-  /* 0. */
-  uint32_t reserved;
+  uint32_t number; /* 0 without an error, else enum wasm_refused */
+  uint32_t name; /* the number of the name in its text */
+  uint32_t value; /* the byte, code or flags in its text, or what enum wasm_refused says */
+  uint32_t reserved; /* 0 */
 } wasm_refusal;
 
 /* A value type: 8 bytes without padding. */
 typedef struct wasm_type {
-  /* One of `enum wasm_kind`, with the flags that are added to it. */
-  uint32_t kind;
-  /* The type index of a reference type, else 0. */
-  uint32_t index;
+  uint32_t kind; /* enum wasm_kind, with flags */
+  uint32_t index; /* the type index of a reference type, else 0 */
 } wasm_type;
 
 /* A catch of a try_table, or a clause of a resume: 12 bytes without padding. */
 typedef struct wasm_handler {
-  /* One of `enum wasm_catch` or `enum wasm_clause`. */
-  uint32_t kind;
-  /* Its tag index, or 0 without a tag. */
-  uint32_t tag;
-  /* Its label, or 0 without a label. */
-  uint32_t label;
+  uint32_t kind; /* enum wasm_catch or enum wasm_clause */
+  uint32_t tag; /* its index, or 0 if it has none */
+  uint32_t label; /* 0 if it has none */
 } wasm_handler;
 
-/* A value that wasm_read_value reads: 16 bytes without padding. `enum wasm_value_kind` says what the fields hold;
- * the fields that it does not name are 0. */
+/* A value: 16 bytes without padding. `enum wasm_value_kind` says what the fields hold; the others are 0. */
 typedef struct wasm_value {
   uint64_t number;
   uint32_t kind;
   uint32_t index;
 } wasm_value;
 
-/* A place between the bodies of a module: 32 bytes without padding. wasm_open_bodies fills it in, and
- * wasm_next_body advances it. It may be copied. */
+/* A place between the bodies of a module: 32 bytes without padding. wasm_open_bodies fills it in, and wasm_next_body
+ * advances it. It may be copied. */
 typedef struct wasm_bodies {
-  /* The number of bytes of the code section's contents that were read. */
-  uint64_t code;
-  /* The number of bytes of the function section's contents that were read. */
-  uint64_t types;
-  /* The number of imported functions. */
-  uint32_t imported;
-  /* The number of bodies that were read. */
-  uint32_t read;
-  /* The number of bodies that are left. */
-  uint32_t left;
-  /* 0. */
-  uint32_t reserved;
+  uint64_t code; /* bytes read of the code section's contents */
+  uint64_t types; /* bytes read of the function section's contents */
+  uint32_t imported; /* the number of imported functions */
+  uint32_t read; /* the number of bodies read */
+  uint32_t left; /* the number of bodies left */
+  uint32_t reserved; /* 0 */
 } wasm_bodies;
 
 /* The body of a function: 24 bytes without padding. */
 typedef struct wasm_body {
-  /* The offset of the first byte in the module. */
-  uint64_t offset;
-  /* The number of bytes. */
-  uint64_t length;
-  /* The index of the function. Imported functions have the lowest indices. */
-  uint32_t index;
-  /* The index of the function's type. */
+  uint64_t offset; /* of the first byte in the module */
+  uint64_t length; /* in bytes */
+  uint32_t index; /* of the function; imported functions have the lowest indices */
   uint32_t type_index;
 } wasm_body;
 
-/* Returns the version of the structs and functions of the library. */
 uint32_t wasm_operators_version(void);
 
-/* Reads all operators of the function body `bytes`, which starts with its locals. `offset` is the offset of
- * the first byte.
+/* Reads all operators of the function body `bytes`, which starts with its locals. Writes at most `out_length` of them
+ * to `out`; the rest of `out` is unchanged. `*count` is the number of operators found. If it is greater than
+ * `out_length`, a second call with that capacity gets all.
  *
- * Writes at most `out_length` operators to `out` and leaves the rest of `out` unchanged. `*count` is the
- * number of operators that were found. If it is greater than `out_length`, a second call with that capacity
- * gives all of them.
- *
- * Returns 0 if the bytes encode a body. Otherwise it returns the number of the refusal, and the operators are
- * the longest prefix that begins a body. After an allocation failure the prefix may be shorter. `*refusal`
- * has the number and the offset.
- *
- * Fails with WASM_REFUSED_UNKNOWN_FEATURES if a bit of `features` is not in `enum wasm_feature`. Fails with
- * WASM_REFUSED_PAST_OFFSETS if `offset + bytes_length` does not fit in 64 bits. Nothing is read then. */
+ * On failure the operators are the longest prefix that begins a body, or a shorter one if allocation fails. For
+ * WASM_REFUSED_UNKNOWN_FEATURES and WASM_REFUSED_PAST_OFFSETS `*count` is 0. */
 uint32_t wasm_read_body(const uint8_t *bytes, size_t bytes_length, uint64_t offset, uint32_t features,
                         wasm_operator *out, size_t out_length, size_t *count, wasm_refusal *refusal);
 
-/* Writes the text of a refusal in ASCII, truncated to `text_length` bytes and without a terminating 0.
- * Returns the length of the whole text in bytes, or 0 if the struct is not a refusal. */
+/* Writes the text of a refusal in ASCII, truncated to `text_length` bytes. Returns the length of the whole text in
+ * bytes, or 0 if the struct is not a refusal. */
 size_t wasm_refusal_text(const wasm_refusal *refusal, uint8_t *text, size_t text_length);
 
-/* Writes the name of an operator in ASCII, truncated to `name_length` bytes and without a terminating 0.
- * Returns the length of the whole name in bytes, or 0 if no operator has its number. */
+/* Writes the name of an operator in ASCII, truncated to `name_length` bytes. Returns the length of the whole name in
+ * bytes, or 0 if no operator has its number. */
 size_t wasm_operator_name(const wasm_operator *op, uint8_t *name, size_t name_length);
 
-/* Returns the number of frames that may be open at once in `bytes_length` bytes. An array of that many bytes is
- * always large enough. */
+/* Returns the number of frames that may be open at once in `bytes_length` bytes: a sufficient `frames_length`. */
 size_t wasm_frames_needed(size_t bytes_length);
 
-/* Opens the expression `bytes` and returns 0. `offset` is the offset of the first byte. `frames` has one byte
- * for each open frame; the functions that read use it.
- *
- * Fails with WASM_REFUSED_UNKNOWN_FEATURES and WASM_REFUSED_PAST_OFFSETS like wasm_read_body, and with
- * WASM_REFUSED_NO_ROOM if `frames` has no byte for a frame. Only `*refusal` changes then. */
+/* Opens the expression `bytes`. `frames` has one byte for each open frame. Fails with WASM_REFUSED_NO_ROOM if
+ * `frames_length` is 0. */
 uint32_t wasm_open(const uint8_t *bytes, size_t bytes_length, uint64_t offset, uint32_t features,
                    uint8_t *frames, size_t frames_length, wasm_reader *reader, wasm_refusal *refusal);
 
-/* Reads the locals of the function body `bytes` and opens the expression after them. Fails like wasm_open, and
- * with the refusal of the locals. */
+/* Reads the locals of the function body `bytes` and opens the expression after them. Fails like wasm_open, and with
+ * the refusal of the locals. */
 uint32_t wasm_open_body(const uint8_t *bytes, size_t bytes_length, uint64_t offset, uint32_t features,
                         uint8_t *frames, size_t frames_length, wasm_reader *reader, wasm_refusal *refusal);
 
-/* Reads the next operator and returns 0. `bytes` and `frames` are those that the reader was opened with.
- *
- * Otherwise it returns the number of the refusal, and only `*refusal` changes. Fails with
- * WASM_REFUSED_NO_ROOM if the operator opens a frame and `frames` is full. Fails with
- * WASM_REFUSED_NOT_A_READER if the reader cannot be one of these bytes and frames, whatever their contents. */
+/* Reads the next operator, with the `bytes` and `frames` with which the reader was opened. Fails with
+ * WASM_REFUSED_NO_ROOM if the operator opens a frame and `frames` is full, and with WASM_REFUSED_NOT_A_READER if the
+ * reader cannot be one of these bytes and frames, whatever their contents. */
 uint32_t wasm_next(const uint8_t *bytes, size_t bytes_length, uint8_t *frames, size_t frames_length,
                    wasm_reader *reader, wasm_operator *op, wasm_refusal *refusal);
 
 /* Reads the next operator like wasm_next, but fails with WASM_REFUSED_UNEXPECTED_SIMD before the byte 0xfd, whatever
- * follows it. Only `*refusal` changes then. */
+ * follows it. */
 uint32_t wasm_next_plain(const uint8_t *bytes, size_t bytes_length, uint8_t *frames, size_t frames_length,
                          wasm_reader *reader, wasm_operator *op, wasm_refusal *refusal);
 
-/* Reads a value at the reader's position and returns 0. `kind` is one of `enum wasm_value_kind`, which says what
- * `argument` is. No frame of the reader may be open. Of bytes, of a part with its length, and of a constant
- * expression, the value is how many bytes there are; they end at the new position.
- *
- * Otherwise it returns the number of the refusal, and only `*refusal` changes. Fails with
- * WASM_REFUSED_NO_VALUE_KIND if there is no such kind, and with WASM_REFUSED_NOT_A_READER like wasm_next. */
+/* Reads a value of `kind`, one of `enum wasm_value_kind`, which says what `argument` is. No frame may be open. The
+ * bytes that `number` counts end at the new position. Fails with WASM_REFUSED_NO_VALUE_KIND if there is no such kind,
+ * and with WASM_REFUSED_NOT_A_READER like wasm_next. */
 uint32_t wasm_read_value(const uint8_t *bytes, size_t bytes_length, wasm_reader *reader, uint32_t kind,
                          uint64_t argument, wasm_value *value, wasm_refusal *refusal);
 
-/* Reads operators into `out`, like repeated calls of wasm_next, until `out` is full or all bytes are read, and
- * returns 0. If an operator cannot be read, it stops and returns the number of the refusal. `*count` is the
- * number of operators that were read; the rest of `out` is unchanged. */
+/* Calls wasm_next until `out` is full, all bytes are read, or a call fails. `*count` is the number of operators read;
+ * the rest of `out` is unchanged. */
 uint32_t wasm_read(const uint8_t *bytes, size_t bytes_length, uint8_t *frames, size_t frames_length,
                    wasm_reader *reader, wasm_operator *out, size_t out_length, size_t *count,
                    wasm_refusal *refusal);
 
-/* Checks that the expression ends at the reader's position. Returns 0 if no frame is open and all bytes are
- * read, else the number of the refusal. */
+/* Returns 0 if the expression ends at the reader's position: no frame is open and all bytes are read. */
 uint32_t wasm_finish(const uint8_t *bytes, size_t bytes_length, const uint8_t *frames, size_t frames_length,
                      const wasm_reader *reader, wasm_refusal *refusal);
 
-/* Writes the targets of the br_table that begins at the offset `at`, and returns 0. `offset` is the offset of
- * the first byte. Writes the targets from the index `index` on, without the default target, at most
- * `out_length` of them; the rest of `out` is unchanged. `*count` is the number of all targets.
+/* Writes the targets of the br_table at the offset `at`, without the default target: at most `out_length`, from the
+ * index `index` on; the rest of `out` is unchanged. `*count` is the number of all targets.
  *
- * Otherwise it returns the number of the refusal, and only `*refusal` changes. The operator is read as if
- * inside a block; at the end of the bytes the call fails with WASM_REFUSED_END_OF_DATA. Fails with
- * WASM_REFUSED_NO_LIST if another operator begins there, or if `at` is before the first byte or past the end.
- * Fails with WASM_REFUSED_UNKNOWN_FEATURES and WASM_REFUSED_PAST_OFFSETS like wasm_read_body. */
+ * The operator is read as if inside a block; at the end of the bytes the call fails with WASM_REFUSED_END_OF_DATA.
+ * Fails with WASM_REFUSED_NO_LIST if another operator begins there, or if `at` is before the first byte or past the
+ * end. */
 uint32_t wasm_br_table_targets(const uint8_t *bytes, size_t bytes_length, uint64_t offset, uint32_t features,
                                uint64_t at, size_t index, uint32_t *out, size_t out_length, size_t *count,
                                wasm_refusal *refusal);
 
-/* Writes the types of the typed select that begins at the offset `at`, like wasm_br_table_targets. */
+/* Writes the types of a typed select, like wasm_br_table_targets. */
 uint32_t wasm_select_types(const uint8_t *bytes, size_t bytes_length, uint64_t offset, uint32_t features,
                            uint64_t at, size_t index, wasm_type *out, size_t out_length, size_t *count,
                            wasm_refusal *refusal);
 
-/* Writes the catches of the try_table that begins at the offset `at`, like wasm_br_table_targets. */
+/* Writes the catches of a try_table, like wasm_br_table_targets. */
 uint32_t wasm_try_table_catches(const uint8_t *bytes, size_t bytes_length, uint64_t offset, uint32_t features,
                                 uint64_t at, size_t index, wasm_handler *out, size_t out_length, size_t *count,
                                 wasm_refusal *refusal);
 
-/* Writes the clauses of the resume, resume_throw or resume_throw_ref that begins at the offset `at`, like
- * wasm_br_table_targets. */
+/* Writes the clauses of a resume, resume_throw or resume_throw_ref, like wasm_br_table_targets. */
 uint32_t wasm_resume_handlers(const uint8_t *bytes, size_t bytes_length, uint64_t offset, uint32_t features,
                               uint64_t at, size_t index, wasm_handler *out, size_t out_length, size_t *count,
                               wasm_refusal *refusal);
 
-/* Writes the text of the operator that begins at the offset `at`, such as `i32.const 5`, and returns 0: its name and
- * its operands in the text format, in UTF-8 and without a terminating 0. `offset` is the offset of the first byte.
- * `*length` is the length of the text in bytes.
+/* Writes the operator at the offset `at` in the text format, such as `i32.const 5`, in UTF-8. `*length` is the length
+ * of the text in bytes. If it is greater than `text_length`, the call fails with WASM_REFUSED_NO_ROOM, and only
+ * `*length` and `*refusal` change.
  *
- * Fails with WASM_REFUSED_NO_ROOM if the text is longer than `text_length`. Then `*length` is the text's length, and
- * nothing else changes except `*refusal`. An array of that many bytes is large enough.
- *
- * Otherwise it returns the number of the refusal, and only `*refusal` changes. The operator is read inside a frame
- * that allows it, if one does. Fails like wasm_br_table_targets; WASM_REFUSED_NO_LIST means that `at` is before the
- * first byte or past the end. */
+ * The operator is read inside a frame that allows it, if one does. Fails like wasm_br_table_targets;
+ * WASM_REFUSED_NO_LIST means that `at` is before the first byte or past the end. */
 uint32_t wasm_operator_text(const uint8_t *bytes, size_t bytes_length, uint64_t offset, uint32_t features,
                             uint64_t at, uint8_t *text, size_t text_length, size_t *length,
                             wasm_refusal *refusal);
 
-/* Writes the name of the operator in the text format, such as `i32.const`, like wasm_operator_text. */
+/* Writes the operator's name in the text format, such as `i32.const`, like wasm_operator_text. */
 uint32_t wasm_operator_text_name(const uint8_t *bytes, size_t bytes_length, uint64_t offset, uint32_t features,
                                  uint64_t at, uint8_t *name, size_t name_length, size_t *length,
                                  wasm_refusal *refusal);
 
-/* Opens the bodies of the module `bytes` and returns 0. `*bodies` is the place before the first body.
- *
- * Otherwise it returns the number of the refusal, and only `*refusal` changes. Fails with
+/* Opens the bodies of the module `bytes`: `*bodies` is the place before the first. Fails with
  * WASM_REFUSED_NOT_A_MODULE, WASM_REFUSED_IMPORT_KIND, WASM_REFUSED_TYPE_KIND, WASM_REFUSED_COUNTS_DIFFER, or the
  * refusal of a section. May allocate. */
 uint32_t wasm_open_bodies(const uint8_t *bytes, size_t bytes_length, wasm_bodies *bodies, wasm_refusal *refusal);
 
-/* Reads the next body of the module with which `bodies` was opened and returns 0. Does not allocate.
- *
- * Otherwise it returns the number of the refusal, and only `*refusal` changes. Fails with WASM_REFUSED_NO_BODY if all
- * bodies were read, and with WASM_REFUSED_DATA_AFTER_SECTION if data is left after them. Fails with
- * WASM_REFUSED_NOT_A_READER if `bodies` cannot be a place in this module. Otherwise the length of the body is in
- * error, or the data ends within the body. */
+/* Reads the next body of the module with which `bodies` was opened. Does not allocate. Fails with
+ * WASM_REFUSED_NO_BODY if all bodies were read, and with WASM_REFUSED_DATA_AFTER_SECTION if data is left after them.
+ * Fails with WASM_REFUSED_NOT_A_READER if `bodies` cannot be a place in this module. Otherwise the length of the body
+ * is in error, or the data ends within the body. */
 uint32_t wasm_next_body(const uint8_t *bytes, size_t bytes_length, wasm_bodies *bodies, wasm_body *body,
                         wasm_refusal *refusal);
 
-/* Writes the name of the function with the index `index`, which the module defines, and returns 0. `*length` is the
- * length of the name in bytes, or 0 if it has none or if the name is not UTF-8. A name in the custom section `name`
- * replaces the name of an export. Each call reads the sections that describe functions.
+/* Writes the name of the function `index`, which the module defines: from the custom section `name`, else of an export.
+ * `*length` is its length in bytes, or 0 if it has none or the name is not UTF-8. Each call reads the sections that
+ * describe functions.
  *
- * Fails with WASM_REFUSED_NO_ROOM like wasm_operator_text. Otherwise it returns the number of the refusal, and only
- * `*refusal` changes. Fails with WASM_REFUSED_NO_FUNCTION, and like wasm_open_bodies. May allocate. */
+ * Fails with WASM_REFUSED_NO_ROOM like wasm_operator_text, with WASM_REFUSED_NO_FUNCTION, and like wasm_open_bodies.
+ * May allocate. */
 uint32_t wasm_function_name(const uint8_t *bytes, size_t bytes_length, uint32_t index, uint8_t *name,
                             size_t name_length, size_t *length, wasm_refusal *refusal);
 

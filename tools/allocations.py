@@ -5,23 +5,18 @@
     tools/allocations.py --program PATH NAME    runs the program PATH of a crate
     tools/allocations.py --tests PATH NAME      runs the program PATH of a crate's tests
 
-Without PATH it runs what `rt ci` or `rt test` built, `crates/NAME/out/NAME` and `crates/NAME/out/NAME_tests`. In each
-run the next allocation fails, until none is left. Each run must end in time, without a fault:
+`rt ci` and `rt test` build `crates/NAME/out/NAME` and `NAME_tests`. Each run must end in time, without a fault. A test
+with the word `memory` in its name allocates and passes; another test may also end by an error or a failed assertion. A
+program ends with an exit status; if its crate has a file `refused`, it ends as that says:
 
-- a test with the word `memory` in its name allocates, and passes in each run;
-- another test passes, or ends by an error or a failed assertion;
-- a program ends with an exit status. If the crate has a file `refused`, it must end as that file says.
+- three lines, the status, the output and the text on standard error;
+- `as ever`: as if none fails;
+- `first N`: only the first N allocations fail;
+- `rows`: the line `N rows, 0 differ` may end in `, 1 out of memory`, or the status is 1 and a line starts with
+  `the rows could not be read`.
 
-The file `refused` has
-
-- three lines, the status, the output and the text on standard error: how it ends if an allocation fails;
-- or `as ever`: it always ends as it does if none fails;
-- or `first N`: only the first N allocations fail, since there are too many;
-- or `rows`, of a program that prints one line `N rows, 0 differ`: that line may end in `, 1 out of memory`, or the
-  status is 1 and a line starts with `the rows could not be read`.
-
-A crate with a file `stdout.short` runs with the last argument `short`. `refuse_allocation.c`, loaded first, counts the
-calls of the C library's `malloc` and `realloc`.
+A crate with a file `stdout.short` runs with the last argument `short`. `refuse_allocation.c` counts the calls of `malloc`
+and `realloc`.
 """
 
 import os
@@ -38,11 +33,11 @@ from testing.built import built, missing, program_of
 
 TOP = Path(__file__).resolve().parent.parent
 SECONDS = 60
-# A test or a program with more allocations should be smaller.
+# A test or a program with more should be smaller.
 MOST = 1000
 AS_EVER = "as ever\n"
 FIRST = re.compile(r"first (\d+)\n")
-# For `rows`: the line that counts them, and the start of the line if reading them failed.
+# For `rows`: the line that counts them, and the start of the line if they cannot be read.
 ROWS = "rows\n"
 COUNTED = re.compile(rb"^(\d+ rows, 0 differ)$", re.MULTILINE)
 UNREAD = b"the rows could not be read"
@@ -82,7 +77,7 @@ def is_own_end(status):
 
 
 def followed(label, words, given, library, allowed, first=None):
-    """Runs a program with each allocation failing, or the first. Returns how many failed, and what was wrong."""
+    """Runs a program with each allocation failing, or the first ones. Returns how many failed, and what was wrong."""
     wrong = []
     for number in range(1, (first or MOST) + 1):
         ran = Run(words, given, library, number)
@@ -122,13 +117,11 @@ def refused_text(crate):
 
 
 def first_refused(crate):
-    """Returns how many allocations are to fail, or None for all."""
     found = FIRST.fullmatch(refused_text(crate))
     return int(found[1]) if found else None
 
 
 def refused_shapes(crate, plain):
-    """Returns how the program must end if an allocation fails, or None if any end will do."""
     text = refused_text(crate)
     if not text or text == ROWS or FIRST.fullmatch(text):
         return None
@@ -140,7 +133,7 @@ def refused_shapes(crate, plain):
 
 
 def is_end_of_rows(ended, plain):
-    """Returns whether a program of rows may end so. `plain` is how it ends if no allocation fails."""
+    """Returns whether a program of rows may end so. `plain` is its end if no allocation fails."""
     status, wrote, complained = ended
     if status == 1:
         return any(line.startswith(UNREAD) for line in (wrote + complained).splitlines())
@@ -149,7 +142,6 @@ def is_end_of_rows(ended, plain):
 
 
 def allowed_ends(crate, plain):
-    """Returns a predicate over runs: whether the program may end so."""
     if refused_text(crate) == ROWS:
         return lambda ran: is_end_of_rows(ran.shape, plain) if ran.was_refused else ran.shape == plain
     refused = refused_shapes(crate, plain)

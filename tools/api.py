@@ -1,14 +1,13 @@
 #!/usr/bin/env python3
 """Writes bindings/rust/API.md, the list of the cargo crate's items, from api.tsv.
 
-    tools/api.py                     writes the page
+    tools/api.py                     writes the tables of the page
     tools/api.py --check             fails unless the page is what api.tsv gives, and its names exist
     tools/api.py --original FOLDER   fails unless api.tsv has each public item of wasmparser's operators layer, whose
                                      crate is in FOLDER
 
-A row of api.tsv is an item of wasmparser: its type, its name, whether the crate has it, the functions of the C library
-that it calls, the proved functions (`crate::function`) that these call, and a note. --check looks for the items in the
-crate, for the functions of the library in the header, and for the proved functions in the crates.
+A row is an item of wasmparser: its type, its name, whether the crate has it, the functions of the C library that it
+calls, the proved functions (`crate::function`) that these call, and a note.
 """
 
 import csv
@@ -23,83 +22,77 @@ HEADER = TOP / "include/wasm_operators.h"
 SOURCES = TOP / "bindings/rust/src"
 # The files of wasmparser's operators layer.
 LAYER = ["binary_reader.rs", "readers/core/code.rs", "readers/core/init.rs", "readers/core/operators.rs"]
-HEAD = """\
-# API
-
-Written by `tools/api.py` from `tools/api.tsv`.
-
-This page lists the public items of the operators layer of wasmparser 0.263. For each, it says whether this crate has it, and what is proved:
-
-- **C function**: the function of `libwasm_c.a` that the item calls ([`include/wasm_operators.h`](../../include/wasm_operators.h)). The contract of each is proved ([`docs/PROVED.md`](../../docs/PROVED.md)).
-- **Proved function**: the function, as `crate::function`, that the C function calls for this item.
-
-If both are empty, the item reads no bytes, or calls other items. The note then says what it does. The crate itself is tested, not proved: `tests`, and the comparison with wasmparser by `tools/bindings`.
-
-The items that wasmparser does not have are in [`README.md`](README.md).
-"""
+ROWS_HEAD = "|Type|Items|C function|Proved function|Note|\n|---|---|---|---|---|\n"
 
 
 def rows():
-    """Returns the rows of the table."""
     with open(TABLE, encoding="utf-8", newline="") as lines:
         return list(csv.DictReader(lines, delimiter="\t", quoting=csv.QUOTE_NONE))
 
 
 def listed(cell):
-    """Returns the names of a cell."""
     return [name for name in cell.split(", ") if name]
 
 
 def code(names):
-    """Returns names as a cell of the page."""
     return ", ".join(f"`{name}`" for name in names)
 
 
 def page():
-    """Returns the text of the page."""
-    lines = [HEAD]
-    last = None
+    """Returns the page with its head and a new table."""
+    head, groups = PAGE.read_text(encoding="utf-8").split(ROWS_HEAD)[0], {}
     for row in rows():
-        if row["type"] != last:
-            last = row["type"]
-            lines += ["" if len(lines) > 1 else None, f"## {heading(last)}", "", "| Item | Here | C function | Proved function | Note |", "|---|---|---|---|---|"]
-        cells = [item(row), row["state"], code(listed(row["call"])), code(listed(row["proved"])), row["note"]]
-        lines.append("| " + " | ".join(cells) + " |")
-    return "\n".join(line for line in lines if line is not None) + "\n"
+        is_whole = is_type(row["type"]) and not row["item"]
+        key = ("" if is_whole else row["type"], row["call"], proved(row), noted(row))
+        groups.setdefault(key, []).append(row)
+    lines, last = [], None
+    for (owner, call, function, note), members in groups.items():
+        if owner:
+            first, *others = ", ".join(map(item, members)).split("for `")
+            name, items = heading(owner), "for `".join([first, "`".join(others)] if others else [first])
+        else:
+            name, items = code(row["type"] for row in members), "type" if len(members) == 1 else "types"
+        cells = ["" if name == last else name, items, code(listed(call)), code(listed(function)), note]
+        last = name
+        lines.append("|" + "|".join(cells) + "|")
+    return head + ROWS_HEAD + "\n".join(lines) + "\n"
+
+
+def proved(row):
+    crate, _, function = row["proved"].partition("::")
+    return f"{crate}::" if function and function == row["item"] else row["proved"]
+
+
+def noted(row):
+    return f"absent: {row['note']}" if row["state"] == "absent" else row["note"]
 
 
 def heading(name):
-    """Returns the heading of a type."""
-    return f"`{name}`" if is_type(name) else name[0].upper() + name[1:]
+    return code([name]) if is_type(name) else name[0].upper() + name[1:]
 
 
 def is_type(name):
-    """Returns whether a cell of the first column is a type."""
     return re.fullmatch(r"[A-Z]\w+", name) is not None and name != "Parser"
 
 
 def item(row):
-    """Returns the cell of an item."""
     name = row["item"]
     if not name:
-        return "the type" if is_type(row["type"]) else "all"
+        return "all"
     if name.startswith("for "):
-        return code([row["type"]]) + " " + ", ".join(f"for `{one.removeprefix('for ')}`" for one in parts(name))
+        return ", ".join(f"for `{one.removeprefix('for ')}`" for one in parts(name))
     return code(parts(name)) if re.fullmatch(r"[\w<>!:, ]+", name) and is_code(name) else name
 
 
 def parts(name):
-    """Splits a list of items at the commas outside parentheses."""
     return re.split(r", (?![^(]*\))", name)
 
 
 def is_code(name):
-    """Returns whether an item is a list of names, not a description."""
     return all(re.fullmatch(r"[\w:]+(<\w+>)?!?", one) for one in parts(name)) and name != "methods"
 
 
 def faults():
-    """Returns what is wrong with the table."""
     header = HEADER.read_text(encoding="utf-8")
     sources = "\n".join(path.read_text(encoding="utf-8") for path in sorted(SOURCES.glob("*.rs")))
     found = []
@@ -117,14 +110,12 @@ def faults():
 
 
 def exists(name):
-    """Returns whether a crate has a function."""
     crate, _, function = name.partition("::")
     files = (TOP / "crates" / crate / "src").rglob("*.rt")
     return any(re.search(rf"\bfn {function}\b", path.read_text(encoding="utf-8")) for path in files)
 
 
 def is_here(row, sources):
-    """Returns whether the crate has an item."""
     name = row["item"]
     if is_type(row["type"]) and not re.search(rf"\b(struct|enum|trait|type) {row['type']}\b", sources):
         return False
@@ -136,7 +127,6 @@ def is_here(row, sources):
 
 
 def public_items(text):
-    """Returns the public items of a source of wasmparser, each as its type and its name."""
     found, owner = [], ""
     for line in text.split("#[cfg(test)]\nmod tests")[0].split("\n"):
         if line.startswith("impl"):
@@ -151,7 +141,6 @@ def public_items(text):
 
 
 def missing(folder):
-    """Returns the public items of wasmparser's operators layer that the table does not have."""
     has = {(row["type"], name) for row in rows() for name in [*parts(row["item"]), ""]}
     texts = [(Path(folder) / "src" / name).read_text(encoding="utf-8") for name in LAYER]
     items = [item for text in texts for item in public_items(text) if not item[1].startswith("open_")]
@@ -166,7 +155,7 @@ def main():
         print(__doc__)
         sys.exit(words not in (["--help"], ["-h"]))
     found = faults()
-    if words and (not PAGE.exists() or PAGE.read_text(encoding="utf-8") != page()):
+    if words and PAGE.read_text(encoding="utf-8") != page():
         found.append("bindings/rust/API.md: not what tools/api.tsv gives: run tools/api.py")
     if found:
         sys.exit("\n".join(found))

@@ -4,24 +4,21 @@
     tools/c_answers.py            writes crates/wasm_tests_c/stdin and stdout
     tools/c_answers.py --check    fails if one of them is not what the sources below give
 
-The input has five sorts of lines, with tabs between their cells:
+The lines of the input have cells with tabs between them:
 
     body  FEATURES  HEX  END  LINES  TEXT  PLAIN  CONST  LOCALS
-                                      a function body. END is `NUMBER OFFSET COUNT`: the number of the error or 0,
-                                      its offset or the offset of the end, and how many operators there are. LINES is the
-                                      fingerprint of their lines, TEXT the text of the error. PLAIN is how a visitor
-                                      without SIMD operators ends. CONST and LOCALS are the same bytes as a constant
-                                      expression, and as locals, with the numbers of their types in C
-    list  NAME  HEX  AT  MEMBERS      a body with an operator that has a list, its offset, and `0 COUNT:` with the
-                                      members, each as its numbers in C and a semicolon
+                                      a function body. END is `NUMBER OFFSET COUNT`: the number of the error or 0, its
+                                      offset or the end's, and the number of operators. LINES is the fingerprint of
+                                      their lines, TEXT the text of the error. PLAIN is how a visitor without SIMD
+                                      operators ends. CONST and LOCALS read the bytes as a constant expression and locals
+    list  NAME  HEX  AT  MEMBERS      a body with an operator that has a list, its offset, and `0 COUNT:` with the members
     text  HEX  TEXT                   an operator and its text
     value  KIND  ARGUMENT  HEX  VALUE a value and its numbers in C, or the number and the offset of the error
     module  HEX  FUNCTIONS            a module and its functions: the index, the offset and the name of each
     function  HEX  FUNCTIONS          the same with the length and the type index of each
 
-Of the bodies it takes every eighth, and the first of each refusal. `tools/bindings` replays all of them in C. The
-texts are wabt's, from crates/wasm_tests_bodies/stdin and crates/wasm_objdump/data. VALUES and FUNCTIONS are made by
-hand.
+It takes every eighth body, and the first of each refusal; `tools/bindings` replays all in C. The texts are wabt's, from
+crates/wasm_tests_bodies/stdin and crates/wasm_objdump/data. VALUES and FUNCTIONS are made by hand.
 """
 
 import re
@@ -35,9 +32,8 @@ MODULES = TOP / "crates/wasm_objdump/data"
 CRATE = TOP / "crates/wasm_tests_c"
 HEADER = TOP / "include/wasm_operators.h"
 VERSION = re.compile(r"^#define WASM_OPERATORS_VERSION (\d+)u$", re.M)
-# One of so many bodies is taken.
 EACH = 8
-# The calls over a body, in the order in which the program prints them, and how many cases each has.
+# The calls over a body, in the order of the output, and how many cases each has.
 OVER_BODIES = {
     "wasm_read_body": 2,
     "wasm_operator_name": 1,
@@ -48,7 +44,6 @@ OVER_BODIES = {
     "wasm_read_value of constant expressions": 1,
     "wasm_read_value of locals": 1,
 }
-# The call for each operator with a list.
 LISTS = {
     "BrTable": "wasm_br_table_targets",
     "TypedSelect": "wasm_select_types",
@@ -58,21 +53,20 @@ LISTS = {
     "ResumeThrow": "wasm_resume_handlers",
     "ResumeThrowRef": "wasm_resume_handlers",
 }
-# The numbers of include/wasm_operators.h for the words of the samples: types, catches and clauses.
+# The numbers of the C header for types, catches and clauses.
 TYPES = {"I32": "127 0", "V128": "123 0", "?Func": "1648 0"}
 HANDLERS = {
     "one": "0 {} {}", "oneref": "1 {} {}", "all": "2 0 {}", "allref": "3 0 {}", "label": "0 {} {}", "switch": "1 {} 0",
 }
-# The byte of each abstract heap type in include/wasm_operators.h.
+# The byte of each abstract heap type.
 HEAPS = {
     "NoCont": 0x75, "NoExn": 0x74, "NoFunc": 0x73, "NoExtern": 0x72, "None": 0x71, "Func": 0x70, "Extern": 0x6F,
     "Any": 0x6E, "Eq": 0x6D, "I31": 0x6C, "Struct": 0x6B, "Array": 0x6A, "Exn": 0x69, "Cont": 0x68,
 }
 NUMBERS = {"I32": 0x7F, "I64": 0x7E, "F32": 0x7D, "F64": 0x7C, "V128": 0x7B}
-# What is added to the kind of a shared heap type, of a nullable reference, and of a reference that is a value type.
+# Added for a shared heap type, a nullable reference, and a reference that is a value type.
 SHARED, NULLABLE, REFERENCE = 256, 512, 1024
-# Values, by the standard: the kind, the argument, the bytes, and the numbers in C and the position after the value;
-# or the number of the error and its offset.
+# By the standard: kind, argument, bytes, and the numbers in C and the position after; or the error and its offset.
 VALUES = (
     (0, 0, "ff", "255 0 0 at 1"),
     (0, 0, "", "E1@0"),
@@ -115,13 +109,11 @@ VALUES = (
     (19, 0, "0102", "2 1 0 at 2"),
     (20, 0, "00", "E105@0"),
 )
-# A module that wat2wasm made of a text in crates/wasm_tests_bodies/stdin, and what the text says of its functions. The
-# two bodies are the bytes from 102 to 108 and from 109 to 113.
+# What the text of the first module in crates/wasm_tests_bodies/stdin says of its functions.
 FUNCTIONS = "1 102 6 1 main;2 109 4 2 other;"
 
 
 def rows(text):
-    """Returns the rows of the results and of the samples, by column."""
     answers, samples = text.split("\nname\t")
     tables = []
     for table in (answers, f"name\t{samples}"):
@@ -131,7 +123,6 @@ def rows(text):
 
 
 def taken(answers):
-    """Yields the results to replay: every eighth, and the first of each error."""
     seen = set()
     for at, row in enumerate(answers):
         refusal = row["E"], re.sub(r"0x[0-9a-f]+|\d+", "", row["text"])
@@ -150,7 +141,6 @@ def body_line(row):
 
 
 def heap_kind(word):
-    """Returns the kind and the index of a heap type."""
     if word[0] in "#=":
         return (1 if word[0] == "#" else 2), int(word[1:])
     shared = word.startswith("shared-")
@@ -158,7 +148,6 @@ def heap_kind(word):
 
 
 def type_numbers(word):
-    """Returns the kind and the index of a value type."""
     if word in NUMBERS:
         return NUMBERS[word], 0
     kind, index = heap_kind(word[1:])
@@ -166,7 +155,7 @@ def type_numbers(word):
 
 
 def locals_of(text):
-    """Returns the locals with the numbers of their types: the count, the first five declarations, and the error."""
+    """Returns locals in C's numbers: the count, the first five declarations, and the error."""
     words = text.split(" ")
     found = [re.fullmatch(r"(\d+)([A-Z?!].*)", word) for word in words]
     told = [f"{it[1]}:{':'.join(map(str, type_numbers(it[2])))}" if it else word for it, word in zip(found, words)]
@@ -174,7 +163,6 @@ def locals_of(text):
 
 
 def member_of(word):
-    """Returns the numbers of a member of a list."""
     kind, *numbers = word.split(":")
     return HANDLERS[kind].format(*numbers) if kind in HANDLERS else TYPES.get(word, word)
 
@@ -188,18 +176,15 @@ def list_line(sample):
 
 
 def text_lines(text):
-    """Returns the lines of operators and their texts, for the text of the rows."""
     found = [line.split("\t") for line in text.splitlines() if line.startswith("text\t")]
     return [f"text\t{cells[2]}\t{cells[3]}" for cells in found]
 
 
 def value_lines():
-    """Returns the lines of values."""
     return ["\t".join(["value", *map(str, value)]) for value in VALUES]
 
 
 def module_lines(folder=MODULES):
-    """Returns the lines of the modules that wabt listed."""
     lines = []
     for path in sorted(folder.glob("*.wasm")):
         listing = path.with_suffix(".txt").read_text(encoding="utf-8")
@@ -210,13 +195,11 @@ def module_lines(folder=MODULES):
 
 
 def function_lines(text):
-    """Returns the line of the module whose functions are known in full, for the text of the rows."""
     module = next(line.split("\t")[2] for line in text.splitlines() if line.startswith("sections\t"))
     return [f"function\t{module}\t{FUNCTIONS}"]
 
 
 def small_lines(text):
-    """Returns the lines of texts, values and modules by the call that they test, for the text of the rows."""
     return {
         "wasm_open_bodies, wasm_next_body, wasm_function_name": [*function_lines(text), *module_lines()],
         "wasm_operator_text, wasm_operator_text_name": text_lines(text),
@@ -225,7 +208,6 @@ def small_lines(text):
 
 
 def files_of(text):
-    """Returns the program's input and expected output by name, for the text of the results."""
     answers, samples = rows(text)
     bodies = list(taken(answers))
     lists = [it for it in samples if it["name"] in LISTS]

@@ -1,20 +1,18 @@
 #!/usr/bin/env python3
 """Runs programs on the cases in `crates/NAME/cases.tsv`, and compares how each run ends.
 
-    tools/cases.py [NAME..]               runs what is built in crates/NAME/out
+    tools/cases.py [NAME..]               runs both builds of `rt ci` in crates/NAME/out
     tools/cases.py --program PATH NAME    runs the program PATH on the cases of NAME
 
-Without `--program`, each of the two builds of a program is run: `rt ci` and `rt run` make `crates/NAME/out/NAME`, and
-`rt ci` also makes `NAME.by-rattle`. The program is run once for each row, in the folder `crates/NAME/data` if there is
-one. A row has these columns, separated by tabs:
+Each row is a run, in the folder `crates/NAME/data` if there is one. Its columns, separated by tabs:
 
     case       what the case shows
     words      the arguments, with spaces between them; `""` is an empty argument, and \\xNN a byte
     input      standard input, in hexadecimal, or `unreadable` for a folder
     status     the exit status
-    output     what the program writes, with \\n for a line feed and \\t for a tab; `unwritable` if the device is full,
-               `closed` if the output is a pipe that nothing reads
-    complaint  what it writes to standard error, with a line feed behind it
+    output     what it writes, with \\n for a line feed and \\t for a tab; `unwritable` if the device is full, `closed` if
+               nothing reads the pipe
+    complaint  what it writes to standard error, without the last line feed
 """
 
 import csv
@@ -47,7 +45,6 @@ def words_of(text):
 
 
 def opened(folder, case):
-    """Returns the paths for the program's standard input and output."""
     if case["input"] == "unreadable":
         given = folder
     else:
@@ -58,17 +55,16 @@ def opened(folder, case):
 
 
 def closed_pipe():
-    """A file that writes into a pipe that nothing reads."""
     reads, writes = os.pipe()
     os.close(reads)
     return open(writes, "wb")
 
 
 def ended(program, case, data=None):
-    """How a run of the program in a folder ends: status, output and complaint as a row has them."""
+    """Returns status, output and complaint."""
     with tempfile.TemporaryDirectory() as folder:
         given, taken = opened(folder, case)
-        # (a shell opens the input, since Python opens no folder)
+        # (Python opens no folder)
         words = ["sh", "-c", 'exec "$@" < "$GIVEN"', "", program, *words_of(case["words"])]
         env = {"PATH": "/usr/bin:/bin", "GIVEN": given}
         is_closed = case["output"] == "closed"
@@ -82,7 +78,6 @@ def ended(program, case, data=None):
 
 
 def run_cases(program, path):
-    """Returns the number of cases, and how many end wrongly."""
     cases, wrong = cases_of(path), 0
     data = path.parent / "data"
     for case in cases:

@@ -1,11 +1,10 @@
 #!/usr/bin/env python3
-"""Makes modules of several kinds with clang and wabt, to compare their disassembly with wabt's.
+"""Makes modules of several kinds with clang, to compare their disassembly with wabt's.
 
     tools/clang_modules.py FOLDER
 
 It needs `apt-get install clang lld wabt wasi-libc libclang-rt-14-dev-wasm32 libc++-14-dev-wasm32
-libc++abi-14-dev-wasm32` (tried with clang 14 and wabt 1.0.32). FOLDER gets the modules, made from tools/modules.
-`tools/compare_objdump.py FOLDER/*.wasm` compares them. The gate does not run it.
+libc++abi-14-dev-wasm32` (tried with clang 14 and wabt 1.0.32). `tools/compare_objdump.py FOLDER/*.wasm` compares them.
 """
 
 import subprocess
@@ -16,7 +15,6 @@ WASI = ["--target=wasm32-wasi"]
 BARE = ["--target=wasm32", "-nostdlib", "-Wl,--no-entry", "-Wl,--export-all"]
 CPP = [*WASI, "-fno-exceptions", "-std=c++20"]
 SOURCES = Path(__file__).resolve().parent / "modules"
-# Each module: its source, and the command that compiles it.
 MODULES = {
     "library": ("library.c", ["clang", *WASI, "-O2"]),
     "library_small": ("library.c", ["clang", *WASI, "-Oz", "-Wl,--strip-all"]),

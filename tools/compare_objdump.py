@@ -4,11 +4,9 @@
     tools/compare_objdump.py MODULE..                    runs the program that `rt ci` or `rt run` built
     tools/compare_objdump.py --program PATH MODULE..     runs the program PATH
 
-It needs `wasm-objdump` of wabt (`apt-get install wabt`; tried with 1.0.32). For each module it prints how many lines
-there are, and how many differ by each kind that docs/OBJDUMP.md explains, and by others. It also prints the CPU seconds
-of both, writing to a file, the least of three runs, and the most memory that they held. `tools/clang_modules.py` makes
-modules. It is not a step of the gate. The exit status is 1 if a line differs by anything else, or if the two exit
-statuses differ.
+It needs wabt (`apt-get install wabt`; tried with 1.0.32). For each module it prints how many lines differ, by the kinds
+that docs/OBJDUMP.md explains and others, and the CPU seconds (least of three runs) and the memory of both. The status is
+1 if a line differs otherwise, or the two statuses differ. `tools/clang_modules.py` makes modules.
 """
 
 import itertools
@@ -24,16 +22,15 @@ from testing.built import built, missing, program_of
 NAME_OF_OURS = "wasm_objdump"
 THEIRS = ["wasm-objdump", "-d"]
 RUNS = 3
-# Runs a program and tells its status, its processor seconds and the most memory that it held. The memory of a child
-# counts from that of the process that begins it: so this is done by a small process of its own.
+# Prints a program's status, CPU seconds and most memory. A child's memory counts from its parent's, so a small
+# process starts it.
 RUNNER = """\
 import os, sys
 child = os.posix_spawnp(sys.argv[2], sys.argv[2:], os.environ, file_actions=[(os.POSIX_SPAWN_OPEN, 1, sys.argv[1], os.O_WRONLY | os.O_CREAT | os.O_TRUNC, 0o600)])
 _, status, used = os.wait4(child, 0)
 print(os.waitstatus_to_exitcode(status), used.ru_utime + used.ru_stime, used.ru_maxrss)
 """
-# What wabt writes otherwise: a name behind an operand, a constant without its sign, the indices of locals, and the type
-# of a tail call.
+# The differences: a name after an operand, a sign, the indices of locals, the type of a tail call.
 NAME = re.compile(r"^( [0-9a-f]+:(?: [0-9a-f]{2}){1,9} *\| .*?) <.*>(\)?)$")
 TABLE = re.compile(r"^(.*\| +(?:return_)?call_indirect \d+) <.*>( \(type \d+.*\))$")
 CONSTANT = re.compile(r"^(.*\| +i(32|64)\.const )(\d+)$")
@@ -42,7 +39,6 @@ LOCALS = re.compile(r"^(.*\| local)\[(\d+)(?:\.\.(\d+))?\]( type=.*)$")
 
 
 def signed(text, width):
-    """A number as one with a sign."""
     number = int(text)
     return str(number - (1 << width) if number >> (width - 1) else number)
 
@@ -56,7 +52,6 @@ def with_sign(line):
 
 
 def without_indices(line):
-    """The indices of locals by how many they are."""
     count = lambda found: int(found[3]) - int(found[2]) + 1 if found[3] else 1
     return LOCALS.sub(lambda found: f"{found[1]}[{count(found)}]{found[4]}", line)
 
@@ -65,12 +60,10 @@ def with_type(line):
     return TAIL.sub(r"\1 \3 (type \2)", line)
 
 
-# Each kind of difference that is explained, and what takes it away.
 KINDS = {"names": without_names, "signs": with_sign, "locals": without_indices, "tail calls": with_type}
 
 
 def kinds_of(ours, theirs):
-    """Which kinds of differences two lines have, `other` where something else differs too."""
     found = []
     for kind, plain in KINDS.items():
         if ours != theirs and (plain(ours), plain(theirs)) != (ours, theirs):
@@ -80,7 +73,7 @@ def kinds_of(ours, theirs):
 
 
 def differences(ours, theirs):
-    """How many lines there are, how many differ by each kind, and the first that differ by something else."""
+    """Returns the number of lines, of differences of each kind, and the first other one."""
     counts, others = dict.fromkeys(["lines", *KINDS, "other"], 0), []
     for at, (line, wanted) in enumerate(itertools.zip_longest(ours, theirs), 1):
         counts["lines"] += line is not None
@@ -94,7 +87,7 @@ def differences(ours, theirs):
 
 
 def ran(words, into):
-    """The status of a program, its processor seconds and its megabytes, the least of some runs; it writes into a file."""
+    """Returns status, CPU seconds and megabytes, the least of some runs."""
     runs = []
     for _ in range(RUNS):
         told = subprocess.run([sys.executable, "-I", "-S", "-c", RUNNER, into, *words], capture_output=True, text=True, check=True).stdout
@@ -104,14 +97,13 @@ def ran(words, into):
 
 
 def lines_of(path):
-    """The lines of a file, one after another."""
     with open(path, encoding="utf-8", errors="replace", newline="\n") as text:
         for line in text:
             yield line.rstrip("\n")
 
 
 def compared(program, module, folder):
-    """Compares one module. Returns whether nothing differs except what is explained."""
+    """Compares one module. Returns whether only explained lines differ."""
     status, seconds, memory = ran([str(program), module], f"{folder}/ours")
     their_status, their_seconds, their_memory = ran([*THEIRS, module], f"{folder}/theirs")
     counts, others = differences(lines_of(f"{folder}/ours"), lines_of(f"{folder}/theirs"))

@@ -24,18 +24,17 @@ SHORTER = [(r"\bself\.old\b", "S"), (r"\bself\.new\b", "S'"), (r"\bself\.now\b",
 
 
 class Wrong(Exception):
-    """A comment names what does not exist; the message says what."""
+    """A comment names what does not exist."""
 
 
 def impls(text, type_name):
-    """Returns the text of the impls of a type that implement no trait; of the functions outside impls for `-`."""
+    """Returns the impls of a type that implement no trait, or for `-` the functions outside impls."""
     if type_name == "-":
         return re.sub(r"^(?:impl|pub trait)\b.*?^\}$", "", text, flags=re.M | re.S)
     return "\n".join(re.findall(rf"^impl(?:<[^{{]*?>)? {type_name}\b[^{{]*? \{{\n(.*?)^\}}$", text, re.M | re.S))
 
 
 def in_braces(text, start):
-    """Returns the text between the brace at `start` and the brace that closes it."""
     depth = 0
     for at in range(start, len(text)):
         depth += {"{": 1, "}": -1}.get(text[at], 0)
@@ -56,7 +55,6 @@ def shortened(clause):
 
 
 def contract(text, type_name, name):
-    """Returns the lines that quote a function."""
     inside = impls(text, type_name)
     found = re.search(rf"^ *pub (?:const |unsafe )*(fn {name}\b.*?)(?=^ *(?:requires|ensures|\{{$))", inside, re.M | re.S)
     if found is None:
@@ -75,7 +73,6 @@ def contract(text, type_name, name):
 
 
 def quoted(names, top=TOP):
-    """Returns the text of the block for the lines of a comment."""
     out = []
     for line in names.strip().split("\n"):
         path, type_name, *functions = line.replace(":", " ").split()
@@ -89,7 +86,6 @@ def quoted(names, top=TOP):
 
 
 def with_quotes(page, top=TOP):
-    """Returns the text of a page with its quotes, and how many it has."""
     return QUOTE.subn(lambda found: found[1] + quoted(found[2], top) + found[4], page)
 
 

@@ -4,17 +4,15 @@
     tools/definitions.py             checks
     tools/definitions.py --write     writes
 
-The page has each definition that a contract of a public function or of a public trait's method names, and each definition
-that the comments of these refer to. A row has the comment above the definition, and the section that this comment or the head
-of the file names.
+The page has each definition that a public contract names, and those that the comments of these refer to. A row has the
+comment above the definition, and the section that this comment or the head of the file names.
 
-tools/definitions.tsv has what comments lack: a section, words, or a name that the page has though no public contract uses it.
-Its columns are the file, the names (none: the section of the whole file), the section and the words. The words "as `NAME`" put
-names into the row of NAME. A comment of more than 40 words, too, needs words there. A line that adds nothing is an error: words
-that are no longer than a comment of at most 40 words, or a section or names that the page has without the line.
+tools/definitions.tsv has what comments lack: a section, words, or a name that no public contract uses. Its columns are
+the file, the names (none: the section of the whole file), the section and the words. The words "as `NAME`" put names into
+the row of NAME. A comment of more than 40 words needs words there.
 
-The check fails if no words describe a definition (wanting), if a line of the table is wrong (misplaced), or if the page differs
-from what --write writes.
+The check fails if no words describe a definition (wanting), if a line of the table is wrong or adds nothing (misplaced),
+or if the page differs.
 """
 
 import re
@@ -31,7 +29,7 @@ FUNCTION = re.compile(rf"^(?P<indent>\s*)(?P<pub>pub )?(?:const |unsafe )*fn (?P
 
 
 def imports_of(text, names):
-    """Returns the definitions that a file imports by `ghost use`: crate, file and name of each, by its name in this file."""
+    """Returns crate, file and name of each definition that a file imports by `ghost use`."""
     found = {}
     for path, words in re.findall(r"ghost use Rattle\.([\w.]+)\.\{([^}]*)\};", text):
         crate, *rest = path.split(".")
@@ -45,7 +43,6 @@ def imports_of(text, names):
 
 
 def contracts(text):
-    """Yields the public functions and the methods of public traits, each with the text of its clauses."""
     lines = text.split("\n")
     trait_indent = None
     for at, line in enumerate(lines):
@@ -59,7 +56,6 @@ def contracts(text):
 
 
 def clauses_after(lines, at, indent):
-    """Returns the clauses of a function: the text between its head and its body or semicolon."""
     out = []
     for line in lines[at + 1 :]:
         inner = line.strip()
@@ -75,7 +71,7 @@ def clauses_after(lines, at, indent):
 
 
 def is_private(path):
-    """Returns whether a file of a library belongs to a module that the library does not export."""
+    """Returns whether no module exports a file."""
     crate, _, rest = str(path.relative_to(TOP)).partition("/src/")
     top = TOP / crate / "src" / "lib.rt"
     module = rest.split("/")[0].split(".")[0]
@@ -85,7 +81,6 @@ def is_private(path):
 
 
 def used(names):
-    """Returns the definitions that public contracts use, each with a function that uses it."""
     found = {}
     for path in sorted(TOP.glob("crates/*/src/**/*.rt")):
         inside = path.relative_to(TOP)
@@ -109,7 +104,6 @@ def by_file(places):
 
 
 def rows_by_file(files, given, found):
-    """Returns the rows of the page by file, and what these lack, in lines."""
     rows, faults = {}, []
     added = [(*it.file, name) for it in given if it.file in files for name in it.names]
     for place, names in sorted(by_file([*found, *added]).items()):
@@ -154,7 +148,7 @@ def main():
     report(rows, found, wanting, misplaced)
     if wanting or misplaced or not found:
         sys.exit(1)
-    text = page(rows)
+    text = page(rows, PAGE.read_text(encoding="utf-8"))
     if sys.argv[1:]:
         PAGE.write_text(text, encoding="utf-8")
     at = first_difference(PAGE.read_text(encoding="utf-8"), text)

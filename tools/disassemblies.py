@@ -4,12 +4,13 @@
     tools/disassemblies.py                                runs the two programs that `rt ci` built
     tools/disassemblies.py --program PATH [wasm_objdump]  runs the program PATH
 
-For each module NAME.wasm, the program must write NAME.txt, which `wasm-objdump -d` of wabt 1.0.32 wrote, and end with
-status 0. With `-h` it must write NAME.sections.txt, which `wasm-objdump -h` wrote. Then it is run on each proper prefix of the module, and on the module with each of its bytes changed once.
-Each of these runs must end in time, with status 0 and no message, or with status 1 and messages, a line each. The exit
-status is 1 if a run ends otherwise, or if no program is built.
+For NAME.wasm the program must write NAME.txt, which `wasm-objdump -d` of wabt 1.0.32 wrote, and with `-h`
+NAME.sections.txt. Then it runs on each proper prefix of the module, and on the module with each byte changed. Each run
+must end in time, with status 0 and no message, or with status 1 and messages. On a prefix with the whole code section
+it must list all functions, on another none.
 """
 
+import re
 import subprocess
 import sys
 from pathlib import Path
@@ -21,16 +22,17 @@ CRATE = TOP / "crates" / "wasm_objdump"
 SECONDS = 10
 
 
+# The lines with the offset of a function, and the offset after the code section in a list of sections.
+FUNCTION = re.compile(rb"^[0-9a-f]{6,} func\[", re.M)
+CODE_END = re.compile(rb"^ +Code start=0x[0-9a-f]+ end=0x([0-9a-f]+)", re.M)
+
+
 def spoiled(module):
-    """Yields the prefixes of the module, and the module with each byte changed, each with a description."""
-    for at in range(len(module)):
-        yield f"cut after {at} bytes", module[:at]
     for at, byte in enumerate(module):
         yield f"byte {at} changed", module[:at] + bytes([byte ^ (0xFF if at % 2 else 0x2F)]) + module[at + 1 :]
 
 
 def is_answer(status, complaint):
-    """Returns whether a run on a damaged module ended well."""
     lines = complaint.decode(errors="replace").split("\n")
     has_errors = len(lines) > 1 and lines[-1] == "" and all("error" in line for line in lines[:-1])
     return (status == 0 and not complaint) or (status == 1 and has_errors)
@@ -45,17 +47,23 @@ def ended(program, words, given=b"", folder=CRATE / "data"):
 
 
 def compared(program, path):
-    """Returns what is wrong with the runs on a module, and the number of runs."""
     wrong = []
     if ended(program, [path.name], folder=path.parent) != (0, path.with_suffix(".txt").read_bytes(), b""):
         wrong.append(f"{program.name}, {path.name}: not what wabt wrote")
     runs = 1
-    sections = path.with_suffix(".sections.txt")
-    if sections.exists():
+    sections = path.with_suffix(".sections.txt").read_bytes()
+    runs += 1
+    if ended(program, ["-h", path.name], folder=path.parent) != (0, sections, b""):
+        wrong.append(f"{program.name}, {path.name}: not the sections that wabt wrote")
+    whole = path.read_bytes()
+    code_end, functions = int(CODE_END.search(sections)[1], 16), len(FUNCTION.findall(path.with_suffix(".txt").read_bytes()))
+    for at in range(len(whole)):
+        status, wrote, complained = ended(program, [], whole[:at])
         runs += 1
-        if ended(program, ["-h", path.name], folder=path.parent) != (0, sections.read_bytes(), b""):
-            wrong.append(f"{program.name}, {path.name}: not the sections that wabt wrote")
-    for what, module in spoiled(path.read_bytes()):
+        found = len(FUNCTION.findall(wrote))
+        if not is_answer(status, complained) or found != (functions if at >= code_end else 0):
+            wrong.append(f"{program.name}, {path.name}, cut after {at} bytes: status {status}, {complained!r}, {found} functions")
+    for what, module in spoiled(whole):
         status, _, complained = ended(program, [], module)
         runs += 1
         if not is_answer(status, complained):

@@ -3,8 +3,7 @@
 
     tools/doc_examples.py WASMPARSER > lib.rs
 
-WASMPARSER is the folder of wasmparser's crate. `cargo test --doc` then compiles and runs the examples over the crate that
-is the dependency `wasmparser` (tools/bindings).
+`cargo test --doc` then runs them over the crate that is the dependency `wasmparser` (tools/bindings).
 """
 
 import re
@@ -16,7 +15,7 @@ COMMENT = re.compile(r"\s*//[/!] ?(.*)$")
 
 
 def examples(text):
-    """Returns the code blocks in Rust of the doc comments, each as the number of its line and its lines."""
+    """Returns the Rust blocks, each with its line number."""
     found, fence, start = [], None, 0
     block = []
     for at, line in enumerate(text.split("\n"), 1):

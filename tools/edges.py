@@ -5,11 +5,10 @@
 
 It fails on
 
-- a listed crate that another listed crate uses: it is reached through that one;
-- a listed crate or library of the kit that no file of the crate names;
+- a listed crate that another listed crate uses;
+- a listed crate or library of the kit that the crate does not name;
 - a lemma of another crate (`Rattle.OTHER.proofs.`) in a program, a proved caller, the timed library or a test. What
-  callers need is a clause or a law. CITED has the exceptions, each with the reason;
-- an exception that is not cited.
+  callers need is a clause or a law. CITED has the exceptions.
 """
 
 import re
@@ -20,9 +19,9 @@ sys.path.insert(0, str(Path(__file__).resolve().parent / "generate"))
 
 from paths import TOP, below, crates
 
-# The crates that stand on the layers and are none of them; tests are known by their names.
+# The crates above the layers. Tests are known by their names.
 OUTSIDE = ("wasm_text", "wasm_lines", "wasm_module", "wasm_functions", "wasm_bodies", "wasm_disassembly", "wasm_module_listing", "wasm_objdump", "wasm_c", "wasm_c_exports", "wasm_listing", "wasm_dump", "wasm_bench", "uses", "uses_steps")
-# The exceptions: the crate, the library and the file of the lemmas, their names, and why.
+# The exceptions: crate, library and file of the lemmas, their names, and why.
 CODES = "encodings are a prefix code, which is also a law, and not empty, which no law says"
 REFUSED = "what an error implies for the bytes"
 BENCH = "wasm_bench", "wasm_operators_readers.proofs"
@@ -54,7 +53,6 @@ def files_of(name, top=TOP):
 
 
 def needless(listed, texts):
-    """Yields the needless entries of crates.txt. `texts` has the files of each crate, joined."""
     for name, those in listed.items():
         for one in those:
             through = [other for other in those if other != one and one in below(listed, other)]
@@ -65,7 +63,7 @@ def needless(listed, texts):
 
 
 def cited(text, crate, listed):
-    """Returns the lemmas of other crates that a file names, or the files if it imports whole files."""
+    """Returns the lemmas of other crates that a file names, or files that it imports whole."""
     found = re.findall(r"\bRattle\.(\w+)\.proofs\.([\w.]*\w)(?:\.\{([^}]*)\})?", re.sub("--.*|//.*", "", text))
     out = set()
     for other, path, names in found:

@@ -3,12 +3,9 @@
 
     tools/edits.py [--log LOG]
 
-An edit is a file `crates/NAME/must-fail/X.edit`, which the gate tries, or `crates/NAME/more-must-fail/X.edit`, which
-`tools/run more_must_fail` tries. Each names a file of its crate and replaces lines of it. This tool checks that the
-file exists, that each replaced text occurs in it exactly once, and that the edit changes something. Later
-replacements apply to the result of the earlier ones.
-
-With `--log`, it also fails if the log of `rt ci` has a `BAD EDIT`: `rt ci` skips such an edit and passes.
+It reads `crates/NAME/must-fail/X.edit`, which the gate tries, and `crates/NAME/more-must-fail/X.edit`, which
+`tools/run more_must_fail` tries. Each replaces texts of a file, which must occur once, in order. With `--log` it also
+fails if the log of `rt ci` has a `BAD EDIT`, which `rt ci` skips.
 """
 
 import sys
@@ -20,11 +17,10 @@ PARTS = ("src/", "specs/", "proofs/")
 
 
 class BadEdit(Exception):
-    """An edit that can't be applied; the message says why."""
+    """An edit that can't be applied."""
 
 
 def replacements(text):
-    """Yields the file, the old and the new text of each replacement of an edit."""
     name, old = None, None
     for line in text.split("\n"):
         if line.startswith("file: "):
@@ -41,7 +37,7 @@ def replacements(text):
 
 
 def edited(crate, text):
-    """Returns the changed files of a crate by name. Raises BadEdit if the edit doesn't apply."""
+    """Returns the changed files of a crate by name, or raises BadEdit."""
     files, before = {}, {}
     for name, old, new in replacements(text):
         if not name.startswith(PARTS):
@@ -64,7 +60,6 @@ def edits_of(crate, folders=FOLDERS):
 
 
 def faults(top):
-    """Returns a line for each edit that doesn't apply, and the number of edits."""
     found, count = [], 0
     for crate in sorted((top / "crates").iterdir()):
         for path in edits_of(crate):

@@ -4,9 +4,8 @@
     tools/expected.py            writes crates/wasm_tests_lists/stdout
     tools/expected.py --check    fails if that file is not what these lists give
 
-It reads tools/original and two handwritten files next to the program. by_rule.tsv has the arities, in the
-program's module, of the operators whose arity depends on the module. edges.txt has the lines of the edge
-cases and of the visitors. It reads neither the table nor anything generated from it.
+It reads tools/original and two handwritten files of the program: by_rule.tsv has the arities that depend on the module,
+edges.txt the lines of edge cases and visitors. It reads nothing generated from the table.
 """
 
 import csv
@@ -20,7 +19,7 @@ from original import originals
 TOP = Path(__file__).resolve().parent.parent
 CRATE = TOP / "crates" / "wasm_tests_lists"
 
-# How fields print: by the name of the field, or else by its type.
+# How fields print: by name, else by type.
 BY_NAME = {
     "array_size": "5",
     "struct_type_index": "1",
@@ -56,19 +55,16 @@ BY_TYPE = {
     "TryTable": "TryTable { ty: FuncType(0), catches: Members { items: [All { label: 1 }] } }",
     "ResumeTable": "ResumeTable { handlers: Members { items: [OnSwitch { tag: 0 }] } }",
 }
-# The types whose values the program makes at run time. Operators with such a field are printed last.
+# The types whose values are made at run time. Operators with them are printed last.
 MADE = ("Ieee32", "Ieee64", "V128", "RefType", "BrTable<'a>", "SelectTypes", "TryTable", "ResumeTable")
-# The order in which the program prints the operators, by enum.
 ORDER = ["Own", "Numeric", "Gc", "Misc", "Simd", "Atomic"]
 
 
 def is_made(op):
-    """Returns whether the program makes the operator at run time."""
     return any(ty in MADE for _, ty in op.fields)
 
 
 def shown(op):
-    """Returns the operator as it prints."""
     text = op.name
     if op.fields:
         values = [f"{name}: {BY_NAME.get(name) or BY_TYPE[ty]}" for name, ty in op.fields]
@@ -77,7 +73,6 @@ def shown(op):
 
 
 def line_of(op, by_rule):
-    """Returns the line of an operator: its row, its arity, four results of calls, and its value."""
     prefix = f"Some({int(op.prefix, 16)})" if op.prefix else "None"
     takes, leaves = by_rule[op.name] if op.is_by_rule else (op.takes.split()[0], op.leaves)
     is_simd = "true" if op.is_simd else "false"

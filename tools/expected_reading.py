@@ -4,10 +4,9 @@
     tools/expected_reading.py            writes crates/wasm_tests_decode/stdin and stdout
     tools/expected_reading.py --check    fails if a file is not what the samples and rows give
 
-It reads tools/original, which has two samples of each operator with wasmparser's results, and the
-handwritten rows.tsv of the program. It adds each subopcode lengthened by a byte, each opcode that no
-operator has, the subopcodes next to known ones, and in each frame the operators that need a frame.
-It reads neither the table nor anything generated from it.
+It reads tools/original and the handwritten rows.tsv of the program, and nothing generated from the table. It adds each
+subopcode lengthened by a byte, unknown opcodes, the subopcodes next to known ones, and the operators that need a frame in
+each frame.
 """
 
 import csv
@@ -21,35 +20,33 @@ from original import FOLDER, GROUPS, originals
 TOP = Path(__file__).resolve().parent.parent
 CRATE = TOP / "crates" / "wasm_tests_decode"
 
-# The features, in the order of their bits.
+# In the order of their bits.
 FEATURES = [
     "MULTI_MEMORY", "MEMORY64", "CALL_INDIRECT_OVERLONG", "LEGACY_EXCEPTIONS", "ACQUIRE_RELEASE_ATOMICS",
     "MULTIBYTE_ARRAY_ACCESS",
 ]
 ALL = 2 ** len(FEATURES) - 1
 FRAMES = ["Block", "If", "Else", "Loop", "TryTable", "LegacyTry", "LegacyCatch", "LegacyCatchAll"]
-# The innermost frame after the bytes before a sample.
 FRAME_BEHIND = {"00": "Block", "000440": "If", "000640": "LegacyTry"}
-# The operators that need a frame: their bytes, fields, the frames that allow them, and the names of the
-# instruction and of the frame in the error.
+# The operators that need a frame: bytes, fields, the frames that allow them, and their names in the error.
 FRAMED = [
     ("05", "Else", ["If"], "else", "If"),
     ("0701", "Catch tag_index=1", ["LegacyTry", "LegacyCatch"], "catch", "LegacyTry"),
     ("19", "CatchAll", ["LegacyTry", "LegacyCatch"], "catch_all", "LegacyTry"),
     ("1801", "Delegate relative_depth=1", ["LegacyTry"], "delegate", "LegacyTry"),
 ]
-# The operators that need the feature LEGACY_EXCEPTIONS, by their bytes.
+# The operators that need LEGACY_EXCEPTIONS.
 LEGACY = [("0640", "try"), ("0701", "catch"), ("19", "catch_all")]
-# Flags of a memory argument that need a feature, in `i32.load` with the offset 0.
+# Flags of a memory argument that need a feature, in `i32.load`.
 FLAGS = [
     ("MULTI_MEMORY", "28400000", "I32Load memarg=0/2/0/M0/-"),
     ("MULTIBYTE_ARRAY_ACCESS", "28200000", "I32Load memarg=0/2/0/A0/-"),
     ("ACQUIRE_RELEASE_ATOMICS", "281200", "E18 at 1: cannot specify atomic ordering on non-atomic instruction"),
 ]
 RESERVED = "E20 at 1: malformed memop: reserved flags bits set"
-# The sizes of the immediates that are read as a block: for cut data, EndOfData is at the start of the block.
+# Immediates that are read as a block: if data is missing, EndOfData is at the start of the block.
 BLOCKS = {"float_32": 4, "float_64": 8, "vector": 16}
-# The operators whose visits the program's visitor overrides, some of each group.
+# The operators whose visits the program overrides.
 OWN = (
     "Unreachable", "Nop", "LocalGet", "I32Const", "Switch",
     "I32Eqz", "I64Extend32S",
@@ -61,12 +58,12 @@ OWN = (
 )
 # The output for the visitor by reference, in a box, and by reference to the box.
 OTHERS = "others same same same"
-# The output for a direct call of `decode_simd_low` or `decode_simd_high`, in the same four ways.
+# The same for a direct call of `decode_simd_low` or `decode_simd_high`.
 HALF = "; half same same same same"
 
 
 class Task:
-    """One operator to read: features, frame, its bytes and those around it, and the result: fields or an error."""
+    """One operator to read, and the result: fields or an error."""
 
     def __init__(self, operator, answer, *, features=ALL, frame="Block", before="", behind=""):
         self.features = features
@@ -78,7 +75,6 @@ class Task:
 
     @property
     def start(self):
-        """Returns the offset at which the operator begins."""
         return len(self.before)
 
     @property
@@ -86,27 +82,24 @@ class Task:
         return self.answer.split(" at ")[0][1:].isdecimal()
 
     def line(self):
-        """Returns the line of the program's input."""
         text = (self.before + self.operator + self.behind).hex()
         return f"{self.features} {self.frame} {self.start} {text}".rstrip()
 
 
 def cuts(task, kinds):
-    """Returns the offset of EndOfData for each proper prefix of the operator."""
     block = sum(BLOCKS.get(kind, 0) for kind in kinds)
     last = len(task.operator) - block
     return [task.start + (size if size < last or not block else last) for size in range(len(task.operator))]
 
 
 def plain_answer(task, otherwise):
-    """Returns the output for a visitor without SIMD operators."""
     if task.operator[:1] == b"\xfd" and task.frame != "None":
         return f"E14 at {task.start}: unexpected SIMD opcode: 0xfd; at {task.start}"
     return otherwise
 
 
 def half(task):
-    """Returns the output for the direct call, if a subopcode follows the byte 0xfd in a frame."""
+    """Returns the output of a direct call: a subopcode follows 0xfd in a frame."""
     number = (task.operator + task.behind)[1:6]
     size = next((at + 1 for at, byte in enumerate(number) if byte < 0x80), None)
     has_subopcode = size is not None and (size < 5 or number[4] < 0x10)
@@ -114,7 +107,7 @@ def half(task):
 
 
 def wanted(task, kinds):
-    """Returns the line that the program prints for a task. `kinds` has the immediates of each operator."""
+    """Returns the line that the program prints."""
     if task.is_refused:
         answer = f"{task.answer}; at {task.start}"
         plain = plain_answer(task, answer)
@@ -135,7 +128,6 @@ def samples():
 
 
 def lengthened(task):
-    """Returns a task whose subopcode has one more byte."""
     text = task.operator
     last = next(at for at in range(1, len(text)) if text[at] < 0x80)
     longer = text[:last] + bytes([text[last] | 0x80, 0]) + text[last + 1 :]
@@ -143,7 +135,6 @@ def lengthened(task):
 
 
 def unsigned(value):
-    """Returns a number as LEB128, in hexadecimal."""
     out = []
     while value >= 0x80:
         out.append(value % 0x80 | 0x80)
@@ -184,7 +175,6 @@ def flagged():
 
 
 def features_of(text):
-    """Returns the features that a row names: `all`, `none`, or `all but` one."""
     without = text.removeprefix("all but ")
     if without in FEATURES:
         return ALL - 2 ** FEATURES.index(without)
@@ -192,7 +182,6 @@ def features_of(text):
 
 
 def written_by_hand():
-    """Returns the tasks of the handwritten rows."""
     with open(CRATE / "rows.tsv", encoding="utf-8", newline="") as lines:
         for row in csv.DictReader(lines, delimiter="\t", quoting=csv.QUOTE_NONE):
             features = features_of(row["features"])

@@ -4,9 +4,8 @@
     tools/exports.py            writes the file
     tools/exports.py --check    fails if the file is not what crates/wasm_c/src/lib.rt gives
 
-No crate can depend on a static library, and a library exports no function to C. So the calls are public functions
-of the library wasm_c, which Rattle programs can call and test, and this file has an export for each. An export states
-the clauses of its function again, and its body is one call of that function with the same arguments.
+No crate can depend on a static library, and no library exports to C. So wasm_c has the calls, which Rattle programs can
+call and test, and this file an export of each, with the same clauses.
 """
 
 import re
@@ -28,14 +27,13 @@ HEAD = """\
 //! Written by tools/exports.py from crates/wasm_c/src/lib.rt.
 #![tactic(auto)]
 """
-# The head of a function at the top of the library: its name, its parameters, its result and its clauses.
+# The head of a public function: name, parameters, result and clauses.
 CALL = re.compile(r"^pub fn (\w+)\(([^)]*)\) -> (\w+)\n((?:    .*\n)+)\{$", re.M)
 PARAMETER = re.compile(r"(\w+): ")
 TYPE = re.compile(r"\bWasm\w+")
 
 
 def export_of(name, parameters, result, clauses):
-    """Returns the export of a function of the library."""
     names = ", ".join(PARAMETER.findall(parameters))
     return f"""
 /// `wasm_c::{name}` for C.
@@ -48,7 +46,6 @@ pub extern "C" fn {name}({parameters}) -> {result}
 
 
 def exports_of(library):
-    """Returns the text of the static library for the text of the library, before `rt fmt` lays it out."""
     found = list(CALL.finditer(library))
     ghosts = "".join(re.findall(r"^ghost use .*\n", library, re.M))
     types = ", ".join(sorted({name for call in found for name in TYPE.findall(call[2])}))

@@ -5,8 +5,6 @@
     tools/forwarding.py GROUP..           prints the methods of these groups (`VisitMisc` or `Misc`), for pasting
     tools/forwarding.py --check PATH..    fails if a type in these files or folders overrides visits of a group, and a
                                           method is missing or does not call the group's function
-
-It reads the methods from crates/wasm_visit/src: their documentation names the call.
 """
 
 import re
@@ -16,7 +14,7 @@ from pathlib import Path
 TOP = Path(__file__).resolve().parent.parent
 FILES = [TOP / "crates/wasm_visit/src" / name for name in ("visit_groups.rt", "vectors.rt")]
 SAYS = re.compile(r"A visitor that overrides visits of `(?P<group>\w+)` calls `(?P<call>[^`]+)` here")
-# A method of a trait: its documentation, its attributes, and its head up to its contract.
+# A method of crates/wasm_visit/src: its documentation, which names the call, its attributes, and its head.
 METHOD = re.compile(
     r"((?:^    ///[^\n]*\n)+)((?:^    #\[[^\n]*\]\n)*)(    fn .*?)(?=\n    where|\n        requires|\n        ensures)", re.M | re.S
 )
@@ -24,8 +22,6 @@ IMPL = re.compile(r"^impl(?:<[^{]*?>)? (?P<trait>\w+)(?:<[^{]*?>)? for (?P<type>
 
 
 class Method:
-    """A method of a group: its trait, its head, and the call in its body."""
-
     def __init__(self, trait, group, call, head):
         self.trait, self.group, self.call, self.head = trait, group, call, head
         self.name = re.search(r"fn (\w+)", head)[1]
@@ -55,7 +51,6 @@ def groups_of(methods):
 
 
 def pasted(methods, groups):
-    """Returns the methods of these groups, in an impl of each trait."""
     wanted = [method for method in methods if method.group in groups]
     traits = dict.fromkeys(method.trait for method in wanted)
     return "\n".join(
@@ -65,7 +60,6 @@ def pasted(methods, groups):
 
 
 def impls_of(text):
-    """Yields the impls of a file: the trait, the type, and the text between the braces."""
     for found in IMPL.finditer(text):
         end = text.find("\n}", found.end())
         one_line = re.match(r"\s*\}", text[found.end() :])
@@ -73,16 +67,14 @@ def impls_of(text):
 
 
 def bodies_of(text):
-    """Returns the methods of an impl by name."""
     return {part.split("(")[0].split("<")[0].strip(): part for part in re.split(r"^    fn ", text, flags=re.M)[1:]}
 
 
 def missing(texts, methods):
-    """Yields what is missing. `texts` has each file's text."""
     impls = [(path, *impl) for path, text in texts.items() for impl in impls_of(text)]
     groups = groups_of(methods)
     for path, group, of, inside in impls:
-        # (references and boxes pass calls on; an empty impl overrides nothing)
+        # (references and boxes pass calls on)
         if group not in groups or of.startswith(("&", "Box<")) or not bodies_of(inside):
             continue
         for method in groups[group]:
@@ -90,7 +82,7 @@ def missing(texts, methods):
             body = next((found[method.name] for found in there if method.name in found), None)
             if body is None:
                 yield f"{path}: {of} overrides visits of {group}, and has no {method.name} of {method.trait}, so they are not called there"
-            elif not re.search(rf"\b{method.callee}\(\s*self\b", body):
+            elif not re.search(rf"\b{method.callee}\(\s*(?:alloc,\s*)?self\b", body):
                 yield f"{path}: {of} overrides visits of {group}, and its {method.name} does not call {method.callee}"
 
 

@@ -1,13 +1,12 @@
 #!/usr/bin/env python3
-"""Writes docs/GATE.md, the CPU minutes of each crate in the gate, from the logs of runs.
+"""Writes docs/GATE.md, the CPU minutes of each crate in the gate, from logs of `.ci/run`.
 
     tools/gate_table.py LOG NOTE [LOG NOTE ..]
     tools/gate_table.py --summary LOG
 
-Each LOG is the output of `.ci/run`, and NOTE a sentence for the page. The costs of several logs joined to one are added:
-runs of which each continued the one before. `--summary` prints the figures of a log; `.ci/run` ends with it. Minutes
-come from the lines of tools/timed.py, functions and edits from `rt`'s lines, the edits outside the gate from
-tools/more_must_fail.tsv, which `tools/run more_must_fail --record` writes.
+NOTE is a sentence for the page. The costs of several logs joined to one, of runs that continued each other, are added.
+`--summary` prints the figures of a log. Minutes come from tools/timed.py, functions and edits from `rt`, the edits
+outside the gate from tools/more_must_fail.tsv.
 """
 
 import re
@@ -21,22 +20,7 @@ from more_must_fail import recorded
 from paths import crates as crates_listed
 
 TOP = Path(__file__).resolve().parent.parent
-HEAD = """\
-# What the gate costs
-
-`tools/gate_table.py` writes this page from the logs of `.ci/run`. Minutes are CPU minutes unless the text says \
-wall-clock.
-
-- Each crate is proved once, from nothing.
-- A crate with `#[test]` functions is proved once more with them.
-- A crate with two or more must-fail edits is proved once more, as the base for its edits. Each edit is then a check of \
-the crate over that base.
-- Compiling, linking and running the programs is in the sum alone.
-- The column *Wall* is the wall-clock time of the crate's proof, with as many jobs as the run gave it.
-
-Before `rt` proves a crate, it reads the files of all crates below it, along every path to them: {readings} readings of \
-a crate's files in all.
-"""
+PAGE = TOP / "docs" / "GATE.md"
 
 RUN = """
 ## {count} processors
@@ -48,7 +32,7 @@ RUN = """
 |---|---|---|---|---|---|---|
 """
 
-# The crates that hold lists over all operators, which tools/lists.py writes.
+# The crates that hold lists over all operators.
 LISTS = """wasm_instr_ops wasm_instr_simd wasm_instr wasm_visit_groups wasm_visit_factory wasm_visit
 wasm_decode_groups""".split()
 
@@ -81,7 +65,6 @@ class Crate:
 
 
 def read(text):
-    """Returns the crates of a log by name, the cost of the whole, and the last line."""
     crates, whole, last, name = {}, None, "", None
     for line in text.split("\n"):
         if found := re.fullmatch(r"== (\w+)(: its tests)?", line):
@@ -104,7 +87,6 @@ def read(text):
 
 
 def minutes(seconds):
-    """Returns seconds as minutes with one decimal, or an empty text for 0."""
     return f"{seconds / 60:.1f}" if seconds else ""
 
 
@@ -115,7 +97,7 @@ def row(name, crate):
 
 
 def readings(listed):
-    """Returns how often the files of crates are read: once along every path to a crate or a library of the kit."""
+    """Returns how often files are read: once along every path to a crate or a library."""
     counts = {}
 
     def of(name):
@@ -127,7 +109,6 @@ def readings(listed):
 
 
 def made_of(crates):
-    """Returns what the minutes of a run went into, in words."""
     proofs = {name: it.processor.get("proof", 0) for name, it in crates.items()}
     edits = sum(it.processor.get("edits", 0) for it in crates.values())
     again = min(edits, sum(proofs[name] for name, it in crates.items() if it.edits > 1))
@@ -143,7 +124,6 @@ def made_of(crates):
 
 
 def measured(text):
-    """Reads a log. Exits if it is not a log of the gate."""
     crates, whole, last = read(text)
     if whole is None or not crates:
         sys.exit("the log has no lines of costs: it is not a log of .ci/run")
@@ -155,7 +135,6 @@ def by_cost(crates):
 
 
 def summary(text):
-    """Returns the costs in a log, in a few lines."""
     crates, (processor, wall, count), _ = measured(text)
     whole = f"{minutes(wall)} minutes wall-clock on {count} processors, {minutes(processor)} CPU minutes"
     parts = lambda it: "+".join(minutes(it.processor.get(part, 0)) or "0" for part in ("proof", "tests", "edits"))
@@ -185,8 +164,10 @@ def outside_section(rows):
 
 
 def page(runs, rows=()):
-    sections = [run_section(text, note) for text, note in runs]
-    return "".join([HEAD.format(readings=readings(crates_listed())), *sections, outside_section(rows)])
+    """Returns the page with its head and new sections."""
+    head = PAGE.read_text(encoding="utf-8").split("\n## ")[0]
+    head = re.sub(r"\d+ readings", f"{readings(crates_listed())} readings", head)
+    return "".join([head, *(run_section(text, note) for text, note in runs), outside_section(rows)])
 
 
 def text_of(path):
@@ -203,7 +184,7 @@ def main():
         print(__doc__)
         sys.exit(words not in (["--help"], ["-h"]))
     runs = [(text_of(log), note) for log, note in zip(words[::2], words[1::2])]
-    (TOP / "docs" / "GATE.md").write_text(page(runs, recorded()), encoding="utf-8")
+    PAGE.write_text(page(runs, recorded()), encoding="utf-8")
     print("docs/GATE.md")
 
 

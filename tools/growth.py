@@ -3,10 +3,10 @@
 
     tools/growth.py [--rounds N] [--passes N] [--figure FILE]
 
-`count_any` of crates/wasm_bench (built by `rt lib`) visits bodies of `nop`, of nested blocks and of one branch table,
-through large_bodies.c, at several sizes. A measurement is the best of N rounds (default 20). Each pass (default 3)
-measures all bodies, and the least time of each counts. It prints a table of nanoseconds per operator (per byte for
-branch tables) and of memory without the body, and writes the figure (default docs/growth.svg).
+It visits bodies of `nop`, of nested blocks and of one branch table at several sizes by `count_any` of crates/wasm_bench
+(built by `rt lib`). Each of N passes (default 3) measures all bodies, in N rounds each (default 20); the least time
+counts. It prints nanoseconds per operator (for branch tables per byte) and memory without the body, and writes the figure
+(default docs/growth.svg).
 """
 
 import math
@@ -23,19 +23,18 @@ import large_bodies
 FIGURE = large_bodies.TOP / "docs" / "growth.svg"
 ROUNDS = 20
 PASSES = 3
-# The bodies: title, unit of time, sizes.
+# Title, unit of time, sizes.
 BODIES = {
     "nops": ("`nop`", "operator", (1_000, 10_000, 100_000, 1_000_000, 10_000_000, 100_000_000)),
     "nested": ("nested blocks", "operator", (1, 10, 100, 1_000, 10_000, 100_000, 1_000_000)),
     "targets": ("targets of a branch table", "byte", (1, 10, 100, 1_000, 10_000, 100_000, 1_000_000, 7_654_321)),
 }
 COLOURS = ("#1f5fa8", "#b3541e", "#2f7d4f")
-# The drawing, and the margins of its axes.
 WIDTH, HEIGHT, LEFT, RIGHT, TOP, BOTTOM = 720, 360, 60, 20, 20, 50
 
 
 class Measured:
-    """A visited body: its size, its bytes, the nanoseconds per unit, and the KiB without the body."""
+    """A body: its size, its bytes, nanoseconds per unit, and other KiB."""
 
     def __init__(self, size, line, unit):
         operators, length, nanoseconds, memory = line.split()
@@ -57,7 +56,6 @@ def measured(driver, name, rounds):
 
 
 def passes(count, measure):
-    """Measures all bodies in `count` passes. Returns the least of each."""
     series = {name: measure(name) for name in BODIES}
     for _ in range(count - 1):
         for name, found in series.items():

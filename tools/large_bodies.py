@@ -3,13 +3,10 @@
 
     tools/large_bodies.py [PROGRAM]
 
-PROGRAM is by default `crates/wasm_dump/out/wasm_dump`, which `rt run` and `rt ci` build. The bodies are nested blocks,
-blocks in sequence, a branch table with the most targets and with one more, declarations of locals, and `nop`. Each is
-listed at its size and at half of it. Status, standard error and number of lines must be as computed here. Time and
-memory for the whole may be at most LINEAR times those for the half.
-
-If crates/wasm_bench/out/libwasm_bench.a is built (`rt lib`), large_bodies.c checks its visits in the same way, on
-bodies up to 100 MB, since they allocate only for open frames.
+PROGRAM is by default `crates/wasm_dump/out/wasm_dump`, which `rt run` and `rt ci` build. It lists each body at its size
+and at half of it: nested blocks, blocks in sequence, large branch tables, locals, and `nop`. Output must be as computed
+here; time and memory may be at most LINEAR times those for the half. If `rt lib` has built
+crates/wasm_bench/out/libwasm_bench.a, large_bodies.c checks its visits in the same way, on bodies up to 100 MB.
 """
 
 import os
@@ -22,11 +19,11 @@ from pathlib import Path
 TOP = Path(__file__).resolve().parent.parent
 PROGRAM = TOP / "crates" / "wasm_dump" / "out" / "wasm_dump"
 LIBRARY = TOP / "crates" / "wasm_bench" / "out" / "libwasm_bench.a"
-# What twice the bytes may cost. Memory grows by doubling, and other work shares the machine.
+# Memory grows by doubling, and other work shares the machine.
 LINEAR = 3.0
 # Shorter times are not compared.
 LEAST_SECONDS = 0.1
-# In KiB: more than a process needs that does nothing.
+# In KiB: more than an idle process needs.
 LEAST_MEMORY = 16384
 ROUNDS = 3
 MOST_TARGETS = 7654321
@@ -59,7 +56,6 @@ def targets(n):
 
 
 def too_many_targets(n):
-    """Returns a branch table of one target too many. Its data have `n` targets."""
     text = "error at 2: br_table size is out of bounds\n"
     return b"\0\x0e" + unsigned(MOST_TARGETS + 1) + b"\0" * n, 1, text, 0
 
@@ -72,7 +68,6 @@ def nops(n):
     return b"\0" + b"\x01" * n + b"\x0b", 0, "", n + 1
 
 
-# The bodies by name, with their sizes.
 BODIES = {
     "nested": (nested, 1000000),
     "alternating": (alternating, 1000000),
@@ -107,7 +102,6 @@ def best(words, given):
 
 
 def growth(whole, half):
-    """Returns in words what is not linear."""
     out = []
     if whole.seconds > LINEAR * max(half.seconds, LEAST_SECONDS):
         out.append(f"{half.seconds:.2f} s for the half, {whole.seconds:.2f} s for the whole")

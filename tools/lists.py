@@ -2,12 +2,11 @@
 """Writes every list over the operators from one table, operators.tsv.
 
     tools/lists.py            writes the files
-    tools/lists.py --check    fails if a file is not, byte by byte, what the table gives, or if a page
-                              states a count of operators that the table does not give
+    tools/lists.py --check    fails if a file is not what the table gives, or if a page states a count of operators that
+                              the table does not give
 
-First it checks the table: its rows (generate/rules.py), and that they equal wasmparser's list
-(generate/original.py). The generators are in generate/ too. `rt fmt` lays out the files, so the Rattle kit
-must be installed. docs/ADDING-AN-OPERATOR.md describes the columns and the other changes that a new row needs.
+First it checks the rows (generate/rules.py), and compares them with wasmparser's (generate/original.py). `rt fmt` lays
+out the files. docs/ADDING-AN-OPERATOR.md describes the columns.
 """
 
 import sys
@@ -77,7 +76,7 @@ def stale(wanted, top=TOP):
 
 
 def left_over(wanted, top=TOP):
-    """Returns the files whose head says that they are generated, but that no generator writes."""
+    """Returns generated files that no generator writes."""
     found = [*top.glob("crates/*/src/**/*.rt"), *top.glob("crates/*/specs/*.antt"), *top.glob("crates/*/proofs/**/*.antt")]
     names = [str(path.relative_to(top)) for path in found if HEAD in path.read_text(encoding="utf-8")[:200]]
     return sorted(name for name in names if name not in wanted)

@@ -3,17 +3,13 @@
 
     tools/more_must_fail.py [--in FOLDER] [--record] [NAME..]
 
-`crates/NAME/more-must-fail/` holds edits that the prover must reject, like those of `crates/NAME/must-fail/`. The
-gate doesn't try them: a crate's second edit costs another proof of the crate. This tool copies the committed and
-uncommitted crates, puts these edits in the place of the gate's, and runs `rt ci NAME..` on the copy.
+The gate does not try `crates/NAME/more-must-fail/`, since a second edit costs another proof of the crate. This tool
+copies the crates, puts these edits in the place of the gate's, and runs `rt ci NAME..` there. Without NAME it takes every
+crate with such edits. After the gate, `rt ci` proves no crate below NAME again. `--in FOLDER` keeps the copy, in a
+folder that is new, empty or such a copy. `RT_JOBS=N` has `rt` do N things at a time.
 
-Without NAME it takes every crate that has such edits. `rt ci` keeps on this machine what it has proved, and what each
-edit came to, by checksums of all that it read. So a run after the gate proves no crate below NAME again, and a second
-run tries only what changed. The copy is temporary; `--in FOLDER` makes it in FOLDER, which must be new, empty or such
-a copy, and leaves it there. `RT_JOBS=N` has `rt` do N things at a time.
-
-`--record` writes the crates whose edits were all rejected into tools/more_must_fail.tsv, with the commit and the date;
-docs/GATE.md has them. It needs a checkout without uncommitted changes in crates/.
+`--record` writes the crates whose edits were all rejected into tools/more_must_fail.tsv, with the commit and the date,
+for docs/GATE.md. It needs a checkout without changes in crates/.
 
 The last line is `more_must_fail: N rejected, M wrong`; the status is 0 if none is wrong.
 """
@@ -33,14 +29,12 @@ from edits import TOP, edits_of
 
 RECORD = TOP / "tools" / "more_must_fail.tsv"
 COLUMNS = ["crate", "edits", "commit", "date"]
-# What a copy has of a checkout.
 COPIED = ["crates", "crates.txt", "HANDLES"]
-# A line of `rt ci` about an edit that the prover rejected.
 REJECTED = re.compile(r"(?:rt: )?must-fail (\w+)/(\S+): refused")
 
 
 def copied(folder):
-    """Makes a copy of the crates of this checkout, without what is built. Exits if the folder holds something else."""
+    """Copies the crates without what is built. Exits if the folder holds something else."""
     left = [path.name for path in folder.iterdir() if path.name not in COPIED] if folder.exists() else []
     if left:
         sys.exit(f"{folder} has {left[0]}, and is no copy that this tool made: choose an empty folder")
@@ -55,7 +49,7 @@ def copied(folder):
 
 
 def exchanged(folder, names):
-    """Puts the further edits in the place of the gate's in the crates named, and takes all edits from the others."""
+    """Replaces the gate's edits by the further ones in these crates, and takes all from the others."""
     for crate in (folder / "crates").iterdir():
         shutil.rmtree(crate / "must-fail", ignore_errors=True)
         if crate.name in names:
@@ -63,14 +57,14 @@ def exchanged(folder, names):
 
 
 def rejected_in(lines):
-    """Yields each line of `rt ci`, and the crate and the edit that it reports as rejected, or None."""
+    """Yields each line of `rt ci`, with the crate and the edit that it reports as rejected."""
     for line in lines:
         found = REJECTED.match(line)
         yield line, (found[1], found[2]) if found else None
 
 
 def tried(folder, names):
-    """Runs `rt ci` on the copy, and returns how many edits it rejected and the edits that it did not."""
+    """Returns the number of rejected edits, and the others."""
     # (rt ci refuses names if CI is set)
     env = {name: value for name, value in os.environ.items() if name != "CI"}
     how = {"stdout": subprocess.PIPE, "stderr": subprocess.STDOUT, "text": True, "errors": "replace"}
@@ -87,7 +81,6 @@ def tried(folder, names):
 
 
 def recorded():
-    """Returns the rows of the record: each crate with the number of its edits, the commit and the date."""
     if not RECORD.exists():
         return []
     with open(RECORD, encoding="utf-8", newline="") as lines:
@@ -95,7 +88,7 @@ def recorded():
 
 
 def committed():
-    """Returns the commit of this checkout. Exits if crates/ has uncommitted changes."""
+    """Returns the commit. Exits if crates/ has uncommitted changes."""
     run = lambda *words: subprocess.run(["git", "-C", TOP, *words], capture_output=True, text=True, check=True).stdout.strip()
     if run("status", "--porcelain", "crates", "crates.txt"):
         sys.exit("crates/ has uncommitted changes: commit them before --record")
@@ -103,7 +96,6 @@ def committed():
 
 
 def record(names, commit):
-    """Writes that the edits of these crates were all rejected at this commit."""
     rows = {row["crate"]: row for row in recorded()}
     today = datetime.date.today().isoformat()
     for name in names:
@@ -116,7 +108,6 @@ def record(names, commit):
 
 
 def run(folder, names):
-    """Tries the edits of these crates in a copy there."""
     copied(folder)
     exchanged(folder, names)
     return tried(folder, names)

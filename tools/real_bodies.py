@@ -5,12 +5,12 @@
 
 PROGRAM is by default `crates/wasm_dump/out/wasm_dump`, which `rt run` and `rt ci` build. FOLDER has pairs of files:
 
-    NAME.bodies         function bodies in sequence: each is its length in four bytes, the lowest first, and its bytes
+    NAME.bodies         function bodies, each after its length in four bytes, the lowest first
     NAME.expected.tsv   for each body: index, length, exit status, number of the error (not compared), offset, text,
-                        number of operators, and a fingerprint of the listing (FNV-1a, 64 bits, in hexadecimal)
+                        number of operators, and fingerprint of the listing (FNV-1a, 64 bits, in hexadecimal)
 
-Each body is listed by a new process; then without its last byte, with one byte changed, and with one byte inserted, at
-fixed places. On these the program must end in time, with a listing or an error.
+Each body is also listed without its last byte, with a byte changed, and with a byte inserted. These runs must end in
+time, with a listing or an error.
 """
 
 import random
@@ -43,14 +43,13 @@ def bodies_of(data):
 
 
 def expected_of(line):
-    """Returns the length of the body, the status, the complaint, the number of lines and their fingerprint."""
     _index, length, status, _number, offset, text, operators, listing = line.split("\t")
     complaint = f"error at {offset}: {text}\n" if status != "0" else ""
     return int(length), int(status), complaint, int(operators), listing
 
 
 def ended(program, body):
-    """Returns status, output and complaint; the status is None after the time limit."""
+    """Returns status (None after the time limit), output and complaint."""
     try:
         ran = subprocess.run([program], input=body, capture_output=True, timeout=SECONDS)
     except subprocess.TimeoutExpired:
@@ -59,13 +58,11 @@ def ended(program, body):
 
 
 def told(program, body):
-    """Runs the program. Returns what a row for the body would have."""
     status, listing, complaint = ended(program, body)
     return len(body), status, complaint.decode(errors="replace"), listing.count(b"\n"), fingerprint(listing)
 
 
 def changed(name, index, body):
-    """Yields the changed bodies, each with a description."""
     if not body:
         return
     yield "without its last byte", body[:-1]

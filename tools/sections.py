@@ -3,16 +3,15 @@
 
     tools/sections.py STDIN FOLDER
 
-FOLDER gets samples.bodies, replay.bodies and random.bodies, in which each body has its length in four bytes before it,
-little-endian. It gets the first two as code sections too, samples.section and replay.section, and a global section,
-globals.section.
+FOLDER gets samples, replay and random.bodies, each body after its length in four bytes, little-endian; samples and
+replay.section, code sections of the same bodies; and globals.section.
 """
 
 import random
 import sys
 from pathlib import Path
 
-# Globals: a type, 1 if mutable, and an expression. The last one does not end where its block does.
+# A type, 1 if mutable, and an expression. The last one does not end where its block does.
 GLOBALS = [
     "7f 00 41 05 0b",
     "7e 01 42 7f 0b",
@@ -28,30 +27,27 @@ GLOBALS = [
 ]
 
 
-# Bytes that begin many operators and types.
+# Bytes that begin operators and types.
 FREQUENT = bytes.fromhex("00 01 02 03 04 05 06 07 0b 0e 12 18 19 1c 1f 28 40 41 42 52 62 63 64 65 6e 70 7e 7f 80 81 d0 e3 fb fc fd fe ff")
 
 
 def random_bodies(count):
-    """Returns this many short bodies of random bytes, the same in each run. Every second one has no locals."""
+    """Returns short bodies of random bytes, the same in each run. Every second one has no locals."""
     source = random.Random(count)
     byte = lambda: source.choice(FREQUENT) if source.random() < 0.7 else source.randrange(256)
     return [bytes(at % 2) + bytes(byte() for _ in range(source.randrange(40))) for at in range(count)]
 
 
 def prefixed(bodies):
-    """Returns bodies, each after its length."""
     return b"".join(len(body).to_bytes(4, "little") + body for body in bodies)
 
 
 def number(value):
-    """Returns a number as unsigned LEB128."""
     more = value >> 7
     return bytes([value & 0x7F | 0x80]) + number(more) if more else bytes([value])
 
 
 def rows(text):
-    """Returns the rows of a table, in cells, without its heading."""
     return [line.split("\t") for line in text.split("\n")[1:] if line]
 
 

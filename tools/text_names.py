@@ -3,10 +3,8 @@
 
     tools/text_names.py       needs wasm-objdump (package wabt)
 
-For each operator a module is made of one function with this operator alone, and `wasm-objdump -d` lists it.
-The names of those that wabt has not are compared with tools/original/text_names.tsv, which is written by
-hand from the texts of the proposals and from nothing here. An operator that neither names is a fault, and so
-is one of that list which wabt names. It is no step of the gate, whose machine has no wabt.
+It lists a module with each operator alone. Names that wabt lacks are compared with tools/original/text_names.tsv, which
+is written by hand from the proposals. An operator must be named by one of the two. The gate's machine has no wabt.
 """
 
 import re
@@ -20,12 +18,12 @@ sys.path.insert(0, str(Path(__file__).resolve().parent / "generate"))
 from table import TOP, table
 
 BY_HAND = TOP / "tools" / "original" / "text_names.tsv"
-# Names that the proposal changed after this wabt: what it prints, and what the standard has.
+# Names that a proposal changed: what wabt prints, and the standard's.
 OLDER = {
     "i16x8.dot_i8x16_i7x16_s": "i16x8.relaxed_dot_i8x16_i7x16_s",
     "i32x4.dot_i8x16_i7x16_add_s": "i32x4.relaxed_dot_i8x16_i7x16_add_s",
 }
-# The least encoding of an immediate of each kind, in hexadecimal.
+# The least encoding of an immediate of each kind.
 LEAST = {
     "float_32": "00000000", "float_64": "0000000000000000", "vector": "00" * 16, "lane_list": "00" * 16,
     "heap_type": "70", "cast": "00007070", "block_type": "40", "branch_table": "0000", "one_type": "017f",
@@ -60,7 +58,6 @@ def section(number, contents):
 
 
 def module(op):
-    """Returns a module with a function of this operator, and with all that the operator may refer to."""
     before = bytes.fromhex(INSIDE.get(op.name, ""))
     closed = op.name in ("Delegate", "End")
     ends = b"\x0b" * (((op.name in OPENERS or bool(before)) and not closed) + (op.name != "End"))
@@ -77,7 +74,6 @@ def module(op):
 
 
 def wabt_name(op, path):
-    """Returns the name that wabt prints, or None."""
     path.write_bytes(module(op))
     shown = subprocess.run(["wasm-objdump", "-d", path], capture_output=True, text=True, check=False).stdout
     wanted = encoding(op)[:9].hex(" ")

@@ -3,9 +3,9 @@
 
     tools/timed.py COMMAND..
 
-It runs the command (`rt ci`) and passes on its output. Once a second it reads the processor time of the provers below
-the command, for each crate's proof, tests and must-fail edits. When one of these begins or ends it writes a line: the
-crates done, the minutes so far, and the minutes that docs/GATE.md lets expect:
+It runs the command (`rt ci`), passes on its output, and reads the CPU time of its provers once a second. When a crate's
+proof, tests or must-fail edits begin or end, it writes the crates done, the minutes so far, and those that docs/GATE.md
+lets expect:
 
     [12/24, 18 min of about 70] wasm_visit: proof begins
 
@@ -14,7 +14,7 @@ At the end it writes, in seconds,
     cost NAME PART PROCESSOR WALL    for each crate and part
     cost all PROCESSOR WALL COUNT    for the whole run, on COUNT processors
 
-and the command's last line again. The status is the command's. tools/gate_table.py writes docs/GATE.md from such a log.
+and the command's last line again. The status is the command's. tools/gate_table.py reads such a log.
 """
 
 import os
@@ -32,19 +32,16 @@ EVERY = 1
 
 
 class Process:
-    """A process in /proc: its parent, its start, and its processor time."""
-
     def __init__(self, pid):
         with open(f"/proc/{pid}/stat", encoding="utf-8", errors="replace") as it:
             stat = it.read().rpartition(")")[2].split()
         self.parent = int(stat[1])
         self.key = (pid, stat[19])
-        # with the time of its children that have ended
+        # with its children that have ended
         self.seconds = sum(int(it) for it in stat[11:15]) / TICKS
 
 
 def work_of(pid):
-    """Returns the crate and the part that a prover works on, or None for another process."""
     try:
         with open(f"/proc/{pid}/cmdline", "rb") as it:
             words = it.read().decode(errors="replace").split("\0")
@@ -58,7 +55,6 @@ def work_of(pid):
 
 
 def below(top):
-    """Returns the descendants of a process."""
     found = {}
     for name in os.listdir("/proc"):
         if name.isdigit():
@@ -83,7 +79,7 @@ class Costs:
         self.of = {}
 
     def look(self, top):
-        """Counts the provers below a process. A prover's own children count for it."""
+        """Counts the provers below a process, each with its children."""
         found = below(top)
         totals = {}
         for pid, process in found.items():
@@ -115,19 +111,17 @@ def count_of_crates(text):
 
 
 def expected_minutes(page, processors):
-    """Returns the wall-clock minutes to expect, by the text of docs/GATE.md, or None."""
+    """Returns the wall-clock minutes to expect by docs/GATE.md, or None."""
     found = re.findall(r"took ([\d.]+) minutes wall-clock on (\d+) processors", page)
     runs = {int(count): float(wall) for wall, count in found}
     if not runs:
         return None
-    # (with fewer processors than in any run, each has more to do)
+    # (fewer processors have more to do)
     count = max((count for count in runs if count <= processors), default=min(runs))
     return runs[count] * max(1, count / processors)
 
 
 class Progress:
-    """Writes how far the run is, between the lines of the command."""
-
     def __init__(self, crates, expected, clock=time.monotonic, out=sys.stdout):
         self.crates = crates
         self.expected = expected
@@ -149,14 +143,12 @@ class Progress:
         self.write(f"[{len(self.through)}/{self.crates}, {minutes}{of}] {what}\n")
 
     def begun(self, works):
-        """Reports the parts of crates that are new."""
         words = {"proof": "proof begins", "tests": "proof with its tests begins", "edits": "must-fail edits begin"}
         for crate, part in sorted(set(works) - self.seen):
             self.seen.add((crate, part))
             self.tell(f"{crate}: {words[part]}")
 
     def passed_on(self, line):
-        """Writes a line of the command, and reports the end of a crate's proof."""
         self.write(line)
         found = re.fullmatch(r"rt: (\w+) (proved|NOT PROVED)(:.*)?\n", line)
         if found and found[1] not in self.through:

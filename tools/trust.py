@@ -5,14 +5,12 @@
     tools/trust.py --quick      without the second build, and so without the prover's account
     tools/trust.py --unproved   compares dist-unproved/ with a second build of it
 
-The parts of the list:
-
-- **Kit.** Its identity, as `rt version` prints it, and the checksums in its file WHAT.
-- **Assumed.** For each program and for the library for C, the functions whose contracts the prover assumes. It is the
-  prover's own account (`rattle build --list-axioms`), from a second proof over the libraries in dist/rattle. `logic=
-  proved` means that no lemma is unproved: every declaration is admitted, without a hole, and nothing else is assumed.
-- **Searched.** What the sources of these crates declare without a proof. The list says what was searched for, and where.
-- **Second build.** Whether that second build has the checksums of dist/SHA256SUMS.
+- **Kit.** Its identity, by `rt version`, and the checksums in its file WHAT.
+- **Assumed.** The functions whose contracts the prover assumes, for each program and the library for C: its own account
+  (`rattle build --list-axioms`), from a second proof over dist/rattle. `logic=proved` means that every declaration is
+  admitted, without a hole, and nothing else is assumed.
+- **Searched.** What the sources declare without a proof, and where.
+- **Second build.** Whether it has the checksums of dist/SHA256SUMS.
 - **Besides.** What no list of a script can settle.
 
 The status is 1 if a second build differs, or the search finds something.
@@ -31,7 +29,7 @@ sys.dont_write_bytecode = True
 from packing import builds, texts
 from testing.crates import Crates, Missing, find_kit
 
-# What the search looks for: what it means, the files, and the pattern in their text without comments.
+# What it means, the files, and the pattern in their text without comments.
 WANTED = [
     ("functions that C code defines", "rt", r'extern "C" \{'),
     ("unsafe blocks and functions", "rt", r"\bunsafe (?:\{|fn|impl)"),
@@ -50,12 +48,10 @@ BESIDES = """\
 
 
 def heading(text):
-    """Writes a heading."""
     print(f"\n{text}\n{'-' * len(text)}", flush=True)
 
 
 def place_of(kit, name):
-    """Returns where the kit declares a function of C, as file and line."""
     crate, *_, function = name.split("::")
     for path in sorted((kit / "rattle" / crate / "src").rglob("*.rt")):
         for number, line in enumerate(path.read_text(encoding="utf-8").splitlines(), 1):
@@ -65,7 +61,6 @@ def place_of(kit, name):
 
 
 def account(kit, name, output):
-    """Prints what the prover says of a program or a library: its last line, and what it assumes."""
     *assumed, verdict = builds.verdict_of(output)
     print(f"{name}: {verdict}")
     for line in assumed:
@@ -73,7 +68,6 @@ def account(kit, name, output):
 
 
 def found_in(crates, names):
-    """Yields each thing that is searched for, and the places where the sources of these crates have it."""
     for what, kind, pattern in WANTED:
         places = []
         folders = [crates.folder(name) / part for name in names for part in ("src", "specs", "proofs")]
@@ -85,7 +79,6 @@ def found_in(crates, names):
 
 
 def search(crates, names):
-    """Prints what the search finds. Returns whether it found nothing."""
     print(f"In src, specs and proofs of {len(names)} crates: {', '.join(names)}.")
     print("These are what dist/ has and all below it. The kit's libraries are not searched: their check is the kit's.")
     is_clean = True
@@ -96,20 +89,18 @@ def search(crates, names):
 
 
 def compared(sums, path, made):
-    """Prints whether a file has its checksum. Returns whether it does."""
     is_same = sums.get(path) == texts.sum_of(made)
     print(f"{path}: {'the same' if is_same else 'DIFFERENT'} {sums.get(path, 'no checksum')}")
     return is_same
 
 
 def sums_in(folder):
-    """Returns the checksums of a dist folder by path."""
     lines = (folder / "SHA256SUMS").read_text(encoding="utf-8").splitlines()
     return {path: found for found, path in (line.split("  ", 1) for line in lines)}
 
 
 def build_again(kit, crates, scratch):
-    """Proves and builds each program and the library for C over the libraries in dist/. Yields path, file and output."""
+    """Builds what users run over dist/. Yields name, path, file and output."""
     subprocess.run(["tar", "-C", scratch, "-xf", TOP / "dist/rattle/libraries.tar.xz", "rlibs"], check=True)
     rlib_of = lambda name: scratch / "rlibs" / f"{name}.rlib"
     for name in [builds.EXPORTS, *builds.programs_of(crates)]:
@@ -122,7 +113,6 @@ def build_again(kit, crates, scratch):
 
 
 def prove_again(kit):
-    """Prints the prover's account and the comparison of a second build. Returns whether all is the same."""
     commit = re.search(r"^commit  (\w+)$", (TOP / "dist/PROVED").read_text(encoding="utf-8"), re.M)[1]
     sums, results = sums_in(TOP / "dist"), []
     with tempfile.TemporaryDirectory(prefix="trust-") as folder:
@@ -136,7 +126,6 @@ def prove_again(kit):
 
 
 def build_unproved_again():
-    """Builds dist-unproved/ twice. Returns whether both have the same checksums."""
     tool = [sys.executable, "-B", TOP / "tools/dist", "--unproved"]
     with tempfile.TemporaryDirectory(prefix="trust-") as folder:
         places = [Path(folder) / name for name in ("one", "two")]

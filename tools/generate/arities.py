@@ -19,7 +19,7 @@ def pair_of(op):
 
 
 def by_pair(ops):
-    """Groups the operators with a fixed arity by it. The largest group is last."""
+    """Groups the operators by their fixed arity. The largest group is last."""
     return grouped([op for op in ops if not op.is_by_rule], pair_of)
 
 
@@ -29,7 +29,7 @@ def argument_pattern(op, alias):
 
 
 def enum_pairs(enum, ops):
-    """Returns the arities of an inner enum, as a definition. The type is an option if an arity depends on the module."""
+    """Returns the definition of an inner enum's arities: options if one depends on the module."""
     ruled = [op for op in ops if op.is_by_rule]
     low, ty = enum.module, "ℕ × ℕ"
     made = lambda pair: pair
@@ -44,15 +44,14 @@ def enum_pairs(enum, ops):
 
 
 def is_ruled(enum, ops):
-    """Returns whether the arity of an operator of an inner enum depends on the module."""
     return any(op.is_by_rule for op in ops if op.group == enum.group)
 
 
 def fixed_arity_specs(ops):
-    body = ["-- The operands and results of an operator; `None` if they depend on the module."]
+    body = ["-- The numbers of operands and results; for `gc_pair`, `None` if they depend on the module."]
     for enum in held():
         body += enum_pairs(enum, [op for op in ops if op.group == enum.group])
-    body += ["-- The operands and results of any operator; `None` if they depend on the module.", "abbrev pub fixed_arity : Operator → Option (ℕ × ℕ)"]
+    body += ["-- The numbers of operands and results of any operator; `None` if they depend on the module.", "abbrev pub fixed_arity : Operator → Option (ℕ × ℕ)"]
     for (pair, _), those in by_pair([op for op in ops if op.group == "Own"]):
         body += [f"fixed_arity {argument_pattern(op, 'operator')} = Some {pair}" for op in those]
     for enum in held():
@@ -62,7 +61,6 @@ def fixed_arity_specs(ops):
     body.append("fixed_arity _ = None")
     head = [
         f"-- {HEAD}",
-        "-- The numbers of operands and results of the operators for which they are fixed.",
         "-- Specification: Appendix, Index of Instructions. An access to an array also takes the array: proposal multibyte array access.",
         "use Rattle.std.specs.Prelude.{ℕ, ◌+◌, Option, Some, None}",
         "use Rattle.wasm_imm.specs.declared.memory_argument.MemArg.{MemArg}",
@@ -75,12 +73,12 @@ def fixed_arity_specs(ops):
         "use Rattle.wasm_instr.specs.declared.operator.Operator.{Operator}",
         "use Rattle.wasm_instr.specs.declared.operator.Operator.TheVariants as operator",
         "",
-        "-- An array is an operand besides the address; a memory is none.",
+        "-- The number of arrays among the operands of an access.",
         "abbrev pub arrays_in : MemArgTarget → ℕ",
         "arrays_in (target.Array _) = 1",
         "arrays_in (target.Memory _) = 0",
         "",
-        "-- The number of operands of an access: one more if the target is an array.",
+        "-- The number of operands of an access: `takes`, or one more if its target is an array.",
         "abbrev pub reaching : MemArg → ℕ → ℕ",
         "reaching m takes = takes + arrays_in m.target",
         "",
@@ -89,7 +87,6 @@ def fixed_arity_specs(ops):
 
 
 def argument_binding(op, ty):
-    """Returns a pattern of Rust. It binds only the memory argument, if the arity depends on it."""
     if not op.fields:
         return f"{ty}::{op.name}"
     if op.takes.endswith(REACHING):
@@ -121,7 +118,7 @@ def fixed_arity_source(ops):
     inner = sorted(enum.type for enum in ENUMS if enum.group != "Simd")
     words = ["reaching as reaching_of", *[f"{enum.module}_pair" for enum in held()], "fixed_arity as pair_of"]
     out = [
-        f"//! Fixed arities. {HEAD}",
+        f"//! {HEAD}",
         "ghost use Rattle.std.specs.Prelude.{◌≡◌, ◌<◌};",
         f"ghost use Rattle.wasm_instr.specs.FixedArity.{{{', '.join(words)}}};",
         "",
@@ -130,7 +127,7 @@ def fixed_arity_source(ops):
         f"use wasm_instr_ops::{{{', '.join(inner)}}};",
         "use wasm_instr_simd::SimdOperator;",
         "",
-        "/// Returns the number of operands of an access: `takes`, and one more for an array.",
+        "/// Returns the number of operands of an access: `takes`, or one more if its target is an array.",
         "fn reaching(memarg: &MemArg, takes: u32) -> u32",
         "requires { takes < 8 }",
         "ensures { result ≡ reaching_of memarg.now takes }",

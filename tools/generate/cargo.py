@@ -1,17 +1,16 @@
-"""Writes the lists of operators of the cargo crate (bindings/rust/src/operator.rs, visit.rs, macros.rs)."""
+"""Writes the lists of operators of the cargo crate (bindings/rust/src)."""
 
 from arities import REACHING
 from plain import kinds, number
 from table import HEAD, SHARED
 
-# The types of fields that the crate spells in its own way.
 TYPES = {"SelectTypes": "Vec<ValType>"}
-# The types of fields in the macros. The others are Rust's, or `$crate::` and the name.
+# The types of fields in the macros, except Rust's and `$crate::NAME`.
 MACRO_TYPES = {"SelectTypes": "Vec<$crate::ValType>"}
 PRIMITIVE = {"u8", "u32", "i32", "i64", "[u8; 16]"}
-# The proposals whose operators only a visitor of SIMD operators visits.
+# The proposals of SIMD operators.
 SIMD = ("simd", "relaxed_simd")
-# The values of the fields, by the kinds of immediates: from the C struct `op` and the `bytes` of the body from the operator on.
+# The values of the fields, by the kinds of immediates: from the C struct `op` and the `bytes` from the operator on.
 VALUES = {
     (): [],
     ("unsigned",): ["op.first"],
@@ -43,24 +42,21 @@ VALUES = {
 
 
 def variant(op):
-    """Returns a variant of the enum."""
     fields = ", ".join(f"{name}: {TYPES.get(ty, ty)}" for name, ty in op.fields)
     return f"    {op.name}{f' {{ {fields} }}' if fields else ''},"
 
 
 def arm(op):
-    """Returns the pattern of an operator's opcode, with the shape if two operators have the opcode."""
+    """Returns the pattern of an opcode, with the shape if two operators share it."""
     return f"0x{number(op):x}{' if op.shape == 19' if op.name == SHARED[0] else ''}"
 
 
 def made(op):
-    """Returns the expression that makes the operator from its C struct."""
     fields = ", ".join(f"{name}: {value}" for (name, _), value in zip(op.fields, VALUES[kinds(op)]))
     return f"Operator::{op.name}{f' {{ {fields} }}' if fields else ''}"
 
 
 def operator_source(ops):
-    """Returns the file of the enum."""
     lines = [
         f"//! The operators. {HEAD}",
         "",
@@ -92,7 +88,6 @@ def operator_source(ops):
 
 
 def visit_source(ops):
-    """Returns the file of the functions that call a visitor's methods."""
     lines = [
         f"//! Calls of a visitor's methods. {HEAD}",
         "",
@@ -126,17 +121,14 @@ def visit_source(ops):
 
 
 def visit_arm(op):
-    """Returns the arm that calls the visitor's method of an operator."""
     return f"        {arm(op)} => visitor.{op.visit}({', '.join(VALUES[kinds(op)])}),"
 
 
 def macro_type(ty):
-    """Returns a type of a field as the macros write it."""
     return MACRO_TYPES.get(ty, ty if ty in PRIMITIVE else f"$crate::{ty}")
 
 
 def arity(op):
-    """Returns the arity of an operator as the macros write it."""
     if op.is_by_rule:
         return "(arity custom)"
     takes = op.takes.removesuffix(REACHING)
@@ -144,13 +136,11 @@ def arity(op):
 
 
 def entry(op):
-    """Returns the entry of an operator in the macros."""
     fields = ", ".join(f"{name}: {macro_type(ty)}" for name, ty in op.fields)
     return f"            @{op.proposal} {op.name}{f' {{ {fields} }}' if fields else ''} => {op.visit} {arity(op)}"
 
 
 def macro(name, doc, ops):
-    """Returns a macro that calls another one with a list of operators."""
     return [
         "",
         *doc,
@@ -190,7 +180,6 @@ NAMES = """\
 
 
 def macros_source(ops):
-    """Returns the file of the macros."""
     simd = [op for op in ops if op.proposal in SIMD]
     others = [op for op in ops if op.proposal not in SIMD]
     every = ["/// Calls a macro with the list of all operators.", "///", *FORM, "///", *NAMES]
@@ -206,7 +195,7 @@ def macros_source(ops):
 
 
 def cargo_files(ops):
-    """Returns the crate's generated files, over the operators whose immediates have values here."""
+    """Returns the files, over the operators whose immediates have values here."""
     ops = [op for op in ops if kinds(op) in VALUES]
     sources = {"operator": operator_source, "visit": visit_source, "macros": macros_source}
     return {f"bindings/rust/src/{name}.rs": source(ops) for name, source in sources.items()}

@@ -1,19 +1,16 @@
 """Breaks clauses that are too long for a line. `rt fmt` leaves them as they are.
 
     tools/generate/clauses.py FILE..      lays out the clauses of these source files
-
-The generators call `clauses_broken`.
 """
 
 import sys
 from pathlib import Path
 
-# A clause is broken where a line is longer than this.
 WIDTH = 120
 
 
 def places(line):
-    """Returns the places where a clause may be broken, each with its depth in parentheses: before an operator or a parenthesis."""
+    """Returns the places for a break, each with its depth in parentheses."""
     depth, found = 0, []
     for at, char in enumerate(line):
         if char in "({":
@@ -33,7 +30,6 @@ def places(line):
 
 
 def broken(line):
-    """Breaks a line of a clause into lines of at most the width, if possible."""
     out, margin = [], len(line) - len(line.lstrip()) + 4
     while len(line) > WIDTH:
         start = len(line) - len(line.lstrip()) + 8
@@ -49,7 +45,6 @@ def broken(line):
 
 
 def is_clause(line):
-    """Returns whether the line belongs to a clause or a ghost member and is too long."""
     words = line.split()
     if len(line) <= WIDTH or words[0].startswith("//"):
         return False

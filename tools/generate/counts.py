@@ -4,25 +4,24 @@ import re
 
 from table import TOP
 
-# A number, perhaps a word, and what is counted. Numbers of other things are not checked.
 COUNTED = re.compile(r"\b(\d+) (?:(SIMD|one-byte|numeric) )?(operators|visits|proposals)\b")
 
 
 def counts(ops):
-    """Returns the counts that the docs may state, by the word before what is counted and what is counted."""
+    """Returns the possible counts, by the word before and what is counted."""
     groups = {}
     for op in ops:
         groups.setdefault(op.group, []).append(op)
     each = {group: len(those) for group, those in groups.items()}
     one_byte = {each["Own"], each["Own"] + each["Numeric"]}
-    # (one-byte operators are counted with or without the numeric ones)
+    # (with or without the numeric ones)
     operators = {
         "SIMD": {each["Simd"]},
         "one-byte": one_byte,
         "numeric": {each["Numeric"]},
         "": {len(ops), len(ops) - each["Simd"], *one_byte, *each.values()},
     }
-    # (the visit of the branch table is in no group, and the visits of SIMD operators are in two)
+    # (the branch table is in no group, and SIMD operators are in two)
     low = sum(op.code < 0x80 for op in groups["Simd"])
     without_table = {len(ops) - 1, len(ops) - 1 - each["Simd"], each["Own"] - 1}
     found = {(word, what): given for word, given in operators.items() for what in ("operators", "visits")}
@@ -32,7 +31,6 @@ def counts(ops):
 
 
 def wrong_counts(ops, top=TOP):
-    """Returns an error for each count in the docs that the table does not give."""
     allowed = counts(ops)
     out = []
     for page in sorted([*top.glob("*.md"), *top.glob("docs/*.md"), *top.glob("crates/*/*.md")]):

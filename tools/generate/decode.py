@@ -8,7 +8,7 @@ from entries import KIND_WORDS
 from parts import (
     ALL, APART, COMMON, COMMON_CALL, OTHERS_CALL, alone, by_alignment, exponent, is_without_immediates, parts, run_pattern, runs,
 )
-from table import HEAD, ROW_WORDS, imported, singular
+from table import HEAD, ROW_WORDS, doc, imported, singular
 from visits import GROUPS
 
 # Of the operators in separate files, those whose function takes the frame, and those whose function takes an allocator.
@@ -42,7 +42,7 @@ def arms(part):
         "}",
         "",
     ]
-    return ["/// Calls the visit of the operator with this code.", "#[inline(always)]", *out]
+    return ["/// Visits the operator with this code.", "#[inline(always)]", *out]
 
 
 def function(part):
@@ -73,13 +73,13 @@ def function(part):
     elif form is None:
         doc = "/// Visits an operator without immediates."
     else:
-        doc = f"/// Reads immediates by `{form.name}` and visits the operator."
+        doc = "/// Reads immediates and visits the operator."
     return [doc, "#[inline(always)]", *out, "}", ""]
 
 
 def alignment(part):
     return [
-        "/// Returns the exponent of the operator's natural alignment.",
+        "/// Returns the natural alignment as an exponent.",
         "#[inline(always)]",
         f"fn align_of_{part.title}(code: {part.code_type}) -> u8",
         f"    requires {{ entry_at {part.place} code ≡ free ({part.kinds('code')}) }}",
@@ -127,7 +127,7 @@ def common_call(ops, group, those):
     answers = [arm.partition(" => ") for arm in group_arms(those, lambda code: code in COMMON)]
     answers += [(f"        {part.code()}", "", f"{part.function}(v, reader, start),") for part in alone(ops, group)]
     return [
-        f"/// Reads the immediates of {singular(group.short)} and visits it, if its opcode is a common one.",
+        *doc(f"Reads the immediates of {singular(group.short)} and visits it, if its opcode is a common one."),
         "///",
         "/// Returns `None` for other opcodes. Then nothing changes.",
         "#[inline(always)]",
@@ -150,9 +150,8 @@ def group_head(group, those, name, more=""):
     is_own = group.enum == "Own"
     ty = "u8" if is_own else "u32"
     given = "alloc: Global, v: &mut V, reader: &mut BinaryReader<'_>, start: usize, frame: FrameKind, code: u8" if is_own else f"v: &mut V, reader: &mut BinaryReader<'_>, start: usize, code: {ty}"
-    doc = f"/// Reads the immediates of {singular(group.short)} and visits it.{more}"
     out = [
-        doc,
+        *doc(f"Reads the immediates of {singular(group.short)} and visits it.{more}"),
         "#[inline(always)]",
         f"pub fn {name}<V: {group.trait}>({given}) -> Result<V::Output>",
         f"    requires after {{ IsAfterCode start {those[0].place} code reader.old }}",
@@ -276,7 +275,7 @@ def decode_head(group, text):
     is_own = group.enum == "Own"
     below = ["BinaryReader", *(["HeapType"] if "HeapType" in text else []), "Result"]
     return [
-        f"//! Decoding of {group.short}. {HEAD}",
+        f"//! Decoding of {group.short.removeprefix('the ')}. {HEAD}",
         f"ghost use Rattle.std.specs.Prelude.{{{', '.join(prelude)}}};",
         "ghost use Rattle.wasm_grammar.specs.declared.frame_kind.FrameKind.{FrameKind};",
         f"ghost use Rattle.wasm_instr.specs.Immediate.{{{', '.join(words)}}};",
@@ -316,7 +315,7 @@ def group_decode(ops, group):
 def numeric_decode(ops, group):
     those = group.of(ops)
     return "\n".join([
-        f"//! Decoding of {group.short}. {HEAD}",
+        f"//! Decoding of {group.short.removeprefix('the ')}. {HEAD}",
         "ghost use Rattle.std.specs.Prelude.{◌≡◌, ◌≤◌, [], None};",
         "ghost use Rattle.wasm_decode_opcodes.specs.Decoding.{VisitsRow};",
         "",

@@ -2,7 +2,7 @@
 
 from table import HEAD, PREFIXES, by_cases, held, imported, pattern
 
-# The operators whose feature and frame are checked before their immediates.
+# The operators that are checked before their immediates.
 GUARDS = {
     "Else": "guard.Else",
     "Try": "guard.Try",
@@ -10,7 +10,6 @@ GUARDS = {
     "CatchAll": "guard.CatchAll",
     "Delegate": "guard.Delegate",
 }
-# The definition of the kind of an immediate, by the table's word.
 KIND_NAMES = {
     "unsigned": "is_unsigned_32", "signed_32": "is_signed_32", "signed_64": "is_signed_64",
     "float_32": "is_float_32", "float_64": "is_float_64", "lane_index": "is_one_lane",
@@ -45,7 +44,6 @@ def entry(op):
 
 
 def entries(name, those, prefixes=()):
-    """Returns a list of entries by code, from 0 on."""
     found = {op.code: entry(op) for op in those} | {code: "prefixes" for code in prefixes}
     each = [found.get(code, "unknown") for code in range(max(found) + 1)]
     lines = [f"    {it} ∷" if " " not in it else f"    ({it}) ∷" for it in each]
@@ -57,10 +55,10 @@ def names():
 
 
 def entry_lists(ops):
-    body = ["-- The entries of the opcodes, by code."]
+    body = ["-- The entry of each opcode, at the index of its number."]
     body += entries("opcode_entries", [op for op in ops if not op.prefix], [int(it, 16) for it in PREFIXES])
     for prefix, name in names().items():
-        body.append(f"-- The entries of the subopcodes after the prefix byte 0x{prefix}, by code.")
+        body.append(f"-- The entry of each subopcode after the prefix byte 0x{prefix}, at the index of its number.")
         body += entries(name, [op for op in ops if op.prefix == prefix])
     body += [
         "-- The entries of the subopcodes after a prefix byte.",
@@ -69,7 +67,7 @@ def entry_lists(ops):
         *[f"    if prefix == 0x{prefix} then {name} else (" for prefix, name in names().items()],
         "    []" + ")" * len(names()),
         "",
-        "-- The entry of an opcode, or of a subopcode after a prefix byte: the kinds of the immediates, if an operator has it.",
+        "-- The entry of an opcode, or of a subopcode after a prefix byte.",
         "abbrev pub entry_at : Option ℕ → ℕ → Entry",
         "entry_at None code = slice_index_or opcode_entries code unknown",
         "entry_at (Some prefix) code = slice_index_or (entries_after prefix) code unknown",
@@ -82,7 +80,7 @@ def entry_lists(ops):
     head = [
         f"-- {HEAD}",
         "-- The kinds of the immediates after each opcode and each subopcode.",
-        "-- WebAssembly Core Specification 3.0: Binary Format, Instructions; Appendix, Index of Instructions.",
+        "-- Specification: Binary Format, Instructions; Appendix, Index of Instructions.",
         "use Rattle.std.specs.Prelude.{ℕ, ◌==◌, if◌then◌else◌, List, [], ◌∷◌, slice_index_or, Option, Some, None}",
         "use Rattle.wasm_imm.specs.declared.memory_argument.MemArgKind.TheVariants as kind",
         f"use Rattle.wasm_instr.specs.Immediate.{{{', '.join(imported(text, KIND_WORDS))}}}",
@@ -93,7 +91,6 @@ def entry_lists(ops):
 
 
 def entries_told(ops):
-    """Returns the lemmas that the entry of an operator's opcode agrees with its row, and that prefix bytes are not opcodes."""
     body = []
     for enum in held():
         those = [op for op in ops if op.group == enum.group]

@@ -1,9 +1,8 @@
-"""Lists, for the variants of each enum of operators, why the equality of their fields is exact."""
+"""Lists for each variant why the equality of its fields is exact."""
 
 from source import Shape, fields_name, shapes
 from table import HEAD, held
 
-# The lemma for the equality of a field, by the field's type.
 EXACT = {
     "u8": "Decides-eqb",
     "u32": "Decides-eqb",
@@ -24,7 +23,6 @@ EXACT = {
     "TryTable": "try_exact",
     "ResumeTable": "resume_exact",
 }
-# Where each lemma lives.
 HOMES = {
     "lemmas.Bool.Decides": ["Decides-eqb", "Decides-int_eq"],
     "of_below.TypeEquality": ["heap_exact", "ref_exact", "value_exact"],
@@ -36,13 +34,11 @@ WIDTH = 160
 
 
 def variant_exact(types):
-    """Returns the term for a variant whose fields have these types."""
     blanks = ["_"] * len(types)
     return " ".join([COUNTS[len(types)], *blanks, *(EXACT[ty] for ty in types)])
 
 
 def chain(terms):
-    """Returns the terms of all variants, joined and broken into lines."""
     lines = [""]
     for term in [*terms, "tt"]:
         piece = term if term == "tt" else f"{term} ▸ "
@@ -53,7 +49,7 @@ def chain(terms):
 
 
 def imports(below, terms, extra=()):
-    """Returns the `use` lines for the lemmas that the terms cite. `below` is the crate whose names are used, with the paths to its own proofs."""
+    """Returns the `use` lines. `below` is the crate through which, and the path to its own proofs."""
     crate, own = below
     words = {word for term in terms for word in term.split()} | set(extra)
     out = []
@@ -70,24 +66,20 @@ def imports(below, terms, extra=()):
 
 
 def contracts(crate, module, name, word):
-    """Returns the `use` lines for a type and its derived equality."""
     base = f"use Rattle.{crate}.specs.contracts.{module}.{name}"
     return [f"{base} as {word}_type", f"{base}PartialEq.TheImpl as {word}_eq"]
 
 
 def exact(name, word, terms, lifetime=""):
-    """Returns the lemma that the derived equality of an enum is exact."""
     record = f"({word}_type.enum {lifetime})" if lifetime else f"{word}_type.enum"
     return [f"pub {name} : IsExact {word}_eq.ghosts.eq", f"{name} = enum_exact {record} _", *(f"    {line}" for line in bracketed(chain(terms)))]
 
 
 def bracketed(lines):
-    """Returns the lines in parentheses."""
     return [f"({lines[0]}", *lines[1:-1], f"{lines[-1]})"] if len(lines) > 1 else [f"({lines[0]})"]
 
 
 def enum_equality(enum, ops):
-    """Returns the proof that equality of the operators of an enum is exact."""
     low = enum.module
     shape = Shape(ops)
     below = ("wasm_imm", "")
@@ -101,7 +93,6 @@ def enum_equality(enum, ops):
 
 
 def by_fields_equality(enum, ops, below):
-    """Returns the proof for an enum whose equality compares opcode and fields."""
     low = enum.module
     found = shapes(ops)
     terms = [variant_exact([ty for _, ty in those[0].fields]) for those in found.values()] + ["none"]
@@ -127,22 +118,19 @@ def by_fields_equality(enum, ops, below):
 
 
 def page(enum, uses, body):
-    """Returns a file of proofs about an enum."""
-    return "\n".join([f"-- {HEAD}", f"-- Equality of {enum.title} is exact.", *uses, "", *body, ""])
+    return "\n".join([f"-- {HEAD}", *uses, "", *body, ""])
 
 
 def operator_equality(ops):
-    """Returns the proof that equality of all operators is exact."""
     inner = {enum.group: f"{enum.module}_exact" for enum in held()}
     terms = [variant_exact([ty for _, ty in op.fields]) for op in ops] + [f"one _ {name}" for name in inner.values()]
     uses = ["use denote.Signature.{static_lft}", *imports(("wasm_instr_ops", "of_imm."), terms, ["enum_exact"])]
     uses += [f"use Rattle.{enum.crate}.proofs.{enum.group}Equality.{{{enum.module}_exact}}" for enum in held()]
     uses += contracts("wasm_instr", "operator", "Operator", "operator")
-    return "\n".join([f"-- {HEAD}", "-- Equality of operators is exact.", *uses, "", *exact("operator_exact", "operator", terms, "static_lft"), ""])
+    return "\n".join([f"-- {HEAD}", *uses, "", *exact("operator_exact", "operator", terms, "static_lft"), ""])
 
 
 def equality_files(ops, enums):
-    """Returns the proofs about equality, by path."""
     out = {f"crates/{enum.crate}/proofs/{enum.group}Equality.antt": enum_equality(enum, [op for op in ops if op.group == enum.group]) for enum in enums}
     out["crates/wasm_instr/proofs/OperatorEquality.antt"] = operator_equality([op for op in ops if op.group == "Own"])
     return out

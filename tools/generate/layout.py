@@ -14,7 +14,6 @@ def is_here():
 
 
 def laid_out(files):
-    """Lays out the texts of the files by `rt fmt`, so that the generators need not break lines."""
     if not is_here():
         sys.exit("rt, the command of the Rattle kit, is not on this machine: it lays out the files")
     with tempfile.TemporaryDirectory() as folder:

@@ -6,7 +6,7 @@ from pathlib import Path
 
 FOLDER = Path(__file__).resolve().parent.parent / "original"
 
-# The words for immediates in wasmparser's list, and in the table. The field decides about `types`.
+# Wasmparser's words for immediates, and the table's. The field decides about `types`.
 KINDS = {
     "none": "",
     "bt": "block_type",
@@ -28,7 +28,6 @@ KINDS = {
     "try table": "try_table",
     "rt": "resume_table",
 }
-# The enum of the operators with each prefix byte.
 GROUPS = {"fb": "Gc", "fc": "Misc", "fd": "Simd", "fe": "Atomic"}
 
 
@@ -38,7 +37,6 @@ def lines_of(name):
 
 
 def kind_of(word, fields):
-    """Returns an immediate of an operator with these fields, in the table's words."""
     if word == "types":
         return "types" if "SelectTypes" in fields else "one_type"
     if word.startswith("mem "):
@@ -87,7 +85,7 @@ def proposals():
     return {row["proposal"]: int(row["operators"]) for row in lines_of("proposals.tsv")}
 
 
-# The columns that are compared, with their names in errors.
+# The columns that are compared, and their names in errors.
 COMPARED = {
     "proposal": "proposal",
     "visit": "visit",

@@ -1,4 +1,4 @@
-"""Writes overridden visits of each operator with prefix 0xfc, for the program that compares visitors."""
+"""Writes overridden visits of a group, for the program that compares visitors."""
 
 from source import inner, rust_binding
 from table import HEAD
@@ -8,7 +8,6 @@ FILE = "crates/wasm_tests_operators/src/own_misc.rt"
 
 
 def own_visit(group, op):
-    """Returns an overridden visit, which passes its operator to `own`."""
     given = ", ".join(["&mut self", *([inner(op)] if op.fields else [])])
     return ["", f"fn {op.visit}({given}) {{", f"self.own({rust_binding(op, type_name(group))})", "}"]
 
@@ -17,7 +16,7 @@ def own_visit_files(ops):
     group = next(it for it in GROUPS if it.module == "misc")
     lines = [line for op in group.of(ops) for line in own_visit(group, op)]
     text = [
-        f"//! Overridden visits of {group.title}. {HEAD}",
+        f"//! Overridden visits. {HEAD}",
         "use crate::prints::OwnPrints;",
         f"use wasm_operators::{{{type_name(group)}, {group.trait}}};",
         "",

@@ -1,9 +1,7 @@
 """Rewrites paths to go through the crates that a file's crate lists.
 
-A crate lists its direct dependencies only. Names of lower layers are reached through a listed crate,
-which re-exports them under a short name (`pub use wasm_below as below` in its src/lib.rt, and similar
-lines in specs/Lib.antt and proofs/Lib.antt). The generators name each item by the crate that defines
-it; `by_listed` rewrites these paths for the crate of each file, by crates.txt.
+A crate lists only its direct dependencies, which re-export lower layers under short names (`pub use wasm_below as below`
+in src/lib.rt). The generators name each item by the crate that defines it; `by_listed` rewrites that by crates.txt.
 """
 
 import re
@@ -11,7 +9,7 @@ from pathlib import Path
 
 TOP = Path(__file__).resolve().parent.parent.parent
 
-# The short name under which higher crates re-export a crate.
+# The short names.
 SHORT = {
     "wasm_below": "below",
     "wasm_imm": "imm",
@@ -51,7 +49,7 @@ def below(listed, name):
 
 
 def way(listed, crate, name):
-    """Returns the listed crate through which another is reached, or `None` if that one is listed itself."""
+    """Returns the listed crate through which another is reached, or `None` if that is listed."""
     if name == crate or name in listed.get(crate, []):
         return None
     for one in listed.get(crate, []):

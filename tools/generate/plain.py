@@ -1,8 +1,8 @@
-"""Writes the conversion of operators to a C struct (crates/wasm_view): the number of each operator, and the fields of each shape."""
+"""Writes the conversion of operators to a C struct (crates/wasm_view)."""
 
 from table import ENUMS, HEAD, PREFIXES, SHARED, held
 
-# The function of src/shapes.rt that makes the C struct of operators with these immediates.
+# The function of src/shapes.rt for operators with these immediates.
 SHAPES = {
     (): "nothing",
     ("unsigned",): "index",
@@ -31,17 +31,17 @@ SHAPES = {
     ("unsigned", "resume_table"): "resume",
     ("unsigned", "unsigned", "resume_table"): "resume_throw",
 }
-# The number of the shape of a select with one type.
+# The shape of a select with one type.
 ONE_TYPE = 19
-# The types that are passed by reference.
+# Passed by reference.
 BORROWED = ("BlockType", "ValType", "BrTable<'a>", "SelectTypes", "TryTable", "ResumeTable")
-# The most frequent operators: their C struct is made inline.
+# The most frequent operators, which are converted inline.
 COMMON = (
     "Else", "End", "Br", "BrIf", "Return", "Call", "Drop", "Select", "LocalGet", "LocalSet", "LocalTee", "GlobalGet",
     "GlobalSet", "I32Load", "I64Load", "I32Load8S", "I32Load8U", "I32Load16U", "I32Store", "I64Store", "I32Store8",
     "I32Store16", "I32Const", "I64Const",
 )
-# The names that the fields of a shape are bound to, in order.
+# The names of a shape's fields in patterns.
 BOUND = ["a", "b", "c"]
 
 
@@ -67,7 +67,7 @@ def opcodes_source(ops):
     names = ", ".join(enum.type for enum in sorted(ENUMS, key=lambda it: it.type))
     words = ", ".join(enum.opcode for enum in ENUMS)
     lines = [
-        f"//! The number of each operator. {HEAD}",
+        f"//! {HEAD}",
         "ghost use Rattle.std.specs.Prelude.{◌≡◌, Some};",
         *[f"ghost use Rattle.wasm_instr.specs.{enum.group}.{{{enum.opcode}}};" for enum in ENUMS],
         "ghost use Rattle.wasm_instr.specs.Row.{prefix_of, opcode_of};",
@@ -75,7 +75,7 @@ def opcodes_source(ops):
         "",
         f"use wasm_instr::{{{names}, Operator}};",
         "",
-        "/// Returns the opcode of an operator, or its subopcode plus 65536 times the prefix byte.",
+        "/// Returns an operator's number, the `opcode` of its C struct.",
         "#[inline(always)]",
         "pub fn opcode_of(op: &Operator<'_>) -> u32",
         "    ensures { result ≡ opcode_number (prefix_of op.now) (opcode_of op.now) }",
@@ -128,7 +128,7 @@ def shape_arms(ops, ty, by_reference):
 def common_source(ops):
     common = [op for op in ops if op.name in COMMON]
     lines = [
-        f"//! The C struct of an operator, made inline for frequent operators. {HEAD}",
+        f"//! {HEAD}",
         "ghost use Rattle.std.specs.Prelude.{◌≡◌};",
         "ghost use Rattle.wasm_instr.specs.Row.{immediates_of};",
         "ghost use Rattle.wasm_view.specs.View.{view, view_of};",
@@ -147,7 +147,7 @@ def common_source(ops):
         "common(offset, opcode_of(op), op)",
         "}",
         "",
-        "/// Converts frequent operators here, and the others by a call.",
+        "/// Converts frequent operators inline.",
         "#[inline(always)]",
         "fn common(offset: u64, opcode: u32, op: &Operator<'_>) -> WasmOperator",
         "    ensures { result ≡ view offset opcode (immediates_of op.now) }",
@@ -167,7 +167,7 @@ def views_source(ops):
     enums = [enum for enum in held() if enum.group != "Numeric"]
     names = ", ".join(sorted(enum.type for enum in enums))
     lines = [
-        f"//! The fields of the C struct of each operator. {HEAD}",
+        f"//! {HEAD}",
         "ghost use Rattle.std.specs.Prelude.{◌≡◌};",
         *[f"ghost use Rattle.wasm_instr.specs.{enum.group}.{{{enum.module}_immediates}};" for enum in enums],
         "ghost use Rattle.wasm_instr.specs.Row.{immediates_of};",
@@ -202,12 +202,12 @@ def views_source(ops):
     return "\n".join(lines) + "\n"
 
 
-# How many names each function has.
+# The names in each function.
 NAMES_EACH = 48
 
 
 def names_in_parts(ops):
-    """Splits the names by number into named parts. Of the two operators that share a number, a part has the first."""
+    """Splits the names by number into named parts, each with the first of two that share a number."""
     parts = []
     for group in ["Own", *[enum.group for enum in held()]]:
         those = [op for op in ops if op.group == group and op.name != SHARED[1]]
@@ -220,11 +220,10 @@ def names_spec(ops):
     parts = names_in_parts(ops)
     lines = [
         f"-- {HEAD}",
-        "-- The names of operators by their numbers.",
         "-- Specification: Appendix, Index of Instructions.",
         "use Rattle.std.specs.Prelude.{◌==◌, ℕ, List, [], codes, if◌then◌else◌}",
         "",
-        "-- The name of the operator with this number, or an empty text.",
+        "-- The name of an operator's variant, or an empty text. Its number is the opcode, or prefix byte * 0x10000 + subopcode.",
     ]
     for at in range(len(parts) - 1, -1, -1):
         name, those = parts[at]
@@ -235,7 +234,7 @@ def names_spec(ops):
         lines.append("")
     first, second = [next(op for op in ops if op.name == name) for name in SHARED]
     lines += [
-        "-- The name by number and shape: two operators share a number, and the shape 19 selects the first.",
+        "-- The name by number and shape: two operators share a number, and shape 19 selects the first.",
         "abbrev pub name_at : ℕ → ℕ → List ℕ",
         "name_at number shape =",
         f'    if number == 0x{number(first):x} then (if shape == {ONE_TYPE} then codes "{first.name}" else codes "{second.name}") else {parts[0][0]} number',
@@ -248,12 +247,11 @@ def names_source(ops):
     first, second = [next(op for op in ops if op.name == name) for name in SHARED]
     words = ", ".join(sorted(name for name, _ in parts))
     lines = [
-        f"//! The name of each operator, by its number. {HEAD}",
+        f"//! {HEAD}",
         "ghost use Rattle.std.specs.Prelude.{◌≡◌};",
         f"ghost use Rattle.wasm_view.specs.Names.{{{words}, name_at}};",
         "",
-        "/// Returns the name of the operator with this number and shape, or an empty name.",
-        "/// The number is the opcode, or the subopcode plus 65536 times the prefix byte.",
+        "/// Returns the name of the operator with this number (`opcode_of`) and shape, or an empty name.",
         "pub fn name_at(number: u32, shape: u8) -> &'static str",
         "    ensures { result.now ≡ name_at number shape }",
         "{",

@@ -1,9 +1,9 @@
-"""Writes a value of each operator for the program that prints all operators. The expected output has another source."""
+"""Writes a value of each operator for the program that prints all operators."""
 
 from source import uses
 from table import ENUMS, HEAD, held
 
-# The values of fields in constants: by the name of the field, or else by its type.
+# The values of fields in constants: by name, else by type.
 BY_NAME = {
     "array_size": "5",
     "struct_type_index": "1",
@@ -30,7 +30,7 @@ BY_TYPE = {
     "ValType": "ValType::I64",
     "BlockType": "BlockType::FuncType(0)",
 }
-# The values that the program makes at run time, by its file src/parts.rt. Those with `alloc` allocate.
+# The values made at run time, by src/parts.rt. Those with `alloc` allocate.
 CALLS = {
     "Ieee32": "float_32()",
     "Ieee64": "float_64()",
@@ -41,7 +41,6 @@ CALLS = {
     "ResumeTable": "resume_table(alloc)?",
 }
 CALLS_BY_NAME = {"from_ref_type": "nullable()?", "to_ref_type": "not_nullable()?"}
-# The types of fields that constants cannot have.
 MADE = (*CALLS, "RefType")
 # The names of the lists of the operators of one byte, and the least length of each.
 OWN_PARTS = ["first", "second", "third", "fourth", "fifth", "sixth"]
@@ -85,12 +84,10 @@ def values_source(ops):
         f"//! The operators made by constants. {HEAD}",
         *uses(constant, more),
         "",
-        "/// The memory argument of all operators that have one.",
         "const MEMARG: MemArg = MemArg {",
         "align: 1, max_align: 2, offset: 8, target: MemArgTarget::Memory(3), ordering: None,",
         "};",
         "",
-        "/// The lanes of the shuffle.",
         "const LANES: [u8; 16] = [0, 1, 2, 3, 4, 5, 6, 7, 8, 9, 10, 11, 12, 13, 14, 15];",
     ]
     for enum in held():

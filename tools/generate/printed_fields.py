@@ -1,10 +1,10 @@
-"""Writes functions that print the fields of operators in the format of tools/original/samples.tsv."""
+"""Writes functions that print fields in the format of tools/original/samples.tsv."""
 
 from source import LAYERS, rust_binding
 from table import HEAD, held
 
 CRATE = "crates/wasm_tests_texts/src/fields"
-# The function of src/values.rt that prints a field of each type.
+# The function of src/values.rt for each type.
 PRINTERS = {
     "u32": "number",
     "u8": "lane",
@@ -70,7 +70,7 @@ def shapes_source(ops):
         if name in LAYERS:
             layers.setdefault(LAYERS[name], set()).add(name)
     out = [
-        f"//! Prints several fields of an operator, by their names. {HEAD}",
+        f"//! {HEAD}",
         "use crate::values::{self, Written};",
         *[f"use {layer}::{{{', '.join(sorted(layers[layer]))}}};" for layer in sorted(layers)],
     ]
@@ -80,7 +80,7 @@ def shapes_source(ops):
 
 
 def match_arms(ops, ty):
-    """Returns the arms over operators with fields. Operators with the same fields share an arm."""
+    """Returns the arms over operators with fields. The same fields share an arm."""
     out = []
     for fields, those in shapes(ops).items():
         patterns = " | ".join(rust_binding(op, ty) for op in those)
@@ -88,7 +88,7 @@ def match_arms(ops, ty):
     return out
 
 
-def enum_source(title, name, ty, ops, held_enums=()):
+def enum_source(name, ty, ops, held_enums=()):
     given = "Operator<'_>" if ty == "Operator" else ty
     uses = [f"use wasm_instr::{ty};", "use crate::values::{self, Written};", "use crate::fields::shapes;"]
     inner = []
@@ -98,7 +98,7 @@ def enum_source(title, name, ty, ops, held_enums=()):
         uses.append(f"use crate::fields::{enum.module}::{enum.module};")
         inner.append(f"Operator::{enum.group}(op) => {enum.module}(out, op),")
     return "\n".join([
-        f"//! Prints the fields of {title}. {HEAD}",
+        f"//! {HEAD}",
         *sorted(uses),
         "",
         f"pub fn {name}(out: &mut String, op: &{given}) -> Written {{",
@@ -117,8 +117,7 @@ def printed_field_files(ops):
     enums = [enum for enum in held() if enum.group != "Numeric"]
     for enum in enums:
         those = [op for op in ops if op.group == enum.group]
-        out[f"{CRATE}/{enum.module}.rt"] = enum_source(enum.title, enum.module, enum.type, those)
+        out[f"{CRATE}/{enum.module}.rt"] = enum_source(enum.module, enum.type, those)
     own = [op for op in ops if op.group == "Own"]
-    title = "an operator"
-    out[f"{CRATE}/own.rt"] = enum_source(title, "own", "Operator", own, enums)
+    out[f"{CRATE}/own.rt"] = enum_source("own", "Operator", own, enums)
     return out

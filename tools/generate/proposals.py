@@ -4,9 +4,8 @@ from table import HEAD, PROPOSALS, variant_of
 
 
 def proposal_source():
-    """Returns the file of `Proposal`."""
     return "\n".join([
-        f"//! The proposals that added operators. {HEAD}",
+        f"//! {HEAD}",
         "ghost use Rattle.std.specs.Prelude.{◌≡◌};",
         "ghost use Rattle.wasm_imm.specs.Proposal.{proposal_name};",
         "",
@@ -39,10 +38,8 @@ def proposal_source():
 
 
 def proposal_specs():
-    """Returns the definition of the names of the proposals."""
     return "\n".join([
         f"-- {HEAD}",
-        "-- The names of the proposals that added operators.",
         "use Rattle.std.specs.Prelude.{ℕ, List, codes}",
         "use Rattle.wasm_imm.specs.declared.proposal.Proposal.{Proposal}",
         "use Rattle.wasm_imm.specs.declared.proposal.Proposal.TheVariants as proposal",
@@ -55,5 +52,4 @@ def proposal_specs():
 
 
 def proposal_files():
-    """Returns the files about proposals, by path."""
     return {"crates/wasm_imm/src/proposal.rt": proposal_source(), "crates/wasm_imm/specs/Proposal.antt": proposal_specs()}

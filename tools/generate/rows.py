@@ -1,4 +1,4 @@
-"""Writes the rows of the operators as definitions, and lemmas that a row determines its operator."""
+"""Writes the rows of the operators as definitions, and the lemmas that a row determines its operator."""
 
 from table import (
     HEAD,
@@ -21,7 +21,6 @@ from source import Shape, fields_name, names_of, shapes
 
 IMMEDIATE = "Rattle.wasm_imm.specs.Immediate"
 VALUES = "Rattle.wasm_imm.proofs.Values"
-# The `use` line of each alias that a text may have.
 ALIASES = {
     "kind": "use Rattle.wasm_imm.specs.declared.memory_argument.MemArgKind.TheVariants as kind",
     "select": "use Rattle.wasm_imm.specs.control.select.Select.TheVariants as select",
@@ -37,7 +36,6 @@ OPERATOR_USES = [
 
 
 def file_of(titles, uses, body, words, lemmas=()):
-    """Returns a file of definitions: its comment, its `use` lines and its text."""
     text = "\n".join(body)
     head = [f"-- {line}" for line in [HEAD, *titles]] + list(uses)
     head.append(f"use {IMMEDIATE}.{{{', '.join([*words, *imported(text, ROW_WORDS)])}}}")
@@ -55,14 +53,13 @@ def aliases(body, *names):
 def enum_rows(enum, ops):
     low = enum.module
     *others, (most, _) = grouped(ops, lambda op: op.proposal)
-    body = ["-- The proposal that added the operator.", f"abbrev pub {low}_proposal : {enum.type} → Proposal"]
+    body = ["-- The operator's proposal.", f"abbrev pub {low}_proposal : {enum.type} → Proposal"]
     for proposal, those in others:
         body += [f"{low}_proposal {pattern(op, low, False)} = proposal.{variant_of(proposal)}" for op in those]
     body += [f"{low}_proposal _ = proposal.{variant_of(most)}", ""]
-    body += ["-- The name of the variant.", f"abbrev pub {low}_name : {enum.type} → List ℕ"]
+    body += ["-- The variant's name.", f"abbrev pub {low}_name : {enum.type} → List ℕ"]
     body += [f'{low}_name {pattern(op, low, False)} = codes "{op.name}"' for op in ops]
-    body += ["", "-- The opcode." if not ops[0].prefix else "-- The subopcode."]
-    body.append(f"abbrev pub {enum.opcode} : {enum.type} → ℕ")
+    body += ["", "-- The opcode." if not ops[0].prefix else "-- The subopcode.", f"abbrev pub {enum.opcode} : {enum.type} → ℕ"]
     body += [f"{enum.opcode} {pattern(op, low, False)} = {op.hex()}" for op in ops]
     body += ["", f"abbrev pub {low}_immediates : {enum.type} → List Immediate"]
     body += [f"{low}_immediates {pattern(op, low)} = {immediates_of(op)}" for op in ops if op.fields]
@@ -82,7 +79,7 @@ def enum_rows(enum, ops):
     cons = ["◌∷◌"] if any("∷" in line for line in body) else []
     prelude = ["ℕ", "List", "[]", *imported("\n".join(body), ["Some"]), *cons, "codes"]
     titles = [
-        f"The rows of {enum.title}, by columns.",
+        f"The table of {enum.title}: a function for each column.",
         f"Specification: Binary Format, {enum.section}.",
     ]
     uses = [f"use Rattle.std.specs.Prelude.{{{', '.join(prelude)}}}", *aliases(body, "kind", "select")]
@@ -92,7 +89,6 @@ def enum_rows(enum, ops):
 
 
 def makers(enum, ops):
-    """Returns the function from a subopcode and immediates to the operator, by a list over all subopcodes."""
     low = enum.module
     is_plain = not any(op.fields for op in ops)
     found = {op.code: op for op in ops}
@@ -113,7 +109,6 @@ def makers(enum, ops):
 
 
 def enum_by_opcode(enum, ops):
-    """Returns the lemmas that opcode and immediates determine an operator, and that the opcode determines their kinds."""
     low = enum.module
     body, none = makers(enum, ops)
     bare = f"({low}_at ({enum.opcode} op) [])"
@@ -135,8 +130,7 @@ def enum_by_opcode(enum, ops):
         prelude += ["Bool", "true", "ltb", "◌&&◌"]
     if by_fields:
         prelude += ["sym", "ap", "◌∙◌"]
-    word = enum.opcode.removeprefix(f"{low}_")
-    titles = [f"For {enum.title}: {word} and immediates determine the operator."]
+    titles = []
     uses = [
         f"use Rattle.std.proofs.Common.{{{', '.join(prelude)}}}",
         *aliases(body, "kind", "select"),
@@ -153,7 +147,6 @@ def fields_uses(enum):
 
 
 def from_fields(enum, ops, none):
-    """Returns the lemma that opcode and fields determine an operator."""
     low = enum.module
     body = ["", f"abbrev of_fields : {enum.group}Fields → List Immediate"]
     for names, those in shapes(ops).items():
@@ -188,7 +181,7 @@ def equality_answer(enum):
 
 
 def numeric_range(none):
-    out = ["", "-- Whether a numeric operator has the opcode: it is in 0x45 to 0xc4.", "abbrev pub is_numeric : ℕ → Bool"]
+    out = ["", "abbrev pub is_numeric : ℕ → Bool"]
     out.append("is_numeric code = ltb 0x44 code && ltb code 0xc5")
     for lemma, claim in {
         "numeric_range": "is_numeric (numeric_opcode op)",
@@ -203,11 +196,11 @@ def operator_rows(ops):
     low = "operator"
     inner = [(enum, f"(operator.{enum.group} op)") for enum in held()]
     *others, (most, _) = grouped(ops, lambda op: op.proposal)
-    body = ["-- The proposal that added the operator.", "abbrev pub proposal_of : Operator → Proposal"]
+    body = ["-- The operator's proposal.", "abbrev pub proposal_of : Operator → Proposal"]
     for proposal, those in others:
         body += [f"proposal_of {pattern(op, low, False)} = proposal.{variant_of(proposal)}" for op in those]
     body += [f"proposal_of {pat} = {enum.module}_proposal op" for enum, pat in inner]
-    body += [f"proposal_of _ = proposal.{variant_of(most)}", "", "-- The name of the variant.", "abbrev pub name_of : Operator → List ℕ"]
+    body += [f"proposal_of _ = proposal.{variant_of(most)}", "", "-- The variant's name.", "abbrev pub name_of : Operator → List ℕ"]
     body += [f'name_of {pattern(op, low, False)} = codes "{op.name}"' for op in ops]
     body += [f"name_of {pat} = {enum.module}_name op" for enum, pat in inner]
     body += ["", "-- The prefix byte, if the operator has one.", "abbrev pub prefix_of : Operator → Option ℕ"]
@@ -221,7 +214,7 @@ def operator_rows(ops):
     body += [f"immediates_of {pat} = {enum.module}_immediates op" for enum, pat in inner]
     body.append("immediates_of _ = []")
     titles = [
-        "The rows of all operators, by columns.",
+        "The table of all operators: a function for each column.",
         "Specification: Binary Format, Instructions; Appendix, Index of Instructions.",
     ]
     uses = ["use Rattle.std.specs.Prelude.{ℕ, List, [], ◌∷◌, Option, Some, None, codes}"]
@@ -234,7 +227,6 @@ def operator_rows(ops):
 
 
 def operators_by_opcode(ops):
-    """Returns the function from opcode and immediates to the operator of one byte. Two operators share an opcode and differ in their immediates."""
     one, many = SHARED
     found = {op.code: op for op in ops if op.name != many}
     body = [
@@ -254,7 +246,7 @@ def operators_by_opcode(ops):
     body += ["    []", "", "-- The operator with this opcode, which is not numeric, and these immediates."]
     body += ["abbrev pub own_at : ℕ → List Immediate → Operator"]
     body.append("own_at code is = get_or makers code (λ is. operator.Nop) is")
-    titles = ["The operators of one byte by opcode, except the numeric ones."]
+    titles = ["The operators with a one-byte opcode by opcode, except the numeric ones."]
     uses = [
         "use Rattle.std.proofs.Common.{ℕ, List, [], ◌∷◌, get_or}",
         "use Rattle.wasm_imm.specs.control.select.Select.{Select}",

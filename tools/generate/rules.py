@@ -21,19 +21,19 @@ from table import (
     rows_of,
 )
 
-# Names that a field cannot have: keywords of Rust, and names in the generated definitions.
+# Keywords of Rust, and names in the generated definitions.
 TAKEN = set(
     "as box break const continue crate dyn else enum extern false fn for if impl in let loop match mod move mut"
     " pub ref return self static struct super trait true type unsafe use where while async await ghost result"
     " op code is alloc result kind select operator numeric gc misc simd atomic".split()
 ) | set(ROW_WORDS) | set(VALUE_WORDS)
 TYPES = {ty for kind in KINDS.values() for ty in kind.types}
-# Limits of the toolchain: variants of an enum, and of an enum whose values may own or borrow.
+# Limits of the toolchain: variants of an enum, and of an enum that may own or borrow.
 MOST_VARIANTS = 256
 MOST_OWNING = 128
-# The generated lists over subopcodes are as long as the largest subopcode.
+# The generated lists over subopcodes are as long.
 LARGEST_SUBOPCODE = 0x3FF
-# The generated contract of `reaching` requires fewer than 8 operands.
+# The contract of `reaching` requires fewer than 8 operands.
 MOST_TAKEN = 7
 VECTOR_PROPOSALS = ("simd", "relaxed_simd")
 
@@ -123,7 +123,6 @@ def immediate_faults(op):
 
 
 def is_memory(words):
-    """Returns whether these words are the kind of a memory argument and the exponent of a natural alignment."""
     return len(words) == 2 and words[0] in MEMORY_SORTS and words[1] in map(str, range(LARGEST_ALIGN + 1))
 
 
@@ -143,7 +142,6 @@ def arity_faults(op):
 
 
 def shared_faults(ops):
-    """Returns the names, visits and codes that occur twice."""
     out = []
     for what, key in {
         "the name": lambda op: op.name.lower(),
@@ -160,7 +158,6 @@ def shared_faults(ops):
 
 
 def enum_faults(ops):
-    """Returns the enums that exceed the limits of the toolchain."""
     out = []
     inner = [enum.group for enum in held()]
     for group in [*inner, "Own"]:

@@ -1,10 +1,10 @@
-"""Writes the enums in code, each with its functions. `rt fmt` lays out the text."""
+"""Writes the enums in code, each with its functions."""
 
 import re
 
 from table import ENUMS, HEAD, Enum, Operator, grouped, held, variant_of
 
-# The crates of the types of fields. All other types are primitive.
+# The crates of the types of fields that are not primitive.
 LAYERS = {
     "BlockType": "wasm_imm",
     "BrTable": "wasm_imm",
@@ -20,13 +20,13 @@ LAYERS = {
     "V128": "wasm_imm",
     "ValType": "wasm_below",
 }
-# A column of an enum with more variants than LARGE is split into functions of PART variants.
+# An enum with more variants than LARGE is split into functions of PART variants.
 LARGE = 128
 PART = 64
-# An enum derives `PartialEq` and `Debug` if at most this many variants have fields: the proofs of the derived code
-# grow with the square of that number. Other enums implement both by the opcode and the fields.
+# Enums with more variants with fields implement `PartialEq` and `Debug` by opcode and fields: the proofs of derived
+# code grow with the square of that number.
 MANY = 64
-# How many operators each function of the `Debug` impl of `Operator` prints.
+# How many operators each function of `Debug` prints.
 DEBUG_PART = 24
 
 
@@ -61,7 +61,7 @@ def rust_pattern(op, ty):
 
 
 def rust_binding(op, ty):
-    """Returns a pattern that binds the fields of an operator. As an expression it makes the operator from them."""
+    """Returns a pattern that binds the fields. It is also an expression."""
     return f"{ty}::{op.name}" + (f" {{ {names_of(op)} }}" if op.fields else "")
 
 
@@ -74,7 +74,6 @@ def joined_arm(patterns, value):
 
 
 def proposal_arms(ops, ty, inner_arms=()):
-    """Returns the arms of a match to the proposal. The arm `_` returns the proposal of most operators."""
     *others, (most, _) = grouped(ops, lambda op: op.proposal)
     out = [joined_arm([rust_pattern(op, ty) for op in those], f"Proposal::{variant_of(it)}") for it, those in others]
     return [*out, *inner_arms, f"_ => Proposal::{variant_of(most)},"]
@@ -89,8 +88,6 @@ def shapes(ops):
 
 
 class Shape:
-    """The properties that determine the form of an enum."""
-
     def __init__(self, ops):
         self.is_plain = not any(op.fields for op in ops)
         self.is_large = len(ops) > LARGE
@@ -111,7 +108,7 @@ def fields_name(names):
 def enum_head(enum, ops, shape):
     prelude = ["◌≡◌"]
     words = [f"{enum.module}_proposal", f"{enum.module}_name", f"{enum.opcode}"]
-    out = [f"//! {enum.title.capitalize()}. {HEAD}"]
+    out = [f"//! {HEAD}"]
     if shape.is_large:
         prelude += ["◌⊎◌", "◌<◌", "◌≤◌", "MatchOption"]
     if shape.holds_list:
@@ -153,7 +150,6 @@ def info_of(enum, ops):
         "}",
         "}",
         "",
-        "/// Returns the proposal that added the operator.",
         "fn proposal(&self) -> Proposal",
         f"ensures {{ result ≡ {low}_proposal self.now }}",
         "{",
@@ -183,7 +179,7 @@ def opcode_column(enum, ops):
 def enum_source(enum, ops):
     shape = Shape(ops)
     out = enum_head(enum, ops, shape)
-    out += [f"/// {line}" for line in enum.doc]
+    out += enum.doc
     out += [f"#[derive({shape.derived})]", f"pub enum {enum.type} {{"]
     out += [variant(op, shape.is_plain) for op in ops]
     out += ["}", "", f"impl {enum.type} {{", *info_of(enum, ops)]
@@ -202,7 +198,6 @@ def enum_source(enum, ops):
 
 def fields_enum(enum, ops):
     out = [
-        "/// The fields of an operator, by their names.",
         "#[derive(Clone, Copy, PartialEq, Eq)]",
         f"pub enum {enum.group}Fields {{",
     ]
@@ -226,7 +221,6 @@ def fields_enum(enum, ops):
 
 
 def field_arms(enum, ops, wrap):
-    """Returns the arms of a match that copies the fields of an operator. One arm has all operators without fields."""
     fields = f"{enum.group}Fields"
     out = []
     for names, those in shapes(ops).items():
@@ -237,7 +231,6 @@ def field_arms(enum, ops, wrap):
 
 
 def equality_of(enum):
-    """Returns the impls of equality. Two operators are equal if and only if their opcodes and fields are."""
     low = enum.module
     fields = f"{enum.group}Fields"
     laws = f"(and_equiv (on_equiv {enum.opcode} nat_eq_equiv) (on_equiv {low}_fields laws-law))"
@@ -289,7 +282,6 @@ def debug_of(enum, ops, shape):
 
 
 def column(enum, ops, name, ty, value):
-    """Returns a private function for a column, split into parts if the enum is large."""
 
     def arms_of(part, wrap):
         return [f"{rust_pattern(op, enum.type)} => {wrap(value(op))}," for op in part]
@@ -298,7 +290,6 @@ def column(enum, ops, name, ty, value):
 
 
 def in_parts(enum, ops, name, ty, arms_of):
-    """Returns a private function over all operators, split into parts if the enum is large. `arms_of` makes the arms of a part."""
     word = enum.opcode if name == "code" else f"{enum.module}_{name}"
     now = ".now" if ty.startswith("&") else ""
     head = [f"fn {name}(&self) -> {ty}", f"ensures {{ result{now} ≡ {word} self.now }}", "{"]
@@ -315,7 +306,7 @@ def in_parts(enum, ops, name, ty, arms_of):
         none = outside(enum, part, number == 0, number == len(parts) - 1)
         out += [
             "",
-            f"/// Handles 0x{part[0].code:02x} to 0x{part[-1].code:02x}, and returns `None` for others.",
+            f"/// Handles 0x{part[0].code:02x} to 0x{part[-1].code:02x}.",
             f"fn {place}_{name}(&self) -> Option<{ty}>",
             f"ensures {{ MatchOption result {none} (λ x. x{now} ≡ {word} self.now) }}",
             "{",
@@ -336,14 +327,14 @@ def outside(enum, part, is_first, is_last):
     return f"({below} ⊎ {above})"
 
 
-OWN = Enum("Own", "wasm_instr", "operator", "the other operators of one byte", [], "")
+OWN = Enum("Own", "wasm_instr", "operator", "the other operators with a one-byte opcode")
 
 
 def operator_head(ops):
     more = [(enum.crate, enum.type) for enum in ENUMS]
     more += [("wasm_imm", "OperatorInfo"), ("wasm_imm", "Proposal"), ("wasm_below", "Result")]
     return [
-        f"//! All operators as one type. {HEAD}",
+        f"//! {HEAD}",
         "ghost use Rattle.std.specs.Prelude.{◌≡◌, ◌↔◌, IsTrue, IfOk, IfErr};",
         "ghost use Rattle.wasm_imm.specs.OutOfMemory.{IsOutOfMemoryAt};",
         "ghost use Rattle.wasm_instr.specs.Row.{proposal_of, name_of, prefix_of, opcode_of};",
@@ -360,8 +351,7 @@ def operator_enum(ops):
     out = [
         "/// An operator with its immediates.",
         "///",
-        "/// The variants are the operators of one byte except the numeric ones, then the inner enums, from",
-        "/// which `From` converts.",
+        "/// `From` converts the operators of the inner enums, which are the last variants.",
         "#[derive(Drop, PartialEq, Eq)]",
         "pub enum Operator<'a> {",
         *[variant(op) for op in ops],
@@ -387,7 +377,6 @@ def operator_enum(ops):
 
 
 def debug_parts(ops):
-    """Groups the operators with fields by the names and types of the fields, and splits the groups into parts."""
     found = {}
     for op in ops:
         if op.fields:
@@ -442,7 +431,6 @@ def operator_info(ops):
         "}",
         "}",
         "",
-        "/// Returns the proposal that added the operator.",
         "fn proposal(&self) -> Proposal",
         "ensures { result ≡ proposal_of self.now }",
         "{",
@@ -472,7 +460,7 @@ def operator_column(ops, name, word, ty, value):
 
 
 def operator_source(ops, owning=()):
-    """Returns the file of `Operator`. `owning` lists the inner enums that own lists."""
+    """Returns the file of `Operator`. `owning` are the inner enums that own lists."""
     return "\n".join([
         *operator_head(ops),
         *operator_enum(ops),
@@ -506,7 +494,7 @@ def operator_source(ops, owning=()):
 
 def clone_of(ty, holds_list, ops, owning=()):
     out = [
-        "/// Copies the operator with its list. Fails with `OutOfMemory` at offset 0, only if it owns one.",
+        "/// Copies the operator. Fails only if it owns a list: with `OutOfMemory` at offset 0.",
         f"pub fn clone(&self, alloc: Global) -> Result<{ty}{lifetime(ty)}>",
         "ensures ok { IfOk result (λ copy. copy ≡ self.now) }",
         f"ensures err {{ IfErr result (λ e. {holds_list} self.now × IsOutOfMemoryAt 0 e) }}",
@@ -522,7 +510,7 @@ def clone_of(ty, holds_list, ops, owning=()):
 
 
 def lifetime(ty):
-    """Returns the lifetime of an enum. Only `Operator` borrows, since it has the branch table."""
+    """Returns the lifetime of an enum: only `Operator` borrows, in the branch table."""
     return "<'a>" if ty == "Operator" else ""
 
 

@@ -1,6 +1,7 @@
 """Reads the table of operators, and lists the enums that they are variants of."""
 
 import re
+import textwrap
 from pathlib import Path
 
 TOP = Path(__file__).resolve().parent.parent.parent
@@ -8,7 +9,6 @@ TABLE = TOP / "tools" / "operators.tsv"
 HEAD = "Written by tools/lists.py from tools/operators.tsv."
 WIDTH = 100
 COLUMNS = ["proposal", "name", "text", "visit", "prefix", "code", "fields", "immediates", "takes", "leaves"]
-# The enum of the operators with each prefix byte.
 PREFIXES = {"fb": "Gc", "fc": "Misc", "fd": "Simd", "fe": "Atomic"}
 
 
@@ -46,14 +46,14 @@ class Operator:
 
 
 def rows_of(path=TABLE):
-    """Returns the cells of each row by line number, from 1. The first line names the columns."""
+    """Returns the cells of each row by line number, from 1."""
     text = path.read_text(encoding="utf-8")
     lines = text.removesuffix("\n").split("\n")
     return {number: line.split("\t") for number, line in enumerate(lines, 1)}
 
 
 def table(path=TABLE):
-    """Returns the operators in the order of the table. The rows must be free of faults (`rules.faults`)."""
+    """Returns the operators of a table without faults (`rules.faults`)."""
     return [Operator(cells, f"{named(path)}:{n}") for n, cells in rows_of(path).items() if n > 1]
 
 
@@ -61,69 +61,34 @@ def named(path):
     return path.relative_to(TOP) if path.is_relative_to(TOP) else path
 
 
-class Enum:
-    """An enum of operators: its crate and module, and the texts that describe it."""
+def doc(text):
+    return [f"/// {line}" for line in textwrap.wrap(text, WIDTH - len("/// "))]
 
-    def __init__(self, group, crate, module, title, doc, section):
+
+class Enum:
+    def __init__(self, group, crate, module, title, section="", more=""):
         self.group = group
         self.crate = crate
         self.module = module
         self.title = title
-        self.doc = doc
         self.section = section
+        self.doc = doc(f"{title.capitalize()}{more}. {section[:1].upper()}{section[1:]}.")
         self.type = "Operator" if group == "Own" else f"{group}Operator"
-        # The definition of the column of opcodes. After a prefix byte they are subopcodes.
         self.opcode = f"{module}_opcode" if group == "Numeric" else f"{module}_subopcode"
 
 
 ENUMS = [
-    Enum(
-        "Numeric",
-        "wasm_instr_ops",
-        "numeric",
-        "the numeric operators of one byte",
-        ["The numeric operators of one byte, 0x45 to 0xc4, which have no immediates. Numeric Instructions."],
-        "Numeric Instructions",
-    ),
-    Enum(
-        "Gc",
-        "wasm_instr_ops",
-        "gc",
-        "the operators with the prefix byte 0xfb",
-        ["The operators with the prefix byte 0xfb: structures, arrays and casts. Aggregate Instructions, and", "the proposal custom descriptors."],
-        "Aggregate Instructions; proposal custom descriptors",
-    ),
-    Enum(
-        "Misc",
-        "wasm_instr_ops",
-        "misc",
-        "the operators with the prefix byte 0xfc",
-        ["The operators with the prefix byte 0xfc: saturating truncations, bulk memory, tables and wide", "arithmetic. Numeric, Memory and Table Instructions, and the proposals memory control and wide", "arithmetic."],
-        "Numeric, Memory and Table Instructions; proposals memory control and wide arithmetic",
-    ),
-    Enum(
-        "Atomic",
-        "wasm_instr_ops",
-        "atomic",
-        "the operators with the prefix byte 0xfe",
-        ["The operators with the prefix byte 0xfe. Proposals threads, shared-everything threads and", "acquire-release atomics."],
-        "proposals threads, shared-everything threads and acquire-release atomics",
-    ),
-    Enum(
-        "Simd",
-        "wasm_instr_simd",
-        "simd",
-        "the operators with the prefix byte 0xfd",
-        ["The SIMD operators, with the prefix byte 0xfd. Vector Instructions, including the relaxed ones."],
-        "Vector Instructions",
-    ),
+    Enum("Numeric", "wasm_instr_ops", "numeric", "the numeric operators with a one-byte opcode", "Numeric Instructions", ", 0x45 to 0xc4, without immediates"),
+    Enum("Gc", "wasm_instr_ops", "gc", "the operators with the prefix byte 0xfb", "Aggregate Instructions; proposal custom descriptors", ": structures, arrays and casts"),
+    Enum("Misc", "wasm_instr_ops", "misc", "the operators with the prefix byte 0xfc", "Numeric, Memory and Table Instructions; proposals memory control and wide arithmetic"),
+    Enum("Atomic", "wasm_instr_ops", "atomic", "the operators with the prefix byte 0xfe", "proposals threads, shared-everything threads and acquire-release atomics"),
+    Enum("Simd", "wasm_instr_simd", "simd", "the operators with the prefix byte 0xfd", "Vector Instructions", ": SIMD, including the relaxed ones"),
 ]
-# The enums that Operator holds, in the order of its last variants.
 HELD = ["Numeric", "Gc", "Misc", "Simd", "Atomic"]
 
 
 def singular(title):
-    """Returns the title of some operators for one of them, such as "an operator of one byte"."""
+    """Returns for example "an operator with a one-byte opcode"."""
     for word, article in (("", "an"), ("numeric ", "a"), ("SIMD ", "a")):
         title = title.replace(f"the {word}operators", f"{article} {word}operator", 1)
     return title
@@ -134,7 +99,7 @@ def held():
 
 
 class Kind:
-    """A kind of immediates: the types of its fields, the term over them, and the functions that take its values from a list."""
+    """The types of the fields, the term over them, and the functions that take its values from a list."""
 
     def __init__(self, types, term, values):
         self.types = types
@@ -166,12 +131,11 @@ KINDS = {
     "try_table": Kind(["TryTable"], "try_clauses {0}", ["try_table_in"]),
     "resume_table": Kind(["ResumeTable"], "resume_clauses {0}", ["resume_table_in"]),
 }
-# The kinds of memory arguments, and the largest exponent of a natural alignment.
+# The kinds of memory arguments, and the largest natural alignment.
 MEMORY_SORTS = ("Plain", "Op", "Rmw")
 LARGEST_ALIGN = 4
-# The types of fields that own a list.
 OWNING = ("SelectTypes", "TryTable", "ResumeTable")
-# The two operators that share an opcode.
+# They share an opcode.
 SHARED = ("TypedSelect", "TypedSelectMulti")
 PROPOSALS = (
     "mvp", "sign_extension", "gc", "custom_descriptors", "saturating_float_to_int", "bulk_memory",
@@ -182,7 +146,6 @@ PROPOSALS = (
 
 
 def variant_of(proposal):
-    """Returns the variant of `Proposal` for a name of a proposal."""
     return "".join(word.capitalize() for word in proposal.split("_"))
 
 
@@ -199,7 +162,7 @@ def immediates_of(op):
 
 
 def made_of(op, alias):
-    """Returns the operator made from the values in a list of immediates named `is`, in antt."""
+    """Returns the operator made from the list of immediates `is`, in antt."""
     values = []
     rest = "is"
     for immediate in op.immediates:
@@ -214,14 +177,13 @@ def imported(text, names):
 
 
 def pattern(op, alias, named=True):
-    """Returns a pattern that matches an operator, in antt."""
     if not op.fields:
         return f"{alias}.{op.name}"
     names = " ".join(name if named else "_" for name, _ in op.fields)
     return f"({alias}.{op.name} {names})"
 
 
-# The definitions of immediates, and of their values in a list, that a file may import.
+# The definitions that a file may import: of immediates, and of their values in a list.
 ROW_WORDS = [
     "unsigned_32", "signed_32", "signed_64", "float_32", "float_64", "vector", "one_lane",
     "sixteen_lanes", "memory_argument", "memory_index", "table_index_32", "order", "fence_order",
@@ -238,12 +200,11 @@ def enum_uses(enum):
 
 
 def by_cases(lemma, first, alias, proof):
-    """Returns the equations of a lemma with the same proof for each variant."""
     return [f"{lemma} {pattern(first, alias)} = {proof}", f"{lemma} op = {proof}"]
 
 
 def grouped(ops, value):
-    """Groups the operators by a value, in the order of their first operator. The largest group is last."""
+    """Groups the operators by a value. The largest group is last."""
     found = {}
     for op in ops:
         found.setdefault(value(op), []).append(op)

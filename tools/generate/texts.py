@@ -4,7 +4,7 @@ from source import arms, rust_binding
 from table import ENUMS, HEAD, KINDS, held, pattern
 
 CRATE = "crates/wasm_text"
-# The function of src/operands.rt that writes immediates of these kinds.
+# The function of src/operands.rt for these immediates.
 WRITERS = {
     ("unsigned",): "one_number",
     ("memory_index",): "one_number",
@@ -35,7 +35,7 @@ WRITERS = {
     ("unsigned", "resume_table"): "number_and_clauses",
     ("unsigned", "unsigned", "resume_table"): "numbers_and_clauses",
 }
-# The operators whose operands differ from their immediates in order, as `operands_of` defines.
+# Operands that differ from the immediates in order, as `operands_of` defines.
 OTHERS = {
     "ReturnCallIndirect": "indirect",
     "RefTestNonNull": "reference_without_null",
@@ -48,7 +48,6 @@ OTHERS = {
 
 
 def inner_uses(enum):
-    """Returns the `use` lines of an inner enum, through `wasm_instr`."""
     path = f"Rattle.wasm_instr.specs.{'simd' if enum.group == 'Simd' else 'ops'}.{enum.module}.{enum.type}"
     return [f"use {path}.{{{enum.type}}}", f"use {path}.TheVariants as {enum.module}"]
 
@@ -58,7 +57,7 @@ def kinds_of(op):
 
 
 def call_of(op):
-    """Returns the expression that writes the operands of an operator: one call, or one for each immediate."""
+    """Returns the expression that writes the operands: one call, or one for each immediate."""
     names = [name for name, _ in op.fields]
     if not names:
         return "Ok(())"
@@ -115,7 +114,7 @@ def name_source(ops):
     words = ", ".join(["text_name", *(f"{enum.module}_text_name" for enum in held())])
     types = ", ".join(sorted(["Operator", *(enum.type for enum in ENUMS)]))
     out = [
-        f"//! The names of the operators in the text format. {HEAD}",
+        f"//! {HEAD}",
         "ghost use Rattle.std.specs.Prelude.{◌≡◌};",
         f"ghost use Rattle.wasm_text.specs.Names.{{{words}}};",
         "",
@@ -131,7 +130,6 @@ def name_source(ops):
 
 
 def operand_arms(ops, ty):
-    """Returns the arms of a match. Operators with the same function and fields share an arm."""
     found = {}
     for op in ops:
         found.setdefault(call_of(op), []).append(op)
@@ -165,7 +163,7 @@ def operand_files(ops):
         text.insert(1, f"ensures {{ OnOk result (string_bytes out.new ≡ string_bytes out.old ++ {claim}) }}")
         row = [] if low == "gc" else [f"ghost use Rattle.wasm_instr.specs.{enum.group}.{{{low}_immediates}};"]
         out[f"{CRATE}/src/operators/{low}.rt"] = "\n".join([
-            f"//! The operands of {enum.title}. {HEAD}",
+            f"//! {HEAD}",
             "ghost use Rattle.std.specs.Prelude.{◌≡◌, ◌++◌, OnOk, string_bytes};",
             *row,
             f"ghost use Rattle.wasm_text.specs.Operands.{{{words}}};",
@@ -181,7 +179,7 @@ def operand_files(ops):
     text.insert(1, "ensures { OnOk result (string_bytes out.new ≡ string_bytes out.old ++ operands_of op.now) }")
     modules = ", ".join(e.module for e in sorted(held(), key=lambda e: e.module) if e.group != "Numeric")
     out[f"{CRATE}/src/operators/own.rt"] = "\n".join([
-        f"//! The operands of all operators. {HEAD}",
+        f"//! {HEAD}",
         "ghost use Rattle.std.specs.Prelude.{◌≡◌, ◌++◌, OnOk, string_bytes};",
         "ghost use Rattle.wasm_text.specs.Operands.{operands_of};",
         "",

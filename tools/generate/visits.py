@@ -1,7 +1,7 @@
 """Writes the groups of visits, the dispatch of each group, and the visits of the factory."""
 
 from source import uses
-from table import HEAD, WIDTH, held, singular
+from table import HEAD, WIDTH, doc, held, singular
 
 
 class Group:
@@ -15,7 +15,6 @@ class Group:
 
     @property
     def bound(self):
-        """Returns the trait whose methods name the group."""
         return "VisitSimdOperator" if self.enum == "Simd" else "VisitGroups"
 
     def has(self, op):
@@ -30,19 +29,17 @@ class Group:
 
 
 GROUPS = [
-    Group("one_byte", "VisitOneByte", "Own", "the operators of one byte", "the operators of one byte, except the numeric ones and the branch table", "Instructions."),
-    Group("numeric", "VisitNumeric", "Numeric", "the numeric operators", "the numeric operators of one byte, 0x45 to 0xc4", "Numeric Instructions."),
+    Group("one_byte", "VisitOneByte", "Own", "the operators with a one-byte opcode", "the operators with a one-byte opcode, except the numeric ones and the branch table", "Instructions."),
+    Group("numeric", "VisitNumeric", "Numeric", "the numeric operators", "the numeric operators with a one-byte opcode, 0x45 to 0xc4", "Numeric Instructions."),
     Group("gc", "VisitGc", "Gc", "the operators with prefix 0xfb", "the operators with the prefix byte 0xfb", "Aggregate Instructions."),
     Group("misc", "VisitMisc", "Misc", "the operators with prefix 0xfc", "the operators with the prefix byte 0xfc", "Numeric, Memory and Table Instructions."),
     Group("atomic", "VisitAtomic", "Atomic", "the operators with prefix 0xfe", "the operators with the prefix byte 0xfe", "Proposal threads."),
     Group("simd_low", "VisitSimdLow", "Simd", "the SIMD operators below 0x80", "the SIMD operators with a subopcode below 0x80", "Vector Instructions."),
     Group("simd_high", "VisitSimdHigh", "Simd", "the SIMD operators from 0x80 on", "the SIMD operators with a subopcode of at least 0x80", "Vector Instructions."),
 ]
-# The groups that methods of `VisitGroups` name, and those that methods of `VisitSimdOperator` name.
 FIXED = [group for group in GROUPS if group.enum != "Simd"]
 VECTORS = [group for group in GROUPS if group.enum == "Simd"]
 
-# The variants of `Operator` outside `VisitOneByte`, as a pattern.
 ONE_BYTE_OTHERS = " | ".join(["Operator::BrTable { targets: _ }"] + [f"Operator::{enum.group}(_)" for enum in held()])
 
 
@@ -52,7 +49,6 @@ def signature(op, answer):
 
 
 def type_name(group):
-    """Returns the enum whose variants the operators are."""
     return "Operator" if group.enum == "Own" else f"{group.enum}Operator"
 
 
@@ -84,7 +80,6 @@ def braced(names):
 
 
 def naming(group):
-    """Returns the methods that name a group, each with the call that it makes."""
     given = {"one_byte": "alloc, self, reader, start, frame, code", "numeric": "self, code"}.get(group.module, "self, reader, start, code")
     low = group.module
     methods = [(f"dispatch_{low}", f"dispatch::{low}(self, op)"), (f"decode_{low}", f"decode::{low}({given})")]
@@ -92,20 +87,16 @@ def naming(group):
 
 
 def group_trait(ops, group):
-    """Returns the trait of a group's visits, whose default bodies call `visit_any`."""
     those = group.of(ops)
     out = [
-        f"//! Visits of {group.short}. {HEAD}",
+        f"//! {HEAD}",
         *ghost_uses(group),
         "",
         "use crate::visitor::Visitor;",
         *uses(those),
         f"use wasm_instr::{braced(sorted({'Operator', type_name(group)}))};",
         "",
-        f"/// Visits of {group.title}. {group.section}",
-        "///",
-        "/// A visit passes its operator to `visit_any` unless it is overridden. Overridden visits are called",
-        f"/// only by methods of the visitor's `{group.bound}` that name the group:",
+        *doc(f"Visits of {group.title}. {'' if group.section.startswith('Proposal') else 'Specification: '}{group.section} By default they call `visit_any`. Overridden visits run only if the visitor's `{group.bound}` has these methods:"),
         "///",
         *[f"/// - `{method}`, by `{call}`" for method, call in naming(group)],
         f"pub trait {group.trait}: Visitor {{",
@@ -113,7 +104,6 @@ def group_trait(ops, group):
     for number, op in enumerate(those):
         out += [] if number == 0 else [""]
         out += [
-            f"    /// Visits `{op.name}`.",
             "    #[inline(always)]",
             signature(op, "Self::Output"),
             f"        ensures {{ Self.visits self.old {term(op)} result self.new }}",
@@ -141,7 +131,7 @@ def group_dispatch(ops, group):
     others = ONE_BYTE_OTHERS if group.enum == "Own" else "_"
     return [
         "",
-        f"/// Calls the visit of {singular(group.short)}. The dispatch does not allocate.",
+        f"/// Calls the visit of {singular(group.short).replace('SIMD operator', 'SIMD operator with a subopcode')}.",
         f"pub fn {group.module}<V: {group.trait}>(v: &mut V, op: {param}) -> V::Output",
         *([f"    requires {{ {wanted} op }}"] if wanted else []),
         f"    ensures {{ V.visits v.old {told} result v.new }}",
@@ -155,12 +145,10 @@ def group_dispatch(ops, group):
 
 
 def dispatch(ops, groups):
-    """Returns the file of the dispatch of some groups."""
     wanted = ["IsOneByte"] if groups is FIXED else ["IsSimdHigh", "IsSimdLow"]
     types = sorted({"Operator"} | {type_name(group) for group in groups}) if groups is FIXED else ["SimdOperator"]
-    what = "a SIMD operator" if groups is VECTORS else "an operator that is not a SIMD operator"
     out = [
-        f"//! From {what} to its visit. {HEAD}",
+        f"//! {HEAD}",
         "ghost use Rattle.wasm_instr.specs.declared.operator.Operator.{Operator};",
         f"ghost use Rattle.wasm_visit_groups.specs.Groups.{{{', '.join(wanted)}}};",
         "",
@@ -173,10 +161,9 @@ def dispatch(ops, groups):
 
 
 def group_factory(ops, group):
-    """Returns the factory's visits of a group. Each visit makes its operator in place."""
     those = group.of(ops)
     out = [
-        f"//! Makes {group.short}. {HEAD}",
+        f"//! {HEAD}",
         "use crate::factory::Factory;",
         *uses(those),
         f"use wasm_instr::{braced(sorted({'Operator', type_name(group)}))};",

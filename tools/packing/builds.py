@@ -1,4 +1,4 @@
-"""Builds what `tools/dist` packs: the programs, the library for C, and the libraries for Rattle programs."""
+"""Builds what tools/dist packs."""
 
 import io
 import re
@@ -15,21 +15,17 @@ from testing.programs import Builder
 
 TOP = Path(__file__).resolve().parent.parent.parent
 EXPORTS = "wasm_c_exports"
-# What a build reads of a commit.
 READ = ["crates", "crates.txt", "HANDLES"]
-# What a proof assumes, and its verdict, on lines of `rattle build --list-axioms`.
+# A function of C whose contract a proof assumes, and the verdict, in the output of `rattle build --list-axioms`.
 VERDICT = re.compile(r"^(?:  (\S+)   reached|(logic=proved .*))$", re.M)
 
 
 class Failed(Exception):
-    """A build failed; the message says why."""
+    """A build failed."""
 
 
 class Built:
-    """What a build made: programs and Rattle libraries by name, the library for C, and what the prover said.
-
-    `said` has the last lines of `rt ci`, and `verdict` those of the build of the library for C.
-    """
+    """What a build made. `said` has the last lines of `rt ci`, `verdict` the lines about the library for C."""
 
     def __init__(self, programs, archive, libraries=None, said=(), verdict=()):
         self.programs, self.archive, self.libraries = programs, archive, libraries or {}
@@ -37,43 +33,39 @@ class Built:
 
 
 def identity_of(kit):
-    """Returns what identifies a kit: the line of `rt version`, and the checksums of what it was made from."""
     return "".join((kit / name).read_text(encoding="utf-8") for name in ("KIT-ID", "WHAT"))
 
 
 def notices_of(kit, crates):
-    """Returns the kit's libraries that are compiled into what is packed, and the files of their licences by name."""
+    """Returns the kit's libraries, and the files of their licences by name."""
     names = dict.fromkeys(it for name in libraries_of(crates) for it in crates.of_kit(name) if it != "std")
     files = {f"{name}-{path.name}": path for name in names for path in sorted((kit / "rattle" / name).glob("LICENSE*"))}
     return list(names), files
 
 
 def programs_of(crates):
-    """Returns the names of the programs that users run."""
     is_program = lambda name: (crates.folder(name) / "src/main.rt").exists()
     return [name for name in crates.uses if is_program(name) and not name.startswith("wasm_tests_")]
 
 
 def libraries_of(crates):
-    """Returns the libraries below the programs and below the library for C, lowest first."""
     every = [it for name in [*programs_of(crates), EXPORTS] for it in crates.below(name)]
     return sorted(dict.fromkeys(every), key=lambda name: (len(crates.below(name)), name))
 
 
 def commit_of(top):
-    """Returns the commit of a checkout, and the changed files that it doesn't have."""
+    """Returns the commit of a checkout, and the files that differ from it."""
     git = lambda *words: subprocess.run(["git", "-C", top, *words], capture_output=True, text=True, check=True).stdout
     return git("rev-parse", "HEAD").strip(), git("status", "--porcelain").splitlines()
 
 
 def lines_of(text, names):
-    """Returns the lines of a crates.txt that list these crates."""
     heads = [(line, line.split("#")[0].split(":")[0].split()) for line in text.splitlines()]
     return "".join(f"{line}\n" for line, head in heads if head and head[0] in names)
 
 
 def export(top, commit, folder):
-    """Writes the crates of a commit that are packed into a folder, without must-fail edits. Returns them as `Crates`."""
+    """Writes the packed crates of a commit into a folder."""
     packed = subprocess.run(["git", "-C", top, "archive", commit, *READ], capture_output=True, check=True).stdout
     with tarfile.open(fileobj=io.BytesIO(packed)) as it:
         it.extractall(folder)
@@ -87,7 +79,6 @@ def export(top, commit, folder):
 
 
 def prove(folder, log):
-    """Runs `rt ci` on the exported crates. Returns its last lines."""
     last = []
     with open(log, "w", encoding="utf-8") as out:
         how = {"cwd": folder, "stdin": subprocess.DEVNULL, "stdout": subprocess.PIPE, "stderr": subprocess.STDOUT}
@@ -103,7 +94,7 @@ def prove(folder, log):
 
 
 def link_words(kit, crates, name, rlib_of):
-    """Returns the words for `rattle` that name the libraries of a crate. `rlib_of` gives the folder of a library."""
+    """Returns the words for `rattle`. `rlib_of` gives a library's folder."""
     words = []
     for it in crates.of_kit(name):
         words += ["--extern", f"{it}={kit}/rlibs/{it}.rlib"]
@@ -116,7 +107,7 @@ def link_words(kit, crates, name, rlib_of):
 
 
 def build_proved(kit, crates, name, rlib_of, out):
-    """Proves a program or a static library over built libraries, and compiles it. Returns the output of `rattle`."""
+    """Proves and compiles over built libraries. Returns the output of `rattle`."""
     is_program = (crates.folder(name) / "src/main.rt").exists()
     words = [kit / "bin/rattle", "build", "--crate-name", name, "src/main.rt" if is_program else "src/lib.rt"]
     words += link_words(kit, crates, name, rlib_of)
@@ -131,19 +122,16 @@ def build_proved(kit, crates, name, rlib_of, out):
 
 
 def verdict_of(output):
-    """Returns a line for each function of C whose contract a proof assumes, and the prover's last line."""
     return [f"assumed: {reached}" if reached else verdict for reached, verdict in VERDICT.findall(output)]
 
 
 def link_program(kit, compiled, program):
-    """Links a compiled program as `rt ci` does."""
     words = [kit / "bin/rattle-link", "--target", "x86_64-unknown-linux-gnu", "--toolchain", kit / "toolchain"]
     words += ["-o", program, compiled, kit / "c/libos_c.a", kit / "c/liblibc_c.a"]
     subprocess.run([str(it) for it in words], stdout=subprocess.DEVNULL, check=True)
 
 
 def proved(kit, commit, folder, log):
-    """Builds a commit with proofs in a folder."""
     crates = export(TOP, commit, folder)
     said = prove(folder, log)
     out_of = lambda name: crates.folder(name) / "out"
@@ -159,7 +147,6 @@ def proved(kit, commit, folder, log):
 
 
 def unproved(kit, folder):
-    """Builds this checkout without proofs in a folder, several things at a time."""
     crates = Crates(TOP)
     builder = Builder(kit, crates, folder / "scratch", folder / "programs", plain=True)
     names = programs_of(crates)
@@ -171,7 +158,6 @@ def unproved(kit, folder):
 
 
 def build_unproved_library(folder):
-    """Builds the library for C without proofs in a folder. Returns its path."""
     words = [sys.executable, "-B", TOP / "tools/unproved_library.py", folder]
     ran = subprocess.run(words, capture_output=True, text=True)
     if ran.returncode:

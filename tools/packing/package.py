@@ -1,4 +1,4 @@
-"""Makes the cargo package: the crate of bindings/rust with the libraries that it links, as `cargo package` would."""
+"""Makes the cargo package: the crate of bindings/rust with the libraries that it links."""
 
 import gzip
 import io
@@ -10,23 +10,20 @@ from packing.builds import TOP
 
 CRATE = TOP / "bindings/rust"
 KEPT = ["Cargo.toml", "Cargo.lock", "build.rs", "README.md", "API.md", "src", "examples", "tests"]
-# A file of the repository that a test reads.
 OUTSIDE = re.compile(r'(include_(?:str|bytes)!\(\s*")(?:\.\./){2,}([^"]+)"')
 
 
 def field(name):
-    """Returns a field of the crate's Cargo.toml."""
     return re.search(rf'^{name} = "(.*)"$', (CRATE / "Cargo.toml").read_text(encoding="utf-8"), re.M)[1]
 
 
 def brought_in(text):
-    """Returns a test that reads its files from the package, and these files: path in the repository and in `tests`."""
+    """Returns a test that reads its files from the package, and these files: here and in `tests`."""
     files = {path: f"data/{path.replace('/', '-')}" for _, path in OUTSIDE.findall(text)}
     return OUTSIDE.sub(lambda found: f'{found[1]}{files[found[2]]}"', text), files
 
 
 def bring_in(folder):
-    """Copies what the tests read from the repository into the package."""
     for test in sorted((folder / "tests").glob("*.rs")):
         text, files = brought_in(test.read_text(encoding="utf-8"))
         test.write_text(text, encoding="utf-8")
@@ -36,7 +33,6 @@ def bring_in(folder):
 
 
 def make(folder, libraries, notices):
-    """Writes the package into a folder that gets its name, with these libraries and their licences. Returns its path."""
     package = folder / f"{field('name')}-{field('version')}"
     for name in KEPT:
         copy = shutil.copytree if (CRATE / name).is_dir() else shutil.copyfile
@@ -54,7 +50,7 @@ def make(folder, libraries, notices):
 
 
 def pack(package, archive):
-    """Writes a package as a `.crate`. The same files give the same bytes."""
+    """The same files give the same bytes."""
     packed = io.BytesIO()
     with tarfile.open(fileobj=packed, mode="w", format=tarfile.GNU_FORMAT) as out:
         for path in sorted(it for it in package.rglob("*") if it.is_file()):

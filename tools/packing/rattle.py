@@ -1,4 +1,4 @@
-"""Packs the proved libraries for Rattle programs, in the shape that a kit has its own."""
+"""Packs the proved libraries for Rattle programs."""
 
 import os
 import shutil
@@ -7,7 +7,6 @@ import subprocess
 from packing.builds import TOP, identity_of
 
 HERE = TOP / "tools/packing"
-# What a kit has of a library, in addition to its rlib.
 PARTS = ["README.md", "src", "specs", "proofs"]
 # Pages and proved callers, by the library whose folder gets them.
 MORE = {
@@ -19,14 +18,12 @@ MORE = {
         "uses": "crates/uses",
     },
 }
-# What the folder of a proved caller leaves out.
 LEFT_OUT = ("out", "must-fail", "more-must-fail")
 # The same files give the same archive.
 TAR = ["tar", "--sort=name", "--mtime=@0", "--owner=0", "--group=0", "--numeric-owner", "--mode=u=rwX,go=rX"]
 
 
 def copied(source, target):
-    """Copies a file or a folder, if it is there."""
     target.parent.mkdir(parents=True, exist_ok=True)
     if source.is_dir():
         shutil.copytree(source, target, ignore=shutil.ignore_patterns(*LEFT_OUT))
@@ -35,7 +32,6 @@ def copied(source, target):
 
 
 def lay_out(crates, libraries, folder):
-    """Writes `rlibs/NAME.rlib` and `rattle/NAME` of these libraries into a folder. It moves the libraries there."""
     (folder / "rlibs").mkdir(parents=True)
     for name, rlib in libraries.items():
         shutil.move(rlib, folder / "rlibs" / f"{name}.rlib")
@@ -47,18 +43,16 @@ def lay_out(crates, libraries, folder):
 
 
 def pack(folder, archive):
-    """Packs the libraries in a folder into one archive, as `rt ci` refuses such files in a checkout."""
+    """Packs a folder into one archive, since `rt ci` refuses its files in a checkout."""
     words = [*TAR, "-C", folder, "--use-compress-program=xz -T0 -1", "-cf", archive, "rlibs", "rattle"]
     subprocess.run([str(it) for it in words], check=True, env={**os.environ, "LC_ALL": "C"})
 
 
 def bytes_of(folder):
-    """Returns the size of a folder's files."""
     return sum(it.stat().st_size for it in folder.rglob("*") if it.is_file())
 
 
 def make(kit, crates, libraries, scratch, out):
-    """Writes the folder `rattle` of dist/: the archive, the names in it, the kit's identity, `add-to-kit` and the page."""
     lay_out(crates, libraries, scratch)
     out.mkdir(parents=True)
     pack(scratch, out / "libraries.tar.xz")

@@ -1,4 +1,4 @@
-"""Writes the texts of dist/: the man pages, the pkg-config file, PROVED or UNPROVED, and the checksums."""
+"""Writes the texts of dist/."""
 
 import hashlib
 import re
@@ -42,19 +42,16 @@ The programs and the library have the checks of `rt try`: a run stops at an inde
 
 
 def version():
-    """Returns the version of the interface for C."""
     header = (TOP / "include/wasm_operators.h").read_text(encoding="utf-8")
     return re.search(r"^#define WASM_OPERATORS_VERSION (\d+)u$", header, re.M)[1]
 
 
 def purpose_of(name):
-    """Returns what a program is for: the first paragraph of its source."""
     text = (TOP / f"crates/{name}/src/main.rt").read_text(encoding="utf-8")
     return " ".join(re.match(r"(?://! .*\n)+", text)[0].replace("//!", "").split())
 
 
 def help_of(name, program):
-    """Returns what a program's `--help` prints, or else the text of its README."""
     how = {"stdin": subprocess.DEVNULL, "capture_output": True, "text": True, "errors": "replace"}
     ran = subprocess.run([program, "--help"], **how)
     if ran.returncode == 0 and ran.stdout.strip():
@@ -64,7 +61,6 @@ def help_of(name, program):
 
 
 def man_page(name, text, commit):
-    """Returns the man page of a program with this help text."""
     escape = lambda it: re.sub(r"^([.'])", r"\\&\1", it.replace("\\", "\\e").replace("-", "\\-"), flags=re.M)
     what = purpose_of(name)
     what = (what[0].lower() + what[1:]).rstrip(".").replace("`", "")
@@ -73,14 +69,13 @@ def man_page(name, text, commit):
 
 
 def glibc_of(programs):
-    """Returns the newest version of glibc that the programs need, as the words of a line."""
+    """Returns the newest version of glibc that programs need."""
     found = {match for path in programs for match in re.findall(rb"GLIBC_(\d+(?:\.\d+)+)\0", path.read_bytes())}
     newest = max((tuple(map(int, it.split(b"."))) for it in found), default=None)
     return f", with glibc {'.'.join(map(str, newest))} or later" if newest else ""
 
 
 def sum_of(path):
-    """Returns the SHA-256 of a file."""
     found = hashlib.sha256()
     with open(path, "rb") as it:
         while block := it.read(1 << 20):
@@ -89,6 +84,5 @@ def sum_of(path):
 
 
 def sums_of(folder):
-    """Returns the checksums of a folder's files, in the form of sha256sum."""
     files = sorted(it for it in folder.rglob("*") if it.is_file() and it.name != "SHA256SUMS")
     return "".join(f"{sum_of(it)}  {it.relative_to(folder)}\n" for it in files)

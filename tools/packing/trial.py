@@ -1,4 +1,4 @@
-"""Uses an installed dist/ as someone without the kit would: in an empty folder, without `rt` on the PATH."""
+"""Uses an installed dist/ in an empty folder, without `rt` on the PATH."""
 
 import os
 import shutil
@@ -10,7 +10,6 @@ from pathlib import Path
 from packing import package
 from packing.builds import TOP
 
-# Commands that may be in the same folder as `rt`.
 COMMANDS = ["cc", "cargo", "rustc", "rustup", "pkg-config", "tar", "ld", "as"]
 BODY = bytes([0x00, 0x01, 0x0B])
 LISTED = "1 Nop\n2 End\n"
@@ -38,11 +37,11 @@ fn main() -> Result<()> {
 
 
 class Failed(Exception):
-    """Something that was tried doesn't work; the message says what."""
+    """Something that was tried doesn't work."""
 
 
 def path_without_rt(folder):
-    """Returns a PATH on which `rt` and `rattle` are missing, with links to the compilers in a folder if they are needed."""
+    """Returns a PATH without the kit's folder, with links to its compilers."""
     folder.mkdir()
     for name in COMMANDS:
         if found := shutil.which(name):
@@ -52,7 +51,7 @@ def path_without_rt(folder):
 
 
 def ran(words, cwd, env, wanted=None):
-    """Runs a command and returns what it printed. Fails if it fails, or prints something else than is wanted."""
+    """Returns a command's output. Fails if that is not `wanted`."""
     print("dist: $", " ".join(str(it) for it in words), flush=True)
     done = subprocess.run([str(it) for it in words], cwd=cwd, env=env, stdin=subprocess.DEVNULL, capture_output=True, text=True)
     if done.returncode:
@@ -63,14 +62,12 @@ def ran(words, cwd, env, wanted=None):
 
 
 def try_programs(prefix):
-    """Runs each program on its cases."""
     for program in sorted((prefix / "bin").iterdir()):
         words = [sys.executable, "-B", TOP / "tools/cases.py", "--program", program, program.name]
         print(ran(words, TOP, os.environ), end="")
 
 
 def try_c(prefix, folder, env):
-    """Compiles and runs the program in C."""
     env = {**env, "PKG_CONFIG_PATH": str(prefix / "lib/pkgconfig")}
     flags = ran(["pkg-config", "--cflags", "--libs", "wasm_operators"], folder, env).split()
     source = prefix / "share/doc/wasm-operators/list.c"
@@ -80,7 +77,6 @@ def try_c(prefix, folder, env):
 
 
 def try_cargo(prefix, folder, env):
-    """Builds and runs a program over the crate, and runs the crate's tests in the unpacked package."""
     name = f"{package.field('name')}-{package.field('version')}"
     crate = prefix / "share/wasm-operators" / name
     (folder / "first/src").mkdir(parents=True)
@@ -93,7 +89,6 @@ def try_cargo(prefix, folder, env):
 
 
 def run(out, install):
-    """Installs what was built into an empty folder and uses it there."""
     with tempfile.TemporaryDirectory(prefix="dist-try-") as made:
         folder = Path(made)
         env = {name: value for name, value in os.environ.items() if name in ("HOME", "RUSTUP_HOME", "CARGO_HOME", "LANG")}

@@ -1,1 +1,1 @@
-"""The code that writes pages of docs/ from the sources."""
+"""Code that writes pages of docs/."""

@@ -1,8 +1,8 @@
-"""Finds the code blocks and the commands of a page, and compares code with the code of a file."""
+"""Finds the code blocks and the commands of a page."""
 
 import re
 
-# Commands that are named and not run: they take a proof, an hour, or a program of the reader's own.
+# Commands that are not run: they take a proof, an hour, or the reader's program.
 EXCEPTED = re.compile(r"(?:\.ci/run|tools/(?:test|dist)|rt (?:ci|run|check|lib|verdict|try)|cargo test)\b")
 COMMAND = re.compile(r"(?:rt|cargo|cc|git|python3) \S|tools/(?!\w+/)[\w-]+(?:\.py)?(?![\w./*-])|\.ci/run")
 FENCE = re.compile(r"^( *)```(\w*)\n(.*?)^\1```$", re.M | re.S)
@@ -10,8 +10,6 @@ INDENTED = re.compile(r"(?<=\n\n)((?: {4}.*\n|\n(?= {4}))+)")
 
 
 class Block:
-    """A code block of a page, or a command in its text."""
-
     def __init__(self, line, text, is_command=False):
         self.line, self.text, self.is_command = line, text, is_command
         self.first = text.split("\n", 1)[0].strip()
@@ -22,10 +20,10 @@ def unindented(text, indent):
 
 
 def blocks_of(page):
-    """Returns the code blocks of a page, fenced or indented, and its other commands, each in the order of the page."""
+    """Returns the code blocks, fenced or indented, and the other commands."""
     blocks = [(it.start(), unindented(it[3], it[1])) for it in FENCE.finditer(page)]
     prose = FENCE.sub(lambda it: re.sub(r"[^\n]", "", it[0]), page)
-    # (the prose keeps the line feeds of the fenced blocks, so that its lines have the same numbers)
+    # (the prose keeps the line feeds of the blocks, for line numbers)
     lines = [(page.count("\n", 0, at) + 1, text) for at, text in blocks]
     lines += [(prose.count("\n", 0, it.start()) + 1, unindented(it[1], "    ")) for it in INDENTED.finditer(prose)]
     commands = {}
@@ -36,13 +34,12 @@ def blocks_of(page):
 
 
 def code_of(text):
-    """Returns the lines of code, without comments, imports, layout and `pub`."""
     text = re.sub(r"//.*|/\*.*?\*/|^use [^;]*;", "", text, flags=re.MULTILINE)
     lines = [line.strip().removeprefix("pub ").rstrip(" {") for line in text.splitlines()]
     return [line for line in lines if line]
 
 
 def left_out(shown, whole):
-    """Returns the first shown line that does not follow the lines before it in the whole, or `None`."""
+    """Returns the first shown line out of order, or `None`."""
     lines = iter(whole)
     return next((line for line in shown if line not in lines), None)

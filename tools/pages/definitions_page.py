@@ -1,11 +1,11 @@
-"""Lays out docs/DEFINITIONS.md: a head, and a table for each group of files of specs/."""
+"""Lays out docs/DEFINITIONS.md."""
 
 import re
 
 READERS = "wasm_operators_readers/{} "
 EXPRESSIONS = ("Expression", "Flat", "Openings", "Visiting")
 READS = ("Reading", "Next", "MainTheorem", "Guarded", "Iterating")
-# The groups: a title, and the crates or the files in it. A file is in the group that names it, or else names its crate.
+# The groups: title, and crates or files. A file is in the group that names it or else its crate.
 GROUPS = [
     ("Bytes and types", "wasm_below_bytes wasm_below"),
     ("Immediates", "wasm_imm_control wasm_imm"),
@@ -27,34 +27,11 @@ GROUPS = [
     ("Operators as C structs", "wasm_view"),
     ("The library for C", "wasm_c"),
 ]
-HEAD = """# Definitions
-
-The definitions that public contracts name. `tools/run definitions --write` writes this page from the comments in `specs/` \
-and from `tools/definitions.tsv`. Terms such as *walk* are in [`ARCHITECTURE.md`](ARCHITECTURE.md#terms).
-
-A section without a chapter is in Binary Format of the WebAssembly Core Specification 3.0. A name in lower case is a \
-proposal. An empty section is the section above it, in the same file.
-
-A definition goes from values to bytes, and from trees to lists. The code goes the other way. The test programs \
-(`crates/wasm_tests_*`) check the definitions, with values from the specification and from wasmparser.
-
-- A name with a capital letter is a type or a statement. `EncodesSize limit text n` says that the bytes `text` encode the \
-count `n`. Other names are values or functions: `rest r` is the bytes that the reader `r` has left.
-- `Encodes` relates bytes and a value. `Fault` relates a message, the reader at the start of the call, and the offset of \
-the error.
-- `A → B → Type 0` is the type of a statement about an `A` and a `B`. A `record` is true if all its fields are.
-- `×` is "and", `⊎` "or", `¬` "not", `≡` "equals"; `⊥` is never true. `(x : A) × ..` says that there is an `x`; \
-`(x : A) → ..` speaks of each `x`.
-- `ℕ` are the natural numbers. `∷` and `++` build lists. `λ x. ..` is a function.
-- `old` and `new` are the states before and after a call. A visitor has a relation `visits before op result after`.
-
-A call that allocates may fail with `OutOfMemory`. "Unless allocation fails" refers to this.
-"""
 TABLE = "|Name|In words|Section|\n|---|---|---|\n"
 
 
 def group_of(file):
-    """Returns the place of a file in the groups: the group, and the part of it. Returns None if no group has the file."""
+    """Returns the group and the part of a file, or None."""
     for name in (f"{file.crate}/{file.name}", file.crate):
         for at, (_, parts) in enumerate(GROUPS):
             if name in parts.split():
@@ -63,7 +40,7 @@ def group_of(file):
 
 
 def in_order(files):
-    """Returns files in order of their crates, each after the files of its crate that it uses."""
+    """Returns files in order of their crates, each after those that it uses."""
     known, out = {(it.crate, it.name): it for it in files}, []
 
     def add(file):
@@ -73,19 +50,18 @@ def in_order(files):
         if file not in out:
             out.append(file)
 
-    # (the errors of a part go after the part: ListFaults after Lists)
+    # (ListFaults after Lists)
     for file in sorted(files, key=lambda it: (group_of(it), it.name.replace("Faults", "~").replace("Equality", "~"))):
         add(file)
     return out
 
 
 def in_short(section):
-    """Returns a section without the chapter that the head of the page gives to sections without one."""
+    """Returns a section without the chapter that the page's head names."""
     return re.sub(r"\bBinary Format[,:] ", "", section)
 
 
 def table(rows):
-    """Returns the table of a group: for each file, a row with its path and the section of its first definition, and its rows."""
     out, file, section = [TABLE], None, ""
     crates = {row.file.crate for row in rows}
     for row in rows:
@@ -103,8 +79,9 @@ def line_of(cells):
     return "|" + "|".join(cell.replace("|", "\\|") for cell in cells) + "|\n"
 
 
-def page(rows):
-    out = [HEAD]
+def page(rows, old):
+    """Returns the page with the head of the old one and new tables."""
+    out = [old.split("\n## ")[0]]
     for at, (title, _) in enumerate(GROUPS):
         files = in_order([file for file in rows if group_of(file)[0] == at])
         if files:

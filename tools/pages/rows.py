@@ -1,15 +1,15 @@
-"""Chooses the rows of docs/DEFINITIONS.md: definitions of specs/, each with its comment, its section and its file."""
+"""Chooses the rows of docs/DEFINITIONS.md."""
 
 import re
 
-# The most words of a cell.
+# In words of a cell.
 LIMIT = 40
-# The start of a comment that refers to another definition, by its name or to the one before.
+# A comment that refers to another definition, by its name or to the one before.
 REFERS = re.compile(r"As `(\w+)`|The same\b|[^.]*\bsuch an? ")
 
 
 class Given:
-    """A line of tools/definitions.tsv: what comments of a file of specs/ lack."""
+    """A line of tools/definitions.tsv."""
 
     def __init__(self, number, line):
         cells = (line.split("\t") + ["", "", ""])[:4]
@@ -26,12 +26,11 @@ class Row:
 
 
 def given_of(text):
-    """Returns the lines of tools/definitions.tsv without the first, which names the columns."""
     return [Given(number, line) for number, line in enumerate(text.split("\n"), 1) if number > 1 and line.strip()]
 
 
 def before(file, name):
-    """Returns the last definition with a comment before another definition of a file, or None."""
+    """Returns the last definition with a comment before this one, or None."""
     found = None
     for it in file.definitions.values():
         if it.name == name:
@@ -42,9 +41,8 @@ def before(file, name):
 
 
 def commented(file, name):
-    """Returns the definition whose comment describes this one, or None.
-
-    It is this definition, the data type of this constructor, or the definition before if its comment has this name.
+    """Returns the definition whose comment describes this one, or None: itself, the data type of this constructor, or the one
+    before if its comment has this name.
     """
     own = file.definitions[name]
     if own.words:
@@ -63,7 +61,6 @@ def referred(file, name):
 
 
 def with_referred(file, names):
-    """Returns these names of a file and the names of the definitions that their comments refer to."""
     found, todo = set(), list(names)
     while todo:
         name = todo.pop()
@@ -75,11 +72,11 @@ def with_referred(file, names):
 
 
 def full_section(own, of_file):
-    """Returns the section that a comment names, with what the head of the file says of it."""
+    """Returns a comment's section, completed by the file's."""
     for part in of_file.split("; "):
         at = part.find(own)
         if own and at >= 0:
-            # ("Binary Format, Types: Heap Types, Reference Types": the titles after the colon are alternatives)
+            # (the titles after "Binary Format, Types:" are alternatives)
             before_it = part[:at]
             before_it = before_it[: before_it.index(":")] + ", " if ":" in before_it else before_it
             return before_it + own if own[0].isupper() else of_file
@@ -87,9 +84,8 @@ def full_section(own, of_file):
 
 
 def described(file, name, given, of_file):
-    """Returns the key of a name's row, its words, its section and whether the table gives the words; None without words.
-
-    The names of a row share a line of the table, or the comment of the definition that is the key.
+    """Returns the key of a name's row, its words, its section and whether the table gives the words, or None. The key is a line
+    of the table, or the definition with the comment.
     """
     shared = re.fullmatch(r"as `(.*)`", given.words) if given else None
     if shared:
@@ -104,7 +100,7 @@ def described(file, name, given, of_file):
 
 
 def rows_of(file, names, given):
-    """Returns the rows of a file for these names, in the order of the file, and the names that nothing describes."""
+    """Returns a file's rows, and the names that nothing describes."""
     rows, undescribed = {}, []
     of_name = {name: it for it in given for name in it.names}
     of_file = next((it.section for it in given if not it.names), file.section)
@@ -120,7 +116,7 @@ def rows_of(file, names, given):
 
 
 def surplus(file, it, names):
-    """Returns what a line of the table says that the file says too, or None."""
+    """Returns what a line of the table repeats, or None."""
     own = [file.definitions[name] for name in it.names]
     if not own:
         return "the head of the file names this section" if it.section == file.section else None
@@ -134,7 +130,7 @@ def surplus(file, it, names):
 
 
 def faults_of(files, given, wanted):
-    """Yields what is wrong with the lines of tools/definitions.tsv. `wanted` has the names of each file that contracts use."""
+    """Yields the faults of the table. `wanted` has each file's names in contracts."""
     for it in given:
         file = files.get(it.file)
         lost = [name for name in it.names if file and name not in file.definitions]

@@ -1,4 +1,4 @@
-"""Reads the definitions of specs/: their names, their comments, and the sections that comments name."""
+"""Reads the definitions of specs/, with their comments and sections."""
 
 import re
 from pathlib import Path
@@ -6,12 +6,11 @@ from pathlib import Path
 WORD = r"[A-Za-z_][\w'-]*"
 DEFINED = re.compile(rf"^ *(?:abbrev )?pub (?:record |data )?({WORD})")
 CONSTRUCTORS = re.compile(rf"^ +(?!pub )((?:{WORD} )+): ")
-# The start of a sentence that names a section of the specification, a proposal or a page.
+# A sentence that names a section, a proposal or a page.
 REFERENCE = re.compile(
     r"(?:WebAssembly Core )?Specification(?: 3\.0)?[,:] |Proposals? |The legacy exception handling proposal: "
     r"|docs/ERRORS-AND-FEATURES\.md has |[A-Z][a-z]+ (?:Instructions|Types)\.$"
 )
-# What is left out of such a sentence.
 SHORTER = [
     (r"(?:WebAssembly Core )?Specification(?: 3\.0)?[,:] ", ""),
     (r"The legacy exception handling proposal: [^;]*", "legacy exception handling"),
@@ -33,7 +32,7 @@ class Definition:
 
 
 class File:
-    """A file of specs/: its section, the files of its crate that it uses, and its definitions by name, in order."""
+    """A file of specs/: its section, the files that it uses, and its definitions by name."""
 
     def __init__(self, crate, name, text):
         self.crate, self.name = crate, name
@@ -47,7 +46,6 @@ class File:
 
 
 def sentences_of(comment):
-    """Returns the sentences of a comment. Indented lines are notation, and are left out."""
     text = " ".join(line.strip() for line in comment if not line.startswith("  ") and not line.startswith(" Written by "))
     return [it for it in re.split(r"(?<=[.!?])\s+(?=[A-Z`(]|docs/)", text.strip()) if it]
 
@@ -59,7 +57,6 @@ def parts_of(comment):
 
 
 def section_of(sentences):
-    """Returns the section that these sentences name, in short."""
     text = "; ".join(it.rstrip(".") for it in sentences)
     for pattern, shorter in SHORTER:
         text = re.sub(pattern, shorter, text)
@@ -74,13 +71,13 @@ def definitions_of(lines, start):
             continue
         outer = line if line[:1].strip() else outer
         defined, several = DEFINED.match(line), CONSTRUCTORS.match(line)
-        # (an indented line with `pub` is a definition in a mutual block, and elsewhere a field)
+        # (an indented `pub` is a definition only in a mutual block)
         if defined and (line == outer or outer.endswith("mutual")):
             head = defined[1]
             yield Definition(head, comment)
         elif several:
             yield from (Definition(name, comment, head) for name in several[1].split())
-        # (a comment above a mutual block is the comment of its first definition)
+        # (the comment of a mutual block is its first definition's)
         if not line.endswith("mutual"):
             comment = []
 
@@ -95,7 +92,7 @@ def files_of(top):
 
 
 def names_of(top):
-    """Returns what each name in `specs` of a crate leads to, by crate: None for a file, else another crate and a path."""
+    """Returns where each name in a crate's `specs` leads: None for a file, else a crate and a path."""
     found = {}
     for path in Path(top).glob("crates/*/specs/Lib.antt"):
         text = path.read_text(encoding="utf-8")
@@ -108,7 +105,7 @@ def names_of(top):
 
 
 def file_at(names, crate, path):
-    """Returns the crate and the name of the file that a path in `specs` of a crate leads to, or None."""
+    """Returns the crate and the file that a path leads to, or None."""
     own = names.get(crate, {})
     if not path or path[0] not in own:
         return None

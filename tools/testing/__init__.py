@@ -1,1 +1,1 @@
-"""The parts of `tools/test`, which runs every test without proofs."""
+"""The parts of `tools/test`."""

@@ -10,7 +10,6 @@ class Outcome:
 
     @classmethod
     def of(cls, faults):
-        """Makes the outcome of an item that is one test."""
         return cls(0 if faults else 1, 1 if faults else 0, faults)
 
 
@@ -20,7 +19,6 @@ def short(line):
 
 
 def difference(expected, found, what):
-    """Returns lines that show the first lines in which two texts differ; none if they are equal."""
     if expected == found:
         return []
     wanted, got = expected.split(b"\n"), found.split(b"\n")

@@ -9,7 +9,7 @@ from pathlib import Path
 from testing.outcome import Outcome
 from testing.running import Clock, Stopped
 
-# What a job may need, in bytes.
+# In bytes, of a job.
 MEMORY = 1_300_000_000
 COSTS = Path(__file__).resolve().parent / "costs.tsv"
 
@@ -26,13 +26,12 @@ def store_costs(known):
 
 
 def longest_first(jobs, known, wanted):
-    """Returns the jobs in the order in which they start. One with an item that was never measured is the first."""
+    """The first are those with an item that was never measured."""
     cost = lambda job: sum(known.get(it, float("inf")) for it in job.items if it in wanted)
     return sorted((job for job in jobs if wanted & set(job.items)), key=cost, reverse=True)
 
 
 def free_memory(meminfo):
-    """Returns the bytes that are available, from the text of /proc/meminfo; None if it does not say."""
     for line in meminfo.splitlines():
         if line.startswith("MemAvailable:"):
             return 1024 * int(line.split()[1])
@@ -40,7 +39,6 @@ def free_memory(meminfo):
 
 
 def group_memory(folder=Path("/sys/fs/cgroup")):
-    """Returns the bytes that the control group leaves; None if it sets no limit."""
     for limit, used in (("memory.max", "memory.current"), ("memory/memory.limit_in_bytes", "memory/memory.usage_in_bytes")):
         try:
             return int((folder / limit).read_text()) - int((folder / used).read_text())
@@ -50,7 +48,6 @@ def group_memory(folder=Path("/sys/fs/cgroup")):
 
 
 def jobs_at_once():
-    """Returns how many jobs run at a time: as many as there are cores and memory for."""
     try:
         found = [free_memory(Path("/proc/meminfo").read_text(encoding="ascii")), group_memory()]
     except OSError:
@@ -60,7 +57,6 @@ def jobs_at_once():
 
 
 def work(left, done, context, wanted):
-    """Takes jobs until none is left, and reports each item as it ends."""
     while True:
         try:
             job = left.get_nowait()
@@ -84,7 +80,7 @@ def work(left, done, context, wanted):
 
 
 def results(jobs, context, wanted, count):
-    """Yields each item as it ends: its name, its outcome, its seconds and its CPU seconds."""
+    """Yields each item as it ends: name, outcome, seconds and CPU seconds."""
     left, done = queue.Queue(), queue.Queue()
     for job in jobs:
         left.put(job)

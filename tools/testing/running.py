@@ -1,4 +1,4 @@
-"""Runs commands, each in a process group, with a time limit, and ends them all on request."""
+"""Runs commands in process groups, with a time limit, and ends them all on request."""
 
 import os
 import signal
@@ -7,9 +7,8 @@ import tempfile
 import threading
 import time
 
-# Seconds in which a command may end after SIGTERM.
+# In seconds after SIGTERM.
 GRACE = 5
-# The environment of the programs that are tested.
 PLAIN = {"PATH": "/usr/bin:/bin"}
 
 started = set()
@@ -18,11 +17,11 @@ is_stopped = threading.Event()
 
 
 class Stopped(Exception):
-    """The run is being ended, so that nothing more is started."""
+    """The run is being ended."""
 
 
 class Ran:
-    """How a command ended: status (None after the time limit), output, error output, CPU seconds."""
+    """Status (None after the time limit), output, error output, CPU seconds."""
 
     def __init__(self, status, out, err, seconds):
         self.status, self.out, self.err, self.seconds = status, out, err, seconds
@@ -31,7 +30,6 @@ class Ran:
         return (self.out + self.err).decode(errors="replace")
 
     def failure(self, limit):
-        """Returns how the command failed in words, or None if its status is 0."""
         if self.status is None:
             return f"not finished after {limit} s, killed"
         if self.status < 0:
@@ -40,7 +38,7 @@ class Ran:
 
 
 def kill(pid, by=signal.SIGKILL):
-    """Kills a process group. Its first process may have ended."""
+    """Kills a process group, whose first process may have ended."""
     try:
         os.killpg(pid, by)
     except ProcessLookupError:
@@ -48,7 +46,6 @@ def kill(pid, by=signal.SIGKILL):
 
 
 def stop():
-    """Ends every command that runs, and starts no more."""
     is_stopped.set()
     # (one that is `tools/test` itself ends its commands when it gets SIGTERM)
     for by in (signal.SIGTERM, signal.SIGKILL):
@@ -61,7 +58,6 @@ def stop():
 
 
 def start(words, out, err, given, cwd, env):
-    """Starts a command in a process group and notes it."""
     with guard:
         if is_stopped.is_set():
             raise Stopped
@@ -72,7 +68,7 @@ def start(words, out, err, given, cwd, env):
 
 
 def finish(child, limit):
-    """Waits for a command. Returns its status, or None if the limit passed, and its CPU seconds."""
+    """Returns the status, or None after the limit, and the CPU seconds."""
     late = threading.Event()
 
     def end():
@@ -95,7 +91,7 @@ def finish(child, limit):
 
 
 def run(words, limit, cwd, given=None, env=None):
-    """Runs a command to its end, or to the limit in seconds. `given` is a file for its standard input."""
+    """`given` is a file for standard input."""
     with tempfile.TemporaryFile() as out, tempfile.TemporaryFile() as err:
         with open(given or os.devnull, "rb") as source:
             child = start(words, out, err, source, cwd, env)

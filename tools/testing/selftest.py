@@ -1,4 +1,4 @@
-"""Tests `tools/test`: breaks one expectation at a time in a copy of the repository, and looks at what fails."""
+"""Tests `tools/test`: breaks one expectation at a time in a copy of the repository."""
 
 import re
 import shutil
@@ -10,10 +10,8 @@ from testing.outcome import tail
 from testing.running import Clock
 
 LIMIT = 7200
-# What a copy of the repository leaves out.
 LEFT_OUT = (".git", "out", "__pycache__", "target", "native")
 LINE = re.compile(r"(ok|FAILED) \d+ s ([\w/-]+)")
-# A test's head, and what makes it fail.
 TEST_HEAD = re.compile(r"#\[test\]\n\s*fn \w+\((\w+): [^{]*\{\n")
 WRONG_VISITS = "\nimpl VisitMisc for Broken {\n    fn visit_data_drop(&mut self) {}\n}\n"
 WRONG_ROW = "\n| `NoSuchDefinition` | a word that nothing defines | | `Nothing.antt` |\n"
@@ -22,7 +20,7 @@ WRONG_EDIT = "file: src/lib.rt\nold: a text that does not occur\nnew: another\n"
 
 
 class Break:
-    """A change of one file, and the items that fail by it: one must, the others may."""
+    """A change of a file, the item that must fail, and others that may."""
 
     def __init__(self, item, path, change, others=()):
         self.item, self.path, self.change, self.others = item, path, change, set(others)
@@ -79,7 +77,7 @@ def breaks_of_program(folder, items):
     if name in items:
         stored = folder / "stdout.short"
         yield Break(name, folder / "status", lambda old: f"{int(old or 0) + 1}\n")
-        # (some of these files are written by scripts, which check them)
+        # (scripts check some of the files that they write)
         yield Break(name, stored if stored.exists() else folder / "stdout", more("one line more\n"), CHECKS)
     if f"{name}/cases" in items:
         yield Break(f"{name}/cases", folder / "cases.tsv", wrong_status)
@@ -105,7 +103,6 @@ def breaks(crates):
 
 
 def run_tool(top, kept):
-    """Runs `tools/test` of a copy. Returns the items that passed, those that failed, and what it wrote."""
     ran = running.run([sys.executable, "-B", top / "tools" / "test", "--keep", kept], LIMIT, top)
     lines = LINE.findall(ran.out.decode(errors="replace"))
     passed, failed = ({name for word, name in lines if word == wanted} for wanted in ("ok", "FAILED"))
@@ -115,7 +112,7 @@ def run_tool(top, kept):
 
 
 def fault_of(broken, top, kept):
-    """Applies a break, runs `tools/test`, and takes the break back. Returns what is wrong, or None."""
+    """Tries a break. Returns what is wrong, or None."""
     before = broken.path.read_text(encoding="utf-8") if broken.path.exists() else None
     after = broken.change(before or "")
     if after == before:
@@ -134,10 +131,7 @@ def fault_of(broken, top, kept):
 
 
 def self_test(crates_of, top, scratch, kept, names, write):
-    """Runs the self-test of all items, or of those that are named.
-
-    Returns how many breaks did what they should, and how many did not.
-    """
+    """Returns how many breaks did what they should, and how many did not."""
     copy = scratch / "copy"
     shutil.copytree(top, copy, symlinks=True, ignore=shutil.ignore_patterns(*LEFT_OUT))
     crates = crates_of(copy)

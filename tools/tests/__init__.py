@@ -1,4 +1,4 @@
-"""The tests of the tools: `python3 -B -m unittest discover -s tools/tests -t tools`."""
+"""Run them by `python3 -B -m unittest discover -s tools/tests -t tools`."""
 
 import sys
 from pathlib import Path

@@ -1,5 +1,3 @@
-"""The list of the cargo crate's items (tools/api.py)."""
-
 import unittest
 
 import api
@@ -44,6 +42,16 @@ class Api(unittest.TestCase):
         row = {"type": "BinaryReader", "item": "read_u9"}
         self.assertFalse(api.is_here(row, "pub struct BinaryReader; fn read_u8()"))
         self.assertTrue(api.is_here({**row, "item": "read_u8"}, "pub struct BinaryReader; fn read_u8()"))
+
+    def test_a_proved_function_with_the_name_of_the_item(self):
+        row = {"item": "read_u8", "proved": "wasm_below_bytes::read_u8"}
+        self.assertEqual(api.proved(row), "wasm_below_bytes::")
+        self.assertEqual(api.proved({**row, "item": "read_f32"}), row["proved"])
+
+    def test_the_page_has_every_item(self):
+        page = api.page()
+        names = {name for row in api.rows() for name in [row["type"], *api.parts(row["item"].replace("for ", ""))]}
+        self.assertEqual([name for name in names if name.lower() not in page.lower()], [])
 
 
 if __name__ == "__main__":

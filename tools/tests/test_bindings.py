@@ -1,5 +1,3 @@
-"""What stands beside the library for C and Rust callers."""
-
 import unittest
 from pathlib import Path
 
@@ -9,6 +7,7 @@ import sections
 from table import table
 
 TOP = Path(__file__).resolve().parent.parent.parent
+HEADER = (TOP / header.PATH).read_text(encoding="utf-8")
 
 
 class Bindings(unittest.TestCase):
@@ -46,13 +45,17 @@ fn one() {}
     def test_numbers_of_sections(self):
         self.assertEqual([sections.number(n).hex() for n in (0, 127, 128, 1256)], ["00", "7f", "8001", "e809"])
 
-    def test_the_longest_name_has_room(self):
-        longest = max(len(op.name) for op in table())
-        self.assertIn(f"#define WASM_LONGEST_NAME {longest}\n", header.header(table()))
+    def test_lists_replace_lists(self):
+        lines = HEADER.splitlines(keepends=True)
+        changed = [line for line in lines if "WASM_OP_Br" not in line and "case 0x" not in line]
+        changed = "".join(changed).replace("WASM_LONGEST_NAME 29", "WASM_LONGEST_NAME 1").replace("TEXT_NAME 35", "TEXT_NAME 2")
+        self.assertEqual(header.header(table(), changed), HEADER)
+        with self.assertRaises(AssertionError):
+            header.header(table(), HEADER.replace("enum wasm_proposal {", "enum proposal {"))
 
-    def test_the_longest_text_name_has_room(self):
-        longest = max(len(op.text) for op in table())
-        self.assertIn(f"#define WASM_LONGEST_TEXT_NAME {longest}\n", header.header(table()))
+    def test_the_longest_names_have_room(self):
+        self.assertIn(f"#define WASM_LONGEST_NAME {max(len(op.name) for op in table())}\n", HEADER)
+        self.assertIn(f"#define WASM_LONGEST_TEXT_NAME {max(len(op.text) for op in table())}\n", HEADER)
 
     def test_meanings_of_fields(self):
         ops = table()
@@ -67,15 +70,14 @@ fn one() {}
         self.assertEqual(without, [])
 
     def test_each_proposal_is_returned_once(self):
-        lines = header.header(table()).splitlines()
-        returned = [line.strip() for line in lines if line.startswith("      return WASM_PROPOSAL_")]
+        returned = [line.strip() for line in HEADER.splitlines() if line.startswith("      return WASM_PROPOSAL_")]
         self.assertEqual(len(returned), len(set(returned)))
 
     def test_the_versions_are_one(self):
         library = (TOP / "crates/wasm_c/src/lib.rt").read_text(encoding="utf-8")
         crate = (TOP / "bindings/rust/src/native.rs").read_text(encoding="utf-8")
         versions = [
-            header.TOP.split("#define WASM_OPERATORS_VERSION ")[1].split("u\n")[0],
+            HEADER.split("#define WASM_OPERATORS_VERSION ")[1].split("u\n")[0],
             library.split("const VERSION: u32 = ")[1].split(";")[0],
             crate.split("const VERSION: u32 = ")[1].split(";")[0],
         ]

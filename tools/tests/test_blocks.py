@@ -1,5 +1,3 @@
-"""`tools/blocks.py` and `tools/contracts.py`: which blocks pages have, and how they are compared."""
-
 import tempfile
 import unittest
 from pathlib import Path

@@ -1,5 +1,3 @@
-"""The static library for C: its exports, what its tests read, and the library without a proof."""
-
 import re
 import unittest
 

@@ -1,5 +1,3 @@
-"""The page of definitions: what it takes from comments of specs/, which rows it has, and its layout."""
-
 import unittest
 from pathlib import Path
 
@@ -195,8 +193,8 @@ class Page(unittest.TestCase):
 
     def test_page(self):
         low = file("", "wasm_grammar", "Role")
-        text = definitions_page.page({low: [self.row(low, "One", "Structure")]})
-        self.assertTrue(text.startswith("# Definitions\n"))
+        text = definitions_page.page({low: [self.row(low, "One", "Structure")]}, "# Definitions\n\n## Old\n")
+        self.assertTrue(text.startswith("# Definitions\n\n## Trees"))
         self.assertIn("\n## Trees (`crates/wasm_grammar/specs`)\n\n|Name|", text)
         self.assertEqual(text.count("\n## "), 1)
 

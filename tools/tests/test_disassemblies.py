@@ -1,5 +1,3 @@
-"""The tool that spoils small modules, and the one that compares large ones with wabt."""
-
 import tempfile
 import unittest
 from pathlib import Path
@@ -8,11 +6,14 @@ import clang_modules
 import compare_objdump
 import disassemblies
 
-# A program that writes what it is given, refuses what begins with an x, and does not end well of a y.
+# Writes a file, or the list of its sections. Of its input, writes a function if it begins with 0, fails with x, and ends
+# badly with y and z.
 ECHOES = """\
 #!/bin/sh
+if [ "$1" = -h ]; then cat "${2%.wasm}.sections.txt"; exit 0; fi
 if [ -n "$1" ]; then cat "$1"; exit 0; fi
 case $(head -c 1) in
+0) echo "000030 func[0]:" ;;
 x) echo "error at 0: no" >&2; exit 1 ;;
 y) exit 1 ;;
 z) kill -SEGV $$ ;;
@@ -23,11 +24,9 @@ esac
 class Disassemblies(unittest.TestCase):
     def test_spoiled(self):
         found = dict(disassemblies.spoiled(b"ab"))
-        self.assertEqual(found["cut after 0 bytes"], b"")
-        self.assertEqual(found["cut after 1 bytes"], b"a")
         self.assertEqual(found["byte 0 changed"], b"Nb")
         self.assertEqual(found["byte 1 changed"], b"a\x9d")
-        self.assertEqual(len(found), 4)
+        self.assertEqual(len(found), 2)
 
     def test_answers(self):
         self.assertTrue(disassemblies.is_answer(0, b""))
@@ -35,18 +34,23 @@ class Disassemblies(unittest.TestCase):
         for status, complaint in ((None, b""), (0, b"error\n"), (1, b""), (1, b"error"), (1, b"error\nsee\n"), (3, b"error\n"), (-11, b"")):
             self.assertFalse(disassemblies.is_answer(status, complaint), (status, complaint))
 
-    def faults(self, module, text):
+    def faults(self, module, text, code_end=1):
         with tempfile.TemporaryDirectory() as folder:
             program, path = Path(folder) / "program", Path(folder) / "a.wasm"
             program.write_text(ECHOES, encoding="utf-8")
             program.chmod(0o755)
             path.write_bytes(module)
             path.with_suffix(".txt").write_bytes(text)
+            path.with_suffix(".sections.txt").write_text(f"     Code start=0x0 end=0x{code_end:x} (size=0x1) count: 1\n", encoding="utf-8")
             return disassemblies.compared(program, path)
 
     def test_compared(self):
-        self.assertEqual(self.faults(b"xa", b"xa"), ([], 5))
+        self.assertEqual(self.faults(b"xa", b"xa"), ([], 6))
         self.assertEqual(self.faults(b"xa", b"xb")[0], ["program, a.wasm: not what wabt wrote"])
+        # a prefix that lists a function before the end of the code section
+        function = b"000030 func[0]:"
+        self.assertEqual(self.faults(function, function)[0], [])
+        self.assertEqual(len(self.faults(function, function, 3)[0]), 2)
         # a run that ends with no complaint, and one that is killed
         self.assertEqual(len(self.faults(b"ya", b"ya")[0]), 2)
         self.assertEqual(len(self.faults(b"za", b"za")[0]), 2)

@@ -1,5 +1,3 @@
-"""What tools/dist writes: the cargo package, man pages, checksums, the installed layout, and the libraries for Rattle."""
-
 import importlib.machinery
 import importlib.util
 import io
@@ -22,7 +20,6 @@ ADD = TOP / "tools/packing/add-to-kit"
 
 
 def tool(name):
-    """Returns a script of tools/ without an ending as a module."""
     loader = importlib.machinery.SourceFileLoader(name, str(TOP / "tools" / name))
     module = importlib.util.module_from_spec(importlib.util.spec_from_loader(name, loader))
     loader.exec_module(module)
@@ -36,7 +33,6 @@ class Folders(unittest.TestCase):
         self.folder = Path(folder.name)
 
     def file(self, path, text=""):
-        """Writes a file below the test's folder."""
         (self.folder / path).parent.mkdir(parents=True, exist_ok=True)
         (self.folder / path).write_text(text)
         return self.folder / path
@@ -76,7 +72,7 @@ class Builds(Folders):
         self.assertEqual(builds.verdict_of(output), ["assumed: libc::write", "logic=proved functions=1"])
 
 
-# Commands in place of the kit's: they write what the kit's would, and print what is read of that.
+# Commands in place of the kit's.
 RT = """\
 #!/bin/sh
 ls crates > ../seen
@@ -113,7 +109,6 @@ class Proved(Folders):
         self.file("path/rt", RT).chmod(0o755)
 
     def build(self, result="4 passed, 0 failed", verdict="logic=proved functions=1"):
-        """Builds the commit with the commands above."""
         env = {"PATH": f"{self.folder}/path:{os.environ['PATH']}", "RESULT": result, "VERDICT": verdict}
         with mock.patch.object(builds, "TOP", self.repo), mock.patch.dict(os.environ, env), redirect_stdout(io.StringIO()):
             commit, changed = builds.commit_of(self.repo)
@@ -171,7 +166,7 @@ class Package(Folders):
 class Texts(Folders):
     def test_man_page(self):
         page = texts.man_page("wasm_objdump", "wasm_objdump [FILE]\n.dot\n--help\n", "abc")
-        self.assertTrue(page.startswith('.TH WASM_OBJDUMP 1 "" "abc"\n.SH NAME\nwasm_objdump \\- disassembles '))
+        self.assertTrue(page.startswith('.TH WASM_OBJDUMP 1 "" "abc"\n.SH NAME\nwasm_objdump \\- lists the sections '))
         self.assertIn("\n\\&.dot\n\\-\\-help\n.fi\n", page)
 
     def test_help_of_a_program_without_the_option(self):
@@ -225,7 +220,6 @@ class Install(Folders):
 
 class RattleLibraries(Folders):
     def kit(self):
-        """Makes a small kit."""
         for path in ("bin/rattle", "bin/rtlib.py", "c/libos_c.a", "rlibs/std.rlib/format", "rattle/std/src/lib.rt", "WHAT"):
             self.file(f"kit/{path}", path)
         self.file("kit/KIT-ID", "kit-1\n")
@@ -233,7 +227,6 @@ class RattleLibraries(Folders):
         return self.folder / "kit"
 
     def packed(self, kit):
-        """Packs a library of this name for a kit."""
         self.file("repo/crates.txt", "low:\n")
         self.file("repo/crates/low/src/lib.rt", "fn low() {}\n")
         self.file("rlib/format", "crate low\n")

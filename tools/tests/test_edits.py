@@ -1,5 +1,3 @@
-"""The must-fail edits: which apply, and which a log reports."""
-
 import tempfile
 import unittest
 from pathlib import Path

@@ -1,5 +1,3 @@
-"""The methods by which a visitor's own visits are reached."""
-
 import contextlib
 import io
 import tempfile

@@ -1,5 +1,3 @@
-"""The tool that measures how visiting grows."""
-
 import unittest
 import xml.etree.ElementTree
 

@@ -1,5 +1,3 @@
-"""The tool that runs the program on large bodies."""
-
 import contextlib
 import io
 import tempfile
@@ -8,7 +6,7 @@ from pathlib import Path
 
 import large_bodies
 
-# A program that counts the bytes of its input as operators, two of them being the count of locals and the end.
+# Counts the bytes of its input as operators, except two.
 COUNTS = """\
 #!/bin/sh
 size=$(wc -c)

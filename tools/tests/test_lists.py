@@ -1,5 +1,3 @@
-"""The generated files: a row of each kind in each group, long names, and what --check compares."""
-
 import tempfile
 import unittest
 from pathlib import Path
@@ -10,9 +8,8 @@ from lists import files, left_over, stale
 from rules import faults
 from table import COLUMNS, HEAD, KINDS, rows_of, table
 
-# The prefix byte and a proposal of each group that may get a row more. The vector operators are 256 already.
+# Prefix byte and proposal of the groups that may grow. There are 256 SIMD operators already.
 GROUPS = {"Own": ("", "mvp"), "Gc": ("fb", "gc"), "Misc": ("fc", "bulk_memory"), "Atomic": ("fe", "threads")}
-# Opcodes that no operator has.
 FREE = {"Own": iter([0x16, 0x17, 0x1D, 0x1E, 0x27, *range(0xC5, 0xD0), *range(0xD7, 0xE0), *range(0xE7, 0xFB)])}
 
 

@@ -1,5 +1,3 @@
-"""Trying the must-fail edits that the gate leaves out: the copy, the exchange of edits, what a log says."""
-
 import subprocess
 import tempfile
 import unittest

@@ -13,13 +13,12 @@ TOP = Path(__file__).resolve().parent.parent.parent
 
 
 def section(page, heading):
-    """Returns the lines of a page below a heading of the second level."""
     text = (TOP / page).read_text(encoding="utf-8")
     return re.search(rf"^## {re.escape(heading)}\n(.*?)(?=^## |\Z)", text, re.DOTALL | re.MULTILINE)[1].splitlines()
 
 
 def edges(lines):
-    """Returns the crates of a graph, each with the crates that it lists: one above it with less indentation, and some after `+`."""
+    """Returns each crate with those it lists: one above with less indentation, and some after `+`."""
     out, above = {}, []
     for line in lines:
         indent = len(line) - len(line.lstrip())
@@ -32,12 +31,10 @@ def edges(lines):
 
 
 def rows(lines):
-    """Returns the cells of the rows of a table, without its head."""
     return [[cell.strip() for cell in line[1:-1].split("|")] for line in lines if line.startswith("|")][2:]
 
 
 def is_defined(function, text):
-    """Returns whether Rattle code defines a function, which may be named with its type."""
     type_name, _, name = function.rpartition("::")
     has_type = not type_name or re.search(rf"^impl.*\b{type_name}\b.* {{$", text, re.MULTILINE)
     return bool(has_type and re.search(rf"\bfn {name}\b", text))

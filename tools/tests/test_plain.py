@@ -1,5 +1,3 @@
-"""The plain data of operators."""
-
 import unittest
 
 import plain

@@ -1,5 +1,3 @@
-"""What the program wasm_tests_decode is asked, and what it has to print."""
-
 import re
 import unittest
 

@@ -1,12 +1,10 @@
-"""The tool that lists real bodies."""
-
 import tempfile
 import unittest
 from pathlib import Path
 
 import real_bodies
 
-# A program that lists a body that begins with an x as `nop` and `end`, and refuses any other.
+# Lists a body that begins with x as `nop` and `end`, and fails on others.
 LISTS = """\
 #!/bin/sh
 case $(head -c 1) in
@@ -15,7 +13,7 @@ x) echo "1 Nop"; echo "2 End" ;;
 esac
 """
 CRASHES = "#!/bin/sh\nkill -SEGV $$\n"
-# The fingerprint of that listing, as the original's answers have it for the body `00010b`.
+# The fingerprint of that listing, from the original's results for the body `00010b`.
 LISTING = "1798f395055e8dbe"
 
 

@@ -1,5 +1,3 @@
-"""The results that are replayed."""
-
 import unittest
 
 from original import FOLDER

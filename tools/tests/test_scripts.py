@@ -1,5 +1,3 @@
-"""The scripts of the gate: what they read and how they judge."""
-
 import importlib.machinery
 import importlib.util
 import io
@@ -72,7 +70,7 @@ class GateTable(unittest.TestCase):
                 self.assertEqual(crates[name].processor[part], 2 * seconds + more)
 
     def test_readings(self):
-        # low and kit; middle, low and kit; high, middle and low, each with what is below it
+        # low and kit; middle, low and kit; high with middle and low
         self.assertEqual(gate_table.readings({"low": ["kit"], "middle": ["low"], "high": ["middle", "low"]}), 2 + 3 + 6)
 
     def test_other_logs(self):
@@ -236,7 +234,7 @@ class Cases(unittest.TestCase):
                         cases.opened(folder, case)
 
 
-# A program of three tests, of which one takes an allocation and says that it was refused.
+# Three tests, one of which allocates.
 TAKES_ONE = """\
 #!/bin/sh
 [ "$1" != --list ] || exec printf '%s: test\\n' texts::memory_of_one texts::memory_of_none texts::another
@@ -244,7 +242,7 @@ TAKES_ONE = """\
 """
 
 
-# A program of rows that takes two allocations where its argument is `short`, the first to read its rows.
+# Rows that allocate twice if the argument is `short`, first to be read.
 COUNTS_ROWS = """\
 #!/bin/sh
 [ "$1" = short ] || exit 2
@@ -348,7 +346,7 @@ pub trait Reads {
 """
 
 
-# What the names in `specs` of two crates lead to: files of these crates, and other crates.
+# What the names in `specs` of two crates lead to.
 NAMES = {"wasm_low": {"Words": None, "base": ("wasm_base", [])}, "wasm_base": {"Source": None}}
 
 

@@ -1,5 +1,3 @@
-"""The table of the operators: it equals the original's, and each error is reported."""
-
 import tempfile
 import unittest
 from pathlib import Path
@@ -72,7 +70,7 @@ class Original(unittest.TestCase):
         )
 
 
-# A change of the row of one operator, and what the error has to say.
+# A change of a row, and what the error says.
 WRONG = [
     ("Nop", "name", "nop", "the name is not a variant's"),
     ("Nop", "name", "Unreachable", "the name is already used by Unreachable, line 2"),

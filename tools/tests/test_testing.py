@@ -1,5 +1,3 @@
-"""`tools/test`: what it finds, in which order it runs that, and how it reports."""
-
 import os
 import tempfile
 import time
